@@ -1,0 +1,10 @@
+pub mod Changes
+pub mod Counts
+pub mod Edits
+pub mod Endings
+pub mod Fitting
+pub mod Idle
+pub mod Ledger
+pub mod RunLemmas
+pub mod Searches
+pub mod Sounds

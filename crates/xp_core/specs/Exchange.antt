@@ -1,0 +1,37 @@
+-- What a serial exchange shows, and what one step of it does.
+use Rattle.std.specs.Prelude.{◌≡◌, ℕ, ◌+◌, ◌<◌, ◌≤◌, Option, Some, None, List, [], ◌∷◌, ◌++◌, length}
+use Rattle.xp_subs.specs.Tables.{Tables, line_count}
+use Rattle.xp_core.specs.declared.entry.Entry.{Entry}
+use Rattle.xp_core.specs.declared.event.Event.{Event}
+use Rattle.xp_core.specs.declared.event.What.{What}
+use Rattle.xp_core.specs.declared.event.What.TheVariants.{Up, Down, Frame, WrongFrame, Expire, Stall}
+use Rattle.xp_core.specs.declared.stepped.Stepped.{Stepped}
+use Rattle.xp_core.specs.Moves.{Move, after}
+use Rattle.xp_core.specs.Step.{Acts, Step}
+use Rattle.xp_core.specs.Table.{cell, kind_of}
+use Rattle.xp_core.specs.World.{World, state_at}
+
+pub record Exchange (A : Type 0) : Type 0 where
+  pub subs : Tables
+  pub history : List (Entry A)
+  pub world : World
+
+module _ {A : Type 0} where
+  -- a logical channel identifier has twelve bits (X.25 clause 5.1.2)
+  abbrev pub IsReadable : What A → Type 0
+  IsReadable (Frame identifier packet) = identifier < 4096
+  IsReadable Up = Unit {0}
+  IsReadable Down = Unit {0}
+  IsReadable (WrongFrame wrong) = Unit {0}
+  IsReadable Expire = Unit {0}
+  IsReadable Stall = Unit {0}
+
+  -- the history grows by one entry, of this event, which is a step; its number and its outputs are told
+  pub record Advances (old : Exchange A) (event : Event A) (new : Exchange A) (told : Stepped A) : Type 0 where
+    pub entry : Entry A
+    pub event_is : entry.event ≡ event
+    pub step : Step old.subs old.history old.world entry new.world
+    pub history : new.history ≡ old.history ++ entry ∷ []
+    pub subs : new.subs ≡ old.subs
+    pub number : told.entry ≡ entry.number
+    pub outputs : told.outputs ≡ entry.outputs

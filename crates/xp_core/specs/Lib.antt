@@ -1,0 +1,16 @@
+pub mod Buffered
+pub mod Channel
+pub mod Clearing
+pub mod Decision
+pub mod Exchange
+pub mod Moves
+pub mod Plan
+pub mod Records
+pub mod Run
+pub mod Sound
+pub mod Step
+pub mod Table
+pub mod View
+pub mod Work
+pub mod World
+pub mod Writable

@@ -1,0 +1,20 @@
+-- Whole histories.
+use Rattle.std.specs.Prelude.{◌≡◌, List, [], ◌∷◌, ◌++◌}
+use Rattle.xp_subs.specs.Tables.{Tables, line_count}
+use Rattle.xp_core.specs.declared.entry.Entry.{Entry}
+use Rattle.xp_core.specs.Step.{Step}
+use Rattle.xp_core.specs.World.{World, opening}
+
+module _ {A : Type 0} where
+  -- from a world that these entries led to, the further ones lead to the last
+  abbrev pub RunFrom : Tables → List (Entry A) → World → List (Entry A) → World → Type 0
+  RunFrom tables before world [] last = last ≡ world
+  RunFrom tables before world (entry ∷ entries) last =
+      (next : World) × Step tables before world entry next × RunFrom tables (before ++ entry ∷ []) next entries last
+
+  -- the history leads from the opening world to this one
+  abbrev pub Run : Tables → List (Entry A) → World → Type 0
+  Run tables history world = RunFrom tables [] (opening (line_count tables)) history world
+
+  abbrev pub IsLegal : Tables → List (Entry A) → Type 0
+  IsLegal tables history = (world : World) × Run tables history world

@@ -1,0 +1,53 @@
+ghost use Rattle.std.specs.Prelude.{◌≡◌};
+ghost use Rattle.xp_core.specs.Channel.{call_of};
+
+/// The state of a line's logical channel (X.25 Annex B, figure B-1).
+#[derive(Clone, Copy, Debug, Default, PartialEq, Eq)]
+pub enum ChannelState {
+    /// Out of service: no connection.
+    #[default]
+    Off,
+    /// p1, ready.
+    Ready,
+    /// p2, DTE waiting: the line asked for this call.
+    Waiting(u64),
+    /// p3, DCE waiting: this call was put to the line.
+    Ringing(u64),
+    /// p4, data transfer in this call.
+    Talking(u64),
+    /// p7, DCE clear indication: the line has yet to confirm it.
+    Cleared,
+}
+
+impl ChannelState {
+    /// The number of the call that the line is in.
+    pub fn call(self) -> Option<u64>
+        ensures { result ≡ call_of self }
+    {
+        match self {
+            ChannelState::Waiting(number)
+            | ChannelState::Ringing(number)
+            | ChannelState::Talking(number) => Some(number),
+            ChannelState::Off | ChannelState::Ready | ChannelState::Cleared => None,
+        }
+    }
+}
+
+/// What the exchange keeps of one line.
+#[derive(Clone, Copy, Debug, Default, PartialEq, Eq)]
+pub struct LogicalChannel {
+    pub state: ChannelState,
+    /// The logical channel identifier that every packet to the line carries, 0 to 4,095.
+    pub identifier: u16,
+    /// How often the line came into service.
+    pub connection: u64,
+}
+
+impl LogicalChannel {
+    /// A line that never was in service.
+    pub const OFF: LogicalChannel = LogicalChannel {
+        state: ChannelState::Off,
+        identifier: 0,
+        connection: 0,
+    };
+}

@@ -1,0 +1,118 @@
+//! The serial exchange: events in, entries of the history out.
+
+ghost use Rattle.std.specs.Prelude.{◌≡◌, ◌+◌, ◌<◌, ◌≤◌, [], All, IfOk, IfErr, OnErr, Err, length};
+ghost use Rattle.xp_subs.specs.Tables.{line_count};
+ghost use Rattle.xp_core.specs.View.{view_of};
+ghost use Rattle.xp_core.specs.World.{opening, line_at};
+
+use crate::advance::advance;
+use crate::entry::Entry;
+use crate::event::Event;
+use crate::fault::StepFault;
+use crate::machine::Machine;
+use crate::record::Record;
+use crate::stepped::Stepped;
+use crate::view::LineView;
+use std::alloc::{AllocError, Allocator, Global};
+use std::marker::Model;
+use xp_subs::{LineNo, Subs};
+
+/// The exchange for one event at a time.
+#[derive(Drop)]
+pub struct Core<A: Allocator = Global> {
+    alloc: A,
+    subs: Subs,
+    machine: Machine<A>,
+    history: Vec<Entry<A>, A>,
+}
+
+impl<A: Allocator> Model for Core<A> {
+    ghost use Rattle.xp_core.specs.Exchange.{Exchange};
+
+    ghost Value = { Exchange A };
+
+    ghost use Rattle.xp_core.specs.Writable.{LeadsTo};
+
+    ghost view = { λ c. record { subs = c.subs; history = c.history.items; world = c.machine } };
+
+    ghost invariant = { λ c. LeadsTo c.subs c.history.items c.machine };
+}
+
+impl<A: Allocator + Copy> Core<A> {
+    ghost use Rattle.xp_core.specs.Exchange.{Advances, IsReadable};
+    ghost use Rattle.xp_core.specs.Writable.{AreWritable};
+
+    /// The exchange of these subscriptions: all lines off, no call made yet, an empty history.
+    pub fn new(alloc: A, subs: Subs) -> Result<Core<A>, AllocError>
+        ensures { IfOk result (λ core. core ≡ record { subs = subs; history = []; world = opening (line_count subs) }) }
+    {
+        let machine = Machine::new(alloc, subs.counts().lines)?;
+        Ok(Core {
+            alloc,
+            subs,
+            machine,
+            history: Vec::new(alloc),
+        })
+    }
+
+    /// Acts on one event. It answers `JournalFull` where fewer than four places of the history are left,
+    /// and `Memory` where no memory was found; then the event comes back, and nothing has changed.
+    pub fn step(&mut self, event: Event<A>) -> Result<Stepped<A>, StepFault<A>>
+        requires line { event.line < line_count self.old.subs }
+        requires readable { IsReadable event.what }
+        ensures ok { IfOk result (λ told. Advances self.old event self.new told) }
+        ensures writable { IfOk result (λ told. AreWritable told.outputs) }
+        ensures full { self.old.subs.journal < length self.old.history + 4 → result ≡ Err (StepFault.JournalFull event) }
+        ensures room { length self.old.history + 4 ≤ self.old.subs.journal → IfErr result (λ fault. fault ≡ StepFault.Memory event) }
+        ensures err { OnErr result (self.new ≡ self.old) }
+    {
+        if self.history.len() + 4 > self.subs.journal() as usize {
+            return Err(StepFault::JournalFull(event));
+        }
+        let told = advance(
+            self.alloc,
+            &self.subs,
+            &mut self.machine,
+            &mut self.history,
+            event,
+        )?;
+        Ok(told)
+    }
+}
+
+impl<A: Allocator> Core<A> {
+    ghost use Rattle.xp_core.specs.Records.{OneRecordEach};
+    ghost use Rattle.xp_core.specs.Run.{Run};
+    ghost use Rattle.xp_core.specs.Writable.{AreWritable};
+
+    /// What can be seen of a line.
+    pub fn line(&self, line: LineNo) -> LineView
+        ensures { result ≡ view_of (line_at self.now.world line) }
+    {
+        self.machine.line(line).view()
+    }
+
+    /// The records of the ended calls, in the order in which they ended: one for each of them, and no other.
+    pub fn records(&self) -> &[Record]
+        ensures records { result.now ≡ self.now.world.records }
+        ensures one_each { OneRecordEach self.now.subs self.now.history self.now.world }
+    {
+        self.machine.records()
+    }
+
+    /// All entries, which lead to the present state. Each packet that they put out can be encoded.
+    pub fn history(&self) -> &[Entry<A>]
+        ensures entries { result.now ≡ self.now.history }
+        ensures run { Run self.now.subs self.now.history self.now.world }
+        ensures writable { All (λ entry. AreWritable entry.outputs) self.now.history }
+    {
+        self.history.as_slice()
+    }
+
+    /// The subscriptions.
+    pub fn subs(&self) -> &Subs
+        ensures { result.now ≡ self.now.subs }
+    {
+        &self.subs
+    }
+}

@@ -1,0 +1,32 @@
+//! The call-control exchange as one machine: an event of a line in, an entry of the history out.
+#![tactic(auto)]
+
+mod advance;
+mod call;
+mod cause;
+mod channel;
+mod edit;
+mod entry;
+mod event;
+mod exchange;
+mod fault;
+mod machine;
+mod output;
+mod plan;
+mod record;
+mod stepped;
+mod table;
+mod verdict;
+mod view;
+
+pub use entry::Entry;
+pub use event::{Event, What};
+pub use exchange::Core;
+pub use fault::StepFault;
+pub use output::{Outgoing, Output, Outputs, Put};
+pub use record::{Record, Records};
+pub use stepped::Stepped;
+pub use view::{Channel, LineView};
+
+#[cfg(test)]
+mod tests;

@@ -1,0 +1,148 @@
+ghost use Rattle.std.specs.Prelude.{◌≡◌, ◌-◌, ◌<◌, [], ◌∷◌, ◌++◌, IfOk};
+
+use std::alloc::{AllocError, Allocator, Global};
+use std::marker::Model;
+use xp_packets::Packet;
+use xp_subs::LineNo;
+
+/// What is put out to a line: over its connection, or about it.
+#[derive(Debug, Drop, PartialEq)]
+pub enum Put<A: Allocator = Global> {
+    /// A packet with its logical channel identifier.
+    Send { identifier: u16, packet: Packet<A> },
+    /// The connection is to be closed.
+    Close,
+}
+
+/// Something for the connection of this number of a line.
+#[derive(Debug, Drop, PartialEq)]
+pub struct Outgoing<A: Allocator = Global> {
+    pub connection: u64,
+    pub put: Put<A>,
+}
+
+/// Something put out to a line.
+#[derive(Debug, Drop, PartialEq)]
+pub struct Output<A: Allocator = Global> {
+    pub line: LineNo,
+    pub outgoing: Outgoing<A>,
+}
+
+impl<A: Allocator + Copy> Output<A> {
+    /// An equal copy, by the same allocator.
+    pub fn copy(&self) -> Result<Output<A>, AllocError>
+        ensures { IfOk result (λ copied. copied ≡ self.now) }
+    {
+        let put = match &self.outgoing.put {
+            Put::Close => Put::Close,
+            Put::Send { identifier, packet } => {
+                let packet = packet.copy()?;
+                Put::Send {
+                    identifier: *identifier,
+                    packet,
+                }
+            }
+        };
+        Ok(Output {
+            line: self.line,
+            outgoing: Outgoing {
+                connection: self.outgoing.connection,
+                put,
+            },
+        })
+    }
+}
+
+/// What one event puts out, in order.
+#[derive(Debug, Drop)]
+pub struct Outputs<A: Allocator = Global> {
+    outputs: Vec<Output<A>, A>,
+}
+
+impl<A: Allocator> Model for Outputs<A> {
+    ghost use Rattle.std.specs.Prelude.{List};
+    ghost use Rattle.xp_core.specs.declared.output.Output.{Output};
+
+    ghost Value = { List (Output A) };
+
+    ghost view = { λ o. o.outputs.items };
+}
+
+impl<A: Allocator> Outputs<A> {
+    /// No outputs.
+    pub fn new(alloc: A) -> Outputs<A>
+        ensures { result ≡ [] }
+    {
+        Outputs {
+            outputs: Vec::new(alloc),
+        }
+    }
+
+    /// The outputs in order.
+    pub fn as_slice(&self) -> &[Output<A>]
+        ensures { result.now ≡ self.now }
+    {
+        self.outputs.as_slice()
+    }
+}
+
+impl<A: Allocator + Copy> Outputs<A> {
+    /// An equal copy, by the same allocator.
+    pub fn copy(&self) -> Result<Outputs<A>, AllocError>
+        ensures { IfOk result (λ copied. copied ≡ self.now) }
+    {
+        let source = self.outputs.as_slice();
+        let mut outputs = Vec::new(*self.outputs.allocator());
+        outputs.reserve(source.len())?;
+        for output in source {
+            outputs.push(output.copy()?)?;
+        }
+        Ok(Outputs { outputs })
+    }
+}
+
+/// Outputs in the making, with room for more: to put one more takes no memory.
+#[derive(Debug, Drop)]
+pub struct Buffer<A: Allocator = Global> {
+    outputs: Vec<Output<A>, A>,
+    room: usize,
+}
+
+impl<A: Allocator> Model for Buffer<A> {
+    ghost use Rattle.std.specs.Prelude.{◌+◌, ◌≤◌, vec_len, vec_capacity};
+    ghost use Rattle.xp_core.specs.Buffered.{Buffered};
+
+    ghost Value = { Buffered A };
+
+    ghost view = { λ b. record { outputs = b.outputs.items; room = b.room } };
+
+    ghost invariant = { λ b. vec_len b.outputs + b.room ≤ vec_capacity b.outputs };
+}
+
+impl<A: Allocator> Buffer<A> {
+    /// No outputs, and room for so many.
+    pub fn with_room(alloc: A, room: usize) -> Result<Buffer<A>, AllocError>
+        ensures { IfOk result (λ buffer. buffer ≡ record { outputs = []; room = room }) }
+    {
+        let outputs = Vec::with_capacity(alloc, room)?;
+        Ok(Buffer { outputs, room })
+    }
+
+    /// The buffer with one more output.
+    pub fn with(mut self, output: Output<A>) -> Buffer<A>
+        requires { 0 < self.room }
+        ensures { result ≡ record { outputs = self.outputs ++ output ∷ []; room = self.room - 1 } }
+    {
+        self.outputs.push_reserved(output);
+        self.room -= 1;
+        self
+    }
+
+    /// The outputs put so far.
+    pub fn into_outputs(self) -> Outputs<A>
+        ensures { result ≡ self.outputs }
+    {
+        let Buffer { outputs, room: _ } = self;
+        Outputs { outputs }
+    }
+}

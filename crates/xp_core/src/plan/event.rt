@@ -1,0 +1,121 @@
+//! What each event does, by the table of actions.
+
+ghost use Rattle.std.specs.Prelude.{◌≡◌, ◌+◌, ◌<◌, ◌^◌, IfOk, length};
+ghost use Rattle.xp_subs.specs.Tables.{line_count};
+ghost use Rattle.xp_core.specs.Plan.{move_of};
+ghost use Rattle.xp_core.specs.Step.{Acts};
+ghost use Rattle.xp_core.specs.Table.{cell, kind_of};
+ghost use Rattle.xp_core.specs.World.{line_at, state_at};
+
+use super::Plan;
+use super::answer::answer;
+use super::clearing::{confirm, fall, free, rise};
+use super::decision::decide;
+use super::request::{CallRequest, request};
+use crate::event::{Event, What};
+use crate::machine::Machine;
+use crate::output::Buffer;
+use crate::table::{Action, Kind};
+use std::alloc::{AllocError, Allocator};
+use xp_packets::Packet;
+use xp_subs::Subs;
+
+/// Works out what an event does. It fails only for memory.
+pub fn plan_of<A: Allocator + Copy>(
+    alloc: A,
+    subs: &Subs,
+    machine: &Machine<A>,
+    event: &Event<A>,
+) -> Result<Plan<A>, AllocError>
+    requires line { event.now.line < line_count subs.now }
+    requires lines { length machine.now.lines ≡ line_count subs.now }
+    requires connection { (line_at machine.now event.now.line).connection + 1 < 2 ^ 64 }
+    ensures { IfOk result (λ plan. Acts subs.now machine.now event.now.line event.now.what (cell (state_at machine.now event.now.line) (kind_of event.now.what)) plan.taken (move_of plan)) }
+{
+    let line = event.line;
+    match machine.line(line).state.action(Kind::of(&event.what)) {
+        Action::Nothing => Ok(Plan::still(Buffer::with_room(alloc, 0)?)),
+        Action::Rise => Ok(rise(machine, line, Buffer::with_room(alloc, 0)?)),
+        Action::Fall => Ok(fall(machine, line, Buffer::with_room(alloc, 1)?)),
+        Action::Free => Ok(free(machine, line, Buffer::with_room(alloc, 0)?)),
+        Action::NewCall => new_call(alloc, subs, machine, event),
+        Action::Answer => answered(alloc, subs, machine, event),
+        Action::Confirm => confirmed(alloc, subs, machine, event),
+    }
+}
+
+/// A call request is decided.
+fn new_call<A: Allocator + Copy>(
+    alloc: A,
+    subs: &Subs,
+    machine: &Machine<A>,
+    event: &Event<A>,
+) -> Result<Plan<A>, AllocError>
+    requires line { event.now.line < line_count subs.now }
+    requires lines { length machine.now.lines ≡ line_count subs.now }
+    requires kind { kind_of event.now.what ≡ Kind.Call }
+    ensures { IfOk result (λ plan. Acts subs.now machine.now event.now.line event.now.what Action.NewCall plan.taken (move_of plan)) }
+{
+    match &event.what {
+        What::Frame {
+            identifier,
+            packet: Packet::Call { d, block },
+        } => {
+            let call = CallRequest {
+                caller: event.line,
+                identifier: *identifier,
+                d: *d,
+                block,
+            };
+            let verdict = decide(subs, machine, event.line, block);
+            request(alloc, subs, machine, &call, verdict)
+        }
+        _ => unreachable!(),
+    }
+}
+
+/// An incoming call is answered.
+fn answered<A: Allocator + Copy>(
+    alloc: A,
+    subs: &Subs,
+    machine: &Machine<A>,
+    event: &Event<A>,
+) -> Result<Plan<A>, AllocError>
+    requires line { event.now.line < line_count subs.now }
+    requires kind { kind_of event.now.what ≡ Kind.Accepted }
+    ensures { IfOk result (λ plan. Acts subs.now machine.now event.now.line event.now.what Action.Answer plan.taken (move_of plan)) }
+{
+    match &event.what {
+        What::Frame {
+            packet: Packet::Accepted { d, .. },
+            ..
+        } => answer(alloc, subs, machine, event.line, *d),
+        _ => unreachable!(),
+    }
+}
+
+/// A clear request is confirmed.
+fn confirmed<A: Allocator + Copy>(
+    alloc: A,
+    subs: &Subs,
+    machine: &Machine<A>,
+    event: &Event<A>,
+) -> Result<Plan<A>, AllocError>
+    requires { kind_of event.now.what ≡ Kind.Clear }
+    ensures { IfOk result (λ plan. Acts subs.now machine.now event.now.line event.now.what Action.Confirm plan.taken (move_of plan)) }
+{
+    match &event.what {
+        What::Frame {
+            packet: Packet::Clear {
+                cause,
+                diagnostic,
+                ..
+            },
+            ..
+        } => {
+            let outputs = Buffer::with_room(alloc, 2)?;
+            Ok(confirm(machine, event.line, *cause, *diagnostic, outputs))
+        }
+        _ => unreachable!(),
+    }
+}

@@ -1,0 +1,187 @@
+//! A call request: it is put to a line as an incoming call, or cleared.
+
+ghost use Rattle.std.specs.Prelude.{◌≡◌, ◌<◌, [], Some, None, IfOk};
+ghost use Rattle.xp_subs.specs.Tables.{line_count};
+ghost use Rattle.xp_core.specs.Decision.{IsWithin};
+ghost use Rattle.xp_core.specs.Moves.{incoming as incoming_packet, requests, put_request, refused_request, standard_facilities as standard};
+ghost use Rattle.xp_core.specs.Plan.{IsPlan};
+ghost use Rattle.xp_core.specs.Step.{taken_by};
+
+use super::Plan;
+use super::lists::{one, with};
+use super::send::send_as;
+use crate::call::LiveCall;
+use crate::cause::Refusal;
+use crate::channel::{ChannelState, LogicalChannel};
+use crate::edit::Edit;
+use crate::machine::Machine;
+use crate::output::Buffer;
+use crate::record::Record;
+use crate::verdict::Verdict;
+use arrayvec::ArrayVec;
+use std::alloc::{AllocError, Allocator};
+use xp_packets::{Block, End, Octets, Packet};
+use xp_subs::{LineNo, Subs};
+
+/// Packet size 128 and window size 2 in both directions (X.25 clauses 7.2.2.1.1 and 7.2.2.1.2).
+const STANDARD_FACILITIES: [u8; 6] = [0x42, 7, 7, 0x43, 2, 2];
+
+/// The facilities of every call: the standard packet and window sizes.
+pub fn standard_facilities<A: Allocator>(alloc: A) -> Result<Octets<A>, AllocError>
+    ensures { IfOk result (λ facilities. facilities ≡ standard) }
+{
+    let octets = Vec::from_slice(alloc, &STANDARD_FACILITIES)?;
+    Ok(Octets::from_vec(octets))
+}
+
+/// A call request as it came.
+#[derive(Drop)]
+pub struct CallRequest<'a, A: Allocator> {
+    pub caller: LineNo,
+    pub identifier: u16,
+    pub d: bool,
+    pub block: &'a Block<A>,
+}
+
+/// What a call request does, by the verdict on it.
+pub fn request<A: Allocator + Copy>(
+    alloc: A,
+    subs: &Subs,
+    machine: &Machine<A>,
+    request: &CallRequest<'_, A>,
+    verdict: Verdict,
+) -> Result<Plan<A>, AllocError>
+    requires caller { request.now.caller < line_count subs.now }
+    requires called { IsWithin verdict (line_count subs.now) }
+    ensures { IfOk result (λ plan. IsPlan plan (taken_by verdict) (requests subs.now machine.now request.now.caller request.now.identifier request.now.d request.now.block.now verdict)) }
+{
+    let outputs = Buffer::with_room(alloc, 1)?;
+    match verdict {
+        Verdict::Refuse(why) => Ok(refused(machine, request, why, outputs)),
+        Verdict::Take(called) => {
+            let packet = incoming(alloc, subs, request, called)?;
+            Ok(put(machine, request, called, packet, outputs))
+        }
+    }
+}
+
+/// The incoming call packet (X.25 clause 5.2.1).
+fn incoming<A: Allocator + Copy>(
+    alloc: A,
+    subs: &Subs,
+    request: &CallRequest<'_, A>,
+    called: LineNo,
+) -> Result<Packet<A>, AllocError>
+    requires caller { request.now.caller < line_count subs.now }
+    requires called { called < line_count subs.now }
+    ensures { IfOk result (λ packet. packet ≡ incoming_packet subs.now request.now.caller called request.now.d request.now.block.now) }
+{
+    let facilities = standard_facilities(alloc)?;
+    let user = request.block.user.copy()?;
+    Ok(Packet::Call {
+        d: request.d,
+        block: Block {
+            called: subs.address_of(called).copy(),
+            calling: subs.address_of(request.caller).copy(),
+            facilities,
+            user,
+        },
+    })
+}
+
+/// The call is put to a line.
+fn put<A: Allocator>(
+    machine: &Machine<A>,
+    request: &CallRequest<'_, A>,
+    called: LineNo,
+    packet: Packet<A>,
+    outputs: Buffer<A>,
+) -> Plan<A>
+    requires empty { outputs.outputs ≡ [] }
+    requires room { 0 < outputs.room }
+    ensures { IsPlan result (Some called) (put_request machine.now request.now.caller request.now.identifier request.now.block.now called packet) }
+{
+    let number = machine.next();
+    let caller = request.caller;
+    let call = LiveCall {
+        number,
+        caller,
+        called,
+        dialled: request.block.called.copy(),
+    };
+    let waiting = LogicalChannel {
+        state: ChannelState::Waiting(number),
+        identifier: request.identifier,
+        connection: machine.line(caller).connection,
+    };
+    let ringing = LogicalChannel {
+        state: ChannelState::Ringing(number),
+        identifier: 1,
+        connection: machine.line(called).connection,
+    };
+    Plan {
+        taken: Some(called),
+        outputs: outputs.with(send_as(machine, called, 1, packet)),
+        edits: with(
+            with(
+                with(one(Edit::Number), Edit::Begin(call)),
+                Edit::Line {
+                    line: caller,
+                    becomes: waiting,
+                },
+            ),
+            Edit::Line {
+                line: called,
+                becomes: ringing,
+            },
+        ),
+        records: ArrayVec::new(),
+    }
+}
+
+/// The call is cleared at once.
+fn refused<A: Allocator>(
+    machine: &Machine<A>,
+    request: &CallRequest<'_, A>,
+    why: Refusal,
+    outputs: Buffer<A>,
+) -> Plan<A>
+    requires empty { outputs.outputs ≡ [] }
+    requires room { 0 < outputs.room }
+    ensures { IsPlan result None (refused_request machine.now request.now.caller request.now.identifier request.now.block.now why) }
+{
+    let caller = request.caller;
+    let identifier = request.identifier;
+    let cleared = LogicalChannel {
+        state: ChannelState::Cleared,
+        identifier,
+        connection: machine.line(caller).connection,
+    };
+    let indication = Packet::Clear {
+        cause: why.cause,
+        diagnostic: Some(why.diagnostic),
+        block: None,
+    };
+    Plan {
+        taken: None,
+        outputs: outputs.with(send_as(machine, caller, identifier, indication)),
+        edits: with(
+            one(Edit::Number),
+            Edit::Line {
+                line: caller,
+                becomes: cleared,
+            },
+        ),
+        records: one(Record {
+            number: machine.next(),
+            caller,
+            called: None,
+            dialled: request.block.called.copy(),
+            payer: End::Caller,
+            from_caller: 0,
+            from_called: 0,
+            cause: why.cause,
+            diagnostic: why.diagnostic,
+        }),
+    }
+}

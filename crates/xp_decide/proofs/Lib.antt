@@ -1,0 +1,11 @@
+pub mod Lines
+pub mod Accepted
+pub mod Last
+pub mod Hops
+pub mod Visited
+pub mod Opened
+pub mod Answered
+pub mod Joined
+pub mod Refused
+pub mod Determined
+pub mod Once

@@ -1,0 +1,82 @@
+-- What becomes of a call at a place that is known.
+use Rattle.std.proofs.Common.{◌≡◌, ℕ, List, Option, None, Some, refl, sym, ◌∙◌, ap, option_map, subst}
+use Rattle.xp_facilities.specs.declared.redirection.Reason.TheVariants.{Busy, OutOfOrder, Systematic}
+use Rattle.xp_groups.specs.declared.admission.Admission.{Admission}
+use Rattle.xp_groups.specs.declared.refusal.Refusal.{Refusal}
+use Rattle.xp_groups.specs.declared.refusal.TheConstants.Refusal.{OUT_OF_ORDER, NUMBER_BUSY}
+use Rattle.xp_hunt.specs.Picks.{IsIdleIn, AreOff, HasNoneIdle, HasBusy}
+use Rattle.xp_hunt.specs.declared.lines.LineState.{LineState}
+use Rattle.xp_subs.specs.Tables.{Tables, station_at, target_of}
+use Rattle.xp_subs.specs.declared.station.Station.{Station}
+use Rattle.xp_subs.specs.declared.target.Target.{Target}
+use Rattle.xp_decide.proofs.Last.{declining_keeps, idle_keeps, off_keeps, busy_keeps, is_last}
+use Rattle.xp_decide.specs.Accepts.{Accepts, Declines}
+use Rattle.xp_decide.specs.Routes.{Place, lines_of, place_of, place_at, alternate, left_if, left_or, Redirects, LeavesAt, Visits, RefusesAt}
+use Rattle.xp_decide.specs.Routes as routes
+use Rattle.xp_decide.specs.declared.acceptance.Wanted.{Wanted}
+use Rattle.xp_decide.specs.declared.visit.Visit.{Visit}
+use Rattle.xp_decide.specs.declared.visit.Visit.TheVariants as visits
+
+-- the place of a target, by its station
+abbrev pub placed : Station → Target → Place
+placed station target = record { station = station; lines = lines_of station target.line }
+
+pub here : (tables : Tables) (address : List ℕ) (target : Target) (station : Station)
+    → Some target ≡ target_of tables address → station ≡ station_at tables target.station
+    → place_at tables address ≡ Some (placed station target)
+here tables address target station found same =
+    ap (option_map (place_of tables)) (sym found) ∙ ap (λ (s : Station). Some (placed s target)) (sym same)
+
+module _ (tables : Tables) (states : ℕ → LineState) (wanted : Wanted) (address : List ℕ) (place : Place) (known : place_at tables address ≡ Some place) where
+  pub leaves : (to : List ℕ) → alternate place.station Systematic ≡ Some to
+      → Visits tables states wanted address (visits.Left Systematic to)
+  leaves to some = record { place = place; known = known; redirects = routes.systematic refl some }
+
+  pub declines : (refusal : Refusal) → alternate place.station Systematic ≡ None → Declines wanted place.station refusal
+      → Visits tables states wanted address (visits.Refused refusal)
+  declines refusal none declined = (
+    is_last tables states wanted address place known (declining_keeps states wanted place refusal none declined),
+    routes.refused place known (routes.declined declined),
+  )
+
+  pub takes : (line : ℕ) (admission : Admission) → alternate place.station Systematic ≡ None
+      → Accepts wanted place.station admission → IsIdleIn states place.lines line
+      → Visits tables states wanted address (visits.Taken line admission)
+  takes line admission none accepts idle = (
+    is_last tables states wanted address place known (idle_keeps states wanted place line none idle),
+    record { place = place; known = known; accepts = accepts; idle = idle },
+  )
+
+  off_by : (admission : Admission) → alternate place.station Systematic ≡ None
+      → Accepts wanted place.station admission → AreOff states place.lines
+      → (found : Option (List ℕ)) → alternate place.station OutOfOrder ≡ found
+      → Visits tables states wanted address (left_if OutOfOrder OUT_OF_ORDER found)
+  off_by admission none accepts off (Some to) some =
+      record { place = place; known = known; redirects = routes.out_of_order admission refl none accepts off some }
+  off_by admission none accepts off None no_alternate = (
+    is_last tables states wanted address place known (off_keeps states wanted place none off no_alternate),
+    routes.refused place known (routes.all_off admission accepts off refl),
+  )
+
+  pub finds_off : (admission : Admission) (visit : Visit) → alternate place.station Systematic ≡ None
+      → Accepts wanted place.station admission → AreOff states place.lines
+      → visit ≡ left_or place.station OutOfOrder OUT_OF_ORDER → Visits tables states wanted address visit
+  finds_off admission visit none accepts off is =
+      subst (Visits tables states wanted address) (sym is) (off_by admission none accepts off (alternate place.station OutOfOrder) refl)
+
+  busy_by : (admission : Admission) → alternate place.station Systematic ≡ None
+      → Accepts wanted place.station admission → HasNoneIdle states place.lines → HasBusy states place.lines
+      → (found : Option (List ℕ)) → alternate place.station Busy ≡ found
+      → Visits tables states wanted address (left_if Busy NUMBER_BUSY found)
+  busy_by admission none accepts none_idle has_busy (Some to) some =
+      record { place = place; known = known; redirects = routes.busy admission refl none accepts none_idle has_busy some }
+  busy_by admission none accepts none_idle has_busy None no_alternate = (
+    is_last tables states wanted address place known (busy_keeps states wanted place none has_busy no_alternate),
+    routes.refused place known (routes.none_idle admission accepts none_idle has_busy refl),
+  )
+
+  pub finds_busy : (admission : Admission) (visit : Visit) → alternate place.station Systematic ≡ None
+      → Accepts wanted place.station admission → HasNoneIdle states place.lines → HasBusy states place.lines
+      → visit ≡ left_or place.station Busy NUMBER_BUSY → Visits tables states wanted address visit
+  finds_busy admission visit none accepts none_idle has_busy is =
+      subst (Visits tables states wanted address) (sym is) (busy_by admission none accepts none_idle has_busy (alternate place.station Busy) refl)

@@ -1,0 +1,28 @@
+-- What becomes of a call request. Which idle line is taken is left open.
+use Rattle.std.specs.Prelude.{◌≡◌, ℕ, Result, Ok, Err}
+use Rattle.xp_groups.specs.declared.refusal.Refusal.{Refusal}
+use Rattle.xp_hunt.specs.declared.lines.LineState.{LineState}
+use Rattle.xp_packets.specs.declared.block.Block.{Block}
+use Rattle.xp_subs.specs.Tables.{Tables}
+use Rattle.xp_decide.specs.Asks.{Asks, MayNotAsk, wanted_of}
+use Rattle.xp_decide.specs.Rings.{ring_of}
+use Rattle.xp_decide.specs.Routes.{Reaches}
+use Rattle.xp_decide.specs.Seen.{seen_by}
+use Rattle.xp_decide.specs.declared.request.Request.{Request}
+use Rattle.xp_decide.specs.declared.route.Reached.{Reached}
+use Rattle.xp_decide.specs.declared.verdict.Verdict.{Verdict}
+use Rattle.xp_decide.specs.declared.verdict.Verdict.TheVariants.{Take, Refuse}
+
+module _ {A : Type 0} where
+  pub data Decided (tables : Tables) (states : ℕ → LineState) (from : ℕ) (block : Block A) (verdict : Verdict A) : Type 0 where
+    -- what is asked is no request that the caller may make
+    not_asked : (refusal : Refusal) → MayNotAsk tables from block refusal
+        → verdict ≡ Refuse refusal → Decided tables states from block verdict
+    -- the call comes to no line
+    not_reached : (request : Request A) (refusal : Refusal) → Asks tables from block request
+        → Reaches tables (seen_by from states) (wanted_of request) block.called (Err refusal)
+        → verdict ≡ Refuse refusal → Decided tables states from block verdict
+    -- a line takes it
+    reached : (request : Request A) (end : Reached) → Asks tables from block request
+        → Reaches tables (seen_by from states) (wanted_of request) block.called (Ok end)
+        → verdict ≡ Take (ring_of request.asked end block.called) → Decided tables states from block verdict

@@ -1,0 +1,76 @@
+-- What follows from the decision of a call request.
+use Rattle.std.specs.Prelude.{◌≡◌, ◌≢◌, ℕ, ◌<◌, List, Option, Some, ◌⊎◌}
+use Rattle.xp_groups.specs.MayJoin.{MayJoin}
+use Rattle.xp_groups.specs.declared.refusal.Refusal.{Refusal}
+use Rattle.xp_groups.specs.declared.refusal.TheConstants.Refusal.{OUT_OF_ORDER, NUMBER_BUSY}
+use Rattle.xp_hunt.specs.Picks.{HasNoneIdle}
+use Rattle.xp_hunt.specs.declared.lines.LineState.{LineState}
+use Rattle.xp_hunt.specs.declared.lines.LineState.TheVariants.{Idle}
+use Rattle.xp_packets.specs.declared.block.Block.{Block}
+use Rattle.xp_subs.specs.Sound.{IsSound}
+use Rattle.xp_subs.specs.Tables.{Tables, line_count, station_at, station_of}
+use Rattle.xp_decide.specs.Asks.{station_of_line, Asks, wanted_of}
+use Rattle.xp_decide.specs.Decided.{Decided}
+use Rattle.xp_decide.specs.Routes.{Place, place_at, Hop, Follows}
+use Rattle.xp_decide.specs.Seen.{seen_by}
+use Rattle.xp_decide.specs.declared.request.Request.{Request}
+use Rattle.xp_decide.specs.declared.verdict.Ring.{Ring}
+use Rattle.xp_decide.specs.declared.verdict.Verdict.{Verdict}
+use Rattle.xp_decide.specs.declared.verdict.Verdict.TheVariants.{Take, Refuse}
+
+-- the station of the line that rings may be joined with the caller's
+abbrev pub TakenMayJoin : Type 0 → Type 0
+TakenMayJoin A = (tables : Tables) (states : ℕ → LineState) (from : ℕ) (block : Block A) (ring : Ring A)
+    → IsSound tables → Decided tables states from block (Take ring)
+    → MayJoin (station_of_line tables from) (station_of_line tables ring.line)
+
+-- a line in service with no call, which is not the caller's
+pub record IsFree (tables : Tables) (states : ℕ → LineState) (from line : ℕ) : Type 0 where
+  pub known : line < line_count tables
+  pub idle : states line ≡ Idle
+  pub others : line ≢ from
+
+-- the line that rings is free
+abbrev pub TakenIsFree : Type 0 → Type 0
+TakenIsFree A =
+    (tables : Tables) (states : ℕ → LineState) (from : ℕ) (block : Block A) (ring : Ring A)
+    → IsSound tables → Decided tables states from block (Take ring)
+    → IsFree tables states from ring.line
+
+-- the refusals for want of a line
+abbrev pub IsWantOfLine : Refusal → Type 0
+IsWantOfLine refusal = (refusal ≡ OUT_OF_ORDER) ⊎ (refusal ≡ NUMBER_BUSY)
+
+-- the call went along the redirections to an address none of whose lines is idle
+pub record EndsWithoutLine {A : Type 0} (tables : Tables) (states : ℕ → LineState) (from : ℕ) (block : Block A) : Type 0 where
+  pub request : Request A
+  pub asked : Asks tables from block request
+  pub hops : List Hop
+  pub last : List ℕ
+  pub follows : Follows tables (seen_by from states) (wanted_of request) block.called hops last
+  pub place : Place
+  pub known : place_at tables last ≡ Some place
+  pub none_idle : HasNoneIdle (seen_by from states) place.lines
+
+abbrev pub RefusesWithoutIdleLine : Type 0 → Type 0
+RefusesWithoutIdleLine A = (tables : Tables) (states : ℕ → LineState) (from : ℕ) (block : Block A) (refusal : Refusal)
+    → Decided tables states from block (Refuse refusal) → IsWantOfLine refusal
+    → EndsWithoutLine tables states from block
+
+-- the same answer, but for the line that rings
+pub record IsSameRing {A : Type 0} (one other : Ring A) : Type 0 where
+  pub told : one.told ≡ other.told
+  pub asked : one.asked ≡ other.asked
+  pub reason : one.reason ≡ other.reason
+
+abbrev pub IsSameButLine : {A : Type 0} → Verdict A → Verdict A → Type 0
+IsSameButLine (Take one) (Take other) = IsSameRing one other
+IsSameButLine (Refuse one) (Refuse other) = one ≡ other
+IsSameButLine (Take one) (Refuse other) = ⊥
+IsSameButLine (Refuse one) (Take other) = ⊥
+
+-- a call request has one answer, but for the line
+abbrev pub IsDeterminedButLine : Type 0 → Type 0
+IsDeterminedButLine A =
+    (tables : Tables) (states : ℕ → LineState) (from : ℕ) (block : Block A) (one other : Verdict A)
+    → Decided tables states from block one → Decided tables states from block other → IsSameButLine one other

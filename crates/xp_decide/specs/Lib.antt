@@ -1,0 +1,7 @@
+pub mod Accepts
+pub mod Seen
+pub mod Routes
+pub mod Asks
+pub mod Rings
+pub mod Decided
+pub mod Laws

@@ -1,0 +1,23 @@
+ghost use Rattle.xp_decide.specs.Laws.{TakenMayJoin, TakenIsFree, RefusesWithoutIdleLine, IsDeterminedButLine};
+
+use std::alloc::Allocator;
+
+/// Closed user groups let the station of the line that rings be joined with the caller's, redirected or not.
+pub fn taken_stations_may_join<A: Allocator>()
+    ensures { TakenMayJoin A }
+{}
+
+/// A call is refused for want of a line only where no line of the address at which it ends is idle.
+pub fn refuses_without_idle_line_alone<A: Allocator>()
+    ensures { RefusesWithoutIdleLine A }
+{}
+
+/// The line that rings was idle, and is not the caller's.
+pub fn taken_line_is_free<A: Allocator>()
+    ensures { TakenIsFree A }
+{}
+
+/// A call request has one answer, but for which idle line rings.
+pub fn decision_is_determined_but_the_line<A: Allocator>()
+    ensures { IsDeterminedButLine A }
+{}

@@ -1,0 +1,19 @@
+//! What becomes of a call request (X.25 clauses 4.1 and 6): a refusal, or the line that rings and what it is told.
+#![tactic(auto)]
+
+mod acceptance;
+mod decision;
+mod laws;
+mod request;
+mod ring;
+mod route;
+mod seen;
+mod verdict;
+mod visit;
+
+pub use decision::decide;
+pub use laws::{
+    decision_is_determined_but_the_line, refuses_without_idle_line_alone, taken_line_is_free,
+    taken_stations_may_join,
+};
+pub use verdict::{Ring, Verdict};

@@ -1,0 +1,53 @@
+ghost use Rattle.xp_decide.specs.Routes.{Reaches};
+
+use crate::acceptance::Wanted;
+use crate::visit::{Visit, call_at};
+use xp_facilities::Reason;
+use xp_groups::{Admission, Refusal};
+use xp_hunt::Lines;
+use xp_packets::Digits;
+use xp_subs::{LineNo, Subs};
+
+// How many addresses a call may come to: the dialled one and four redirections.
+const ADDRESSES: u8 = 5;
+
+// Where a call ends.
+#[derive(Clone, Copy)]
+pub struct Reached {
+    // An idle line of the last address.
+    pub line: LineNo,
+    // How the last station takes it.
+    pub admission: Admission,
+    // Why it was first redirected, if it was.
+    pub reason: Option<Reason>,
+}
+
+// Goes from the dialled address along the redirections to a line, or to a refusal.
+pub fn reach<L: Lines>(
+    subs: &Subs,
+    lines: &L,
+    wanted: &Wanted,
+    dialled: &Digits,
+) -> Result<Reached, Refusal>
+    ensures { Reaches subs.now (L.states lines.now) wanted.now dialled.now result }
+{
+    let mut address = dialled.copy();
+    let mut reason = None;
+    for _hops in 0..ADDRESSES {
+        match call_at(subs, lines, wanted, &address) {
+            Visit::Left(why, to) => {
+                reason = reason.or(Some(why));
+                address = to;
+            }
+            Visit::Refused(refusal) => return Err(refusal),
+            Visit::Taken(line, admission) => {
+                return Ok(Reached {
+                    line,
+                    admission,
+                    reason,
+                });
+            }
+        }
+    }
+    Err(Refusal::TOO_MANY_REDIRECTIONS)
+}

@@ -1,0 +1,5 @@
+pub mod Asking
+pub mod Bounds
+pub mod OneReading
+pub mod Reading
+pub mod Telling

@@ -1,0 +1,5 @@
+pub mod Asked
+pub mod Items
+pub mod Limits
+pub mod Octets
+pub mod Told

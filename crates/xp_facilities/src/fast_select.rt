@@ -1,0 +1,10 @@
+/// Fast select (X.25 clause 6.16).
+#[derive(Clone, Copy, Debug, Default, PartialEq, Eq)]
+pub enum FastSelect {
+    #[default]
+    No,
+    /// The called DTE may accept or clear.
+    Unrestricted,
+    /// The called DTE may only clear.
+    Restricted,
+}

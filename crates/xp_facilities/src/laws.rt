@@ -1,0 +1,18 @@
+//! Laws of the definitions that `parse` and `write` are proved against.
+ghost use Rattle.std.specs.Prelude.{ℕ, List};
+ghost use Rattle.xp_facilities.specs.Asked.{HasOneReading};
+ghost use Rattle.xp_facilities.specs.Told.{Tells, IsToldField};
+ghost use Rattle.xp_facilities.specs.declared.told.Told.{Told};
+
+use std::alloc::Allocator;
+
+/// Every facility field means one thing or is faulty one way, never both.
+pub fn every_field_has_one_reading<A: Allocator>()
+    ensures { (field : List ℕ) → HasOneReading A field }
+{}
+
+/// A field that tells values is read as their items, whose codes ascend, and has at most 119 octets:
+/// 95, and 2 for a modified address, 10 for segment counts and 12 for a redirection.
+pub fn told_fields_are_read_back<A: Allocator>()
+    ensures { (told : Told A) (field : List ℕ) (tells : Tells told field) → IsToldField told field tells }
+{}

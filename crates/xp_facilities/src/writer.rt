@@ -1,0 +1,353 @@
+ghost use Rattle.std.specs.Prelude.{◌≡◌, ◌+◌, ◌*◌, ◌/◌, ◌%◌, ◌<◌, ◌≤◌, ◌++◌, ◌∷◌, [], length, None, IfOk, IfSome, OnOk, ◌⊎◌};
+ghost use Rattle.std.specs.List.{list_any, flat_map};
+ghost use Rattle.xp_facilities.specs.Asked.{is_marker};
+ghost use Rattle.xp_facilities.specs.Items.{octets_of, octets_of_all};
+ghost use Rattle.xp_facilities.specs.Octets.{reason_octet};
+ghost use Rattle.xp_facilities.specs.Told.{Writes, decimal_octet, two_digits, four_digits, eight_digits, packed, options, closed_index, open_index, short, long, throughput, modified, pair, counts, redirection, row, table, index_fits, sizes_fit, counts_fit, is_in_range, marked_octets, most_octets};
+
+use crate::codes;
+use crate::fast_select::FastSelect;
+use crate::fault::FacilityFault;
+use crate::item::Items;
+use crate::limits::{
+    LARGEST_COUNT, LARGEST_INDEX, LARGEST_SIZE, LARGEST_WINDOW, MOST_DTE_OCTETS, SMALLEST_SIZE,
+};
+use crate::pair::Pair;
+use crate::redirection::{Reason, Redirected};
+use crate::segment_counts::SegmentCounts;
+use crate::selection::Selection;
+use crate::told::Told;
+use arrayvec::ArrayVec;
+use std::alloc::{AllocError, Allocator};
+use xp_packets::Octets;
+
+/// The facility field that tells these values (X.25 clauses 6 and 7.2): items in ascending order of
+/// their codes, then the facilities between DTEs behind their marker.
+///
+/// `Length` where the facilities between DTEs are no items or have a marker, else `Param` where a
+/// value is out of its range, else `Memory` only where memory is wanted.
+pub fn write<A: Allocator>(alloc: A, told: &Told<A>) -> Result<Octets<A>, FacilityFault>
+    ensures value { Writes told.now result }
+    ensures most { IfOk result (λ field. length field ≤ most_octets told.now) }
+
+    // No packet of an exchange tells a redirection and one of the two others.
+    ensures exchange { (told.now.redirected ≡ None) ⊎ ((told.now.modified ≡ None) × (told.now.segments ≡ None))
+        → IfOk result (λ field. length field ≤ 107) }
+{
+    let Some(carried) = Items::of(told.dte.as_slice()) else {
+        return Err(FacilityFault::Length);
+    };
+    if has_marker(&carried) {
+        return Err(FacilityFault::Length);
+    }
+    if !is_in_range(told) {
+        return Err(FacilityFault::Param);
+    }
+    let Ok(field) = field(alloc, told) else {
+        return Err(FacilityFault::Memory);
+    };
+    Ok(Octets::from_vec(field))
+}
+
+fn has_marker(items: &Items<'_>) -> bool
+    ensures { result ≡ list_any is_marker items.now }
+{
+    let mut left = items.again();
+    while let Some(item) = left.next() {
+        if item.code() == codes::MARKER {
+            return true;
+        }
+    }
+    false
+}
+
+#[tactic(auto, unfolding(crate::specs::Told::is_in_range))]
+fn is_in_range<A: Allocator>(told: &Told<A>) -> bool
+    ensures { result ≡ is_in_range told.now }
+{
+    index_fits(told.selection)
+        && sizes_fit(told.packet, SMALLEST_SIZE, LARGEST_SIZE)
+        && sizes_fit(told.window, 1, LARGEST_WINDOW)
+        && counts_fit(told.segments)
+        && told.dte.len() <= MOST_DTE_OCTETS
+}
+
+#[tactic(auto, unfolding(crate::specs::Told::index_fits))]
+fn index_fits(selection: Selection) -> bool
+    ensures { result ≡ index_fits selection }
+{
+    match selection {
+        Selection::Nothing => true,
+        Selection::Closed(index) | Selection::AlsoOpen(index) => index <= LARGEST_INDEX,
+    }
+}
+
+#[tactic(auto, unfolding(crate::specs::Told::sizes_fit))]
+fn sizes_fit(sizes: Option<Pair>, least: u8, most: u8) -> bool
+    ensures { result ≡ sizes_fit least most sizes }
+{
+    match sizes {
+        None => true,
+        Some(sizes) => {
+            least <= sizes.from_called
+                && sizes.from_called <= most
+                && least <= sizes.from_calling
+                && sizes.from_calling <= most
+        }
+    }
+}
+
+#[tactic(auto, unfolding(crate::specs::Told::counts_fit))]
+fn counts_fit(segments: Option<SegmentCounts>) -> bool
+    ensures { result ≡ counts_fit segments }
+{
+    match segments {
+        None => true,
+        Some(segments) => segments.sent <= LARGEST_COUNT && segments.received <= LARGEST_COUNT,
+    }
+}
+
+/// The octets of all items.
+fn field<A: Allocator>(alloc: A, told: &Told<A>) -> Result<Vec<u8, A>, AllocError>
+    ensures value { IfOk result (λ field. field.items
+        ≡ octets_of_all (flat_map (λ entry. row entry.0 entry.1) (table told.now)) ++ marked_octets told.now.dte) }
+    ensures digits { OnOk result (IfSome told.now.redirected (λ r. length r.dialled ≤ 15)) }
+{
+    let mut field = Vec::new(alloc);
+    push(
+        &mut field,
+        codes::FAST_SELECT,
+        options(told.fast, told.reverse),
+    )?;
+    push(&mut field, codes::THROUGHPUT, throughput(told.throughput))?;
+    push(
+        &mut field,
+        codes::CLOSED,
+        short(closed_index(told.selection)),
+    )?;
+    push(&mut field, codes::MODIFIED, modified(told.modified))?;
+    push(
+        &mut field,
+        codes::ALSO_OPEN,
+        short(open_index(told.selection)),
+    )?;
+    push(&mut field, codes::PACKET_SIZE, pair(told.packet))?;
+    push(&mut field, codes::WINDOW_SIZE, pair(told.window))?;
+    push(
+        &mut field,
+        codes::CLOSED_LONG,
+        long(closed_index(told.selection)),
+    )?;
+    push(
+        &mut field,
+        codes::ALSO_OPEN_LONG,
+        long(open_index(told.selection)),
+    )?;
+    push(&mut field, codes::SEGMENT_COUNT, counts(told.segments))?;
+    push_redirection(&mut field, &told.redirected)?;
+    push_dte(&mut field, told.dte.as_slice())?;
+    Ok(field)
+}
+
+/// Adds an item, where there are parameters.
+#[tactic(auto, unfolding(crate::specs::Told::row))]
+fn push<A: Allocator, const N: usize>(
+    field: &mut Vec<u8, A>,
+    code: u8,
+    parameters: Option<[u8; N]>,
+) -> Result<(), AllocError>
+    requires { 192 ≤ code → N < 256 }
+    ensures { OnOk result (field.new.items ≡ field.old.items ++ octets_of_all (row code parameters.entry)) }
+{
+    match parameters {
+        Some(parameters) => push_item(field, code, &parameters),
+        None => Ok(()),
+    }
+}
+
+/// Adds an item.
+fn push_item<A: Allocator>(
+    field: &mut Vec<u8, A>,
+    code: u8,
+    parameters: &[u8],
+) -> Result<(), AllocError>
+    requires { 192 ≤ code → length parameters.now < 256 }
+    ensures { OnOk result (field.new.items
+        ≡ field.old.items ++ octets_of (record { code = code; parameters = parameters.now })) }
+{
+    if code < codes::FIRST_COUNTED {
+        field.extend_from_slice(&[code])?;
+    } else {
+        field.extend_from_slice(&[code, parameters.len() as u8])?;
+    }
+    field.extend_from_slice(parameters)
+}
+
+/// Adds the call redirection notification, where there is one.
+#[tactic(auto, unfolding(crate::specs::Told::row, crate::specs::Told::redirection))]
+fn push_redirection<A: Allocator>(
+    field: &mut Vec<u8, A>,
+    redirected: &Option<Redirected>,
+) -> Result<(), AllocError>
+    ensures value { OnOk result (field.new.items ≡ field.old.items ++ octets_of_all (row 195 (redirection redirected.now))) }
+    ensures digits { OnOk result (IfSome redirected.now (λ r. length r.dialled ≤ 15)) }
+{
+    match redirected {
+        Some(redirected) => {
+            let parameters = redirection(redirected);
+            push_item(field, codes::REDIRECTED, parameters.as_slice())
+        }
+        None => Ok(()),
+    }
+}
+
+/// Adds the facilities between DTEs behind their marker, where there are any.
+#[tactic(auto, unfolding(crate::specs::Told::marked_octets))]
+fn push_dte<A: Allocator>(field: &mut Vec<u8, A>, dte: &[u8]) -> Result<(), AllocError>
+    ensures { OnOk result (field.new.items ≡ field.old.items ++ marked_octets dte.now) }
+{
+    if dte.is_empty() {
+        return Ok(());
+    }
+    field.extend_from_slice(&[codes::MARKER, codes::DTE_FACILITIES])?;
+    field.extend_from_slice(dte)
+}
+
+/// Fast select in bits 8 and 7, reverse charging in bit 1.
+#[tactic(auto, unfolding(crate::specs::Told::options, crate::specs::Told::fast_bits))]
+fn options(fast: FastSelect, reverse: bool) -> Option<[u8; 1]>
+    ensures { result ≡ options fast reverse }
+{
+    let bits = match fast {
+        FastSelect::No if !reverse => return None,
+        FastSelect::No => 0x00,
+        FastSelect::Unrestricted => 0x80,
+        FastSelect::Restricted => 0xc0,
+    };
+    Some([bits + u8::from(reverse)])
+}
+
+#[tactic(auto, unfolding(crate::specs::Told::closed_index))]
+fn closed_index(selection: Selection) -> Option<u16>
+    ensures { result ≡ closed_index selection }
+{
+    match selection {
+        Selection::Closed(index) => Some(index),
+        Selection::Nothing | Selection::AlsoOpen(_) => None,
+    }
+}
+
+#[tactic(auto, unfolding(crate::specs::Told::open_index))]
+fn open_index(selection: Selection) -> Option<u16>
+    ensures { result ≡ open_index selection }
+{
+    match selection {
+        Selection::AlsoOpen(index) => Some(index),
+        Selection::Nothing | Selection::Closed(_) => None,
+    }
+}
+
+/// An index of at most two digits.
+#[tactic(auto, unfolding(crate::specs::Told::short, crate::specs::Told::two_digits))]
+fn short(index: Option<u16>) -> Option<[u8; 1]>
+    ensures { result ≡ short index }
+{
+    match index {
+        Some(index) if index < 100 => Some([decimal_octet(u32::from(index % 100))]),
+        _ => None,
+    }
+}
+
+/// An index of more than two digits.
+#[tactic(auto, unfolding(crate::specs::Told::long, crate::specs::Told::four_digits))]
+fn long(index: Option<u16>) -> Option<[u8; 2]>
+    ensures { result ≡ long index }
+{
+    match index {
+        Some(index) if index >= 100 => Some([
+            decimal_octet(u32::from(index / 100 % 100)),
+            decimal_octet(u32::from(index % 100)),
+        ]),
+        _ => None,
+    }
+}
+
+#[tactic(auto, unfolding(crate::specs::Told::throughput))]
+fn throughput(class: Option<u8>) -> Option<[u8; 1]>
+    ensures { result ≡ throughput class }
+{
+    match class {
+        Some(class) => Some([class]),
+        None => None,
+    }
+}
+
+#[tactic(auto, unfolding(crate::specs::Told::modified))]
+fn modified(reason: Option<Reason>) -> Option<[u8; 1]>
+    ensures { result ≡ modified reason }
+{
+    match reason {
+        Some(reason) => Some([reason.octet()]),
+        None => None,
+    }
+}
+
+#[tactic(auto, unfolding(crate::specs::Told::pair))]
+fn pair(sizes: Option<Pair>) -> Option<[u8; 2]>
+    ensures { result ≡ pair sizes }
+{
+    match sizes {
+        Some(sizes) => Some([sizes.from_called, sizes.from_calling]),
+        None => None,
+    }
+}
+
+/// Eight digits of what was sent to the DTE, and eight of what was received from it.
+#[tactic(auto, unfolding(crate::specs::Told::counts, crate::specs::Told::eight_digits))]
+fn counts(segments: Option<SegmentCounts>) -> Option<[u8; 8]>
+    ensures { result ≡ counts segments }
+{
+    match segments {
+        Some(SegmentCounts { sent, received }) => Some([
+            decimal_octet(sent / 1_000_000 % 100),
+            decimal_octet(sent / 10_000 % 100),
+            decimal_octet(sent / 100 % 100),
+            decimal_octet(sent % 100),
+            decimal_octet(received / 1_000_000 % 100),
+            decimal_octet(received / 10_000 % 100),
+            decimal_octet(received / 100 % 100),
+            decimal_octet(received % 100),
+        ]),
+        None => None,
+    }
+}
+
+/// Two decimal digits, in half-octets.
+#[tactic(auto, unfolding(crate::specs::Told::decimal_octet))]
+fn decimal_octet(number: u32) -> u8
+    requires { number < 100 }
+    ensures { result ≡ decimal_octet number }
+{
+    (16 * (number / 10) + number % 10) as u8
+}
+
+/// The reason, the number of digits, and the digits in half-octets, filled with zero.
+fn redirection(redirected: &Redirected) -> ArrayVec<u8, 10>
+    ensures value { result.items
+        ≡ reason_octet redirected.now.reason ∷ length redirected.now.dialled ∷ packed redirected.now.dialled }
+    ensures most { length redirected.now.dialled ≤ 15 }
+{
+    let digits = redirected.dialled.as_slice();
+    let mut parameters = ArrayVec::new();
+    parameters.push(redirected.reason.octet());
+    parameters.push(digits.len() as u8);
+    let mut rest = digits;
+    while let [high, low, others @ ..] = rest {
+        parameters.push(16 * *high + *low);
+        rest = others;
+    }
+    if let [last] = rest {
+        parameters.push(16 * *last);
+    }
+    parameters
+}

@@ -1,0 +1,180 @@
+-- Reading item by item.
+use Rattle.std.specs.List.{list_all}
+use Rattle.std.proofs.lemmas.List.Folds.{list_all-map}
+use Rattle.std.proofs.Common.{◌≡◌, Bool, true, cond, IsTrue, All, inl, inr, ℕ, ◌+◌, ◌<◌, List, [], ◌∷◌, ◌++◌, Option, None, Some, option_and_then, option_map, Result, Ok, Err, map, suc, take, drop, length, get_or, refl, sym, ap, subst, ◌∙◌, add-one}
+use Rattle.std.proofs.lemmas.List.{take_more, map-append}
+use Rattle.std.proofs.Math.Seq.{split_at}
+use Rattle.toml.specs.declared.value.Value.{Value}
+use Rattle.std.proofs.lemmas.Bool.{cases_Bool}
+use Rattle.std.proofs.lemmas.List.Elements.{All-nil, All-cons}
+use Rattle.toml.specs.Data.{Data, Members, as_str, as_table, get_member}
+use Rattle.toml.specs.View.{view, items_view}
+use Rattle.xp_file.specs.declared.fault.SubsFault.{SubsFault}
+use Rattle.xp_file.specs.Reading.{◌>>=◌, each, tables_among, required, line_name_in, ok_at}
+use Rattle.xp_file.specs.declared.fault.SubsFault.TheVariants as faults
+use Rattle.xp_file.specs.declared.key.Key.TheVariants as keys
+use Rattle.xp_file.specs.Keys.{key_text}
+use Rattle.xp_file.specs.Name.{is_line_name}
+
+-- a list, cut at an index
+pub cut : {X : Type 0} (xs : List X) (i : ℕ) (x : X) → i < length xs → x ≡ get_or xs i x → xs ≡ take i xs ++ x ∷ drop (i + 1) xs
+cut xs i x within here = split_at xs i x within ∙ ap (λ y. take i xs ++ y ∷ drop (suc i) xs) (sym here) ∙ rw add-one refl
+
+pub front_more : {X : Type 0} (xs : List X) (i : ℕ) (x : X) → i < length xs → x ≡ get_or xs i x → take (i + 1) xs ≡ take i xs ++ x ∷ []
+front_more xs i x within here = take_more xs i x within ∙ ap (λ y. take i xs ++ y ∷ []) (sym here)
+
+module _ {A : Type 0} where
+  push_step : (r : Result A SubsFault) (rs more : Result (List A) SubsFault) (xs : List A) (x : A)
+      → (r >>= λ y. rs >>= λ ys. Ok (y ∷ ys)) ≡ Ok xs → ((ys : List A) → rs ≡ Ok ys → more ≡ Ok (ys ++ x ∷ []))
+      → (r >>= λ y. more >>= λ ys. Ok (y ∷ ys)) ≡ Ok (xs ++ x ∷ [])
+  push_step (Err fault) rs more xs x before next = let never : Err fault ≡ Ok xs = before in cc
+  push_step (Ok y) (Err fault) more xs x before next = let never : Err fault ≡ Ok xs = before in cc
+  push_step (Ok y) (Ok ys) more xs x before next =
+      let all : Ok (y ∷ ys) ≡ Ok xs = before in
+      let same_list : y ∷ ys ≡ xs = cc in
+      rw (next ys refl, ← same_list)
+
+  refused_step : (r : Result A SubsFault) (rs more : Result (List A) SubsFault) (xs : List A) (fault : SubsFault)
+      → (r >>= λ y. rs >>= λ ys. Ok (y ∷ ys)) ≡ Ok xs → ((ys : List A) → rs ≡ Ok ys → more ≡ Err fault)
+      → (r >>= λ y. more >>= λ ys. Ok (y ∷ ys)) ≡ Err fault
+  refused_step (Err other) rs more xs fault before next = let never : Err other ≡ Ok xs = before in cc
+  refused_step (Ok y) (Err other) more xs fault before next = let never : Err other ≡ Ok xs = before in cc
+  refused_step (Ok y) (Ok ys) more xs fault before next = rw (next ys refl)
+
+module _ {A : Type 0} (read : Members → Result A SubsFault) where
+  each-push : (tables : List Members) (table : Members) (xs : List A) (x : A)
+      → each read tables ≡ Ok xs → read table ≡ Ok x → each read (tables ++ table ∷ []) ≡ Ok (xs ++ x ∷ [])
+  each-push [] table xs x before here = let none : [] ≡ xs = cc in rw (here, ← none)
+  each-push (first ∷ tables) table xs x before here =
+      push_step (read first) (each read tables) (each read (tables ++ table ∷ [])) xs x before
+      (λ ys these. each-push tables table ys x these here)
+
+  each-refused : (tables : List Members) (table : Members) (more : List Members) (xs : List A) (fault : SubsFault)
+      → each read tables ≡ Ok xs → read table ≡ Err fault → each read (tables ++ table ∷ more) ≡ Err fault
+  each-refused [] table more xs fault before here = rw here
+  each-refused (first ∷ tables) table more xs fault before here =
+      refused_step (read first) (each read tables) (each read (tables ++ table ∷ more)) xs fault before
+      (λ ys these. each-refused tables table more ys fault these here)
+
+  module _ {X : Type 0} (shown : X → Members) (xs : List X) (i : ℕ) (x : X) (ys : List A) where
+    -- one more table was read
+    pub each_more : (y : A) → i < length xs → x ≡ get_or xs i x → each read (map shown (take i xs)) ≡ Ok ys → read (shown x) ≡ Ok y
+        → each read (map shown (take (i + 1) xs)) ≡ Ok (ys ++ y ∷ [])
+    each_more y within here before read_here =
+        ap (λ l. each read (map shown l)) (front_more xs i x within here)
+        ∙ ap (each read) (map-append shown (take i xs) (x ∷ []))
+        ∙ each-push (map shown (take i xs)) (shown x) ys y before read_here
+
+    -- the first that is refused decides
+    pub each_refused : (fault : SubsFault) → i < length xs → x ≡ get_or xs i x → each read (map shown (take i xs)) ≡ Ok ys
+        → read (shown x) ≡ Err fault → each read (map shown xs) ≡ Err fault
+    each_refused fault within here before read_here =
+        ap (λ l. each read (map shown l)) (cut xs i x within here)
+        ∙ ap (each read) (map-append shown (take i xs) (x ∷ drop (i + 1) xs))
+        ∙ each-refused (map shown (take i xs)) (shown x) (map shown (drop (i + 1) xs)) ys fault before read_here
+
+-- one more table of an array
+push_table : (t : Option Members) (ts more : Option (List Members)) (tables : List Members) (table : Members)
+    → option_and_then (λ first. option_map (λ l. first ∷ l) ts) t ≡ Some tables
+    → ((l : List Members) → ts ≡ Some l → more ≡ Some (l ++ table ∷ []))
+    → option_and_then (λ first. option_map (λ l. first ∷ l) more) t ≡ Some (tables ++ table ∷ [])
+push_table None ts more tables table before next = let never : None ≡ Some tables = before in cc
+push_table (Some first) None more tables table before next = let never : None ≡ Some tables = before in cc
+push_table (Some first) (Some l) more tables table before next =
+    let all : Some (first ∷ l) ≡ Some tables = before in
+    let same_list : first ∷ l ≡ tables = cc in
+    rw (next l refl, ← same_list)
+
+no_table : (t : Option Members) (more : Option (List Members)) → more ≡ None → option_and_then (λ first. option_map (λ l. first ∷ l) more) t ≡ None
+no_table None more none = refl
+no_table (Some first) more none = rw none
+
+tables_among-push : (values : List Value) (value : Value) (tables : List Members) (table : Members)
+    → tables_among (items_view values) ≡ Some tables → as_table (view value) ≡ Some table
+    → tables_among (items_view (values ++ value ∷ [])) ≡ Some (tables ++ table ∷ [])
+tables_among-push [] value tables table before here = let none : [] ≡ tables = cc in rw (here, ← none)
+tables_among-push (first ∷ values) value tables table before here =
+    push_table (as_table (view first)) (tables_among (items_view values)) (tables_among (items_view (values ++ value ∷ []))) tables table before
+    (λ l these. tables_among-push values value l table these here)
+
+tables_among-refused : (values : List Value) (value : Value) (more : List Value)
+    → as_table (view value) ≡ None → tables_among (items_view (values ++ value ∷ more)) ≡ None
+tables_among-refused [] value more here = rw here
+tables_among-refused (first ∷ values) value more here =
+    no_table (as_table (view first)) _ (tables_among-refused values value more here)
+
+module _ (values : List Value) (i : ℕ) (value : Value) where
+  pub tables_more : (tables : List Members) (table : Members) → i < length values → value ≡ get_or values i value
+      → tables_among (items_view (take i values)) ≡ Some tables → as_table (view value) ≡ Some table
+      → tables_among (items_view (take (i + 1) values)) ≡ Some (tables ++ table ∷ [])
+  tables_more tables table within here before shown =
+      ap (λ l. tables_among (items_view l)) (front_more values i value within here)
+      ∙ tables_among-push (take i values) value tables table before shown
+
+  pub tables_refused : i < length values → value ≡ get_or values i value → as_table (view value) ≡ None → tables_among (items_view values) ≡ None
+  tables_refused within here shown =
+      ap (λ l. tables_among (items_view l)) (cut values i value within here)
+      ∙ tables_among-refused (take i values) value (drop (i + 1) values) shown
+
+-- a test of each table, as it is shown
+pub list_all_shown : {X Y : Type 0} (p : Y → Bool) (shown : X → Y) (xs : List X) → list_all p (map shown xs) ≡ list_all (λ x. p (shown x)) xs
+list_all_shown p shown xs = list_all-map p shown xs
+
+err_is_ok : {X : Type 0} {fault : SubsFault} {x : X} → Err fault ≡ Ok x → ⊥
+err_is_ok e = cc
+
+none_is_some : {X : Type 0} {x : X} → None ≡ Some x → ⊥
+none_is_some e = cc
+
+length_step : {A : Type 0} (r : Result A SubsFault) (rs : Result (List A) SubsFault) (n : ℕ) (xs : List A)
+    → (r >>= λ y. rs >>= λ ys. Ok (y ∷ ys)) ≡ Ok xs → ((ys : List A) → rs ≡ Ok ys → length ys ≡ n) → length xs ≡ suc n
+length_step (Err fault) rs n xs all more = let never : Err fault ≡ Ok xs = all in cc
+length_step (Ok y) (Err fault) n xs all more = let never : Err fault ≡ Ok xs = all in cc
+length_step (Ok y) (Ok ys) n xs all more =
+    let same_list : y ∷ ys ≡ xs = (let e : Ok (y ∷ ys) ≡ Ok xs = all in cc) in
+    ap length (sym same_list) ∙ ap suc (more ys refl)
+
+-- as many values as tables
+pub length-each : {A : Type 0} (read : Members → Result A SubsFault) (tables : List Members) (xs : List A) → each read tables ≡ Ok xs → length xs ≡ length tables
+length-each read [] xs all = let none : [] ≡ xs = cc in ap length (sym none)
+length-each read (table ∷ tables) xs all =
+    length_step (read table) (each read tables) (length tables) xs all (λ ys these. length-each read tables ys these)
+
+pub as_long : {A B : Type 0} (f : Members → Result A SubsFault) (g : Members → Result B SubsFault) (tables : List Members) (xs : List A) (ys : List B)
+    → each f tables ≡ Ok xs → each g tables ≡ Ok ys → length ys ≡ length xs
+as_long f g tables xs ys these those = length-each g tables ys those ∙ sym (length-each f tables xs these)
+
+all_step : {A : Type 0} (P : A → Type 0) (r : Result A SubsFault) (rs : Result (List A) SubsFault) (xs : List A)
+    → (r >>= λ y. rs >>= λ ys. Ok (y ∷ ys)) ≡ Ok xs → ((y : A) → r ≡ Ok y → P y) → ((ys : List A) → rs ≡ Ok ys → All P ys) → All P xs
+all_step P (Err fault) rs xs all here more = let never : Err fault ≡ Ok xs = all in absurd (err_is_ok never)
+all_step P (Ok y) (Err fault) xs all here more = let never : Err fault ≡ Ok xs = all in absurd (err_is_ok never)
+all_step P (Ok y) (Ok ys) xs all here more =
+    let same_list : y ∷ ys ≡ xs = (let e : Ok (y ∷ ys) ≡ Ok xs = all in cc) in
+    subst (All P) same_list (All-cons P y ys (here y refl) (more ys refl))
+
+-- what holds of each value that may be read holds of each that was
+pub All-each : {A : Type 0} (P : A → Type 0) (read : Members → Result A SubsFault) → ((table : Members) (x : A) → read table ≡ Ok x → P x)
+    → (tables : List Members) (xs : List A) → each read tables ≡ Ok xs → All P xs
+All-each P read holds [] xs all = let none : [] ≡ xs = cc in subst (All P) none (All-nil P)
+All-each P read holds (table ∷ tables) xs all =
+    all_step P (read table) (each read tables) xs all (holds table) (λ ys these. All-each P read holds tables ys these)
+
+form_of : (form : List ℕ → Bool) (text : Option (List ℕ)) (x : List ℕ) → option_and_then (λ t. cond (form t) (Some t) None) text ≡ Some x → form x ≡ true
+form_of form None x e = let never : None ≡ Some x = e in absurd (none_is_some never)
+form_of form (Some text) x e =
+    elim (cases_Bool (form text)) [
+      | inl passed ↦ let is : Some text ≡ Some x = rw passed at e in let this : text ≡ x = cc in ap form (sym this) ∙ passed
+      | inr failed ↦ let never : None ≡ Some x = rw failed at e in absurd (none_is_some never)
+    ]
+
+named_by : (value : Option Data) (x : List ℕ) → ok_at keys.Name (option_and_then line_name_in value) ≡ Ok x → is_line_name x ≡ true
+named_by None x e = let never : Err (faults.Field keys.Name) ≡ Ok x = e in absurd (err_is_ok never)
+named_by (Some value) x e = form_of is_line_name (as_str value) x (some_of (line_name_in value) x e)
+  where
+    some_of : (o : Option (List ℕ)) (x : List ℕ) → ok_at keys.Name o ≡ Ok x → o ≡ Some x
+    some_of None x e = let never : Err (faults.Field keys.Name) ≡ Ok x = e in absurd (err_is_ok never)
+    some_of (Some y) x e = let made : Ok y ≡ Ok x = e in cc
+
+-- a line's name that was read is one that a line may have
+pub line_name_form : (table : Members) (x : List ℕ) → required line_name_in keys.Name table ≡ Ok x → IsTrue (is_line_name x)
+line_name_form table x e = named_by (get_member (key_text keys.Name) table) x e

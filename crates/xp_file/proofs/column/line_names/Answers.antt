@@ -1,0 +1,18 @@
+use Rattle.std.proofs.Common.{sym}
+use Rattle.std.proofs.lemmas.Result.{err_from_is_err_and}
+use Rattle.toml.specs.View.{table_view}
+use Rattle.xp_file.specs.declared.key.Key.TheVariants as keys
+use Rattle.xp_file.specs.Reading.{line_name_in, required}
+use Rattle.xp_file.proofs.EachLemmas.{each_more, each_refused}
+use Rattle.xp_file.proofs.column.line_names.Goals as goal
+
+pub returns-in_err-line_name_at-clause-refused : goal.returns-in_err-line_name_at-clause-refused
+returns-in_err-line_name_at-clause-refused c =
+    let p = err_from_is_err_and c.from_residual.result c.from_residual.ensures.1 in
+    rw (p.1, p.2) (λ _. each_refused (required line_name_in keys.Name) (λ table. table_view table.now) c.args.tables.now c.loop-table.table-index
+    c.table-item.result c.loop-table.names.items _ c.loop-table-test.true c.table-item.is c.loop-table.invariant (sym c.in_err-line_name_at.ensures))
+
+pub loop-table-preserved : goal.loop-table-preserved
+loop-table-preserved c =
+    rw c.in_ok-push.ensures.items (each_more (required line_name_in keys.Name) (λ table. table_view table.now) c.args.tables.now c.loop-table.table-index
+    c.table-item.result c.loop-table.names.items _ c.loop-table-test.true c.table-item.is c.loop-table.invariant (sym c.in_ok-line_name_at.ensures))

@@ -1,0 +1,6 @@
+pub mod Address
+pub mod Entries
+pub mod File
+pub mod Keys
+pub mod Name
+pub mod Reading

@@ -1,0 +1,139 @@
+//! The tables of an array, and one key of each of them in turn.
+ghost use Rattle.std.specs.Prelude.{◌≡◌, ◌≢◌, ◌<◌, [], length, Ok, Err, None, Some, IfOk, IfErr, option_map, map};
+ghost use Rattle.toml.specs.View.{items_view, table_view};
+ghost use Rattle.xp_file.specs.declared.fault.SubsFault.TheVariants.{Memory as OutOfMemory};
+ghost use Rattle.xp_file.specs.declared.key.Key.TheVariants as keys;
+ghost use Rattle.xp_file.specs.Reading.{each, number_in, line_name_in, group_name_in, address_in, tables_among, tables_in, some_tables_in, required, optional, defaulted, flag};
+
+use crate::fault::SubsFault;
+use crate::field::{
+    address_at, flag_at, group_name_at, line_name_at, number_at, optional_address_at, value_at,
+};
+use crate::group_name::GroupName;
+use crate::key::Key;
+use crate::name::LineName;
+use std::alloc::{AllocError, Global};
+use toml::{Table, Value};
+use xp_packets::Digits;
+
+/// The tables of an array, at least one, that has to be there.
+pub(crate) fn some_tables_at(
+    alloc: Global,
+    table: &Table,
+    key: Key,
+) -> Result<Vec<&Table>, SubsFault>
+    ensures ok { IfOk result (λ tables. required some_tables_in key (table_view table.now) ≡ Ok (map (λ inner. table_view inner.now) tables.items)) }
+    ensures refused { IfErr result (λ fault. fault ≢ OutOfMemory → required some_tables_in key (table_view table.now) ≡ Err fault) }
+    ensures some { IfOk result (λ tables. 0 < length tables.items) }
+{
+    let Some(value) = value_at(table, key) else {
+        return Err(SubsFault::Field(key));
+    };
+    let Some(array) = value.as_array() else {
+        return Err(SubsFault::Field(key));
+    };
+    match tables_among(alloc, array)? {
+        Some(tables) if !tables.is_empty() => Ok(tables),
+        _ => Err(SubsFault::Field(key)),
+    }
+}
+
+/// The tables of an array, none where it is absent.
+pub(crate) fn tables_at(alloc: Global, table: &Table, key: Key) -> Result<Vec<&Table>, SubsFault>
+    ensures ok { IfOk result (λ tables. defaulted tables_in [] key (table_view table.now) ≡ Ok (map (λ inner. table_view inner.now) tables.items)) }
+    ensures refused { IfErr result (λ fault. fault ≢ OutOfMemory → defaulted tables_in [] key (table_view table.now) ≡ Err fault) }
+{
+    let Some(value) = value_at(table, key) else {
+        return Ok(Vec::new(alloc));
+    };
+    let Some(array) = value.as_array() else {
+        return Err(SubsFault::Field(key));
+    };
+    match tables_among(alloc, array)? {
+        Some(tables) => Ok(tables),
+        None => Err(SubsFault::Field(key)),
+    }
+}
+
+/// The values as tables, where each is one.
+fn tables_among(alloc: Global, values: &[Value]) -> Result<Option<Vec<&Table>>, AllocError>
+    ensures { IfOk result (λ found. tables_among (items_view values.now) ≡ option_map (λ tables. map (λ inner. table_view inner.now) tables.items) found) }
+{
+    let mut tables = Vec::new(alloc);
+    for value in values {
+        match value.as_table() {
+            Some(inner) => tables.push(inner)?,
+            None => return Ok(None),
+        }
+    }
+    Ok(Some(tables))
+}
+
+/// The names of lines.
+pub(crate) fn line_names(alloc: Global, tables: &[&Table]) -> Result<Vec<LineName>, SubsFault>
+    ensures ok { IfOk result (λ names. each (required line_name_in keys.Name) (map (λ table. table_view table.now) tables.now) ≡ Ok names.items) }
+    ensures refused { IfErr result (λ fault. fault ≢ OutOfMemory → each (required line_name_in keys.Name) (map (λ table. table_view table.now) tables.now) ≡ Err fault) }
+{
+    let mut names = Vec::new(alloc);
+    for table in tables {
+        names.push(line_name_at(table, Key::Name)?)?;
+    }
+    Ok(names)
+}
+
+/// Numbers in a range.
+pub(crate) fn numbers(
+    alloc: Global,
+    tables: &[&Table],
+    key: Key,
+    low: u16,
+    high: u16,
+) -> Result<Vec<u16>, SubsFault>
+    ensures ok { IfOk result (λ numbers. each (required (number_in low high) key) (map (λ table. table_view table.now) tables.now) ≡ Ok numbers.items) }
+    ensures refused { IfErr result (λ fault. fault ≢ OutOfMemory → each (required (number_in low high) key) (map (λ table. table_view table.now) tables.now) ≡ Err fault) }
+{
+    let mut numbers = Vec::new(alloc);
+    for table in tables {
+        numbers.push(number_at(table, key, low, high)?)?;
+    }
+    Ok(numbers)
+}
+
+/// Addresses, where they are there.
+pub(crate) fn optional_addresses(
+    alloc: Global,
+    tables: &[&Table],
+) -> Result<Vec<Option<Digits>>, SubsFault>
+    ensures ok { IfOk result (λ addresses. each (optional address_in keys.Address) (map (λ table. table_view table.now) tables.now) ≡ Ok addresses.items) }
+    ensures refused { IfErr result (λ fault. fault ≢ OutOfMemory → each (optional address_in keys.Address) (map (λ table. table_view table.now) tables.now) ≡ Err fault) }
+{
+    let mut addresses = Vec::new(alloc);
+    for table in tables {
+        addresses.push(optional_address_at(table, Key::Address)?)?;
+    }
+    Ok(addresses)
+}
+
+/// The names of groups.
+pub(crate) fn group_names(alloc: Global, tables: &[&Table]) -> Result<Vec<GroupName>, SubsFault>
+    ensures ok { IfOk result (λ names. each (required group_name_in keys.Name) (map (λ table. table_view table.now) tables.now) ≡ Ok names.items) }
+    ensures refused { IfErr result (λ fault. fault ≢ OutOfMemory → each (required group_name_in keys.Name) (map (λ table. table_view table.now) tables.now) ≡ Err fault) }
+{
+    let mut names = Vec::new(alloc);
+    for table in tables {
+        names.push(group_name_at(table, Key::Name)?)?;
+    }
+    Ok(names)
+}
+
+/// True or false, false where it is absent.
+pub(crate) fn flags(alloc: Global, tables: &[&Table], key: Key) -> Result<Vec<bool>, SubsFault>
+    ensures ok { IfOk result (λ flags. each (flag key) (map (λ table. table_view table.now) tables.now) ≡ Ok flags.items) }
+    ensures refused { IfErr result (λ fault. fault ≢ OutOfMemory → each (flag key) (map (λ table. table_view table.now) tables.now) ≡ Err fault) }
+{
+    let mut flags = Vec::new(alloc);
+    for table in tables {
+        flags.push(flag_at(table, key)?)?;
+    }
+    Ok(flags)
+}

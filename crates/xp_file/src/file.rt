@@ -1,0 +1,266 @@
+//! The first pass over the subscription file: every value of every key.
+ghost use Rattle.std.specs.Prelude.{◌≡◌, ◌≢◌, ◌<◌, length, All, Ok, Err, None, Some, IfOk, IfErr, option_map, map, codes, string_bytes};
+ghost use Rattle.std.specs.List.{list_all};
+ghost use Rattle.toml.specs.Data.{as_str};
+ghost use Rattle.toml.specs.View.{table_view};
+ghost use Rattle.xp_file.specs.declared.fault.SubsFault.TheVariants.{Memory as OutOfMemory};
+ghost use Rattle.xp_file.specs.declared.key.Key.TheVariants as keys;
+ghost use Rattle.xp_file.specs.Entries.{IsEvenLines, IsEvenGroups};
+ghost use Rattle.xp_file.specs.File.{facilities_of, lines_of, groups_of, redirection_of, are_listed, entry_of, file_of, file_in};
+ghost use Rattle.xp_file.specs.Reading.{each, has_only, defaulted};
+
+use crate::column::{
+    flags, group_names, line_names, numbers, optional_addresses, some_tables_at, tables_at,
+};
+use crate::entry::{Facilities, GroupColumns, LineColumns, Redirection, StationEntry};
+use crate::fault::SubsFault;
+use crate::field::{
+    address_at, flag_at, has_only, number_or, optional_number_at, optional_table_at, value_at,
+};
+use crate::key::Key;
+use std::alloc::Global;
+use std::marker::Model;
+use toml::Table;
+
+/// All that the subscription file says.
+#[derive(Drop)]
+pub struct File {
+    pub segment_limit: u32,
+    pub journal: u32,
+    pub host: String,
+    pub stations: Vec<StationEntry>,
+}
+
+impl Model for File {
+    ghost use Rattle.std.specs.Prelude.{string_bytes};
+    ghost use Rattle.xp_file.specs.File.{FileData};
+
+    ghost Value = { FileData };
+
+    ghost view = { λ file. record {
+      segment_limit = file.segment_limit;
+      journal = file.journal;
+      host = string_bytes file.host;
+      stations = file.stations.items;
+    } };
+}
+
+const TOP_KEYS: [Key; 4] = [Key::SegmentLimit, Key::Journal, Key::Host, Key::Station];
+
+const STATION_KEYS: [Key; 11] = [
+    Key::Address,
+    Key::Line,
+    Key::OutgoingBarred,
+    Key::IncomingBarred,
+    Key::ReverseCharging,
+    Key::FastSelect,
+    Key::OutgoingAccess,
+    Key::IncomingAccess,
+    Key::Preferential,
+    Key::Group,
+    Key::Redirect,
+];
+
+const LINE_KEYS: [Key; 3] = [Key::Name, Key::Port, Key::Address];
+
+const GROUP_KEYS: [Key; 4] = [
+    Key::Name,
+    Key::Index,
+    Key::OutgoingBarred,
+    Key::IncomingBarred,
+];
+
+const REDIRECT_KEYS: [Key; 4] = [Key::To, Key::Systematic, Key::Busy, Key::OutOfOrder];
+
+#[tactic(auto, unfolding(crate::specs::File::facilities_of))]
+fn facilities(table: &Table) -> Result<Facilities, SubsFault>
+    ensures { result ≡ facilities_of (table_view table.now) }
+{
+    let outgoing_barred = flag_at(table, Key::OutgoingBarred)?;
+    let incoming_barred = flag_at(table, Key::IncomingBarred)?;
+    let reverse_charging = flag_at(table, Key::ReverseCharging)?;
+    let fast_select = flag_at(table, Key::FastSelect)?;
+    let outgoing_access = flag_at(table, Key::OutgoingAccess)?;
+    let incoming_access = flag_at(table, Key::IncomingAccess)?;
+    Ok(Facilities {
+        outgoing_barred,
+        incoming_barred,
+        reverse_charging,
+        fast_select,
+        outgoing_access,
+        incoming_access,
+    })
+}
+
+#[tactic(auto, unfolding(crate::specs::File::lines_of))]
+fn lines(alloc: Global, tables: &[&Table]) -> Result<LineColumns, SubsFault>
+    requires { 0 < length tables.now }
+    ensures ok { IfOk result (λ lines. lines_of (map (λ table. table_view table.now) tables.now) ≡ Ok lines) }
+    ensures refused { IfErr result (λ fault. fault ≢ OutOfMemory → lines_of (map (λ table. table_view table.now) tables.now) ≡ Err fault) }
+    ensures even { IfOk result IsEvenLines }
+{
+    let names = line_names(alloc, tables)?;
+    let ports = numbers(alloc, tables, Key::Port, 1, 65_535)?;
+    let addresses = optional_addresses(alloc, tables)?;
+    Ok(LineColumns {
+        names,
+        ports,
+        addresses,
+    })
+}
+
+#[tactic(auto, unfolding(crate::specs::File::groups_of))]
+fn groups(alloc: Global, tables: &[&Table]) -> Result<GroupColumns, SubsFault>
+    ensures ok { IfOk result (λ groups. groups_of (map (λ table. table_view table.now) tables.now) ≡ Ok groups) }
+    ensures refused { IfErr result (λ fault. fault ≢ OutOfMemory → groups_of (map (λ table. table_view table.now) tables.now) ≡ Err fault) }
+    ensures even { IfOk result IsEvenGroups }
+{
+    let names = group_names(alloc, tables)?;
+    let indexes = numbers(alloc, tables, Key::Index, 0, 9_999)?;
+    let outgoing_barred = flags(alloc, tables, Key::OutgoingBarred)?;
+    let incoming_barred = flags(alloc, tables, Key::IncomingBarred)?;
+    Ok(GroupColumns {
+        names,
+        indexes,
+        outgoing_barred,
+        incoming_barred,
+    })
+}
+
+#[tactic(auto, unfolding(crate::specs::File::redirection_of))]
+fn redirection(table: Option<&Table>) -> Result<Option<Redirection>, SubsFault>
+    ensures { result ≡ redirection_of (option_map (λ inner. table_view inner.now) table.entry) }
+{
+    let Some(table) = table else {
+        return Ok(None);
+    };
+    let to = address_at(table, Key::To)?;
+    let systematic = flag_at(table, Key::Systematic)?;
+    let busy = flag_at(table, Key::Busy)?;
+    let out_of_order = flag_at(table, Key::OutOfOrder)?;
+    Ok(Some(Redirection {
+        to,
+        systematic,
+        busy,
+        out_of_order,
+    }))
+}
+
+fn all_have_only(tables: &[&Table], listed: &[Key]) -> bool
+    ensures { result ≡ list_all (λ table. has_only listed.now (table_view table.now)) tables.now }
+{
+    tables.iter().all(|table| has_only(table, listed))
+}
+
+#[tactic(auto, using(crate::proofs::EachLemmas::list_all_shown))]
+fn are_listed(table: &Table, lines: &[&Table], groups: &[&Table], redirect: Option<&Table>) -> bool
+    ensures { result ≡ are_listed (table_view table.now) (map (λ inner. table_view inner.now) lines.now) (map (λ inner. table_view inner.now) groups.now) (option_map (λ inner. table_view inner.now) redirect.entry) }
+{
+    let own = has_only(table, &STATION_KEYS);
+    let lines = all_have_only(lines, &LINE_KEYS);
+    let groups = all_have_only(groups, &GROUP_KEYS);
+    let redirect = match redirect {
+        Some(redirect) => has_only(redirect, &REDIRECT_KEYS),
+        None => true,
+    };
+    own && lines && groups && redirect
+}
+
+#[tactic(auto, unfolding(crate::specs::File::entry_of))]
+fn entry(alloc: Global, table: &Table) -> Result<StationEntry, SubsFault>
+    ensures ok { IfOk result (λ entry. entry_of (table_view table.now) ≡ Ok entry) }
+    ensures refused { IfErr result (λ fault. fault ≢ OutOfMemory → entry_of (table_view table.now) ≡ Err fault) }
+    ensures even_lines { IfOk result (λ entry. IsEvenLines entry.lines) }
+    ensures even_groups { IfOk result (λ entry. IsEvenGroups entry.groups) }
+{
+    let address = address_at(table, Key::Address)?;
+    let line_tables = some_tables_at(alloc, table, Key::Line)?;
+    let facilities = facilities(table)?;
+    let preferential = optional_number_at(table, Key::Preferential, 0, 9_999)?;
+    let group_tables = tables_at(alloc, table, Key::Group)?;
+    let redirect_table = optional_table_at(table, Key::Redirect)?;
+    let lines = lines(alloc, &line_tables)?;
+    let groups = groups(alloc, &group_tables)?;
+    let redirect = redirection(redirect_table)?;
+    if !are_listed(table, &line_tables, &group_tables, redirect_table) {
+        return Err(SubsFault::Field(Key::Other));
+    }
+    Ok(StationEntry {
+        address,
+        facilities,
+        preferential,
+        lines,
+        groups,
+        redirect,
+    })
+}
+
+fn entries(alloc: Global, tables: &[&Table]) -> Result<Vec<StationEntry>, SubsFault>
+    ensures ok { IfOk result (λ entries. each entry_of (map (λ table. table_view table.now) tables.now) ≡ Ok entries.items) }
+    ensures refused { IfErr result (λ fault. fault ≢ OutOfMemory → each entry_of (map (λ table. table_view table.now) tables.now) ≡ Err fault) }
+    ensures count { IfOk result (λ entries. length entries.items ≡ length tables.now) }
+    ensures even { IfOk result (λ entries. All (λ entry. IsEvenLines entry.lines × IsEvenGroups entry.groups) entries.items) }
+{
+    let mut entries = Vec::new(alloc);
+    for table in tables {
+        entries.push(entry(alloc, table)?)?;
+    }
+    Ok(entries)
+}
+
+#[tactic(auto, unfolding(crate::specs::File::file_of))]
+fn read_table(alloc: Global, table: &Table) -> Result<File, SubsFault>
+    ensures ok { IfOk result (λ file. file_of (table_view table.now) ≡ Ok file) }
+    ensures refused { IfErr result (λ fault. fault ≢ OutOfMemory → file_of (table_view table.now) ≡ Err fault) }
+    ensures some { IfOk result (λ file. 0 < length file.stations) }
+    ensures even { IfOk result (λ file. All (λ entry. IsEvenLines entry.lines × IsEvenGroups entry.groups) file.stations) }
+{
+    let segment_limit = number_or(table, Key::SegmentLimit, 1, 99_999_999, 99_999_999)?;
+    let journal = number_or(table, Key::Journal, 4, 10_000_000, 1_000_000)?;
+    let host = host(alloc, table)?;
+    let tables = some_tables_at(alloc, table, Key::Station)?;
+    if !has_only(table, &TOP_KEYS) {
+        return Err(SubsFault::Field(Key::Other));
+    }
+    let stations = entries(alloc, &tables)?;
+    Ok(File {
+        segment_limit,
+        journal,
+        host,
+        stations,
+    })
+}
+
+fn host(alloc: Global, table: &Table) -> Result<String, SubsFault>
+    ensures ok { IfOk result (λ host. defaulted as_str (codes "127.0.0.1") keys.Host (table_view table.now) ≡ Ok (string_bytes host)) }
+    ensures refused { IfErr result (λ fault. fault ≢ OutOfMemory → defaulted as_str (codes "127.0.0.1") keys.Host (table_view table.now) ≡ Err fault) }
+{
+    let Some(value) = value_at(table, Key::Host) else {
+        return Ok(String::from_str(alloc, "127.0.0.1")?);
+    };
+    match value.as_str() {
+        Some(text) => Ok(String::from_str(alloc, text)?),
+        None => Err(SubsFault::Field(Key::Host)),
+    }
+}
+
+impl File {
+    /// Reads the text of a subscription file and the value of each of its keys.
+    ///
+    /// # Errors
+    ///
+    /// `Toml` where the text is no TOML, `Field` with the first key whose value is missing, of another type,
+    /// misspelt or out of range, or that the file may not have; `Memory`.
+    pub fn read(alloc: Global, text: &str) -> Result<File, SubsFault>
+        ensures ok { IfOk result (λ file. file_in text.now ≡ Ok file) }
+        ensures refused { IfErr result (λ fault. fault ≢ OutOfMemory → file_in text.now ≡ Err fault) }
+        ensures some { IfOk result (λ file. 0 < length file.stations) }
+        ensures even { IfOk result (λ file. All (λ entry. IsEvenLines entry.lines × IsEvenGroups entry.groups) file.stations) }
+    {
+        match toml::table_from_str(alloc, text) {
+            Ok(table) => read_table(alloc, &table),
+            Err(error) if error.is_memory() => Err(SubsFault::Memory),
+            Err(_) => Err(SubsFault::Toml),
+        }
+    }
+}

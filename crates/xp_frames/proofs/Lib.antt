@@ -1,0 +1,4 @@
+mod Cutting
+mod Frames
+mod Pieces
+mod Undone

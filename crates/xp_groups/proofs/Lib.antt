@@ -1,0 +1,5 @@
+pub mod Found
+pub mod Joined
+pub mod Answered
+pub mod Determined
+pub mod Causes

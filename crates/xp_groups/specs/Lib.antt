@@ -1,0 +1,6 @@
+pub mod Refusals
+pub mod Groups
+pub mod Intends
+pub mod Admits
+pub mod MayJoin
+pub mod Laws

@@ -1,0 +1,17 @@
+//! Closed user groups (X.25 clause 6.14, X.301): under which group a call is made, and who takes it.
+#![tactic(auto)]
+
+mod admission;
+mod calling;
+mod intention;
+mod laws;
+mod refusal;
+
+pub use admission::{Admission, admit};
+pub use calling::intent;
+pub use intention::Intent;
+pub use laws::{admission_is_determined, intent_is_determined, joined_stations_may_join};
+pub use refusal::{Cause, Refusal};
+
+#[cfg(test)]
+mod tests;

@@ -1,0 +1,13 @@
+//! The choice of a line of a hunt group (X.25 clause 6.24).
+#![tactic(auto)]
+
+mod choice;
+mod laws;
+mod lines;
+
+pub use choice::{Picked, pick};
+pub use laws::picks_where_one_is_idle;
+pub use lines::{LineState, Lines};
+
+#[cfg(test)]
+mod tests;

@@ -1,0 +1,223 @@
+-- What has a spelling is what nothing is unfit in, and what is written is spelled.
+use Rattle.std.proofs.Common.{◌≡◌, ℕ, ◌+◌, ◌<◌, ◌≤◌, Bool, true, false, ltb, ◌||◌, List, [], ◌∷◌, ◌++◌, length, Some, None, refl, sym, ap, ◌∙◌, arith}
+use Rattle.std.proofs.lemmas.Bool.{ne_eqb, eqb-false, ltb-false, le-ltb, or_parts, or_from}
+use Rattle.std.proofs.lemmas.List.{length-append, nil_from_length}
+use Rattle.xp_packets.specs.declared.fault.Wrong.{Wrong}
+use Rattle.xp_packets.specs.declared.fault.Wrong.TheVariants.{Short, Format, Facilities, Long}
+use Rattle.xp_packets.specs.declared.block.Block.{Block}
+use Rattle.xp_packets.specs.declared.packet.Packet.{Packet}
+use Rattle.xp_packets.specs.declared.packet.Packet.TheVariants.{Call, Accepted, Clear, ClearConfirm, DataPacket, Ready, NotReady, Reject, Interrupt, InterruptConfirm, Reset, ResetConfirm}
+use Rattle.xp_packets.specs.Digits.{filling}
+use Rattle.xp_packets.specs.Addresses.{AreAddresses, HasAddresses}
+use Rattle.xp_packets.specs.Heading.{Begins, heading}
+use Rattle.xp_packets.specs.Spelling.{WritesFields, SpellsFields, BlockBy, Spells, WrittenAs}
+use Rattle.xp_packets.specs.Examination.{first_of}
+use Rattle.xp_packets.specs.Fitness.{lacks_octet, has_wrong_number, block_of, has_long_facilities, is_too_long, unfit}
+use Rattle.xp_packets.specs.Writing.{packed, written_block, written}
+use Rattle.xp_packets.proofs.HalfOctets.{AreDigits-append, halves-packed, same_halves}
+
+-- ---- four conditions, none of which holds
+
+abbrev four : Bool → Bool → Bool → Bool → List (Bool × Wrong)
+four short format facilities long = (short, Short) ∷ (format, Format) ∷ (facilities, Facilities) ∷ (long, Long) ∷ []
+
+none_holds : (short format facilities long : Bool) → short ≡ false → format ≡ false → facilities ≡ false → long ≡ false → first_of (four short format facilities long) ≡ None
+none_holds short format facilities long a b c d = rw (a, b, c, d) refl
+
+record AllFalse (a b c d : Bool) : Type 0 where
+  short : a ≡ false
+  format : b ≡ false
+  facilities : c ≡ false
+  long : d ≡ false
+
+all_false : (a b c d : Bool) → first_of (four a b c d) ≡ None → AllFalse a b c d
+all_false true b c d e = absurd cc
+all_false false true c d e = absurd cc
+all_false false false true d e = absurd cc
+all_false false false false true e = absurd cc
+all_false false false false false e = record { short = refl; format = refl; facilities = refl; long = refl }
+
+-- ---- what is spelled is fit
+
+small : (identifier : ℕ) → identifier < 4096 → ltb 4095 identifier ≡ false
+small identifier below = le-ltb _ _ (omega arith)
+
+bounds : (rest facilities user : List ℕ) → SpellsFields rest facilities user → (length facilities ≤ 109) × (length user ≤ 128)
+bounds [] facilities user spelled = (omega (arith, ap length spelled.0), omega (arith, ap length spelled.1))
+bounds (size ∷ rest) facilities user spelled = (spelled.2, spelled.3)
+
+block_fits : (A : Type 0) (rest : List ℕ) (block : Block A) → BlockBy SpellsFields A rest block → (ltb 109 (length block.facilities) ≡ false) × (ltb 128 (length block.user) ≡ false)
+block_fits A rest block spelled =
+    let b = bounds spelled.rest block.facilities block.user spelled.fields in
+    (le-ltb _ _ b.0, le-ltb _ _ b.1)
+
+pub spelled_fits : (A : Type 0) (octets : List ℕ) (identifier : ℕ) (packet : Packet A) → Spells octets identifier packet → unfit identifier packet ≡ None
+spelled_fits A octets identifier (Call d block) spelled =
+    let b = block_fits A spelled.0 block spelled.2 in
+    none_holds _ _ _ _ refl (small identifier spelled.1.0) b.0 b.1
+spelled_fits A octets identifier (Accepted d None) spelled = none_holds _ _ _ _ refl (small identifier spelled.0) refl refl
+spelled_fits A octets identifier (Accepted d (Some block)) spelled =
+    let b = block_fits A spelled.0 block spelled.2 in
+    none_holds _ _ _ _ refl (small identifier spelled.1.0) b.0 b.1
+spelled_fits A octets identifier (Clear cause None None) spelled = none_holds _ _ _ _ refl (small identifier spelled.0) refl refl
+spelled_fits A octets identifier (Clear cause None (Some block)) spelled = absurd spelled
+spelled_fits A octets identifier (Clear cause (Some diagnostic) None) spelled = none_holds _ _ _ _ refl (small identifier spelled.0) refl refl
+spelled_fits A octets identifier (Clear cause (Some diagnostic) (Some block)) spelled =
+    let b = block_fits A spelled.0 block spelled.2 in
+    none_holds _ _ _ _ refl (small identifier spelled.1.0) b.0 b.1
+spelled_fits A octets identifier (ClearConfirm None) spelled = none_holds _ _ _ _ refl (small identifier spelled.0) refl refl
+spelled_fits A octets identifier (ClearConfirm (Some block)) spelled =
+    let b = block_fits A spelled.0 block spelled.2 in
+    none_holds _ _ _ _ refl (small identifier spelled.1.0) b.0 (ap (λ (user : List ℕ). ltb 0 (length user)) spelled.3)
+spelled_fits A octets identifier (DataPacket q d more ps pr carried) spelled =
+    none_holds _ _ _ _ refl (or_from (ltb 7 ps || ltb 7 pr) (ltb 4095 identifier) (or_from (ltb 7 ps) (ltb 7 pr) (le-ltb 7 ps (omega (arith, spelled.1))) (le-ltb 7 pr (omega (arith, spelled.2)))) (small identifier spelled.0.0)) refl (le-ltb _ _ spelled.3)
+spelled_fits A octets identifier (Ready pr) spelled = none_holds _ _ _ _ refl (or_from (ltb 7 pr) (ltb 4095 identifier) (le-ltb 7 pr (omega (arith, spelled.1))) (small identifier spelled.0.0)) refl refl
+spelled_fits A octets identifier (NotReady pr) spelled = none_holds _ _ _ _ refl (or_from (ltb 7 pr) (ltb 4095 identifier) (le-ltb 7 pr (omega (arith, spelled.1))) (small identifier spelled.0.0)) refl refl
+spelled_fits A octets identifier (Reject pr) spelled = none_holds _ _ _ _ refl (or_from (ltb 7 pr) (ltb 4095 identifier) (le-ltb 7 pr (omega (arith, spelled.1))) (small identifier spelled.0.0)) refl refl
+spelled_fits A octets identifier (Interrupt carried) spelled =
+    none_holds _ _ _ _ (ne_eqb _ _ (λ e. absurd (omega (arith, spelled.1)))) (small identifier spelled.0.0) refl (le-ltb _ _ spelled.2)
+spelled_fits A octets identifier InterruptConfirm spelled = none_holds _ _ _ _ refl (small identifier spelled.0) refl refl
+spelled_fits A octets identifier (Reset cause None) spelled = none_holds _ _ _ _ refl (small identifier spelled.0) refl refl
+spelled_fits A octets identifier (Reset cause (Some diagnostic)) spelled = none_holds _ _ _ _ refl (small identifier spelled.0) refl refl
+spelled_fits A octets identifier ResetConfirm spelled = none_holds _ _ _ _ refl (small identifier spelled.0) refl refl
+
+-- ---- what is written
+
+block_written : (A : Type 0) (block : Block A) → AreAddresses block.called block.calling → ltb 109 (length block.facilities) ≡ false → length block.user ≤ 128 → BlockBy WritesFields A (written_block block) block
+block_written A block are short most =
+    let digits_are = AreDigits-append block.called block.calling are.called_digits are.calling_digits in
+    let both : length (block.called ++ block.calling) ≡ length block.called + length block.calling = length-append block.called block.calling in
+    record {
+      digits = packed (block.called ++ block.calling);
+      rest = length block.facilities ∷ (block.facilities ++ block.user);
+      whole = refl;
+      addresses = record {
+        called_most = are.called_most;
+        calling_most = are.calling_most;
+        called_digits = are.called_digits;
+        calling_digits = are.calling_digits;
+        coded = halves-packed (block.called ++ block.calling) digits_are ∙ ap (λ (n : ℕ). (block.called ++ block.calling) ++ filling n) both;
+      };
+      fields = (refl, refl, ltb-false 109 (length block.facilities) short, most);
+    }
+
+begun : (identifier : ℕ) (q d : Bool) (octet : ℕ) (rest : List ℕ) → ltb 4095 identifier ≡ false → Begins (heading q d identifier octet ++ rest) q d identifier octet rest
+begun identifier q d octet rest below = (let most = ltb-false 4095 identifier below in omega arith, refl)
+
+-- nothing is unfit
+abbrev IsFit : (A : Type 0) → ℕ → Packet A → Type 0
+IsFit A identifier packet = AllFalse (lacks_octet packet) (has_wrong_number packet || ltb 4095 identifier) (has_long_facilities (block_of packet)) (is_too_long packet)
+
+writes_fit : (A : Type 0) (identifier : ℕ) (packet : Packet A) → HasAddresses packet → IsFit A identifier packet → WrittenAs (written identifier packet) identifier packet
+writes_fit A identifier (Call d block) are f =
+    (_, begun identifier false d 11 (written_block block) f.format, block_written A block are f.facilities (ltb-false _ _ f.long))
+writes_fit A identifier (Accepted d None) are f = begun identifier false d 15 [] f.format
+writes_fit A identifier (Accepted d (Some block)) are f =
+    (_, begun identifier false d 15 (written_block block) f.format, block_written A block are f.facilities (ltb-false _ _ f.long))
+writes_fit A identifier (Clear cause None None) are f = begun identifier false false 19 (cause ∷ []) f.format
+writes_fit A identifier (Clear cause None (Some block)) are f = absurd cc
+writes_fit A identifier (Clear cause (Some diagnostic) None) are f = begun identifier false false 19 (cause ∷ diagnostic ∷ []) f.format
+writes_fit A identifier (Clear cause (Some diagnostic) (Some block)) are f =
+    (_, begun identifier false false 19 (cause ∷ diagnostic ∷ written_block block) f.format, block_written A block are f.facilities (ltb-false _ _ f.long))
+writes_fit A identifier (ClearConfirm None) are f = begun identifier false false 23 [] f.format
+writes_fit A identifier (ClearConfirm (Some block)) are f =
+    let none : length block.user ≤ 0 = ltb-false 0 (length block.user) f.long in
+    (_, begun identifier false false 23 (written_block block) f.format, block_written A block are f.facilities (omega arith), nil_from_length block.user (omega arith))
+writes_fit A identifier (DataPacket q d more ps pr carried) are f =
+    let format = or_parts (ltb 7 ps || ltb 7 pr) (ltb 4095 identifier) f.format in
+    let numbers = or_parts (ltb 7 ps) (ltb 7 pr) format.0 in
+    let sent : ps ≤ 7 = ltb-false 7 ps numbers.0 in
+    let received : pr ≤ 7 = ltb-false 7 pr numbers.1 in
+    (begun identifier q d _ carried format.1, omega arith, omega arith, ltb-false 1024 (length carried) f.long)
+writes_fit A identifier (Ready pr) are f =
+    let format = or_parts (ltb 7 pr) (ltb 4095 identifier) f.format in
+    let received : pr ≤ 7 = ltb-false 7 pr format.0 in
+    (begun identifier false false _ [] format.1, omega arith)
+writes_fit A identifier (NotReady pr) are f =
+    let format = or_parts (ltb 7 pr) (ltb 4095 identifier) f.format in
+    let received : pr ≤ 7 = ltb-false 7 pr format.0 in
+    (begun identifier false false _ [] format.1, omega arith)
+writes_fit A identifier (Reject pr) are f =
+    let format = or_parts (ltb 7 pr) (ltb 4095 identifier) f.format in
+    let received : pr ≤ 7 = ltb-false 7 pr format.0 in
+    (begun identifier false false _ [] format.1, omega arith)
+writes_fit A identifier (Interrupt carried) are f =
+    let some = eqb-false (length carried) 0 f.short in
+    (begun identifier false false 35 carried f.format, omega (arith, some), ltb-false 32 (length carried) f.long)
+writes_fit A identifier InterruptConfirm are f = begun identifier false false 39 [] f.format
+writes_fit A identifier (Reset cause None) are f = begun identifier false false 27 (cause ∷ []) f.format
+writes_fit A identifier (Reset cause (Some diagnostic)) are f = begun identifier false false 27 (cause ∷ diagnostic ∷ []) f.format
+writes_fit A identifier ResetConfirm are f = begun identifier false false 31 [] f.format
+
+pub written_fits : (A : Type 0) (identifier : ℕ) (packet : Packet A) → HasAddresses packet → unfit identifier packet ≡ None → WrittenAs (written identifier packet) identifier packet
+written_fits A identifier packet are fit = writes_fit A identifier packet are (all_false (lacks_octet packet) (has_wrong_number packet || ltb 4095 identifier) (has_long_facilities (block_of packet)) (is_too_long packet) fit)
+
+-- ---- a written spelling is spelled, and is the one that is written
+
+fields_spelled : (rest facilities user : List ℕ) → WritesFields rest facilities user → SpellsFields rest facilities user
+fields_spelled [] facilities user writes = absurd writes
+fields_spelled (size ∷ rest) facilities user writes = writes
+
+block_spelled : (A : Type 0) (octets : List ℕ) (block : Block A) → BlockBy WritesFields A octets block → BlockBy SpellsFields A octets block
+block_spelled A octets block writes = record {
+  digits = writes.digits;
+  rest = writes.rest;
+  whole = writes.whole;
+  addresses = writes.addresses;
+  fields = fields_spelled writes.rest block.facilities block.user writes.fields;
+}
+
+pub written_spelled : (A : Type 0) (octets : List ℕ) (identifier : ℕ) (packet : Packet A) → WrittenAs octets identifier packet → Spells octets identifier packet
+written_spelled A octets identifier (Call d block) writes = (writes.0, writes.1, block_spelled A writes.0 block writes.2)
+written_spelled A octets identifier (Accepted d None) writes = writes
+written_spelled A octets identifier (Accepted d (Some block)) writes = (writes.0, writes.1, block_spelled A writes.0 block writes.2)
+written_spelled A octets identifier (Clear cause None None) writes = writes
+written_spelled A octets identifier (Clear cause None (Some block)) writes = writes
+written_spelled A octets identifier (Clear cause (Some diagnostic) None) writes = writes
+written_spelled A octets identifier (Clear cause (Some diagnostic) (Some block)) writes = (writes.0, writes.1, block_spelled A writes.0 block writes.2)
+written_spelled A octets identifier (ClearConfirm None) writes = writes
+written_spelled A octets identifier (ClearConfirm (Some block)) writes = (writes.0, writes.1, block_spelled A writes.0 block writes.2, writes.3)
+written_spelled A octets identifier (DataPacket q d more ps pr carried) writes = writes
+written_spelled A octets identifier (Ready pr) writes = writes
+written_spelled A octets identifier (NotReady pr) writes = writes
+written_spelled A octets identifier (Reject pr) writes = writes
+written_spelled A octets identifier (Interrupt carried) writes = writes
+written_spelled A octets identifier InterruptConfirm writes = writes
+written_spelled A octets identifier (Reset cause None) writes = writes
+written_spelled A octets identifier (Reset cause (Some diagnostic)) writes = writes
+written_spelled A octets identifier ResetConfirm writes = writes
+
+fields_written : (rest facilities user : List ℕ) → WritesFields rest facilities user → rest ≡ length facilities ∷ (facilities ++ user)
+fields_written [] facilities user writes = absurd writes
+fields_written (size ∷ rest) facilities user writes = rw (writes.0, writes.1) refl
+
+block_is_written : (A : Type 0) (octets : List ℕ) (block : Block A) → BlockBy WritesFields A octets block → octets ≡ written_block block
+block_is_written A octets block writes =
+    let are = AreDigits-append block.called block.calling writes.addresses.called_digits writes.addresses.calling_digits in
+    let both : length (block.called ++ block.calling) ≡ length block.called + length block.calling = length-append block.called block.calling in
+    let digits_are : writes.digits ≡ packed (block.called ++ block.calling) = same_halves _ _ (writes.addresses.coded ∙ sym (halves-packed (block.called ++ block.calling) are ∙ ap (λ (n : ℕ). (block.called ++ block.calling) ++ filling n) both)) in
+    writes.whole ∙ rw (digits_are, fields_written writes.rest block.facilities block.user writes.fields) refl
+
+-- with a block behind these octets
+with_block : (A : Type 0) (octets front rest : List ℕ) (block : Block A) → octets ≡ front ++ rest → BlockBy WritesFields A rest block → octets ≡ front ++ written_block block
+with_block A octets front rest block whole writes = whole ∙ ap (λ (back : List ℕ). front ++ back) (block_is_written A rest block writes)
+
+pub written_is : (A : Type 0) (octets : List ℕ) (identifier : ℕ) (packet : Packet A) → WrittenAs octets identifier packet → octets ≡ written identifier packet
+written_is A octets identifier (Call d block) writes = with_block A octets (heading false d identifier 11) writes.0 block writes.1.1 writes.2
+written_is A octets identifier (Accepted d None) writes = writes.1
+written_is A octets identifier (Accepted d (Some block)) writes = with_block A octets (heading false d identifier 15) writes.0 block writes.1.1 writes.2
+written_is A octets identifier (Clear cause None None) writes = writes.1
+written_is A octets identifier (Clear cause None (Some block)) writes = absurd writes
+written_is A octets identifier (Clear cause (Some diagnostic) None) writes = writes.1
+written_is A octets identifier (Clear cause (Some diagnostic) (Some block)) writes = with_block A octets (heading false false identifier 19 ++ cause ∷ diagnostic ∷ []) writes.0 block writes.1.1 writes.2
+written_is A octets identifier (ClearConfirm None) writes = writes.1
+written_is A octets identifier (ClearConfirm (Some block)) writes = with_block A octets (heading false false identifier 23) writes.0 block writes.1.1 writes.2
+written_is A octets identifier (DataPacket q d more ps pr carried) writes = writes.0.1
+written_is A octets identifier (Ready pr) writes = writes.0.1
+written_is A octets identifier (NotReady pr) writes = writes.0.1
+written_is A octets identifier (Reject pr) writes = writes.0.1
+written_is A octets identifier (Interrupt carried) writes = writes.0.1
+written_is A octets identifier InterruptConfirm writes = writes.1
+written_is A octets identifier (Reset cause None) writes = writes.1
+written_is A octets identifier (Reset cause (Some diagnostic)) writes = writes.1
+written_is A octets identifier ResetConfirm writes = writes.1

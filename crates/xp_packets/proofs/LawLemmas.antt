@@ -1,0 +1,75 @@
+-- The laws, and what they make of the answers of decode.
+use Rattle.std.proofs.Common.{◌≡◌, ℕ, List, None, Result, Ok, Err, refl, sym, ap, ◌∙◌, inl, inr}
+use Rattle.std.specs.Prelude.{◌⊎◌, IfOk}
+use Rattle.std.proofs.lemmas.Option.{same_Some}
+use Rattle.xp_packets.specs.declared.fault.Wrong.{Wrong}
+use Rattle.xp_packets.specs.declared.fault.PacketFault.{PacketFault}
+use Rattle.xp_packets.specs.declared.fault.PacketFault.TheVariants as faults
+use Rattle.xp_packets.specs.declared.packet.Packet.{Packet}
+use Rattle.xp_packets.specs.Decoding.{Decodes}
+use Rattle.xp_packets.specs.Examination.{IsWrong, first_of, conditions}
+use Rattle.xp_packets.specs.Fitness.{unfit}
+use Rattle.xp_packets.specs.Laws.{AreOctets, SpellsOnly, IsOnlyWrong, EitherSpelledOrWrong, OneWrittenSpelling, WrittenIsReadBack, SpelledIsFit, FitIsWritten}
+use Rattle.xp_packets.specs.Reading.{Gives, packet_at}
+use Rattle.xp_packets.specs.Spelling.{Spells}
+use Rattle.xp_packets.specs.Writing.{written}
+use Rattle.xp_packets.proofs.ExaminationLemmas.{packet_error}
+use Rattle.xp_packets.proofs.FitnessLemmas.{spelled_fits, written_fits, written_is, written_spelled}
+use Rattle.xp_packets.proofs.PacketLemmas.{packet_takes, packet_again}
+use Rattle.xp_packets.proofs.Results.{error_of, ok_is}
+
+-- ---- what decode answers
+
+wrong_is : (A : Type 0) (octets : List ℕ) (wrong : Wrong) → packet_at {A = A} octets ≡ Err wrong → IsWrong octets wrong
+wrong_is A octets wrong read = sym (packet_error A octets) ∙ ap (λ (r : Result (ℕ × Packet A) Wrong). error_of r) read
+
+pub decodes : (A : Type 0) (octets : List ℕ) (answer : Result (ℕ × Packet A) PacketFault) → AreOctets octets → Gives (λ (x : ℕ × Packet A). x) answer (packet_at octets) → Decodes octets answer
+decodes A octets (Ok read) are given = packet_takes A octets read are given
+decodes A octets (Err (faults.Wrong wrong)) are given = wrong_is A octets wrong given
+decodes A octets (Err faults.Memory) are given = tt
+
+pub decodes_fit : (A : Type 0) (octets : List ℕ) (answer : Result (ℕ × Packet A) PacketFault) → AreOctets octets → Gives (λ (x : ℕ × Packet A). x) answer (packet_at octets) → IfOk answer (λ read. unfit read.0 read.1 ≡ None)
+decodes_fit A octets (Ok read) are given = spelled_fits A octets read.0 read.1 (packet_takes A octets read are given)
+decodes_fit A octets (Err fault) are given = tt
+
+-- ---- the laws
+
+no_fault : (A : Type 0) (octets : List ℕ) (identifier : ℕ) (packet : Packet A) → Spells octets identifier packet → (wrong : Wrong) → IsWrong octets wrong → ⊥
+no_fault A octets identifier packet spelled wrong is =
+    let none : first_of (conditions octets) ≡ None = sym (packet_error A octets) ∙ ap (λ (r : Result (ℕ × Packet A) Wrong). error_of r) (packet_again A octets identifier packet spelled) in
+    cc
+
+spells_only : (A : Type 0) (octets : List ℕ) (identifier : ℕ) (packet : Packet A) → Spells octets identifier packet → SpellsOnly A octets identifier packet
+spells_only A octets identifier packet spelled = record {
+  spelled = spelled;
+  only = λ other another also.
+      let same : (other, another) ≡ (identifier, packet) = ok_is (other, another) (identifier, packet) (sym (packet_again A octets other another also) ∙ packet_again A octets identifier packet spelled) in
+      (ap (λ (x : ℕ × Packet A). x.0) same, ap (λ (x : ℕ × Packet A). x.1) same);
+  right = no_fault A octets identifier packet spelled;
+}
+
+only_wrong : (A : Type 0) (octets : List ℕ) (wrong : Wrong) → IsWrong octets wrong → IsOnlyWrong A octets wrong
+only_wrong A octets wrong found = record {
+  found = found;
+  only = λ other also. same_Some other wrong (sym also ∙ found);
+  unspelled = λ identifier packet spelled. no_fault A octets identifier packet spelled wrong found;
+}
+
+either : (A : Type 0) (octets : List ℕ) (read : Result (ℕ × Packet A) Wrong) → AreOctets octets → packet_at octets ≡ read → ((identifier : ℕ) × (packet : Packet A) × SpellsOnly A octets identifier packet) ⊎ ((wrong : Wrong) × IsOnlyWrong A octets wrong)
+either A octets (Ok x) are is = inl (x.0, x.1, spells_only A octets x.0 x.1 (packet_takes A octets x are is))
+either A octets (Err wrong) are is = inr (wrong, only_wrong A octets wrong (wrong_is A octets wrong is))
+
+pub either_spelled_or_wrong : (A : Type 0) → EitherSpelledOrWrong A
+either_spelled_or_wrong A octets are = either A octets (packet_at octets) are refl
+
+pub one_written_spelling : (A : Type 0) → OneWrittenSpelling A
+one_written_spelling A octets others identifier packet this that = written_is A octets identifier packet this ∙ sym (written_is A others identifier packet that)
+
+pub written_is_read_back : (A : Type 0) → WrittenIsReadBack A
+written_is_read_back A octets identifier packet writes = spells_only A octets identifier packet (written_spelled A octets identifier packet writes)
+
+pub spelled_is_fit : (A : Type 0) → SpelledIsFit A
+spelled_is_fit A octets identifier packet spelled = spelled_fits A octets identifier packet spelled
+
+pub fit_is_written : (A : Type 0) → FitIsWritten A
+fit_is_written A identifier packet are fit = (written identifier packet, written_fits A identifier packet are fit)

@@ -1,0 +1,9 @@
+pub mod DigitLemmas
+pub mod HalfOctets
+pub mod Results
+pub mod BlockLemmas
+pub mod HeadingLemmas
+pub mod PacketLemmas
+pub mod ExaminationLemmas
+pub mod FitnessLemmas
+pub mod LawLemmas

@@ -1,0 +1,9 @@
+use Rattle.std.proofs.Common.{◌≡◌, None, rules}
+use Rattle.xp_packets.specs.Fitness.{unfit}
+use Rattle.xp_packets.proofs.FitnessLemmas.{written_fits}
+use Rattle.xp_packets.proofs.writing.encode.Goals as goal
+
+pub returns-in-Ok-clause-written : goal.returns-in-Ok-clause-written
+returns-in-Ok-clause-written g c =
+    let fit : unfit c.args.identifier c.args.packet.now ≡ None = search rules in
+    (fit, rw c.in-Ok.ensures.written (written_fits _ c.args.identifier c.args.packet.now c.in-Ok.ensures.addressed fit))

@@ -1,0 +1,13 @@
+-- What decoding answers.
+use Rattle.std.specs.Prelude.{ℕ, List, Result, Ok, Err}
+use Rattle.xp_packets.specs.declared.fault.PacketFault.{PacketFault}
+use Rattle.xp_packets.specs.declared.fault.PacketFault.TheVariants as faults
+use Rattle.xp_packets.specs.declared.packet.Packet.{Packet}
+use Rattle.xp_packets.specs.Examination.{IsWrong}
+use Rattle.xp_packets.specs.Spelling.{Spells}
+
+-- the pair that the octets spell, or what is wrong with them, unless memory ran out
+abbrev pub Decodes : {A : Type 0} → List ℕ → Result (ℕ × Packet A) PacketFault → Type 0
+Decodes octets (Ok read) = Spells octets read.0 read.1
+Decodes octets (Err (faults.Wrong wrong)) = IsWrong octets wrong
+Decodes octets (Err faults.Memory) = Unit {0}

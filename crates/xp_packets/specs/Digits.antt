@@ -1,0 +1,29 @@
+-- The digits of an address (X.25 clause 5.2.1.1.1).
+use Rattle.std.specs.Prelude.{◌≡◌, ℕ, ◌+◌, ◌/◌, ◌%◌, ◌<◌, ◌≤◌, ◌==◌, if◌then◌else◌, List, [], ◌∷◌, ◌++◌, length}
+
+-- each is 0 to 9
+abbrev pub AreDigits : List ℕ → Type 0
+AreDigits [] = Unit {0}
+AreDigits (digit ∷ digits) = (digit < 10) × AreDigits digits
+
+-- the half-octets of octets, the high half first
+abbrev pub halves : List ℕ → List ℕ
+halves [] = []
+halves (octet ∷ octets) = (octet / 16) ∷ (octet % 16) ∷ halves octets
+
+-- how many octets so many half-octets take
+abbrev pub octets_for : ℕ → ℕ
+octets_for count = (count + 1) / 2
+
+-- what fills the last octet after so many half-octets
+abbrev pub filling : ℕ → List ℕ
+filling count = if count % 2 == 1 then 0 ∷ [] else []
+
+-- The digits of the called address, then those of the calling, stand in half-octets as one run, which a zero fills
+-- where their count is odd.
+pub record SpellsAddresses (octets called calling : List ℕ) : Type 0 where
+  pub called_most : length called ≤ 15
+  pub calling_most : length calling ≤ 15
+  pub called_digits : AreDigits called
+  pub calling_digits : AreDigits calling
+  pub coded : halves octets ≡ called ++ calling ++ filling (length called + length calling)

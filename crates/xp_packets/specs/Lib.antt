@@ -1,0 +1,14 @@
+pub mod Digits
+pub mod Diagnostics
+pub mod Kinds
+pub mod Heading
+pub mod Numbers
+pub mod Spelling
+pub mod Examination
+pub mod Reading
+pub mod Fitness
+pub mod Addresses
+pub mod Writing
+pub mod Decoding
+pub mod Encoding
+pub mod Laws

@@ -1,0 +1,153 @@
+-- Reading a packet from its first octet to its last.
+use Rattle.std.specs.Prelude.{◌≡◌, ℕ, ◌+◌, ◌*◌, ◌/◌, ◌%◌, ◌==◌, nat_lt, nat_le, Bool, not, ◌&&◌, ◌||◌, if◌then◌else◌, List, [], ◌∷◌, length, take, drop, slice_index, Option, Some, None, Result, Ok, Err}
+use Rattle.std.specs.List.{list_all}
+use Rattle.xp_packets.specs.declared.fault.Wrong.{Wrong}
+use Rattle.xp_packets.specs.declared.fault.Wrong.TheVariants.{Short, Format, Unknown, Address, Facilities, Long}
+use Rattle.xp_packets.specs.declared.fault.PacketFault.{PacketFault}
+use Rattle.xp_packets.specs.declared.fault.PacketFault.TheVariants as faults
+use Rattle.xp_packets.specs.declared.header.Header.{Header}
+use Rattle.xp_packets.specs.declared.kind.Kind.{Kind}
+use Rattle.xp_packets.specs.declared.kind.Kind.TheVariants as kinds
+use Rattle.xp_packets.specs.declared.block.Block.{Block}
+use Rattle.xp_packets.specs.declared.packet.Packet.{Packet}
+use Rattle.xp_packets.specs.declared.packet.Packet.TheVariants.{Call, Accepted, Clear, ClearConfirm, DataPacket, Ready, NotReady, Reject, Interrupt, InterruptConfirm, Reset, ResetConfirm}
+use Rattle.xp_packets.specs.Digits.{halves, octets_for}
+use Rattle.xp_packets.specs.Heading.{wrong_format}
+use Rattle.xp_packets.specs.Kinds.{kind_of}
+use Rattle.xp_packets.specs.Numbers.{has_more, sent_number, received_number}
+
+infixl 10 ◌>>=◌
+abbrev pub ◌>>=◌ : {X Y : Type 0} → Result X Wrong → (X → Result Y Wrong) → Result Y Wrong
+(Ok x) >>= f = f x
+(Err e) >>= f = Err e
+
+-- What a function returned, seen by view, is what reading gives, unless memory ran out.
+abbrev pub Fails : {Y : Type 0} → PacketFault → Result Y Wrong → Type 0
+Fails faults.Memory read = Unit {0}
+Fails (faults.Wrong wrong) read = read ≡ Err wrong
+
+abbrev pub Gives : {X Y : Type 0} → (X → Y) → Result X PacketFault → Result Y Wrong → Type 0
+Gives view (Ok x) read = read ≡ Ok (view x)
+Gives view (Err e) read = Fails e read
+
+-- ---- the first three octets, and what stands after them
+
+abbrev pub made_header : ℕ → ℕ → ℕ → Kind → Header
+made_header first number octet kind =
+    record { identifier = first % 16 * 256 + number; q = nat_le 128 first; d = first / 64 % 2 == 1; kind = kind; octet = octet }
+
+abbrev pub known_header : ℕ → ℕ → ℕ → List ℕ → Option Kind → Result (Header × List ℕ) Wrong
+known_header first number octet rest None = Err Unknown
+known_header first number octet rest (Some kind) = Ok (made_header first number octet kind, rest)
+
+unfoldable pub header_at : List ℕ → Result (Header × List ℕ) Wrong
+header_at (first ∷ number ∷ octet ∷ rest) =
+    if wrong_format first octet then Err Format else
+    known_header first number octet rest (kind_of octet)
+header_at _ = Err Short
+
+-- ---- blocks
+
+-- so many half-octets from a place on, as digits
+unfoldable pub digits_at : List ℕ → ℕ → ℕ → Result (List ℕ) Wrong
+digits_at octets from count =
+    if list_all (λ half. nat_lt half 10) (take count (drop from (halves octets)))
+    then Ok (take count (drop from (halves octets)))
+    else Err Address
+
+-- both addresses, and what stands after them
+unfoldable pub addresses_at : ℕ → ℕ → List ℕ → Result (List ℕ × List ℕ × List ℕ) Wrong
+addresses_at called calling octets = if nat_lt (length octets) (octets_for (called + calling)) then Err Address else (do
+  to ← digits_at (take (octets_for (called + calling)) octets) 0 called
+  by ← digits_at (take (octets_for (called + calling)) octets) called calling
+  if ((called + calling) % 2 == 1) && not (slice_index (halves (take (octets_for (called + calling)) octets)) (called + calling) == 0) then Err Address else Ok (to, by, drop (octets_for (called + calling)) octets))
+
+-- facilities and user data
+unfoldable pub fields_at : List ℕ → Result (List ℕ × List ℕ) Wrong
+fields_at [] = Ok ([], [])
+fields_at (size ∷ rest) =
+    if nat_lt 109 size || nat_lt (length rest) size then Err Facilities else
+    (if nat_lt 128 (length (drop size rest)) then Err Long else Ok (take size rest, drop size rest))
+
+unfoldable pub block_at : {A : Type 0} → List ℕ → Result (Block A) Wrong
+block_at [] = Err Short
+block_at (lengths ∷ rest) = do
+  addresses ← addresses_at (lengths % 16) (lengths / 16) rest
+  fields ← fields_at addresses.2
+  Ok (record { called = addresses.0; calling = addresses.1; facilities = fields.0; user = fields.1 })
+
+unfoldable pub optional_block_at : {A : Type 0} → List ℕ → Result (Option (Block A)) Wrong
+optional_block_at [] = Ok None
+optional_block_at (octet ∷ rest) = do
+  block ← block_at (octet ∷ rest)
+  Ok (Some block)
+
+-- ---- each kind, from what stands after its type
+
+unfoldable pub call_at : {A : Type 0} → Bool → List ℕ → Result (Packet A) Wrong
+call_at d rest = do
+  block ← block_at rest
+  Ok (Call d block)
+
+unfoldable pub accepted_at : {A : Type 0} → Bool → List ℕ → Result (Packet A) Wrong
+accepted_at d rest = do
+  block ← optional_block_at rest
+  Ok (Accepted d block)
+
+unfoldable pub clear_at : {A : Type 0} → List ℕ → Result (Packet A) Wrong
+clear_at [] = Err Short
+clear_at (cause ∷ []) = Ok (Clear cause None None)
+clear_at (cause ∷ diagnostic ∷ rest) = do
+  block ← optional_block_at rest
+  Ok (Clear cause (Some diagnostic) block)
+
+abbrev pub confirmed : {A : Type 0} → Option (Block A) → Result (Packet A) Wrong
+confirmed None = Ok (ClearConfirm None)
+confirmed (Some block) = if nat_lt 0 (length block.user) then Err Long else Ok (ClearConfirm (Some block))
+
+unfoldable pub confirm_at : {A : Type 0} → List ℕ → Result (Packet A) Wrong
+confirm_at rest = do
+  block ← optional_block_at rest
+  confirmed block
+
+unfoldable pub data_at : {A : Type 0} → Bool → Bool → ℕ → List ℕ → Result (Packet A) Wrong
+data_at q d octet rest =
+    if nat_lt 1024 (length rest) then Err Long else
+    Ok (DataPacket q d (has_more octet) (sent_number octet) (received_number octet) rest)
+
+unfoldable pub interrupt_at : {A : Type 0} → List ℕ → Result (Packet A) Wrong
+interrupt_at [] = Err Short
+interrupt_at (octet ∷ rest) = if nat_lt 32 (length (octet ∷ rest)) then Err Long else Ok (Interrupt (octet ∷ rest))
+
+unfoldable pub reset_at : {A : Type 0} → List ℕ → Result (Packet A) Wrong
+reset_at [] = Err Short
+reset_at (cause ∷ []) = Ok (Reset cause None)
+reset_at (cause ∷ diagnostic ∷ []) = Ok (Reset cause (Some diagnostic))
+reset_at (cause ∷ diagnostic ∷ _ ∷ _) = Err Long
+
+-- a packet after whose type nothing stands
+unfoldable pub alone_at : {A : Type 0} → Packet A → List ℕ → Result (Packet A) Wrong
+alone_at packet [] = Ok packet
+alone_at packet (_ ∷ _) = Err Long
+
+-- ---- the whole
+
+abbrev pub body_by : {A : Type 0} → Kind → Header → List ℕ → Result (Packet A) Wrong
+body_by kinds.Call header rest = call_at header.d rest
+body_by kinds.Accepted header rest = accepted_at header.d rest
+body_by kinds.Clear header rest = clear_at rest
+body_by kinds.ClearConfirm header rest = confirm_at rest
+body_by kinds.Interrupt header rest = interrupt_at rest
+body_by kinds.InterruptConfirm header rest = alone_at InterruptConfirm rest
+body_by kinds.Reset header rest = reset_at rest
+body_by kinds.ResetConfirm header rest = alone_at ResetConfirm rest
+body_by kinds.Data header rest = data_at header.q header.d header.octet rest
+body_by kinds.Ready header rest = alone_at (Ready (received_number header.octet)) rest
+body_by kinds.NotReady header rest = alone_at (NotReady (received_number header.octet)) rest
+body_by kinds.Reject header rest = alone_at (Reject (received_number header.octet)) rest
+
+unfoldable pub packet_at : {A : Type 0} → List ℕ → Result (ℕ × Packet A) Wrong
+packet_at octets = do
+  header ← header_at octets
+  packet ← body_by header.0.kind header.0 header.1
+  Ok (header.0.identifier, packet)

@@ -1,0 +1,70 @@
+-- Writing a packet.
+use Rattle.std.specs.Prelude.{ℕ, ◌+◌, ◌*◌, Bool, false, List, [], ◌∷◌, ◌++◌, length, Option, Some, None}
+use Rattle.xp_packets.specs.declared.block.Block.{Block}
+use Rattle.xp_packets.specs.declared.packet.Packet.{Packet}
+use Rattle.xp_packets.specs.declared.packet.Packet.TheVariants.{Call, Accepted, Clear, ClearConfirm, DataPacket, Ready, NotReady, Reject, Interrupt, InterruptConfirm, Reset, ResetConfirm}
+use Rattle.xp_packets.specs.declared.kind.Kind.TheVariants as kinds
+use Rattle.xp_packets.specs.Heading.{heading}
+use Rattle.xp_packets.specs.Kinds.{octet_of}
+use Rattle.xp_packets.specs.Numbers.{data_octet, flow_octet}
+
+-- half-octets two by two, with a zero where the last has no other
+abbrev pub packed : List ℕ → List ℕ
+packed [] = []
+packed (high ∷ []) = (16 * high) ∷ []
+packed (high ∷ low ∷ rest) = (16 * high + low) ∷ packed rest
+
+abbrev pub written_block : {A : Type 0} → Block A → List ℕ
+written_block block =
+    (16 * length block.calling + length block.called) ∷ (packed (block.called ++ block.calling) ++ (length block.facilities ∷ (block.facilities ++ block.user)))
+
+abbrev pub written_option : {A : Type 0} → Option (Block A) → List ℕ
+written_option None = []
+written_option (Some block) = written_block block
+
+abbrev pub has_q : {A : Type 0} → Packet A → Bool
+has_q (DataPacket q d more ps pr octets) = q
+has_q _ = false
+
+abbrev pub has_d : {A : Type 0} → Packet A → Bool
+has_d (Call d block) = d
+has_d (Accepted d block) = d
+has_d (DataPacket q d more ps pr octets) = d
+has_d _ = false
+
+-- the type octet, with its numbers
+abbrev pub type_of : {A : Type 0} → Packet A → ℕ
+type_of (Call d block) = octet_of kinds.Call
+type_of (Accepted d block) = octet_of kinds.Accepted
+type_of (Clear cause diagnostic block) = octet_of kinds.Clear
+type_of (ClearConfirm block) = octet_of kinds.ClearConfirm
+type_of (DataPacket q d more ps pr octets) = data_octet ps pr more
+type_of (Ready pr) = flow_octet pr kinds.Ready
+type_of (NotReady pr) = flow_octet pr kinds.NotReady
+type_of (Reject pr) = flow_octet pr kinds.Reject
+type_of (Interrupt octets) = octet_of kinds.Interrupt
+type_of InterruptConfirm = octet_of kinds.InterruptConfirm
+type_of (Reset cause diagnostic) = octet_of kinds.Reset
+type_of ResetConfirm = octet_of kinds.ResetConfirm
+
+abbrev pub written_cause : ℕ → Option ℕ → List ℕ
+written_cause cause None = cause ∷ []
+written_cause cause (Some diagnostic) = cause ∷ diagnostic ∷ []
+
+-- what stands after the type
+abbrev pub written_body : {A : Type 0} → Packet A → List ℕ
+written_body (Call d block) = written_block block
+written_body (Accepted d block) = written_option block
+written_body (Clear cause diagnostic block) = written_cause cause diagnostic ++ written_option block
+written_body (ClearConfirm block) = written_option block
+written_body (DataPacket q d more ps pr octets) = octets
+written_body (Interrupt octets) = octets
+written_body (Reset cause diagnostic) = written_cause cause diagnostic
+written_body (Ready pr) = []
+written_body (NotReady pr) = []
+written_body (Reject pr) = []
+written_body InterruptConfirm = []
+written_body ResetConfirm = []
+
+abbrev pub written : {A : Type 0} → ℕ → Packet A → List ℕ
+written identifier packet = heading (has_q packet) (has_d packet) identifier (type_of packet) ++ written_body packet

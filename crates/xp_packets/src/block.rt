@@ -1,0 +1,147 @@
+//! The block of addresses, facilities and user data (X.25 clauses 5.2.1 to 5.2.4).
+
+ghost use Rattle.std.specs.Prelude.{◌≡◌, ◌≤◌, ◌++◌, false, length, IfOk, OnOk};
+ghost use Rattle.xp_packets.specs.Addresses.{AreAddresses, BlockHasAddresses};
+ghost use Rattle.xp_packets.specs.Fitness.{has_long_facilities};
+ghost use Rattle.xp_packets.specs.Reading.{Gives, block_at, fields_at, optional_block_at};
+ghost use Rattle.xp_packets.specs.Writing.{written_block, written_option};
+
+use crate::address::{addresses_of, push_addresses};
+use crate::digits::Digits;
+use crate::fault::{PacketFault, Wrong};
+use crate::octets::{Octets, octets_of};
+use std::alloc::{AllocError, Allocator, Global};
+
+/// The address block, facilities and user data of a call set-up or clearing packet
+/// (X.25 clauses 5.2.1 to 5.2.4).
+#[derive(Debug, Drop, PartialEq)]
+pub struct Block<A: Allocator = Global> {
+    pub called: Digits,
+    pub calling: Digits,
+    /// At most 109 octets.
+    pub facilities: Octets<A>,
+    /// At most 128 octets.
+    pub user: Octets<A>,
+}
+
+impl<A: Allocator + Copy> Block<A> {
+    /// An equal copy, by the same allocator.
+    pub fn copy(&self) -> Result<Block<A>, AllocError>
+        ensures { IfOk result (λ copied. copied ≡ self.now) }
+    {
+        let facilities = self.facilities.copy()?;
+        let user = self.user.copy()?;
+        Ok(Block {
+            called: self.called.copy(),
+            calling: self.calling.copy(),
+            facilities,
+            user,
+        })
+    }
+}
+
+/// Reads a block, which takes all the octets.
+#[tactic(auto, unfolding(crate::specs::Reading::block_at))]
+pub(crate) fn block_of<A: Allocator + Copy>(
+    alloc: A,
+    octets: &[u8],
+) -> Result<Block<A>, PacketFault>
+    ensures { Gives (λ x. x) result (block_at octets.now) }
+{
+    match octets {
+        [] => Err(PacketFault::Wrong(Wrong::Short)),
+        [lengths, rest @ ..] => {
+            let called = usize::from(*lengths % 16);
+            let calling = usize::from(*lengths / 16);
+            let (called, calling, rest) = addresses_of(called, calling, rest)?;
+            let (facilities, user) = fields_of(rest)?;
+            let facilities = octets_of(alloc, facilities)?;
+            let user = octets_of(alloc, user)?;
+            Ok(Block {
+                called,
+                calling,
+                facilities,
+                user,
+            })
+        }
+    }
+}
+
+/// Reads a block where there are octets.
+#[tactic(auto, unfolding(crate::specs::Reading::optional_block_at))]
+pub(crate) fn optional_block_of<A: Allocator + Copy>(
+    alloc: A,
+    octets: &[u8],
+) -> Result<Option<Block<A>>, PacketFault>
+    ensures { Gives (λ x. x) result (optional_block_at octets.now) }
+{
+    match octets {
+        [] => Ok(None),
+        [_, ..] => {
+            let block = block_of(alloc, octets)?;
+            Ok(Some(block))
+        }
+    }
+}
+
+/// The facilities and the user data behind the addresses.
+#[tactic(auto, unfolding(crate::specs::Reading::fields_at))]
+fn fields_of(octets: &[u8]) -> Result<(&[u8], &[u8]), PacketFault>
+    ensures { Gives (λ x. (x.0.now, x.1.now)) result (fields_at octets.now) }
+{
+    match octets {
+        [] => Ok((octets, octets)),
+        [size, rest @ ..] => {
+            let size = usize::from(*size);
+            if size > MOST_FACILITIES || rest.len() < size {
+                return Err(PacketFault::Wrong(Wrong::Facilities));
+            }
+            let (facilities, user) = rest.split_at(size);
+            if user.len() > MOST_USER {
+                return Err(PacketFault::Wrong(Wrong::Long));
+            }
+            Ok((facilities, user))
+        }
+    }
+}
+
+/// Octets of facilities (clause 5.2.1).
+pub(crate) const MOST_FACILITIES: usize = 109;
+
+/// Octets of user data (clause 5.2.1).
+pub(crate) const MOST_USER: usize = 128;
+
+/// Writes a block, with both length octets.
+pub(crate) fn push_block<A: Allocator>(
+    out: &mut Vec<u8, A>,
+    block: &Block<A>,
+) -> Result<(), AllocError>
+    requires { length block.now.facilities ≤ 109 }
+    ensures written { OnOk result (out.new.items ≡ out.old.items ++ written_block block.now) }
+    ensures addressed { OnOk result (AreAddresses block.now.called block.now.calling) }
+{
+    let called = block.called.len() as u8;
+    let calling = block.calling.len() as u8;
+    let size = block.facilities.len() as u8;
+    out.push(16 * calling + called)?;
+    push_addresses(out, &block.called, &block.calling)?;
+    out.push(size)?;
+    out.extend_from_slice(block.facilities.as_slice())?;
+    out.extend_from_slice(block.user.as_slice())?;
+    Ok(())
+}
+
+/// Writes a block where there is one.
+pub(crate) fn push_option<A: Allocator>(
+    out: &mut Vec<u8, A>,
+    block: &Option<Block<A>>,
+) -> Result<(), AllocError>
+    requires { has_long_facilities block.now ≡ false }
+    ensures written { OnOk result (out.new.items ≡ out.old.items ++ written_option block.now) }
+    ensures addressed { OnOk result (BlockHasAddresses block.now) }
+{
+    match block {
+        None => Ok(()),
+        Some(block) => push_block(out, block),
+    }
+}

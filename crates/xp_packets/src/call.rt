@@ -1,0 +1,35 @@
+//! Call set-up packets (X.25 clauses 5.2.1 and 5.2.2).
+
+ghost use Rattle.std.specs.Prelude.{◌≡◌};
+ghost use Rattle.xp_packets.specs.Reading.{Gives, accepted_at, call_at};
+
+use crate::block::{block_of, optional_block_of};
+use crate::fault::PacketFault;
+use crate::packet::Packet;
+use std::alloc::Allocator;
+
+/// Reads what stands after the type of a call.
+#[tactic(auto, unfolding(crate::specs::Reading::call_at))]
+pub(crate) fn call_of<A: Allocator + Copy>(
+    alloc: A,
+    d: bool,
+    rest: &[u8],
+) -> Result<Packet<A>, PacketFault>
+    ensures { Gives (λ x. x) result (call_at d rest.now) }
+{
+    let block = block_of(alloc, rest)?;
+    Ok(Packet::Call { d, block })
+}
+
+/// Reads what stands after the type of a call accepted.
+#[tactic(auto, unfolding(crate::specs::Reading::accepted_at))]
+pub(crate) fn accepted_of<A: Allocator + Copy>(
+    alloc: A,
+    d: bool,
+    rest: &[u8],
+) -> Result<Packet<A>, PacketFault>
+    ensures { Gives (λ x. x) result (accepted_at d rest.now) }
+{
+    let block = optional_block_of(alloc, rest)?;
+    Ok(Packet::Accepted { d, block })
+}

@@ -1,0 +1,98 @@
+ghost use Rattle.std.specs.Prelude.{◌≡◌, ◌<◌, ◌≤◌, ◌↔◌, [], ◌∷◌, ◌++◌, IsTrue, length};
+ghost use Rattle.xp_packets.specs.Digits.{AreDigits};
+
+use arrayvec::ArrayVec;
+use std::fmt;
+use std::marker::Model;
+
+/// The digits of an address (X.25 clause 5.2.1.1.1): at most 15, each 0 to 9.
+#[derive(Debug, Drop, PartialEq, Eq, Hash)]
+pub struct Digits {
+    values: ArrayVec<u8, 15>,
+}
+
+impl Model for Digits {
+    ghost use Rattle.std.specs.Prelude.{List, ℕ};
+    ghost use Rattle.xp_packets.specs.Digits.{AreDigits};
+
+    ghost Value = { List ℕ };
+
+    ghost view = { λ d. d.values.items };
+
+    ghost invariant = { λ d. AreDigits d.values.items };
+
+    ghost inverse = { λ digits. record { values = record { items = digits } } };
+}
+
+impl Digits {
+    /// How many digits an address has at most.
+    pub const MOST: usize = 15;
+
+    /// No digits.
+    pub fn new() -> Digits
+        ensures { result ≡ [] }
+    {
+        Digits {
+            values: ArrayVec::new(),
+        }
+    }
+
+    /// How many digits there are.
+    pub fn len(&self) -> usize
+        ensures count { result ≡ length self.now }
+        ensures most { length self.now ≤ 15 }
+    {
+        self.values.len()
+    }
+
+    /// Whether there are none.
+    pub fn is_empty(&self) -> bool
+        ensures { IsTrue result ↔ (self.now ≡ []) }
+    {
+        self.values.is_empty()
+    }
+
+    /// The digits in order, each 0 to 9.
+    pub fn as_slice(&self) -> &[u8]
+        ensures digits { result.now ≡ self.now }
+        ensures each { AreDigits self.now }
+        ensures most { length self.now ≤ 15 }
+    {
+        self.values.as_slice()
+    }
+
+    /// Adds a digit at the end.
+    pub fn push(&mut self, digit: u8)
+        requires room { length self.old < 15 }
+        requires digit { digit < 10 }
+        ensures { self.new ≡ self.old ++ digit ∷ [] }
+    {
+        self.values.push(digit);
+    }
+
+    /// An equal copy.
+    pub fn copy(&self) -> Digits
+        ensures { result ≡ self.now }
+    {
+        let mut values = ArrayVec::new();
+        let _ = values.try_extend_from_slice(self.as_slice());
+        Digits { values }
+    }
+}
+
+impl Default for Digits {
+    ghost is_default = { λ digits. digits ≡ [] };
+
+    fn default() -> Digits {
+        Digits::new()
+    }
+}
+
+impl fmt::Display for Digits {
+    fn fmt<W: fmt::Write>(&self, f: &mut fmt::Formatter<W>) -> fmt::Result {
+        for digit in self.as_slice() {
+            write!(f, "{digit}")?;
+        }
+        Ok(())
+    }
+}

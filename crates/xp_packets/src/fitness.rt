@@ -1,0 +1,108 @@
+//! Which packets have no spelling.
+
+ghost use Rattle.std.specs.Prelude.{◌≡◌};
+ghost use Rattle.xp_packets.specs.Fitness.{has_long_facilities, has_more_user_data, has_wrong_number, is_too_long, lacks_octet, unfit};
+ghost use Rattle.xp_packets.specs.Fitness.{block_of};
+
+use crate::block::{Block, MOST_FACILITIES, MOST_USER};
+use crate::data::MOST_DATA;
+use crate::fault::Wrong;
+use crate::interrupt::MOST_INTERRUPT;
+use crate::numbers::is_over;
+use crate::packet::Packet;
+use std::alloc::Allocator;
+
+/// The greatest logical channel identifier (X.25 clause 5.1).
+const MOST_IDENTIFIER: u16 = 4095;
+
+/// The first reason, in the order of examination, why no octets spell the packet.
+pub(crate) fn first_unfit<A: Allocator>(identifier: u16, packet: &Packet<A>) -> Option<Wrong>
+    ensures { result ≡ unfit identifier packet.now }
+{
+    if lacks_octet(packet) {
+        return Some(Wrong::Short);
+    }
+    if has_wrong_number(packet) || identifier > MOST_IDENTIFIER {
+        return Some(Wrong::Format);
+    }
+    if carries_long_facilities(packet) {
+        return Some(Wrong::Facilities);
+    }
+    if is_too_long(packet) {
+        return Some(Wrong::Long);
+    }
+    None
+}
+
+/// An interrupt without data, or a clear with a block and no diagnostic before it.
+fn lacks_octet<A: Allocator>(packet: &Packet<A>) -> bool
+    ensures { result ≡ lacks_octet packet.now }
+{
+    match packet {
+        Packet::Clear {
+            diagnostic: None,
+            block: Some(_),
+            ..
+        } => true,
+        Packet::Interrupt { octets } => octets.len() == 0,
+        _ => false,
+    }
+}
+
+/// P(S) or P(R) is none of the modulus.
+fn has_wrong_number<A: Allocator>(packet: &Packet<A>) -> bool
+    ensures { result ≡ has_wrong_number packet.now }
+{
+    match packet {
+        Packet::DataPacket { ps, pr, .. } => is_over(*ps) || is_over(*pr),
+        Packet::Ready { pr } | Packet::NotReady { pr } | Packet::Reject { pr } => is_over(*pr),
+        _ => false,
+    }
+}
+
+/// The facilities are over 109 octets.
+fn carries_long_facilities<A: Allocator>(packet: &Packet<A>) -> bool
+    ensures { result ≡ has_long_facilities (block_of packet.now) }
+{
+    match packet {
+        Packet::Call { block, .. } => block.facilities.len() > MOST_FACILITIES,
+        Packet::Accepted { block, .. }
+        | Packet::Clear { block, .. }
+        | Packet::ClearConfirm { block } => has_long_facilities(block),
+        _ => false,
+    }
+}
+
+fn has_long_facilities<A: Allocator>(block: &Option<Block<A>>) -> bool
+    ensures { result ≡ has_long_facilities block.now }
+{
+    match block {
+        None => false,
+        Some(block) => block.facilities.len() > MOST_FACILITIES,
+    }
+}
+
+/// More user data, data or interrupt data than a packet of its kind carries.
+fn is_too_long<A: Allocator>(packet: &Packet<A>) -> bool
+    ensures { result ≡ is_too_long packet.now }
+{
+    match packet {
+        Packet::Call { block, .. } => block.user.len() > MOST_USER,
+        Packet::Accepted { block, .. } | Packet::Clear { block, .. } => {
+            has_more_user_data(MOST_USER, block)
+        }
+        Packet::ClearConfirm { block } => has_more_user_data(0, block),
+        Packet::DataPacket { octets, .. } => octets.len() > MOST_DATA,
+        Packet::Interrupt { octets } => octets.len() > MOST_INTERRUPT,
+        _ => false,
+    }
+}
+
+fn has_more_user_data<A: Allocator>(most: usize, block: &Option<Block<A>>) -> bool
+    ensures { result ≡ has_more_user_data most block.now }
+{
+    match block {
+        None => false,
+        Some(block) => block.user.len() > most,
+    }
+}

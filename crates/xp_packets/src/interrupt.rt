@@ -1,0 +1,29 @@
+//! Interrupts (X.25 clause 5.3.2).
+
+ghost use Rattle.std.specs.Prelude.{◌≡◌};
+ghost use Rattle.xp_packets.specs.Reading.{Gives, interrupt_at};
+
+use crate::fault::{PacketFault, Wrong};
+use crate::octets::octets_of;
+use crate::packet::Packet;
+use std::alloc::Allocator;
+
+/// Octets of interrupt user data (clause 5.3.2).
+pub(crate) const MOST_INTERRUPT: usize = 32;
+
+/// Reads what stands after the type of an interrupt.
+#[tactic(auto, unfolding(crate::specs::Reading::interrupt_at))]
+pub(crate) fn interrupt_of<A: Allocator>(alloc: A, rest: &[u8]) -> Result<Packet<A>, PacketFault>
+    ensures { Gives (λ x. x) result (interrupt_at rest.now) }
+{
+    match rest {
+        [] => Err(PacketFault::Wrong(Wrong::Short)),
+        [_, ..] => {
+            if rest.len() > MOST_INTERRUPT {
+                return Err(PacketFault::Wrong(Wrong::Long));
+            }
+            let octets = octets_of(alloc, rest)?;
+            Ok(Packet::Interrupt { octets })
+        }
+    }
+}

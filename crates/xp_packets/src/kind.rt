@@ -1,0 +1,78 @@
+//! The packet type identifier (X.25 clause 5.1, table 5-2).
+
+ghost use Rattle.std.specs.Prelude.{◌≡◌};
+ghost use Rattle.xp_packets.specs.Kinds.{kind_of, whole_kind_of, octet_of};
+
+/// Which packet it is. The octet of the last four below also carries P(R), that of data
+/// P(S), P(R) and the M bit.
+#[derive(Clone, Copy, Debug, PartialEq, Eq)]
+pub(crate) enum Kind {
+    Call,
+    Accepted,
+    Clear,
+    ClearConfirm,
+    Interrupt,
+    InterruptConfirm,
+    Reset,
+    ResetConfirm,
+    Data,
+    Ready,
+    NotReady,
+    Reject,
+}
+
+impl Kind {
+    /// The kind that a type octet names.
+    #[tactic(auto, unfolding(crate::specs::Kinds::kind_of))]
+    pub(crate) fn of(octet: u8) -> Option<Kind>
+        ensures { result ≡ kind_of octet }
+    {
+        if octet % 2 == 0 {
+            return Some(Kind::Data);
+        }
+        match octet % 32 {
+            0x01 => Some(Kind::Ready),
+            0x05 => Some(Kind::NotReady),
+            0x09 => Some(Kind::Reject),
+            _ => Kind::of_whole(octet),
+        }
+    }
+
+    /// The kind of an octet that carries no number.
+    #[tactic(auto, unfolding(crate::specs::Kinds::whole_kind_of))]
+    fn of_whole(octet: u8) -> Option<Kind>
+        ensures { result ≡ whole_kind_of octet }
+    {
+        match octet {
+            0x0b => Some(Kind::Call),
+            0x0f => Some(Kind::Accepted),
+            0x13 => Some(Kind::Clear),
+            0x17 => Some(Kind::ClearConfirm),
+            0x23 => Some(Kind::Interrupt),
+            0x27 => Some(Kind::InterruptConfirm),
+            0x1b => Some(Kind::Reset),
+            0x1f => Some(Kind::ResetConfirm),
+            _ => None,
+        }
+    }
+
+    /// The type octet, with zero where it carries numbers.
+    pub(crate) fn octet(self) -> u8
+        ensures { result ≡ octet_of self }
+    {
+        match self {
+            Kind::Call => 0x0b,
+            Kind::Accepted => 0x0f,
+            Kind::Clear => 0x13,
+            Kind::ClearConfirm => 0x17,
+            Kind::Interrupt => 0x23,
+            Kind::InterruptConfirm => 0x27,
+            Kind::Reset => 0x1b,
+            Kind::ResetConfirm => 0x1f,
+            Kind::Data => 0x00,
+            Kind::Ready => 0x01,
+            Kind::NotReady => 0x05,
+            Kind::Reject => 0x09,
+        }
+    }
+}

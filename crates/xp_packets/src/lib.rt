@@ -1,0 +1,39 @@
+//! Packets of X.25 clause 5, as octets and as values.
+#![tactic(auto)]
+
+mod address;
+mod block;
+mod call;
+mod clear;
+mod data;
+mod digits;
+mod end;
+mod fault;
+mod fitness;
+mod flow;
+mod header;
+mod interrupt;
+mod kind;
+mod laws;
+mod numbers;
+mod octets;
+mod packet;
+mod reading;
+mod reset;
+mod writing;
+
+pub use block::Block;
+pub use digits::Digits;
+pub use end::End;
+pub use fault::{PacketFault, Wrong};
+pub use laws::{
+    either_spelled_or_wrong, fit_is_written, one_written_spelling, spelled_is_fit,
+    written_is_read_back,
+};
+pub use octets::Octets;
+pub use packet::Packet;
+pub use reading::decode;
+pub use writing::encode;
+
+#[cfg(test)]
+mod tests;

@@ -1,0 +1,54 @@
+//! P(S), P(R) and the M bit in a type octet (X.25 clauses 5.3.1 and 5.4), modulo 8.
+
+ghost use Rattle.std.specs.Prelude.{◌≡◌, ◌<◌};
+ghost use Rattle.xp_packets.specs.Kinds.{octet_of};
+ghost use Rattle.xp_packets.specs.Numbers.{data_octet, flow_octet, has_more, is_over, modulus, received_number, sent_number};
+
+use crate::header::weighed;
+use crate::kind::Kind;
+
+/// The greatest P(S) or P(R).
+const MOST_NUMBER: u8 = 7;
+
+/// Whether it is no P(S) or P(R).
+pub(crate) fn is_over(number: u8) -> bool
+    ensures { result ≡ is_over number }
+{
+    number > MOST_NUMBER
+}
+
+/// The type octet of a data packet.
+pub(crate) fn data_octet(ps: u8, pr: u8, more: bool) -> u8
+    requires sent { ps < modulus }
+    requires received { pr < modulus }
+    ensures { result ≡ data_octet ps pr more }
+{
+    pr * 32 + weighed(16, more) + ps * 2
+}
+
+/// The type octet of a flow control packet.
+pub(crate) fn flow_octet(pr: u8, kind: Kind) -> u8
+    requires received { pr < modulus }
+    requires flow { octet_of kind < 32 }
+    ensures { result ≡ flow_octet pr kind }
+{
+    pr * 32 + kind.octet()
+}
+
+pub(crate) fn sent_number(octet: u8) -> u8
+    ensures { result ≡ sent_number octet }
+{
+    octet / 2 % 8
+}
+
+pub(crate) fn received_number(octet: u8) -> u8
+    ensures { result ≡ received_number octet }
+{
+    octet / 32
+}
+
+pub(crate) fn has_more(octet: u8) -> bool
+    ensures { result ≡ has_more octet }
+{
+    octet / 16 % 2 == 1
+}

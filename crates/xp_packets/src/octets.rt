@@ -1,0 +1,101 @@
+ghost use Rattle.std.specs.Prelude.{◌≡◌, ◌↔◌, [], IfOk, IsTrue, length, MatchResult};
+ghost use Rattle.xp_packets.specs.declared.fault.PacketFault.TheVariants.{Memory};
+
+use crate::fault::PacketFault;
+use std::alloc::{AllocError, Allocator, Global};
+use std::marker::Model;
+
+/// Octets that a packet carries unchanged: user data, facilities, interrupt data.
+#[derive(Debug, Drop)]
+pub struct Octets<A: Allocator = Global> {
+    octets: Vec<u8, A>,
+}
+
+impl<A: Allocator> Model for Octets<A> {
+    ghost use Rattle.std.specs.Prelude.{List, ℕ};
+
+    ghost Value = { List ℕ };
+
+    ghost view = { λ o. o.octets.items };
+}
+
+impl<A: Allocator> Octets<A> {
+    /// No octets.
+    pub fn new(alloc: A) -> Octets<A>
+        ensures { result ≡ [] }
+    {
+        Octets {
+            octets: Vec::new(alloc),
+        }
+    }
+
+    /// The octets of a vector.
+    pub fn from_vec(octets: Vec<u8, A>) -> Octets<A>
+        ensures { result ≡ octets.items }
+    {
+        Octets { octets }
+    }
+
+    /// The vector of these octets.
+    pub fn into_vec(self) -> Vec<u8, A>
+        ensures { result.items ≡ self }
+    {
+        self.octets
+    }
+
+    /// The octets, in order.
+    pub fn as_slice(&self) -> &[u8]
+        ensures { result.now ≡ self.now }
+    {
+        self.octets.as_slice()
+    }
+
+    /// How many octets there are.
+    pub fn len(&self) -> usize
+        ensures { result ≡ length self.now }
+    {
+        self.octets.len()
+    }
+
+    /// Whether there are none.
+    pub fn is_empty(&self) -> bool
+        ensures { IsTrue result ↔ (self.now ≡ []) }
+    {
+        self.octets.is_empty()
+    }
+}
+
+impl<A: Allocator + Copy> Octets<A> {
+    /// An equal copy, by the same allocator.
+    pub fn copy(&self) -> Result<Octets<A>, AllocError>
+        ensures { IfOk result (λ copied. copied ≡ self.now) }
+    {
+        let octets = Vec::from_slice(*self.octets.allocator(), self.as_slice())?;
+        Ok(Octets::from_vec(octets))
+    }
+}
+
+impl<A: Allocator> PartialEq for Octets<A> {
+    ghost use Rattle.std.specs.Cmp.Lexicographic.{pointwise};
+    ghost use Rattle.std.specs.Prelude.{◌==◌};
+    ghost use Rattle.std.proofs.Common.{rules};
+    ghost use Rattle.std.specs.Cmp.Rules.{comparing};
+
+    ghost eq = { λ a b. pointwise ◌==◌ a b };
+
+    ghost laws = { Prim.search (comparing, rules) };
+
+    fn eq(&self, other: &Octets<A>) -> bool {
+        self.as_slice() == other.as_slice()
+    }
+}
+
+/// An owned copy of octets.
+pub(crate) fn octets_of<A: Allocator>(alloc: A, octets: &[u8]) -> Result<Octets<A>, PacketFault>
+    ensures { MatchResult result (λ copied. copied ≡ octets.now) (λ fault. fault ≡ Memory) }
+{
+    match Vec::from_slice(alloc, octets) {
+        Ok(copied) => Ok(Octets::from_vec(copied)),
+        Err(_) => Err(PacketFault::Memory),
+    }
+}

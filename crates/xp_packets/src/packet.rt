@@ -1,0 +1,140 @@
+ghost use Rattle.std.specs.Prelude.{◌≡◌, IfOk};
+
+use crate::block::Block;
+use crate::octets::Octets;
+use std::alloc::{AllocError, Allocator, Global};
+
+/// A packet between a DTE and the exchange (X.25 clause 5), without its logical channel identifier.
+#[derive(Debug, Drop, PartialEq)]
+pub enum Packet<A: Allocator = Global> {
+    /// Call request and incoming call (clause 5.2.1).
+    Call {
+        d: bool,
+        block: Block<A>,
+    },
+    /// Call accepted and call connected (clause 5.2.2).
+    Accepted {
+        d: bool,
+        block: Option<Block<A>>,
+    },
+    /// Clear request and clear indication (clause 5.2.3).
+    Clear {
+        cause: u8,
+        diagnostic: Option<u8>,
+        block: Option<Block<A>>,
+    },
+    /// Clear confirmation (clause 5.2.4).
+    ClearConfirm {
+        block: Option<Block<A>>,
+    },
+    /// Data, with the Q, D and M bits and the numbers P(S) and P(R) (clause 5.3.1).
+    DataPacket {
+        q: bool,
+        d: bool,
+        more: bool,
+        ps: u8,
+        pr: u8,
+        octets: Octets<A>,
+    },
+    /// Receive ready (clause 5.4.1).
+    Ready {
+        pr: u8,
+    },
+    /// Receive not ready (clause 5.4.2).
+    NotReady {
+        pr: u8,
+    },
+    /// Reject (clause 5.7.1).
+    Reject {
+        pr: u8,
+    },
+    /// Interrupt (clause 5.3.2).
+    Interrupt {
+        octets: Octets<A>,
+    },
+    /// Interrupt confirmation (clause 5.3.3).
+    InterruptConfirm,
+    /// Reset request and reset indication (clause 5.4.3).
+    Reset {
+        cause: u8,
+        diagnostic: Option<u8>,
+    },
+    /// Reset confirmation (clause 5.4.4).
+    ResetConfirm,
+}
+
+impl<A: Allocator + Copy> Packet<A> {
+    /// An equal copy, by the same allocator.
+    pub fn copy(&self) -> Result<Packet<A>, AllocError>
+        ensures { IfOk result (λ copied. copied ≡ self.now) }
+    {
+        match self {
+            Packet::Call { d, block } => {
+                let block = block.copy()?;
+                Ok(Packet::Call { d: *d, block })
+            }
+            Packet::Accepted { d, block } => {
+                let block = copy_option(block)?;
+                Ok(Packet::Accepted { d: *d, block })
+            }
+            Packet::Clear {
+                cause,
+                diagnostic,
+                block,
+            } => {
+                let block = copy_option(block)?;
+                Ok(Packet::Clear {
+                    cause: *cause,
+                    diagnostic: *diagnostic,
+                    block,
+                })
+            }
+            Packet::ClearConfirm { block } => {
+                let block = copy_option(block)?;
+                Ok(Packet::ClearConfirm { block })
+            }
+            Packet::DataPacket {
+                q,
+                d,
+                more,
+                ps,
+                pr,
+                octets,
+            } => {
+                let octets = octets.copy()?;
+                Ok(Packet::DataPacket {
+                    q: *q,
+                    d: *d,
+                    more: *more,
+                    ps: *ps,
+                    pr: *pr,
+                    octets,
+                })
+            }
+            Packet::Ready { pr } => Ok(Packet::Ready { pr: *pr }),
+            Packet::NotReady { pr } => Ok(Packet::NotReady { pr: *pr }),
+            Packet::Reject { pr } => Ok(Packet::Reject { pr: *pr }),
+            Packet::Interrupt { octets } => {
+                let octets = octets.copy()?;
+                Ok(Packet::Interrupt { octets })
+            }
+            Packet::InterruptConfirm => Ok(Packet::InterruptConfirm),
+            Packet::Reset { cause, diagnostic } => Ok(Packet::Reset {
+                cause: *cause,
+                diagnostic: *diagnostic,
+            }),
+            Packet::ResetConfirm => Ok(Packet::ResetConfirm),
+        }
+    }
+}
+
+fn copy_option<A: Allocator + Copy>(
+    block: &Option<Block<A>>,
+) -> Result<Option<Block<A>>, AllocError>
+    ensures { IfOk result (λ copied. copied ≡ block.now) }
+{
+    match block {
+        Some(block) => Ok(Some(block.copy()?)),
+        None => Ok(None),
+    }
+}

@@ -1,0 +1,126 @@
+//! From packets to octets.
+
+ghost use Rattle.std.specs.Prelude.{◌≡◌, ◌++◌, false, IfErr, IfOk, None, OnOk};
+ghost use Rattle.xp_packets.specs.Addresses.{HasAddresses};
+ghost use Rattle.xp_packets.specs.Encoding.{Refuses};
+ghost use Rattle.xp_packets.specs.Fitness.{block_of, has_long_facilities, has_wrong_number, unfit};
+ghost use Rattle.xp_packets.specs.Spelling.{WrittenAs};
+ghost use Rattle.xp_packets.specs.Writing.{has_d, has_q, type_of, written, written_body};
+
+use crate::block::{push_block, push_option};
+use crate::clear::push_cause;
+use crate::fault::PacketFault;
+use crate::fitness::first_unfit;
+use crate::header::push_heading;
+use crate::kind::Kind;
+use crate::numbers::{data_octet, flow_octet};
+use crate::packet::Packet;
+use std::alloc::{AllocError, Allocator};
+
+/// Writes a packet on a logical channel; every block gets both length octets (X.25 clause 5).
+///
+/// # Errors
+///
+/// `Wrong` with the first reason, in the order of examination, why `decode` could never give this
+/// packet; for such as it could give only `Memory`.
+pub fn encode<A: Allocator>(
+    alloc: A,
+    identifier: u16,
+    packet: &Packet<A>,
+) -> Result<Vec<u8, A>, PacketFault>
+    ensures written { IfOk result (λ octets. (unfit identifier packet.now ≡ None) × WrittenAs octets.items identifier packet.now) }
+    ensures refused { IfErr result (λ fault. Refuses fault (unfit identifier packet.now)) }
+{
+    if let Some(wrong) = first_unfit(identifier, packet) {
+        return Err(PacketFault::Wrong(wrong));
+    }
+    match written_of(alloc, identifier, packet) {
+        Ok(octets) => Ok(octets),
+        Err(_) => Err(PacketFault::Memory),
+    }
+}
+
+fn written_of<A: Allocator>(
+    alloc: A,
+    identifier: u16,
+    packet: &Packet<A>,
+) -> Result<Vec<u8, A>, AllocError>
+    requires { unfit identifier packet.now ≡ None }
+    ensures written { IfOk result (λ octets. octets.items ≡ written identifier packet.now) }
+    ensures addressed { OnOk result (HasAddresses packet.now) }
+{
+    let mut octets = Vec::new(alloc);
+    push_heading(
+        &mut octets,
+        has_q(packet),
+        has_d(packet),
+        identifier,
+        type_of(packet),
+    )?;
+    push_body(&mut octets, packet)?;
+    Ok(octets)
+}
+
+fn has_q<A: Allocator>(packet: &Packet<A>) -> bool
+    ensures { result ≡ has_q packet.now }
+{
+    match packet {
+        Packet::DataPacket { q, .. } => *q,
+        _ => false,
+    }
+}
+
+fn has_d<A: Allocator>(packet: &Packet<A>) -> bool
+    ensures { result ≡ has_d packet.now }
+{
+    match packet {
+        Packet::Call { d, .. } | Packet::Accepted { d, .. } | Packet::DataPacket { d, .. } => *d,
+        _ => false,
+    }
+}
+
+/// The type octet, with its numbers.
+fn type_of<A: Allocator>(packet: &Packet<A>) -> u8
+    requires { has_wrong_number packet.now ≡ false }
+    ensures { result ≡ type_of packet.now }
+{
+    match packet {
+        Packet::Call { .. } => Kind::Call.octet(),
+        Packet::Accepted { .. } => Kind::Accepted.octet(),
+        Packet::Clear { .. } => Kind::Clear.octet(),
+        Packet::ClearConfirm { .. } => Kind::ClearConfirm.octet(),
+        Packet::DataPacket { more, ps, pr, .. } => data_octet(*ps, *pr, *more),
+        Packet::Ready { pr } => flow_octet(*pr, Kind::Ready),
+        Packet::NotReady { pr } => flow_octet(*pr, Kind::NotReady),
+        Packet::Reject { pr } => flow_octet(*pr, Kind::Reject),
+        Packet::Interrupt { .. } => Kind::Interrupt.octet(),
+        Packet::InterruptConfirm => Kind::InterruptConfirm.octet(),
+        Packet::Reset { .. } => Kind::Reset.octet(),
+        Packet::ResetConfirm => Kind::ResetConfirm.octet(),
+    }
+}
+
+/// Writes what stands after the type.
+fn push_body<A: Allocator>(out: &mut Vec<u8, A>, packet: &Packet<A>) -> Result<(), AllocError>
+    requires { has_long_facilities (block_of packet.now) ≡ false }
+    ensures written { OnOk result (out.new.items ≡ out.old.items ++ written_body packet.now) }
+    ensures addressed { OnOk result (HasAddresses packet.now) }
+{
+    match packet {
+        Packet::Call { block, .. } => push_block(out, block),
+        Packet::Accepted { block, .. } | Packet::ClearConfirm { block } => push_option(out, block),
+        Packet::Clear {
+            cause,
+            diagnostic,
+            block,
+        } => {
+            push_cause(out, *cause, *diagnostic)?;
+            push_option(out, block)
+        }
+        Packet::DataPacket { octets, .. } | Packet::Interrupt { octets } => {
+            out.extend_from_slice(octets.as_slice())
+        }
+        Packet::Reset { cause, diagnostic } => push_cause(out, *cause, *diagnostic),
+        _ => Ok(()),
+    }
+}

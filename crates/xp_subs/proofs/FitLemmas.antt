@@ -1,0 +1,97 @@
+-- A station of a file that an exchange can hold, and the numbers of its lines.
+use Rattle.std.proofs.Common.{◌≡◌, ℕ, zero, suc, ◌+◌, ◌<◌, ◌≤◌, List, [], ◌∷◌, ◌++◌, Bool, true, false, cond, Option, None, Some, All, Err, take, drop, length, get_or, refl, sym, ap, subst, ◌∙◌, arith, add-one}
+use Rattle.std.specs.Prelude.{nat_lt}
+use Rattle.std.proofs.lemmas.Bool.{ltb-false}
+use Rattle.std.proofs.lemmas.List.{drop_more}
+use Rattle.std.proofs.lemmas.List.Elements.{All-nil, All-cons, All-head, All-tail}
+use Rattle.std.proofs.lemmas.List.Sums.{sum_by_more_le}
+use Rattle.xp_file.specs.declared.entry.StationEntry.{StationEntry}
+use Rattle.xp_file.specs.declared.fault.SubsFault.{SubsFault}
+use Rattle.xp_file.specs.declared.key.Key.{Key}
+use Rattle.xp_file.specs.declared.key.Key.TheVariants as keys
+use Rattle.xp_file.specs.Entries.{IsEvenLines, IsEvenGroups}
+use Rattle.xp_subs.specs.Built.{numbers}
+use Rattle.xp_subs.specs.Fit.{IsFit, IsFitStation}
+use Rattle.xp_subs.specs.Passes.{Used, station_over, first_key, first_over, over_limit, line_total, with_station, with_stations}
+
+pub fit_at : (stations : List StationEntry) (i : ℕ) (s : StationEntry) → IsFit stations → i < length stations → s ≡ get_or stations i s → IsFitStation s
+fit_at stations i s fit within here = subst IsFitStation (sym here) (fit.each i s within)
+
+pub lines_at : (stations : List StationEntry) (i : ℕ) (s : StationEntry) → IsFit stations → i < length stations → s ≡ get_or stations i s
+    → line_total (take i stations) + length s.lines.names ≤ 512
+lines_at stations i s fit within here =
+    let held = sum_by_more_le (λ (station : StationEntry). length station.lines.names) stations i s within in
+    let P : StationEntry → Type 0 = λ station. line_total (take i stations) + length station.lines.names ≤ line_total stations in
+    let all : line_total (take i stations) + length s.lines.names ≤ line_total stations = subst P (sym here) held in
+    let most : line_total stations ≤ 512 = fit.lines in
+    omega arith
+
+-- the rest of a list, from an index on
+pub rest_at : {X : Type 0} (xs : List X) (i : ℕ) (x : X) → i < length xs → x ≡ get_or xs i x → drop i xs ≡ x ∷ drop (i + 1) xs
+rest_at xs i x within here = drop_more xs i x within ∙ ap (λ y. y ∷ drop (i + 1) xs) (sym here)
+
+pub stations_refused : (stations : List StationEntry) (i : ℕ) (s : StationEntry) (number line : ℕ) (used : Used) (fault : SubsFault)
+    → i < length stations → s ≡ get_or stations i s → with_station number line s used ≡ Err fault
+    → with_stations number line (drop i stations) used ≡ Err fault
+stations_refused stations i s number line used fault within here refused =
+    ap (λ l. with_stations number line l used) (rest_at stations i s within here) ∙ rw refused
+
+-- one number more at the end
+pub numbers_more : (first count : ℕ) → numbers first (count + 1) ≡ numbers first count ++ (first + count) ∷ []
+numbers_more first count = rw add-one (by first count)
+  where
+    by : (first count : ℕ) → numbers first (suc count) ≡ numbers first count ++ (first + count) ∷ []
+    by first zero = let same : first ≡ first + 0 = omega arith in ap (λ n. n ∷ []) same
+    by first (suc count) =
+        let next : first + 1 + count ≡ first + suc count = omega arith in
+        ap (λ more. first ∷ more) (by (first + 1) count) ∙ ap (λ n. (first ∷ numbers (first + 1) count) ++ n ∷ []) next
+
+none_is_some : {X : Type 0} {x : X} → None ≡ Some x → ⊥
+none_is_some e = cc
+
+chosen_none : {X : Type 0} (test : Bool) (x : X) (other : Option X) → cond test (Some x) other ≡ None → (test ≡ false) × (other ≡ None)
+chosen_none true x other e = absurd (none_is_some (sym e))
+chosen_none false x other e = (refl, e)
+
+first_none : (a b : Option Key) → first_key a b ≡ None → (a ≡ None) × (b ≡ None)
+first_none None b e = (refl, e)
+first_none (Some key) b e = absurd (none_is_some (sym e))
+
+Even : StationEntry → Type 0
+Even entry = IsEvenLines entry.lines × IsEvenGroups entry.groups
+
+fit_station : (station : StationEntry) → station_over station ≡ None → Even station → IsFitStation station
+unfolding Even
+fit_station station fits even =
+    let (few_lines, more) = chosen_none (nat_lt 32 (length station.lines.names)) keys.Line _ fits in
+    let (few_groups, _) = chosen_none (nat_lt 64 (length station.groups.names)) keys.Group None more in
+    record {
+      lines = ltb-false 32 (length station.lines.names) few_lines;
+      groups = ltb-false 64 (length station.groups.names) few_groups;
+      even_lines = even.0;
+      even_groups = even.1;
+    }
+
+all_fit : (stations : List StationEntry) → first_over stations ≡ None → All Even stations → All IsFitStation stations
+all_fit [] fits even = All-nil IsFitStation
+all_fit (station ∷ stations) fits even =
+    let (here, rest) = first_none (station_over station) (first_over stations) fits in
+    All-cons IsFitStation station stations (fit_station station here (All-head Even station stations even))
+    (all_fit stations rest (All-tail Even station stations even))
+
+-- a file within the limits, each of whose lines and groups has every key
+pub fits : (stations : List StationEntry) → over_limit stations ≡ None → All (λ entry. IsEvenLines entry.lines × IsEvenGroups entry.groups) stations → IsFit stations
+unfolding Even
+fits stations within even =
+    let (few, more) = chosen_none (nat_lt 256 (length stations)) keys.Station _ within in
+    let (lines, rest) = chosen_none (nat_lt 512 (line_total stations)) keys.Line (first_over stations) more in
+    record {
+      few = ltb-false 256 (length stations) few;
+      lines = ltb-false 512 (line_total stations) lines;
+      each = all_fit stations rest even;
+    }
+
+pub fits_as : (stations first second : List StationEntry) (over : Option Key) → over ≡ over_limit first → over ≡ None → first ≡ stations → second ≡ stations
+    → All (λ entry. IsEvenLines entry.lines × IsEvenGroups entry.groups) stations → IsFit second
+fits_as stations first second over is none one two even =
+    subst IsFit (sym two) (fits stations (ap over_limit (sym one) ∙ sym is ∙ none) even)

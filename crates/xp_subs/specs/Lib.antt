@@ -1,0 +1,7 @@
+pub mod BuiltIn
+pub mod Built
+pub mod Fit
+pub mod Kept
+pub mod Passes
+pub mod Sound
+pub mod Tables

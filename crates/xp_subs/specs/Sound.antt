@@ -1,0 +1,39 @@
+-- What holds of all subscription tables.
+use Rattle.std.specs.Prelude.{◌≡◌, ℕ, ◌<◌, ◌≤◌, List, Option, None, Some, Contains, IsTrue}
+use Rattle.xp_subs.specs.declared.target.Target.{Target}
+use Rattle.xp_file.specs.Name.{is_line_name}
+use Rattle.xp_subs.specs.Tables.{Tables, station_count, line_count, station_at, line_at, station_of, target_of, line_named_of}
+
+-- the line is one of the station's
+abbrev pub Lists : Tables → ℕ → ℕ → Type 0
+Lists tables station line = Contains (station_at tables station).lines.items line
+
+-- the target is a station that there is, or one line of it
+abbrev pub IsTarget : Tables → Target → Type 0
+IsTarget tables target = (target.station < station_count tables) × one target.line where
+  one : Option ℕ → Type 0
+  one None = Unit {0}
+  one (Some line) = (line < line_count tables) × (station_of tables line ≡ target.station)
+
+pub record IsSound (tables : Tables) : Type 0 where
+  -- at least one line, at most 512, in at most 256 stations
+  pub some_line : 0 < line_count tables
+  pub few_lines : line_count tables ≤ 512
+  pub few_stations : station_count tables ≤ 256
+  -- a line is one of its station's, and no other station's
+  pub placed : (line : ℕ) → line < line_count tables → station_of tables line < station_count tables
+  pub listed : (line : ℕ) → line < line_count tables → Lists tables (station_of tables line) line
+  pub own : (station line : ℕ) → station < station_count tables → Lists tables station line
+      → (line < line_count tables) × (station_of tables line ≡ station)
+  -- no address and no name is used twice: each leads to where it stands
+  pub station_found : (station : ℕ) → station < station_count tables
+      → target_of tables (station_at tables station).address ≡ Some (record { station = station; line = None })
+  pub line_found : (line : ℕ) (address : List ℕ) → line < line_count tables
+      → (line_at tables line).address ≡ Some address
+      → target_of tables address ≡ Some (record { station = station_of tables line; line = Some line })
+  pub named : (line : ℕ) → line < line_count tables
+      → line_named_of tables (line_at tables line).name ≡ Some line
+  -- an address leads nowhere else
+  pub target : (address : List ℕ) (target : Target) → target_of tables address ≡ Some target → IsTarget tables target
+  -- each name is one that a line may have
+  pub spelled : (line : ℕ) → line < line_count tables → IsTrue (is_line_name (line_at tables line).name)

@@ -1,0 +1,95 @@
+-- The subscription tables, and what is read off them.
+pub use Rattle.xp_file.specs.Name.{same}
+use Rattle.std.specs.Prelude.{ℕ, ◌+◌, max, List, [], ◌∷◌, Bool, false, Option, None, Some, unwrap_or, map, fold, length, position, slice_index_or}
+use Rattle.xp_subs.specs.declared.line.Line.{Line}
+use Rattle.xp_subs.specs.declared.station.Station.{Station}
+use Rattle.xp_subs.specs.declared.target.Target.{Target}
+
+pub record Tables : Type 0 where
+  pub stations : List Station
+  pub lines : List Line
+  pub segment_limit : ℕ
+  pub journal : ℕ
+  pub host : List ℕ
+
+abbrev pub station_count : Tables → ℕ
+station_count tables = length tables.stations
+
+abbrev pub line_count : Tables → ℕ
+line_count tables = length tables.lines
+
+-- what stands for a station or a line that there is not
+abbrev pub no_station : Station
+no_station = record {
+  address = [];
+  lines = record { items = [] };
+  outgoing_barred = false;
+  incoming_barred = false;
+  reverse_charging = false;
+  fast_select = false;
+  outgoing_access = false;
+  incoming_access = false;
+  preferential = None;
+  memberships = record { items = [] };
+  redirect = None;
+}
+
+abbrev pub no_line : Line
+no_line = record { name = []; port = 0; address = None; station = 0 }
+
+abbrev pub station_at : Tables → ℕ → Station
+station_at tables number = slice_index_or tables.stations number no_station
+
+abbrev pub line_at : Tables → ℕ → Line
+line_at tables number = slice_index_or tables.lines number no_line
+
+-- a line's station
+abbrev pub station_of : Tables → ℕ → ℕ
+station_of tables number = (line_at tables number).station
+
+-- a line's own address, else its station's
+abbrev pub address_of : Tables → ℕ → List ℕ
+address_of tables number =
+    unwrap_or (line_at tables number).address (station_at tables (station_of tables number)).address
+
+abbrev pub holds : List ℕ → Option (List ℕ) → Bool
+holds address None = false
+holds address (Some held) = same address held
+
+abbrev pub has_address : List ℕ → Line → Bool
+has_address address line = holds address line.address
+
+-- the lines of one name
+abbrev pub line_named_of : Tables → List ℕ → Option ℕ
+line_named_of tables name = position (λ line. same name line.name) tables.lines
+
+-- a station with all its lines, and one line
+abbrev pub whole_station : Option ℕ → Option Target
+whole_station None = None
+whole_station (Some station) = Some (record { station = station; line = None })
+
+abbrev pub one_line : List Line → Option ℕ → Option Target
+one_line lines None = None
+one_line lines (Some line) =
+    Some (record { station = (slice_index_or lines line no_line).station; line = Some line })
+
+abbrev pub first_target : Option Target → Option Target → Option Target
+first_target None other = other
+first_target (Some target) other = Some target
+
+-- what an address leads to: the station of this address, else the line
+abbrev pub target_of : Tables → List ℕ → Option Target
+target_of tables address =
+    first_target
+    (whole_station (position (λ station. same address station.address) tables.stations))
+    (one_line tables.lines (position (has_address address) tables.lines))
+
+-- one more than the greatest number of a group, and at least so many
+abbrev pub groups_among : ℕ → List Station → ℕ
+groups_among least [] = least
+groups_among least (station ∷ stations) =
+    groups_among (fold max least (map (λ held. held.group + 1) station.memberships.items)) stations
+
+-- the groups are numbered from 0
+abbrev pub group_count : Tables → ℕ
+group_count tables = groups_among 0 tables.stations

@@ -1,0 +1,29 @@
+//! The subscriptions of an exchange: its stations, their lines and their closed user groups.
+#![tactic(auto)]
+
+mod build;
+mod built_in;
+mod digits;
+mod indexes;
+mod limits;
+mod line;
+mod read;
+mod station;
+mod subs;
+mod target;
+mod used;
+
+pub use line::Line;
+pub use station::{Membership, Station};
+pub use subs::Subs;
+pub use target::{Counts, Target};
+pub use xp_file::{Key, LineName, Redirection, SubsFault};
+
+/// The number of a line, from 0 in the file's order.
+pub type LineNo = u16;
+
+/// The number of a station, from 0 in the file's order.
+pub type StationNo = u16;
+
+/// The number of a closed user group, from 0 in the order in which the file first names the groups.
+pub type GroupNo = u16;

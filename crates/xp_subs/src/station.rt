@@ -1,0 +1,41 @@
+use crate::{GroupNo, LineNo};
+use arrayvec::ArrayVec;
+use xp_file::Redirection;
+use xp_packets::Digits;
+
+/// A station's membership of a closed user group (X.25 clause 6.14).
+#[derive(Clone, Copy, Debug, Default, PartialEq, Eq)]
+pub struct Membership {
+    pub group: GroupNo,
+    /// The number by which the station selects the group, 0 to 9,999.
+    pub index: u16,
+    /// Outgoing calls barred within the group (X.25 clause 6.14.4).
+    pub outgoing_barred: bool,
+    /// Incoming calls barred within the group (X.25 clause 6.14.5).
+    pub incoming_barred: bool,
+}
+
+/// A station with the optional facilities to which it subscribes (X.25 clause 6).
+#[derive(Debug, Drop, PartialEq)]
+pub struct Station {
+    /// 1 to 15 digits.
+    pub address: Digits,
+    /// Its lines in order, at least one.
+    pub lines: ArrayVec<LineNo, 32>,
+    /// Outgoing calls barred (X.25 clause 6.6).
+    pub outgoing_barred: bool,
+    /// Incoming calls barred (X.25 clause 6.5).
+    pub incoming_barred: bool,
+    /// Reverse charging acceptance (X.25 clause 6.19).
+    pub reverse_charging: bool,
+    /// Fast select acceptance (X.25 clause 6.17).
+    pub fast_select: bool,
+    /// Closed user group with outgoing access (X.25 clause 6.14.2).
+    pub outgoing_access: bool,
+    /// Closed user group with incoming access (X.25 clause 6.14.3).
+    pub incoming_access: bool,
+    /// The index of the preferential group, one of the memberships'.
+    pub preferential: Option<u16>,
+    pub memberships: ArrayVec<Membership, 64>,
+    pub redirect: Option<Redirection>,
+}

@@ -1,0 +1,146 @@
+ghost use Rattle.std.specs.Prelude.{◌≡◌, ◌<◌, IfSome};
+ghost use Rattle.xp_subs.specs.Sound.{IsSound, IsTarget};
+ghost use Rattle.xp_subs.specs.Tables.{line_count, station_count, group_count, station_at, line_at, station_of, address_of, target_of, line_named_of};
+
+use crate::line::Line;
+use crate::station::Station;
+use crate::target::{Counts, Target};
+use crate::{LineNo, StationNo};
+use indexmap::IndexMap;
+use std::marker::Model;
+use xp_file::LineName;
+use xp_packets::Digits;
+
+/// The subscriptions of an exchange: which stations there are, with which lines, facilities and groups.
+#[derive(Drop)]
+pub struct Subs {
+    pub(crate) stations: Vec<Station>,
+    pub(crate) lines: Vec<Line>,
+    pub(crate) groups: usize,
+    pub(crate) segment_limit: u32,
+    pub(crate) journal: u32,
+    pub(crate) host: String,
+    pub(crate) targets: IndexMap<Digits, Target>,
+    pub(crate) names: IndexMap<LineName, LineNo>,
+}
+
+impl Model for Subs {
+    ghost use Rattle.xp_subs.specs.Kept.{tables, Keeps};
+    ghost use Rattle.xp_subs.specs.Tables.{Tables};
+
+    ghost Value = { Tables };
+
+    ghost view = { tables };
+
+    ghost invariant = { Keeps };
+}
+
+impl Subs {
+    /// The line or the station of this address.
+    pub fn find(&self, address: &Digits) -> Option<Target>
+        ensures found { result ≡ target_of self.now address.now }
+        ensures target { IfSome result (IsTarget self.now) }
+    {
+        self.targets.get(address).copied()
+    }
+
+    /// The line of this name.
+    pub fn line_named(&self, name: &str) -> Option<LineNo>
+        ensures found { result ≡ line_named_of self.now name.now }
+        ensures line { IfSome result (λ line. line < line_count self.now) }
+    {
+        match LineName::read(name) {
+            Some(name) => self.names.get(&name).copied(),
+            None => None,
+        }
+    }
+
+    /// A station with all to which it subscribes.
+    pub fn station(&self, station: StationNo) -> &Station
+        requires { station < station_count self.now }
+        ensures { result.now ≡ station_at self.now station }
+    {
+        &self.stations[station as usize]
+    }
+
+    /// A line.
+    pub fn line(&self, line: LineNo) -> &Line
+        requires { line < line_count self.now }
+        ensures line { result.now ≡ line_at self.now line }
+        ensures placed { station_of self.now line < station_count self.now }
+    {
+        &self.lines[line as usize]
+    }
+
+    /// The station of a line.
+    pub fn station_of(&self, line: LineNo) -> StationNo
+        requires { line < line_count self.now }
+        ensures station { result ≡ station_of self.now line }
+        ensures range { result < station_count self.now }
+    {
+        self.line(line).station
+    }
+
+    /// The line's own address, else its station's.
+    pub fn address_of(&self, line: LineNo) -> &Digits
+        requires { line < line_count self.now }
+        ensures { result.now ≡ address_of self.now line }
+    {
+        let line = self.line(line);
+        match &line.address {
+            Some(address) => address,
+            None => &self.station(line.station).address,
+        }
+    }
+
+    /// The name of a line.
+    pub fn name_of(&self, line: LineNo) -> &str
+        requires { line < line_count self.now }
+        ensures { result.now ≡ (line_at self.now line).name }
+    {
+        self.line(line).name.as_str()
+    }
+
+    /// The port on which the exchange listens for a line.
+    pub fn port_of(&self, line: LineNo) -> u16
+        requires { line < line_count self.now }
+        ensures { result ≡ (line_at self.now line).port }
+    {
+        self.line(line).port
+    }
+
+    /// How many stations, lines and groups there are. With it comes what holds of all subscriptions.
+    pub fn counts(&self) -> Counts
+        ensures stations { result.stations ≡ station_count self.now }
+        ensures lines { result.lines ≡ line_count self.now }
+        ensures groups { result.groups ≡ group_count self.now }
+        ensures sound { IsSound self.now }
+    {
+        Counts {
+            stations: self.stations.len(),
+            lines: self.lines.len(),
+            groups: self.groups,
+        }
+    }
+
+    /// The greatest number of segments that a call may have in one direction, 1 to 99,999,999.
+    pub fn segment_limit(&self) -> u32
+        ensures { result ≡ self.now.segment_limit }
+    {
+        self.segment_limit
+    }
+
+    /// The greatest number of entries that the history may have, 4 to 10,000,000.
+    pub fn journal(&self) -> u32
+        ensures { result ≡ self.now.journal }
+    {
+        self.journal
+    }
+
+    /// The host on whose ports the exchange listens.
+    pub fn host(&self) -> &str
+        ensures { result.now ≡ self.now.host }
+    {
+        self.host.as_str()
+    }
+}

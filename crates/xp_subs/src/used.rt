@@ -1,0 +1,180 @@
+//! The addresses, names and ports of a subscription file, none of which may be used twice.
+ghost use Rattle.std.specs.Prelude.{◌≡◌, ◌≢◌, ◌+◌, ◌≤◌, Ok, Err, OnOk, IfOk, IfErr, length};
+ghost use Rattle.xp_file.specs.declared.fault.SubsFault.TheVariants.{Memory as OutOfMemory};
+
+use crate::target::Target;
+use crate::{LineNo, StationNo};
+use indexmap::{IndexMap, IndexSet};
+use std::alloc::Global;
+use std::marker::Model;
+use xp_file::{Key, LineName, StationEntry, SubsFault};
+use xp_packets::Digits;
+
+/// What is used so far.
+#[derive(Drop)]
+pub(crate) struct Uses {
+    pub(crate) targets: IndexMap<Digits, Target>,
+    pub(crate) names: IndexMap<LineName, LineNo>,
+    ports: IndexSet<u16>,
+}
+
+impl Model for Uses {
+    ghost use Rattle.xp_subs.specs.Passes.{Used};
+
+    ghost Value = { Used };
+
+    ghost view = { λ uses. record {
+      targets = uses.targets.entries;
+      names = uses.names.entries;
+      ports = uses.ports.keys;
+    } };
+}
+
+impl Uses {
+    ghost use Rattle.xp_subs.specs.Fit.{IsFit};
+    ghost use Rattle.xp_subs.specs.Passes.{with_address, with_name, with_names, with_port, with_ports, with_own, with_addresses, with_station, with_stations, nothing_used};
+
+    fn new(alloc: Global) -> Uses
+        ensures { result ≡ nothing_used }
+    {
+        Uses {
+            targets: IndexMap::new(alloc),
+            names: IndexMap::new(alloc),
+            ports: IndexSet::new(alloc),
+        }
+    }
+
+    fn enter_address(&mut self, address: &Digits, target: Target) -> Result<(), SubsFault>
+        ensures ok { OnOk result (with_address target address.now self.old ≡ Ok self.new) }
+        ensures refused { IfErr result (λ fault. fault ≢ OutOfMemory → with_address target address.now self.old ≡ Err fault) }
+    {
+        match self.targets.insert(address.copy(), target)? {
+            Some(_) => return Err(SubsFault::TwiceUsed(Key::Address)),
+            None => {}
+        }
+        Ok(())
+    }
+
+    fn enter_name(&mut self, name: &LineName, line: LineNo) -> Result<(), SubsFault>
+        ensures ok { OnOk result (with_name line name.now self.old ≡ Ok self.new) }
+        ensures refused { IfErr result (λ fault. fault ≢ OutOfMemory → with_name line name.now self.old ≡ Err fault) }
+    {
+        match self.names.insert(name.copy(), line)? {
+            Some(_) => return Err(SubsFault::TwiceUsed(Key::Name)),
+            None => {}
+        }
+        Ok(())
+    }
+
+    fn enter_port(&mut self, port: u16) -> Result<(), SubsFault>
+        ensures ok { OnOk result (with_port port self.old ≡ Ok self.new) }
+        ensures refused { IfErr result (λ fault. fault ≢ OutOfMemory → with_port port self.old ≡ Err fault) }
+    {
+        if self.ports.insert(port)? {
+            Ok(())
+        } else {
+            Err(SubsFault::TwiceUsed(Key::Port))
+        }
+    }
+
+    fn enter_names(&mut self, first: LineNo, names: &[LineName]) -> Result<(), SubsFault>
+        requires { first + length names.now ≤ 512 }
+        ensures ok { OnOk result (with_names first names.now self.old ≡ Ok self.new) }
+        ensures refused { IfErr result (λ fault. fault ≢ OutOfMemory → with_names first names.now self.old ≡ Err fault) }
+    {
+        let mut line = first;
+        for name in names {
+            self.enter_name(name, line)?;
+            line += 1;
+        }
+        Ok(())
+    }
+
+    fn enter_ports(&mut self, ports: &[u16]) -> Result<(), SubsFault>
+        ensures ok { OnOk result (with_ports ports.now self.old ≡ Ok self.new) }
+        ensures refused { IfErr result (λ fault. fault ≢ OutOfMemory → with_ports ports.now self.old ≡ Err fault) }
+    {
+        for port in ports {
+            self.enter_port(*port)?;
+        }
+        Ok(())
+    }
+
+    fn enter_addresses(
+        &mut self,
+        station: StationNo,
+        first: LineNo,
+        addresses: &[Option<Digits>],
+    ) -> Result<(), SubsFault>
+        requires { first + length addresses.now ≤ 512 }
+        ensures ok { OnOk result (with_addresses station first addresses.now self.old ≡ Ok self.new) }
+        ensures refused { IfErr result (λ fault. fault ≢ OutOfMemory → with_addresses station first addresses.now self.old ≡ Err fault) }
+    {
+        let mut line = first;
+        for address in addresses {
+            self.enter_own(station, line, address)?;
+            line += 1;
+        }
+        Ok(())
+    }
+
+    fn enter_own(
+        &mut self,
+        station: StationNo,
+        line: LineNo,
+        address: &Option<Digits>,
+    ) -> Result<(), SubsFault>
+        ensures ok { OnOk result (with_own station line address.now self.old ≡ Ok self.new) }
+        ensures refused { IfErr result (λ fault. fault ≢ OutOfMemory → with_own station line address.now self.old ≡ Err fault) }
+    {
+        match address {
+            Some(address) => {
+                let target = Target {
+                    station,
+                    line: Some(line),
+                };
+                self.enter_address(address, target)
+            }
+            None => Ok(()),
+        }
+    }
+
+    #[tactic(auto, unfolding(crate::specs::Passes::with_station))]
+    fn enter_station(
+        &mut self,
+        number: StationNo,
+        first: LineNo,
+        station: &StationEntry,
+    ) -> Result<(), SubsFault>
+        requires names { first + length station.now.lines.names ≤ 512 }
+        requires addresses { first + length station.now.lines.addresses ≤ 512 }
+        ensures ok { OnOk result (with_station number first station.now self.old ≡ Ok self.new) }
+        ensures refused { IfErr result (λ fault. fault ≢ OutOfMemory → with_station number first station.now self.old ≡ Err fault) }
+    {
+        let whole = Target {
+            station: number,
+            line: None,
+        };
+        self.enter_address(&station.address, whole)?;
+        self.enter_names(first, &station.lines.names)?;
+        self.enter_ports(&station.lines.ports)?;
+        self.enter_addresses(number, first, &station.lines.addresses)
+    }
+
+    /// What the stations use, the first refusal where an address, a name or a port is used twice.
+    pub(crate) fn of(alloc: Global, stations: &[StationEntry]) -> Result<Uses, SubsFault>
+        requires { IsFit stations.now }
+        ensures ok { IfOk result (λ uses. with_stations 0 0 stations.now nothing_used ≡ Ok uses) }
+        ensures refused { IfErr result (λ fault. fault ≢ OutOfMemory → with_stations 0 0 stations.now nothing_used ≡ Err fault) }
+    {
+        let mut uses = Uses::new(alloc);
+        let mut number = 0;
+        let mut line = 0;
+        for station in stations {
+            uses.enter_station(number, line, station)?;
+            number += 1;
+            line += station.lines.names.len() as LineNo;
+        }
+        Ok(uses)
+    }
+}
