@@ -140,6 +140,26 @@ fn each_facility_is_asked(rt: HostRuntime) -> Result<(), Fail> {
     Ok(())
 }
 
+// A field as Wireshark 4.0.17 reads it in a call request over XOT.
+#[test]
+fn field_that_a_dissector_reads(rt: HostRuntime) -> Result<(), Fail> {
+    let field = [
+        0x01, 0x80, 0x02, 0xba, 0x47, 0x00, 0x07, 0x42, 0x09, 0x08, 0x43, 0x03, 0x04,
+    ];
+    let expected = Asked {
+        selection: Selection::Closed(7),
+        fast: FastSelect::Unrestricted,
+        reverse: false,
+        throughput: Some(0xba),
+        charging: false,
+        packet: pair(9, 8),
+        window: pair(3, 4),
+        dte: Octets::new(rt.alloc()),
+    };
+    assert_eq!(rt; parse(rt.alloc(), &field)?, expected);
+    Ok(())
+}
+
 #[test]
 fn last_item_of_a_code_counts(rt: HostRuntime) {
     let alloc = rt.alloc();

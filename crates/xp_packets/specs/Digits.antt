@@ -1,10 +1,14 @@
 -- The digits of an address (X.25 clause 5.2.1.1.1).
-use Rattle.std.specs.Prelude.{◌≡◌, ℕ, ◌+◌, ◌/◌, ◌%◌, ◌<◌, ◌≤◌, ◌==◌, if◌then◌else◌, List, [], ◌∷◌, ◌++◌, length}
+use Rattle.std.specs.Prelude.{◌≡◌, ℕ, ◌+◌, ◌/◌, ◌%◌, ◌<◌, ◌≤◌, ◌==◌, if◌then◌else◌, List, [], ◌∷◌, ◌++◌, length, map}
 
 -- each is 0 to 9
 abbrev pub AreDigits : List ℕ → Type 0
 AreDigits [] = Unit {0}
 AreDigits (digit ∷ digits) = (digit < 10) × AreDigits digits
+
+-- how they are written: 0 is the character 48
+abbrev pub text_of : List ℕ → List ℕ
+text_of digits = map (λ digit. 48 + digit) digits
 
 -- the half-octets of octets, the high half first
 abbrev pub halves : List ℕ → List ℕ

@@ -89,6 +89,11 @@ impl Default for Digits {
 }
 
 impl fmt::Display for Digits {
+    ghost use Rattle.std.specs.Prelude.{Some};
+    ghost use Rattle.xp_packets.specs.Digits.{text_of};
+
+    ghost output = { λ digits. Some (text_of digits) };
+
     fn fmt<W: fmt::Write>(&self, f: &mut fmt::Formatter<W>) -> fmt::Result {
         for digit in self.as_slice() {
             write!(f, "{digit}")?;

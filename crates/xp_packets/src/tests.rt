@@ -1,3 +1,5 @@
+mod dissected;
+
 use super::*;
 use std::alloc::{AllocError, Global};
 use std::process::Abort;
@@ -412,6 +414,15 @@ fn blocks_without_spelling(rt: HostRuntime) -> Result<(), Fail> {
         Packet::ClearConfirm { block: data },
         Wrong::Long,
     );
+    Ok(())
+}
+
+#[test]
+fn address_as_text(rt: HostRuntime) -> Result<(), Fail> {
+    let address = digits(&[2, 0, 8, 0, 0, 2, 0]);
+    assert_eq!(rt; format!(in rt.alloc(); "{address}")?.as_str(), "2080020");
+    let none = Digits::default();
+    assert_eq!(rt; format!(in rt.alloc(); "{none}")?.as_str(), "");
     Ok(())
 }
 

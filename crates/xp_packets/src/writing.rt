@@ -29,6 +29,7 @@ pub fn encode<A: Allocator>(
     packet: &Packet<A>,
 ) -> Result<Vec<u8, A>, PacketFault>
     ensures written { IfOk result (λ octets. (unfit identifier packet.now ≡ None) × WrittenAs octets.items identifier packet.now) }
+    ensures octets { IfOk result (λ octets. octets.items ≡ written identifier packet.now) }
     ensures refused { IfErr result (λ fault. Refuses fault (unfit identifier packet.now)) }
 {
     if let Some(wrong) = first_unfit(identifier, packet) {
