@@ -117,6 +117,10 @@ impl fmt::Debug for LineName {
 }
 
 impl fmt::Display for LineName {
+    ghost use Rattle.std.specs.Prelude.{Some};
+
+    ghost output = { λ name. Some name };
+
     fn fmt<W: fmt::Write>(&self, f: &mut fmt::Formatter<W>) -> fmt::Result {
         f.pad(self.text.as_str())
     }

@@ -1,8 +1,8 @@
 pub mod TableLemmas
-pub mod BuiltInLemmas
 pub mod UsedLemmas
 pub mod FitLemmas
 pub mod PositionLemmas
 pub mod AgreeLemmas
 pub mod EntersLemmas
 pub mod BuiltLemmas
+pub mod GroupLemmas

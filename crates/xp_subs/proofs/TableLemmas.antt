@@ -1,18 +1,11 @@
 -- Facts on the subscription tables.
-use Rattle.std.proofs.Common.{◌≡◌, ℕ, zero, suc, ◌<◌, List, [], ◌∷◌, Bool, true, false, cond, Option, None, Some, IfSome, IsTrue, length, get_or, refl, arith}
+use Rattle.std.proofs.Common.{◌≡◌, ℕ, ◌<◌, List, Bool, true, false, cond, Option, None, Some, IfSome, IsTrue, length, get_or, refl}
 use Rattle.std.specs.Prelude.{position}
 use Rattle.std.specs.Cmp.Lexicographic.{bytes_decides}
 use Rattle.std.proofs.lemmas.List.Quantifiers.{position-Some}
-use Rattle.xp_packets.specs.Digits.{AreDigits}
 use Rattle.xp_subs.specs.declared.line.Line.{Line}
 use Rattle.xp_file.specs.Name.{is_line_name}
 use Rattle.xp_subs.specs.Tables.{Tables, line_count, line_at, line_named_of, no_line, same}
-
--- a digit of an address
-pub AreDigits-at : (digits : List ℕ) (i : ℕ) → AreDigits digits → i < length digits → get_or digits i 0 < 10
-AreDigits-at [] i are within = absurd (omega arith)
-AreDigits-at (digit ∷ digits) zero are within = are.0
-AreDigits-at (digit ∷ digits) (suc i) are within = AreDigits-at digits i are.1 (omega arith)
 
 -- what holds of each value that there may be
 pub IfSome-each : {X : Type 0} (P : X → Type 0) (found : Option X) → ((x : X) → found ≡ Some x → P x) → IfSome found P

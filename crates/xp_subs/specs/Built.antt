@@ -51,6 +51,11 @@ abbrev pub mentions : List (List ℕ) → List StationEntry → List (List ℕ)
 mentions known [] = known
 mentions known (station ∷ stations) = mentions (fold mention known station.groups.names) stations
 
+-- the names of the groups of all stations, one after another
+abbrev pub named_groups : List StationEntry → List (List ℕ)
+named_groups [] = []
+named_groups (station ∷ stations) = station.groups.names ++ named_groups stations
+
 -- a group's number is the place of its name among these
 abbrev pub group_number : List (List ℕ) → List ℕ → ℕ
 group_number known name = unwrap_or (position (same name) known) 0

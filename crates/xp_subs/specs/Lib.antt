@@ -1,4 +1,3 @@
-pub mod BuiltIn
 pub mod Built
 pub mod Fit
 pub mod Kept

@@ -2,8 +2,6 @@
 #![tactic(auto)]
 
 mod build;
-mod built_in;
-mod digits;
 mod indexes;
 mod limits;
 mod line;
@@ -11,6 +9,8 @@ mod read;
 mod station;
 mod subs;
 mod target;
+#[cfg(test)]
+mod tests;
 mod used;
 
 pub use line::Line;

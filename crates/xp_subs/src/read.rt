@@ -1,9 +1,12 @@
 //! Reading the subscriptions from a file's text.
 ghost use Rattle.std.specs.Prelude.{◌≡◌, ◌≢◌, ◌<◌, length, Ok, Err, IfOk, IfErr};
 ghost use Rattle.xp_file.specs.declared.fault.SubsFault.TheVariants.{Memory as OutOfMemory};
-ghost use Rattle.xp_subs.specs.Built.{tables_in, tables_of};
+ghost use Rattle.std.specs.Set.{distinct_count};
+ghost use Rattle.xp_file.specs.File.{file_in};
+ghost use Rattle.xp_subs.specs.Built.{tables_in, tables_of, named_groups};
 ghost use Rattle.xp_subs.specs.Fit.{IsFit};
 ghost use Rattle.xp_subs.specs.Passes.{nothing_used, with_stations};
+ghost use Rattle.xp_subs.specs.Tables.{group_count, same};
 
 use crate::build;
 use crate::indexes::all_have_own_indexes;
@@ -25,6 +28,9 @@ impl Subs {
     pub fn read(alloc: Global, text: &str) -> Result<Subs, SubsFault>
         ensures ok { IfOk result (λ subs. tables_in text.now ≡ Ok subs) }
         ensures refused { IfErr result (λ fault. fault ≢ OutOfMemory → tables_in text.now ≡ Err fault) }
+
+        // The groups are counted by their names, each once over the whole file.
+        ensures groups { IfOk result (λ subs. IfOk (file_in text.now) (λ file. group_count subs ≡ distinct_count same (named_groups file.stations))) }
     {
         let file = File::read(alloc, text)?;
         if let Some(key) = over_limit(&file.stations) {

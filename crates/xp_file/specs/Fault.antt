@@ -1,0 +1,14 @@
+-- What is told of a refused subscription file.
+use Rattle.std.specs.Prelude.{ℕ, List, ◌++◌, codes}
+use Rattle.xp_file.specs.declared.fault.SubsFault.{SubsFault}
+use Rattle.xp_file.specs.declared.fault.SubsFault.TheVariants as faults
+use Rattle.xp_file.specs.Keys.{key_text}
+
+-- the words of a fault
+abbrev pub fault_text : SubsFault → List ℕ
+fault_text faults.Toml = codes "toml"
+fault_text (faults.Field key) = codes "field " ++ key_text key
+fault_text (faults.TwiceUsed key) = codes "twice " ++ key_text key
+fault_text faults.Index = codes "index"
+fault_text (faults.Limit key) = codes "limit " ++ key_text key
+fault_text faults.Memory = codes "memory"
