@@ -1,5 +1,4 @@
 -- A station that would take a call doesn't decline it.
-use Rattle.std.proofs.Common.{◌≡◌, true, false}
 use Rattle.xp_groups.proofs.Determined.{admitted_or_refused}
 use Rattle.xp_groups.specs.declared.admission.Admission.{Admission}
 use Rattle.xp_groups.specs.declared.refusal.Refusal.{Refusal}

@@ -1,20 +1,13 @@
 -- A call request has one answer, but for the line.
-use Rattle.std.proofs.Common.{◌≡◌, ℕ, suc, ◌+◌, ◌<◌, ◌≤◌, Bool, true, false, List, [], ◌∷◌, length, Option, None, Some, Result, Ok, Err, ◌⊎◌, inl, inr, refl, sym, ◌∙◌, ap, arith, subst}
-use Rattle.xp_facilities.proofs.OneReading.{Means-unique, Means-faultless, IsFaulty-unique}
-use Rattle.xp_facilities.specs.Asked.{Means, IsFaulty}
-use Rattle.xp_facilities.specs.declared.asked.Asked.{Asked}
-use Rattle.xp_facilities.specs.declared.fault.FacilityFault.{FacilityFault}
-use Rattle.xp_facilities.specs.declared.fault.FacilityFault.TheVariants.{Length, Code, Param, Memory}
+use Rattle.std.proofs.Common.{◌≡◌, ℕ, ◌≤◌, List, [], ◌∷◌, length, Result, Ok, Err, refl, sym, ◌∙◌, ap, arith, subst}
 use Rattle.xp_facilities.specs.declared.redirection.Reason.{Reason}
-use Rattle.xp_groups.proofs.Determined.{admitted_or_refused, intent_determined, admission_determined}
+use Rattle.xp_groups.proofs.Determined.{admitted_or_refused, admission_determined}
 use Rattle.xp_groups.specs.Admits.{Admits}
-use Rattle.xp_groups.specs.Intends.{Intends}
 use Rattle.xp_groups.specs.declared.admission.Admission.{Admission}
 use Rattle.xp_groups.specs.declared.intention.Intent.{Intent}
 use Rattle.xp_groups.specs.declared.refusal.Refusal.{Refusal}
 use Rattle.xp_hunt.specs.Picks.{IsIdleIn}
 use Rattle.xp_hunt.specs.declared.lines.LineState.{LineState}
-use Rattle.xp_packets.specs.declared.block.Block.{Block}
 use Rattle.xp_subs.specs.Tables.{Tables}
 use Rattle.xp_subs.specs.declared.station.Station.{Station}
 use Rattle.xp_decide.proofs.Accepted.{accepted_or_declined}

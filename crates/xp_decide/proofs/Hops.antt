@@ -1,5 +1,5 @@
 -- The redirections that a call has followed.
-use Rattle.std.proofs.Common.{◌≡◌, ℕ, ◌+◌, ◌≤◌, List, [], ◌∷◌, ◌++◌, length, Option, None, Some, refl, sym, ◌∙◌, ap, arith, length-append, subst}
+use Rattle.std.proofs.Common.{◌≡◌, ℕ, ◌+◌, List, [], ◌∷◌, ◌++◌, length, Option, None, Some, refl, sym, ◌∙◌, ap, length-append, subst}
 use Rattle.std.specs.Option.{option_or}
 use Rattle.xp_facilities.specs.declared.redirection.Reason.{Reason}
 use Rattle.xp_hunt.specs.declared.lines.LineState.{LineState}

@@ -1,9 +1,8 @@
 -- The station of a line that rings.
-use Rattle.std.proofs.Common.{◌≡◌, ℕ, zero, suc, ◌<◌, Bool, true, false, nat_eq, if◌then◌else◌, eq-eqb, List, [], ◌∷◌, Option, None, Some, Ok, Err, refl, sym, ◌∙◌, ap, arith, option_map, subst, slice_index_or}
+use Rattle.std.proofs.Common.{◌≡◌, ℕ, zero, suc, ◌<◌, Bool, true, false, nat_eq, if◌then◌else◌, eq-eqb, List, [], ◌∷◌, Option, None, Some, Ok, refl, sym, ◌∙◌, ap, arith, option_map, subst}
 use Rattle.std.specs.List.{Contains}
 use Rattle.xp_groups.proofs.Joined.{may_join}
 use Rattle.xp_groups.specs.MayJoin.{MayJoin}
-use Rattle.xp_groups.specs.declared.refusal.Refusal.{Refusal}
 use Rattle.xp_hunt.specs.declared.lines.LineState.{LineState}
 use Rattle.xp_hunt.specs.declared.lines.LineState.TheVariants.{Idle, Busy}
 use Rattle.xp_packets.specs.declared.block.Block.{Block}
@@ -22,7 +21,7 @@ use Rattle.xp_decide.specs.Seen.{seen_by}
 use Rattle.xp_decide.specs.declared.request.Request.{Request}
 use Rattle.xp_decide.specs.declared.route.Reached.{Reached}
 use Rattle.xp_decide.specs.declared.verdict.Ring.{Ring}
-use Rattle.xp_decide.specs.declared.verdict.Verdict.TheVariants.{Take, Refuse}
+use Rattle.xp_decide.specs.declared.verdict.Verdict.TheVariants.{Take}
 
 -- the target of a place
 pub record Leads (tables : Tables) (found : Option Target) (place : Place) : Type 0 where

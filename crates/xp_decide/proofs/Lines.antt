@@ -1,7 +1,7 @@
 -- Idle, busy and missing lines exclude one another.
-use Rattle.std.proofs.Common.{◌≡◌, ℕ, ◌<◌, List, ap, ◌∙◌, sym, subst}
+use Rattle.std.proofs.Common.{◌≡◌, ℕ, List, subst}
 use Rattle.xp_hunt.specs.declared.lines.LineState.{LineState}
-use Rattle.xp_hunt.specs.declared.lines.LineState.TheVariants.{Off, Idle, Busy}
+use Rattle.xp_hunt.specs.declared.lines.LineState.TheVariants.{Off, Idle}
 use Rattle.xp_hunt.specs.Picks.{IsIdleIn, AreOff, HasNoneIdle, HasBusy}
 
 pub idle_not_off : (states : ℕ → LineState) (lines : List ℕ) (line : ℕ) → IsIdleIn states lines line → AreOff states lines → ⊥

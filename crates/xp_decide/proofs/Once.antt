@@ -1,5 +1,5 @@
 -- A call request has one answer, but for the line: the whole decision.
-use Rattle.std.proofs.Common.{◌≡◌, ℕ, ◌<◌, ◌≤◌, Bool, true, false, List, length, Option, Result, Ok, Err, ◌⊎◌, inl, inr, refl, sym, ◌∙◌, ap, arith, subst}
+use Rattle.std.proofs.Common.{◌≡◌, ℕ, ◌≤◌, true, false, List, length, Result, Ok, Err, ◌⊎◌, inl, inr, refl, sym, ◌∙◌, ap, arith, subst}
 use Rattle.xp_facilities.proofs.OneReading.{Means-unique, Means-faultless, IsFaulty-unique}
 use Rattle.xp_facilities.specs.Asked.{Means, IsFaulty}
 use Rattle.xp_facilities.specs.declared.asked.Asked.{Asked}
@@ -13,23 +13,21 @@ use Rattle.xp_groups.specs.declared.refusal.TheConstants.Refusal.{FACILITY_LENGT
 use Rattle.xp_hunt.specs.declared.lines.LineState.{LineState}
 use Rattle.xp_packets.specs.declared.block.Block.{Block}
 use Rattle.xp_subs.specs.Tables.{Tables}
-use Rattle.xp_subs.specs.declared.station.Station.{Station}
 use Rattle.xp_decide.proofs.Determined.{refuses_at_same, takes_at_same, taken_or_refused, follows_same, follows_longer}
 use Rattle.xp_decide.specs.Asks.{station_of_line, HasRoom, HasNoRoom, Asks, MayNotAsk, wanted_of}
 use Rattle.xp_decide.specs.Asks as asks
 use Rattle.xp_decide.specs.Decided.{Decided}
 use Rattle.xp_decide.specs.Decided as decided
 use Rattle.xp_decide.specs.Laws.{IsSameButLine}
-use Rattle.xp_decide.specs.Rings.{told_of, ring_of}
+use Rattle.xp_decide.specs.Rings.{ring_of}
 use Rattle.xp_decide.specs.Routes.{Hop, first_reason, IsLast, Reaches, RefusesAt, TakesAt, Follows}
 use Rattle.xp_decide.specs.Routes as routes
 use Rattle.xp_decide.specs.Seen.{seen_by}
 use Rattle.xp_decide.specs.declared.acceptance.Wanted.{Wanted}
 use Rattle.xp_decide.specs.declared.request.Request.{Request}
 use Rattle.xp_decide.specs.declared.route.Reached.{Reached}
-use Rattle.xp_decide.specs.declared.verdict.Ring.{Ring}
 use Rattle.xp_decide.specs.declared.verdict.Verdict.{Verdict}
-use Rattle.xp_decide.specs.declared.verdict.Verdict.TheVariants.{Take, Refuse}
+use Rattle.xp_decide.specs.declared.verdict.Verdict.TheVariants.{Take}
 
 -- a relation of two values, by what they are
 along : {X : Type 0} (R : X → X → Type 0) (one other a b : X) → one ≡ a → other ≡ b → R a b → R one other

@@ -1,10 +1,10 @@
 -- A refusal for want of a line comes from an address without an idle line.
-use Rattle.std.proofs.Common.{◌≡◌, ℕ, List, Option, None, Some, Ok, Err, ◌⊎◌, inl, inr, refl, sym, ◌∙◌, ap, subst}
+use Rattle.std.proofs.Common.{◌≡◌, ℕ, Err, inl, inr, sym, ◌∙◌, ap, subst}
 use Rattle.xp_groups.proofs.Causes.{IsGroupCause, intent_cause, admission_cause}
 use Rattle.xp_groups.specs.declared.refusal.Cause.{Cause}
 use Rattle.xp_groups.specs.declared.refusal.Cause.TheVariants as causes
 use Rattle.xp_groups.specs.declared.refusal.Refusal.{Refusal}
-use Rattle.xp_groups.specs.declared.refusal.TheConstants.Refusal.{OUT_OF_ORDER, NUMBER_BUSY, TOO_MANY_REDIRECTIONS}
+use Rattle.xp_groups.specs.declared.refusal.TheConstants.Refusal.{TOO_MANY_REDIRECTIONS}
 use Rattle.xp_hunt.specs.Picks.{HasNoneIdle}
 use Rattle.xp_hunt.specs.declared.lines.LineState.{LineState}
 use Rattle.xp_packets.specs.declared.block.Block.{Block}
@@ -23,7 +23,7 @@ use Rattle.xp_decide.specs.Routes as routes
 use Rattle.xp_decide.specs.Seen.{seen_by}
 use Rattle.xp_decide.specs.declared.acceptance.Wanted.{Wanted}
 use Rattle.xp_decide.specs.declared.request.Request.{Request}
-use Rattle.xp_decide.specs.declared.verdict.Verdict.TheVariants.{Take, Refuse}
+use Rattle.xp_decide.specs.declared.verdict.Verdict.TheVariants.{Refuse}
 
 -- a cause of another kind
 pub record IsOther (cause : Cause) : Type 0 where

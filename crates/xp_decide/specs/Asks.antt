@@ -1,12 +1,11 @@
 -- What a call request asks, and whether its station may ask it (X.25 clauses 5.2.1, 6.6 and 6.14).
-use Rattle.std.specs.Prelude.{◌≡◌, ◌≢◌, ℕ, ◌<◌, ◌≤◌, length, Bool, true, false, Result, Ok, Err, ◌⊎◌}
+use Rattle.std.specs.Prelude.{◌≡◌, ℕ, ◌<◌, ◌≤◌, length, Bool, true, false, Ok, Err, ◌⊎◌}
 use Rattle.xp_facilities.specs.Asked.{Means, IsFaulty}
 use Rattle.xp_facilities.specs.declared.asked.Asked.{Asked}
 use Rattle.xp_facilities.specs.declared.fast_select.FastSelect.{FastSelect}
 use Rattle.xp_facilities.specs.declared.fast_select.FastSelect.TheVariants.{No, Unrestricted, Restricted}
 use Rattle.xp_facilities.specs.declared.fault.FacilityFault.TheVariants.{Length, Code, Param}
 use Rattle.xp_groups.specs.Intends.{Intends}
-use Rattle.xp_groups.specs.declared.intention.Intent.{Intent}
 use Rattle.xp_groups.specs.declared.refusal.Refusal.{Refusal}
 use Rattle.xp_groups.specs.declared.refusal.TheConstants.Refusal.{FACILITY_LENGTH, FACILITY_NOT_ALLOWED, FACILITY_PARAMETER, USER_DATA_TOO_LONG, ACCESS_BARRED}
 use Rattle.xp_packets.specs.declared.block.Block.{Block}

@@ -1,5 +1,5 @@
 -- What becomes of a call request. Which idle line is taken is left open.
-use Rattle.std.specs.Prelude.{◌≡◌, ℕ, Result, Ok, Err}
+use Rattle.std.specs.Prelude.{◌≡◌, ℕ, Ok, Err}
 use Rattle.xp_groups.specs.declared.refusal.Refusal.{Refusal}
 use Rattle.xp_hunt.specs.declared.lines.LineState.{LineState}
 use Rattle.xp_packets.specs.declared.block.Block.{Block}

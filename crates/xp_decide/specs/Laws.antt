@@ -1,5 +1,5 @@
 -- What follows from the decision of a call request.
-use Rattle.std.specs.Prelude.{◌≡◌, ◌≢◌, ℕ, ◌<◌, List, Option, Some, ◌⊎◌}
+use Rattle.std.specs.Prelude.{◌≡◌, ◌≢◌, ℕ, ◌<◌, List, Some, ◌⊎◌}
 use Rattle.xp_groups.specs.MayJoin.{MayJoin}
 use Rattle.xp_groups.specs.declared.refusal.Refusal.{Refusal}
 use Rattle.xp_groups.specs.declared.refusal.TheConstants.Refusal.{OUT_OF_ORDER, NUMBER_BUSY}
@@ -8,7 +8,7 @@ use Rattle.xp_hunt.specs.declared.lines.LineState.{LineState}
 use Rattle.xp_hunt.specs.declared.lines.LineState.TheVariants.{Idle}
 use Rattle.xp_packets.specs.declared.block.Block.{Block}
 use Rattle.xp_subs.specs.Sound.{IsSound}
-use Rattle.xp_subs.specs.Tables.{Tables, line_count, station_at, station_of}
+use Rattle.xp_subs.specs.Tables.{Tables, line_count}
 use Rattle.xp_decide.specs.Asks.{station_of_line, Asks, wanted_of}
 use Rattle.xp_decide.specs.Decided.{Decided}
 use Rattle.xp_decide.specs.Routes.{Place, place_at, Hop, Follows}

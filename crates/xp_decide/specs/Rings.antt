@@ -1,5 +1,5 @@
 -- What an incoming call tells the called station (X.25 clauses 6 and 7.2).
-use Rattle.std.specs.Prelude.{ℕ, List, Option, None, Some, min, option_map, unwrap_or}
+use Rattle.std.specs.Prelude.{ℕ, List, Option, None, Some, min, unwrap_or}
 use Rattle.xp_facilities.specs.declared.asked.Asked.{Asked}
 use Rattle.xp_facilities.specs.declared.pair.Pair.{Pair}
 use Rattle.xp_facilities.specs.declared.redirection.Reason.{Reason}

@@ -1,5 +1,5 @@
 -- The addresses that a call goes along (X.25 clauses 6.24 and 6.25).
-use Rattle.std.specs.Prelude.{◌≡◌, ℕ, option_map, ◌≤◌, List, [], ◌∷◌, length, Bool, true, false, Option, None, Some, Result, Ok, Err, if◌then◌else◌}
+use Rattle.std.specs.Prelude.{◌≡◌, ℕ, option_map, ◌≤◌, List, [], ◌∷◌, length, Bool, false, Option, None, Some, Result, Ok, Err, if◌then◌else◌}
 use Rattle.xp_facilities.specs.declared.redirection.Reason.{Reason}
 use Rattle.xp_facilities.specs.declared.redirection.Reason.TheVariants.{Busy, Distribution, OutOfOrder, Systematic}
 use Rattle.xp_groups.specs.declared.admission.Admission.{Admission}

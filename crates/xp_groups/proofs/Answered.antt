@@ -1,12 +1,11 @@
 -- The rules for a member of a group, with the openness as one value.
-use Rattle.std.proofs.Common.{◌≡◌, ℕ, true, false, Bool, Option, Some, Ok, refl, sym, ◌∙◌, ap}
+use Rattle.std.proofs.Common.{◌≡◌, true, false, Bool, Some, Ok, refl, sym, ap}
 use Rattle.std.specs.Bool.{IsTrue}
 use Rattle.xp_facilities.specs.declared.selection.Selection.{Selection}
 use Rattle.xp_facilities.specs.declared.selection.Selection.TheVariants.{Nothing, Closed, AlsoOpen}
 use Rattle.xp_subs.specs.declared.station.Station.{Station}
 use Rattle.xp_subs.specs.declared.station.Membership.{Membership}
 use Rattle.xp_groups.specs.declared.intention.Intent.{Intent}
-use Rattle.xp_groups.specs.declared.admission.Admission.{Admission}
 use Rattle.xp_groups.specs.Groups.{HasGroups, preferred, part_in}
 use Rattle.xp_groups.specs.Intends.{Intends, preferential, preferential_open}
 use Rattle.xp_groups.specs.Admits.{Admits, from_outside, within_group, within_group_open}

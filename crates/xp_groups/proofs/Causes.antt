@@ -1,9 +1,8 @@
 -- Which refusals groups give.
-use Rattle.std.proofs.Common.{◌≡◌, Result, Ok, Err, ◌⊎◌, inl, inr, ap}
+use Rattle.std.proofs.Common.{◌≡◌, Result, Err, ◌⊎◌, inl, inr, ap}
 use Rattle.xp_facilities.specs.declared.selection.Selection.{Selection}
 use Rattle.xp_subs.specs.declared.station.Station.{Station}
 use Rattle.xp_groups.specs.declared.intention.Intent.{Intent}
-use Rattle.xp_groups.specs.declared.admission.Admission.{Admission}
 use Rattle.xp_groups.specs.declared.refusal.Cause.{Cause}
 use Rattle.xp_groups.specs.declared.refusal.Cause.TheVariants.{AccessBarred, InvalidFacilityRequest}
 use Rattle.xp_groups.specs.declared.refusal.Refusal.{Refusal}

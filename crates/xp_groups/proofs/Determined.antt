@@ -1,7 +1,6 @@
 -- What is admitted isn't refused.
-use Rattle.std.proofs.Common.{rules, ◌≡◌, Result, Ok, Err, true, false}
+use Rattle.std.proofs.Common.{rules, Ok, Err}
 use Rattle.xp_subs.specs.declared.station.Station.{Station}
-use Rattle.xp_subs.specs.declared.station.Membership.{Membership}
 use Rattle.xp_groups.specs.declared.intention.Intent.{Intent}
 use Rattle.xp_groups.specs.declared.admission.Admission.{Admission}
 use Rattle.xp_groups.specs.declared.refusal.Refusal.{Refusal}

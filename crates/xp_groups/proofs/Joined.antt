@@ -1,5 +1,5 @@
 -- What an intent and an admission show of the two stations.
-use Rattle.std.proofs.Common.{◌≡◌, ℕ, true, false, Bool, ◌&&◌, Option, None, Some, Result, Ok, Err, ◌⊎◌, inl, inr, refl, sym, ◌∙◌, ap, nat_eq, eqb-true}
+use Rattle.std.proofs.Common.{◌≡◌, ℕ, true, false, Bool, Option, None, Some, Result, Ok, inl, inr, sym, ◌∙◌, ap, nat_eq, eqb-true}
 use Rattle.std.specs.List.{Contains}
 use Rattle.std.proofs.lemmas.Bool.{and_parts}
 use Rattle.xp_facilities.specs.declared.selection.Selection.{Selection}
@@ -8,12 +8,12 @@ use Rattle.xp_subs.specs.declared.station.Membership.{Membership}
 use Rattle.xp_groups.specs.declared.intention.Intent.{Intent}
 use Rattle.xp_groups.specs.declared.admission.Admission.{Admission}
 use Rattle.xp_groups.specs.declared.refusal.Refusal.{Refusal}
-use Rattle.xp_groups.specs.Groups.{HasNoGroups, selected, selected_if_any, preferred, part_in}
+use Rattle.xp_groups.specs.Groups.{selected_if_any, part_in}
 use Rattle.xp_groups.specs.Intends.{Intends, outside_only, Prefers}
 use Rattle.xp_groups.specs.Intends as intends
 use Rattle.xp_groups.specs.Admits.{Admits, Enters, from_outside}
 use Rattle.xp_groups.specs.Admits as admits
-use Rattle.xp_groups.specs.MayJoin.{MayJoin, ShareGroup, ReachesOutside, ReachedFromOutside}
+use Rattle.xp_groups.specs.MayJoin.{MayJoin, ReachesOutside}
 use Rattle.xp_groups.proofs.Found.{found}
 
 -- a membership by which a call in this group goes out

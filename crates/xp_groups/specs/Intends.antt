@@ -1,5 +1,5 @@
 -- How a station may make a call, by its groups and what it selects (X.301; X.25 clauses 6.14.1 to 6.14.7).
-use Rattle.std.specs.Prelude.{◌≡◌, ◌≢◌, ℕ, Bool, true, false, Option, None, Some, Result, Ok, Err, ◌⊎◌}
+use Rattle.std.specs.Prelude.{◌≡◌, ◌≢◌, ℕ, true, false, None, Some, Result, Ok, Err}
 use Rattle.xp_facilities.specs.declared.selection.Selection.{Selection}
 use Rattle.xp_facilities.specs.declared.selection.Selection.TheVariants.{Nothing, Closed, AlsoOpen}
 use Rattle.xp_subs.specs.declared.station.Station.{Station}

@@ -193,6 +193,7 @@ fn all_pairs_of_two_groups(rt: HostRuntime) -> Result<(), Fail> {
     intent_is_determined();
     admission_is_determined();
     joined_stations_may_join();
+    refusals_are_coded();
     Ok(())
 }
 

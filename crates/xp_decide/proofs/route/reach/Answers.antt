@@ -1,7 +1,6 @@
-use Rattle.std.proofs.Common.{◌≡◌, ℕ, ◌≤◌, length, refl, sym, ◌∙◌, ap, arith, Ok, rules}
-use Rattle.xp_decide.proofs.Hops.{on_way, earlier_is}
+use Rattle.std.proofs.Common.{refl, arith}
+use Rattle.xp_decide.proofs.Hops.{earlier_is}
 use Rattle.xp_decide.specs.Routes as routes
-use Rattle.xp_decide.specs.declared.route.Reached.{Reached}
 use Rattle.xp_decide.proofs.route.reach.Goals as goal
 
 pub returns-in-Refused : goal.returns-in-Refused

@@ -1,4 +1,4 @@
-use Rattle.std.proofs.Common.{rules, refl, sym, ◌∙◌}
+use Rattle.std.proofs.Common.{rules, refl}
 use Rattle.xp_groups.specs.Intends.{no_outgoing_access, also_open_not_known, also_open_barred, also_open}
 use Rattle.xp_groups.proofs.calling.also_open.Goals as goal
 

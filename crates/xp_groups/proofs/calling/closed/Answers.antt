@@ -1,4 +1,4 @@
-use Rattle.std.proofs.Common.{rules, refl, sym, ◌∙◌}
+use Rattle.std.proofs.Common.{rules, refl}
 use Rattle.xp_groups.specs.Intends.{closed, closed_barred, closed_not_known}
 use Rattle.xp_groups.proofs.calling.closed.Goals as goal
 
