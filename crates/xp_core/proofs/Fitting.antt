@@ -9,7 +9,7 @@ use Rattle.xp_packets.specs.declared.packet.Packet.TheVariants.{Call, Accepted, 
 use Rattle.xp_packets.specs.Fitness.{unfit}
 use Rattle.xp_subs.specs.Tables.{Tables, line_count}
 use Rattle.xp_core.specs.declared.call.LiveCall.{LiveCall}
-use Rattle.xp_core.specs.declared.cause.TheConstants.{OUT_OF_ORDER, NO_ADDITIONAL_INFORMATION}
+use Rattle.xp_core.specs.Causes.{OUT_OF_ORDER, NO_ADDITIONAL_INFORMATION}
 use Rattle.xp_core.specs.declared.channel.ChannelState.{ChannelState}
 use Rattle.xp_core.specs.declared.channel.ChannelState.TheVariants.{Off, Ready}
 use Rattle.xp_core.specs.declared.entry.Entry.{Entry}

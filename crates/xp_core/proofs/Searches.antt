@@ -1,5 +1,5 @@
 -- What a search of a list tells.
-use Rattle.std.proofs.Common.{◌≡◌, ℕ, ◌+◌, ◌<◌, Bool, ◌||◌, true, false, cond, Option, Some, None, List, [], ◌∷◌, ◌++◌, length, find, take, get_or, Contains, refl, ap, sym, ◌∙◌, arith, add-one}
+use Rattle.std.proofs.Common.{◌≡◌, ℕ, ◌+◌, ◌<◌, Bool, ◌||◌, true, false, cond, Some, None, List, [], ◌∷◌, ◌++◌, length, find, take, get_or, Contains, refl, ap, sym, ◌∙◌, arith, add-one}
 use Rattle.std.specs.List.{list_any}
 use Rattle.std.proofs.lemmas.List.{take_more}
 

@@ -1,8 +1,7 @@
 -- What the clearing of a call tells (X.25 clauses 4.1.7 and 5.2.3).
-use Rattle.std.specs.Prelude.{ℕ, Option, None, Some, unwrap_or, nat_le, if◌then◌else◌, ◌==◌}
+use Rattle.std.specs.Prelude.{ℕ, Option, Some, unwrap_or, nat_le, if◌then◌else◌, ◌==◌}
 use Rattle.xp_core.specs.declared.call.LiveCall.{LiveCall}
-use Rattle.xp_core.specs.declared.cause.Refusal.{Refusal}
-use Rattle.xp_core.specs.declared.cause.TheConstants.{DTE_CAUSES, NO_ADDITIONAL_INFORMATION}
+use Rattle.xp_core.specs.Causes.{DTE_CAUSES, NO_ADDITIONAL_INFORMATION}
 use Rattle.xp_core.specs.declared.record.Record.{Record}
 use Rattle.xp_packets.specs.declared.end.End.TheVariants.{Caller}
 

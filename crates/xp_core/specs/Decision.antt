@@ -1,11 +1,11 @@
--- The decision on a call request (X.25 clause 4.1.3): which lines may be taken, and why none is.
-use Rattle.std.specs.Prelude.{◌≡◌, ℕ, ◌<◌, ◌==◌, ◌&&◌, Bool, ◌⊎◌, true, false, not, cond, if◌then◌else◌, Option, None, Some, List, [], ◌∷◌, Contains, is_none, length, nat_lt}
+-- The decision on a call request (X.25 clauses 4.1.3 and 4.1.10): which lines may be taken, and why none is.
+use Rattle.std.specs.Prelude.{◌≡◌, ℕ, ◌<◌, ◌==◌, ◌&&◌, Bool, ◌⊎◌, true, false, not, if◌then◌else◌, Option, None, Some, List, [], ◌∷◌, Contains, is_none, length, nat_lt}
 use Rattle.std.specs.List.{list_all, list_any}
 use Rattle.xp_packets.specs.declared.block.Block.{Block}
 use Rattle.xp_subs.specs.declared.target.Target.{Target}
 use Rattle.xp_subs.specs.Tables.{Tables, station_at, target_of}
 use Rattle.xp_core.specs.declared.cause.Refusal.{Refusal}
-use Rattle.xp_core.specs.declared.cause.TheConstants.{NUMBER_BUSY, INVALID_FACILITY_REQUEST, OUT_OF_ORDER, NOT_OBTAINABLE, LOCAL_PROCEDURE_ERROR, NO_ADDITIONAL_INFORMATION, PACKET_TOO_LONG, FACILITY_CODE_NOT_ALLOWED, INVALID_CALLED_ADDRESS, NO_LOGICAL_CHANNEL_AVAILABLE}
+use Rattle.xp_core.specs.Causes.{NUMBER_BUSY, INVALID_FACILITY_REQUEST, OUT_OF_ORDER, NOT_OBTAINABLE, LOCAL_PROCEDURE_ERROR, NO_ADDITIONAL_INFORMATION, PACKET_TOO_LONG, FACILITY_CODE_NOT_ALLOWED, INVALID_CALLED_ADDRESS, NO_LOGICAL_CHANNEL_AVAILABLE}
 use Rattle.xp_core.specs.declared.channel.ChannelState.{ChannelState}
 use Rattle.xp_core.specs.declared.channel.ChannelState.TheVariants.{Off, Ready, Waiting, Ringing, Talking, Cleared}
 use Rattle.xp_core.specs.declared.verdict.Verdict.{Verdict}
@@ -44,7 +44,7 @@ is_off (Ringing number) = false
 is_off (Talking number) = false
 is_off Cleared = false
 
--- in service and in no call; the calling line counts as busy
+-- ready (p1), and not the calling line, which counts as busy
 abbrev pub is_idle : World → ℕ → ℕ → Bool
 is_idle world caller line = not (line == caller) && is_ready (state_at world line)
 

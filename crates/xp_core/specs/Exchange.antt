@@ -1,15 +1,13 @@
 -- What a serial exchange shows, and what one step of it does.
-use Rattle.std.specs.Prelude.{◌≡◌, ℕ, ◌+◌, ◌<◌, ◌≤◌, Option, Some, None, List, [], ◌∷◌, ◌++◌, length}
-use Rattle.xp_subs.specs.Tables.{Tables, line_count}
+use Rattle.std.specs.Prelude.{◌≡◌, ◌<◌, List, [], ◌∷◌, ◌++◌}
+use Rattle.xp_subs.specs.Tables.{Tables}
 use Rattle.xp_core.specs.declared.entry.Entry.{Entry}
 use Rattle.xp_core.specs.declared.event.Event.{Event}
 use Rattle.xp_core.specs.declared.event.What.{What}
 use Rattle.xp_core.specs.declared.event.What.TheVariants.{Up, Down, Frame, WrongFrame, Expire, Stall}
 use Rattle.xp_core.specs.declared.stepped.Stepped.{Stepped}
-use Rattle.xp_core.specs.Moves.{Move, after}
-use Rattle.xp_core.specs.Step.{Acts, Step}
-use Rattle.xp_core.specs.Table.{cell, kind_of}
-use Rattle.xp_core.specs.World.{World, state_at}
+use Rattle.xp_core.specs.Step.{Step}
+use Rattle.xp_core.specs.World.{World}
 
 pub record Exchange (A : Type 0) : Type 0 where
   pub subs : Tables
@@ -17,7 +15,7 @@ pub record Exchange (A : Type 0) : Type 0 where
   pub world : World
 
 module _ {A : Type 0} where
-  -- a logical channel identifier has twelve bits (X.25 clause 5.1.2)
+  -- a logical channel identifier has twelve bits (X.25 clauses 5.1.2 and 5.1.3)
   abbrev pub IsReadable : What A → Type 0
   IsReadable (Frame identifier packet) = identifier < 4096
   IsReadable Up = Unit {0}

@@ -1,4 +1,5 @@
 pub mod Buffered
+pub mod Causes
 pub mod Channel
 pub mod Clearing
 pub mod Decision

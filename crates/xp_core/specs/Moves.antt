@@ -1,5 +1,5 @@
 -- What each action puts out, and how it changes the state of the exchange.
-use Rattle.std.specs.Prelude.{ℕ, ◌+◌, nat_eq, Bool, if◌then◌else◌, Option, None, Some, List, [], ◌∷◌, ◌++◌}
+use Rattle.std.specs.Prelude.{ℕ, ◌+◌, Bool, if◌then◌else◌, Option, None, Some, List, [], ◌∷◌, ◌++◌}
 use Rattle.xp_packets.specs.declared.block.Block.{Block}
 use Rattle.xp_packets.specs.declared.end.End.TheVariants.{Caller}
 use Rattle.xp_packets.specs.declared.packet.Packet.{Packet}
@@ -7,7 +7,7 @@ use Rattle.xp_packets.specs.declared.packet.Packet.TheVariants.{Call, Accepted, 
 use Rattle.xp_subs.specs.Tables.{Tables, address_of, same}
 use Rattle.xp_core.specs.declared.call.LiveCall.{LiveCall}
 use Rattle.xp_core.specs.declared.cause.Refusal.{Refusal}
-use Rattle.xp_core.specs.declared.cause.TheConstants.{OUT_OF_ORDER, NO_ADDITIONAL_INFORMATION}
+use Rattle.xp_core.specs.Causes.{OUT_OF_ORDER, NO_ADDITIONAL_INFORMATION}
 use Rattle.xp_core.specs.declared.channel.ChannelState.{ChannelState}
 use Rattle.xp_core.specs.declared.channel.ChannelState.TheVariants.{Off, Ready, Waiting, Ringing, Talking, Cleared}
 use Rattle.xp_core.specs.declared.edit.Edit.{Edit}
@@ -85,7 +85,7 @@ module _ {A : Type 0} where
         edits = call.edits ++ moved world line Ready ∷ [];
       }
 
-  -- the line has confirmed its clear indication, or asked for clearing itself (clear collision, clause 4.1.8)
+  -- the line has confirmed its clear indication, or asked for clearing itself (clear collision, clause 4.1.9)
   abbrev pub frees : World → ℕ → Move A
   frees world line = record still { edits = moved world line Ready ∷ [] }
 
@@ -116,7 +116,7 @@ module _ {A : Type 0} where
   incoming tables caller called d block =
       Call d (record { called = address_of tables called; calling = address_of tables caller; facilities = standard_facilities; user = block.user })
 
-  -- a call request gets the next number, and the line its identifier. This one is put to a line
+  -- a call request that is put to a line: it gets the next number, and its line takes over its identifier
   abbrev pub put_request : World → ℕ → ℕ → Block A → ℕ → Packet A → Move A
   put_request world caller identifier block called packet = record {
     outputs = send_as world called 1 packet ∷ [];
@@ -129,7 +129,7 @@ module _ {A : Type 0} where
     records = [];
   }
 
-  -- and this one is cleared at once, with a record
+  -- a call request that is refused: it gets the next number, and is cleared at once, with a record
   abbrev pub refused_request : World → ℕ → ℕ → Block A → Refusal → Move A
   refused_request world caller identifier block why = record {
     outputs = send_as world caller identifier (clear_indication why.cause why.diagnostic) ∷ [];

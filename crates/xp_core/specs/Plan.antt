@@ -1,5 +1,5 @@
 -- A plan is a move, in the lists of the code.
-use Rattle.std.specs.Prelude.{◌≡◌, ℕ, ◌≤◌, Option, List, length}
+use Rattle.std.specs.Prelude.{◌≡◌, ℕ, Option}
 use Rattle.xp_core.specs.declared.plan.Plan.{Plan}
 use Rattle.xp_core.specs.Moves.{Move}
 

@@ -20,7 +20,7 @@ taken_by (Refuse why) = None
 
 module _ {A : Type 0} where
   -- what an action does, by its event. Only a call request has a choice, and only it takes a line.
-  -- The table has the last three actions for their own packets alone
+  -- The table has a new call, an answer and a confirmation for their own packets alone
   abbrev pub Acts : Tables → World → ℕ → What A → Action → Option ℕ → Move A → Type 0
   Acts tables world line what Nothing taken move = (taken ≡ None) × (move ≡ still)
   Acts tables world line what Rise taken move = (taken ≡ None) × (move ≡ rises world line)

@@ -1,5 +1,5 @@
 -- The state of the exchange, and the single changes of it.
-use Rattle.std.specs.Prelude.{ℕ, ◌+◌, ◌==◌, not, Option, None, List, [], ◌∷◌, ◌++◌, filter, find, option_and_then, replicate, slice_index_or, slice_set}
+use Rattle.std.specs.Prelude.{ℕ, ◌+◌, ◌==◌, not, Option, List, [], ◌∷◌, ◌++◌, filter, find, option_and_then, replicate, slice_index_or, slice_set}
 use Rattle.xp_core.specs.declared.call.LiveCall.{LiveCall}
 use Rattle.xp_core.specs.declared.channel.ChannelState.{ChannelState}
 use Rattle.xp_core.specs.declared.channel.ChannelState.TheVariants.{Off}

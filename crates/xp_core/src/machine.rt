@@ -77,7 +77,7 @@ impl<A: Allocator> Machine<A> {
         numbered(self.calls.as_slice(), number)
     }
 
-    /// Whether a line can be put a call by this caller: in service and in no call, and another line.
+    /// Whether a line can be put a call by this caller: ready, and another line.
     pub fn is_idle(&self, caller: LineNo, line: LineNo) -> bool
         ensures { result ≡ is_idle self.now caller line }
     {

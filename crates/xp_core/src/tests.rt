@@ -4,12 +4,25 @@ ghost use Rattle.std.specs.Prelude.{◌<◌, IfOk};
 ghost use Rattle.xp_core.specs.Exchange.{IsReadable};
 
 use crate::{Channel, Core, Event, LineView, Output, Record, StepFault, Stepped, What};
-use std::alloc::{AllocError, Allocator};
+use std::alloc::{AllocError, Allocator, Global};
 use std::process::Abort;
 use std::test::Fail;
 use xp_packets::{Block, Digits, End, Octets, Packet};
 use xp_refusing::Refusing;
-use xp_subs::{LineNo, Subs};
+use xp_subs::{LineNo, Subs, SubsFault};
+
+/// Three stations with five lines.
+const THREE_STATIONS: &str = r#"[[station]]
+address = "2080010"
+line = [{ name = "a1", port = 19981 }]
+[[station]]
+address = "2080020"
+fast_select = true
+line = [{ name = "b1", port = 19982 }]
+[[station]]
+address = "2080030"
+line = [{ name = "h1", port = 19983 }, { name = "h2", port = 19984, address = "2080032" }, { name = "h3", port = 19985 }]
+"#;
 
 const A1: LineNo = 0;
 
@@ -17,6 +30,11 @@ const B1: LineNo = 1;
 
 /// The events of a call from a1 to b1 that is accepted and then cleared by a1.
 const EVENTS: usize = 6;
+
+/// The subscriptions of the three stations.
+fn three_stations(alloc: Global) -> Result<Subs, SubsFault> {
+    Subs::read(alloc, THREE_STATIONS)
+}
 
 /// The address 2080020 of b1.
 fn address() -> Digits {
@@ -84,7 +102,7 @@ fn frame<A: Allocator>(packet: Packet<A>) -> What<A>
     }
 }
 
-/// Hands an event in. There are lines enough in the built-in subscriptions.
+/// Hands an event in. There are lines enough in the three stations' subscriptions.
 fn offer<A: Allocator + Copy>(
     rt: &impl Abort,
     core: &mut Core<A>,
@@ -127,7 +145,7 @@ fn shown<A: Allocator + Copy>(core: &Core<A>) -> (LineView, LineView, usize, usi
 #[test]
 fn call_accepted_and_cleared(rt: HostRuntime) -> Result<(), Fail> {
     let alloc = rt.alloc();
-    let mut core = Core::new(alloc, Subs::built_in(alloc)?)?;
+    let mut core = Core::new(alloc, three_stations(alloc)?)?;
     for at in 0..EVENTS {
         let event = event_at(alloc, at)?;
         let told = offer(&rt, &mut core, event).ok().ok_or("a refusal")?;
@@ -212,7 +230,7 @@ fn each_request_refused_once(rt: HostRuntime) -> Result<(), Fail> {
     let mut refused = 0u64;
     for number in 1..200u64 {
         let scarce = Refusing::new(rt.alloc(), number);
-        play_with_refusal(&rt, Subs::built_in(rt.alloc())?, &ample, &scarce)?;
+        play_with_refusal(&rt, three_stations(rt.alloc())?, &ample, &scarce)?;
         if scarce.is_pending() {
             break;
         }
