@@ -1,0 +1,18 @@
+//! Scripts: what their lines say, and the text of what the exchange puts out and records.
+#![tactic(auto)]
+
+mod command;
+mod entry;
+mod fault;
+mod line;
+mod output;
+mod record;
+mod text;
+mod words;
+
+pub use command::{Command, LONGEST};
+pub use entry::write_entry;
+pub use fault::LineFault;
+
+#[cfg(test)]
+mod tests;
