@@ -1,0 +1,96 @@
+-- Events of frames, one more at a time.
+use Rattle.std.proofs.Common.{◌≡◌, ℕ, List, [], ◌∷◌, ◌++◌, refl, sym, ap, ◌∙◌, append_assoc, append-nil, subst, All, true, false, Some, Result, Ok, Err, IfOk, OnOk}
+use Rattle.std.proofs.lemmas.List.Elements.{All-append, All-nil, All-cons}
+use Rattle.xp_frames.specs.Held.{Held, Gives, Takes}
+use Rattle.xp_core.specs.declared.event.What.TheVariants.{Down}
+use Rattle.xp_core.specs.declared.event.Event.{Event}
+use Rattle.xp_core.specs.Exchange.{IsReadable}
+use Rattle.xp_exchange.specs.Acting.{emptied, IsBetweenFrames, TakesWhole}
+use Rattle.xp_exchange.specs.Heard.{IsReadAs, AreRead, Hears}
+
+-- the waiting packets are those of the frames
+taken_waiting : (old between : Held) (octets : List ℕ) → IsBetweenFrames old → (takes : Takes old octets between) → between.waiting ≡ takes.packets
+taken_waiting old between octets idle takes = takes.waiting ∙ ap (λ front. front ++ takes.packets) idle.0
+
+module _ {A : Type 0} where
+  pub read_one_more : (line : ℕ) (packets : List (List ℕ)) (events : List (Event A)) (packet : List ℕ) (event : Event A)
+      → AreRead line packets events → event.line ≡ line → IsReadAs packet event.what → AreRead line (packets ++ packet ∷ []) (events ++ event ∷ [])
+  read_one_more line [] [] packet event read here what = (here, what, tt)
+  read_one_more line [] (one ∷ events) packet event read here what = elim read [ ]
+  read_one_more line (first ∷ packets) [] packet event read here what = elim read [ ]
+  read_one_more line (first ∷ packets) (one ∷ events) packet event read here what =
+      (read.0, read.1, read_one_more line packets events packet event read.2 here what)
+
+  abbrev pub IsFit : ℕ → Event A → Type 0
+  IsFit line event = (event.line ≡ line) × IsReadable event.what
+
+  -- The packets that were asked for so far are these events, and the others wait.
+  pub record ReadSoFar (line : ℕ) (first now : Held) (events : List (Event A)) : Type 0 where
+    pub packets : List (List ℕ)
+    pub waiting : first.waiting ≡ packets ++ now.waiting
+    pub rest : now.rest ≡ first.rest
+    pub failed : now.failed ≡ first.failed
+    pub read : AreRead line packets events
+    pub fit : All (IsFit line) events
+
+  pub read_nothing : (line : ℕ) (first : Held) → ReadSoFar line first first []
+  read_nothing line first = record { packets = []; waiting = refl; rest = refl; failed = refl; read = tt; fit = All-nil (IsFit line) }
+
+  pub read_next : (line : ℕ) (first before now : Held) (events after : List (Event A)) (packet : List ℕ) (event : Event A)
+      → ReadSoFar line first before events → Gives before (Some packet) now → after ≡ events ++ event ∷ []
+      → event.line ≡ line → IsReadAs packet event.what → IsReadable event.what → ReadSoFar line first now after
+  read_next line first before now events after packet event so_far given pushed here what readable =
+      let more : ReadSoFar line first now (events ++ event ∷ []) = record {
+        packets = so_far.packets ++ packet ∷ [];
+        waiting = so_far.waiting ∙ ap (λ rest. so_far.packets ++ rest) given.0
+            ∙ sym (append_assoc so_far.packets (packet ∷ []) now.waiting);
+        rest = given.1 ∙ so_far.rest;
+        failed = given.2 ∙ so_far.failed;
+        read = read_one_more line so_far.packets events packet event so_far.read here what;
+        fit = All-append (IsFit line) events (event ∷ []) so_far.fit (one line event here readable);
+      } in
+      subst (ReadSoFar line first now) (sym pushed) more
+    where
+      one : (line : ℕ) (event : Event A) → event.line ≡ line → IsReadable event.what → All (IsFit line) (event ∷ [])
+      one line event here readable = All-cons (IsFit line) event [] (here, readable) (All-nil (IsFit line))
+
+  pub fit_more : (line : ℕ) (events after : List (Event A)) (event : Event A) → All (IsFit line) events → IsFit line event → after ≡ events ++ event ∷ [] → All (IsFit line) after
+  fit_more line events after event each one pushed =
+      subst (All (IsFit line)) (sym pushed) (All-append (IsFit line) events (event ∷ []) each (All-cons (IsFit line) event [] one (All-nil (IsFit line))))
+
+  -- octets with a bad head behind their frames
+  pub heard_bad : (line : ℕ) (old between : Held) (octets : List ℕ) (events after : List (Event A)) (kept : List ℕ)
+      → IsBetweenFrames old → TakesWhole old octets true between → AreRead line between.waiting events
+      → after ≡ events ++ record { line = line; what = Down } ∷ [] → kept ≡ [] → Hears line old.rest octets after kept
+  heard_bad line old between octets events after kept idle took read pushed none = record {
+    packets = took.0.packets;
+    left = between.rest;
+    stream = took.0.stream;
+    frames = events;
+    last = record { line = line; what = Down } ∷ [];
+    events_are = pushed;
+    each = subst (λ packets. AreRead line packets events) (taken_waiting old between octets idle took.0) read;
+    ends = (took.2, refl, none);
+  }
+
+  -- octets with none
+  pub heard_good : (line : ℕ) (old between new : Held) (octets : List ℕ) (events : List (Event A))
+      → IsBetweenFrames old → TakesWhole old octets false between → AreRead line between.waiting events → new ≡ emptied between
+      → Hears line old.rest octets events new.rest
+  heard_good line old between new octets events idle took read same = record {
+    packets = took.0.packets;
+    left = between.rest;
+    stream = took.0.stream;
+    frames = events;
+    last = [];
+    events_are = sym (append-nil events);
+    each = subst (λ packets. AreRead line packets events) (taken_waiting old between octets idle took.0) read;
+    ends = (took.2, ap (λ held. held.rest) same);
+  }
+
+  -- the same of an answer
+  pub heard_good_of : {X E : Type 0} (items : X → List (Event A)) (result : Result X E) (line : ℕ) (old between new : Held) (octets : List ℕ)
+      → IsBetweenFrames old → TakesWhole old octets false between → IfOk result (λ x. AreRead line between.waiting (items x)) → OnOk result (new ≡ emptied between)
+      → IfOk result (λ x. Hears line old.rest octets (items x) new.rest)
+  heard_good_of items (Ok x) line old between new octets idle took read same = heard_good line old between new octets (items x) idle took read same
+  heard_good_of items (Err e) line old between new octets idle took read same = tt

@@ -1,0 +1,76 @@
+-- Streams between frames.
+use Rattle.std.proofs.Common.{◌≡◌, ℕ, ◌+◌, ◌<◌, List, [], ◌∷◌, ◌++◌, length, map, replicate, get_or, set, refl, sym, ap, subst, ◌∙◌, All}
+use Rattle.std.proofs.lemmas.List.{map_push, map-set, replicate_more, get_or-map, get_or-set_same, set-set, length-set, length-map}
+use Rattle.std.proofs.lemmas.List.Elements.{All-append, All-nil, All-cons}
+use Rattle.xp_frames.specs.Held.{Held, IsNew}
+use Rattle.xp_core.specs.declared.event.Event.{Event}
+use Rattle.xp_exchange.specs.Acting.{IsBetweenFrames}
+use Rattle.xp_exchange.specs.Heard.{Hears}
+use Rattle.xp_exchange.specs.Play.{unfinished_at}
+
+abbrev pub rests : List Held → List (List ℕ)
+rests streams = map (λ held. held.rest) streams
+
+-- each of so many streams has nothing
+abbrev pub AreNew : ℕ → List Held → Type 0
+AreNew count streams = (map (λ stream. stream.rest) streams ≡ replicate count []) × All IsBetweenFrames streams
+
+pub idle_none : AreNew 0 []
+idle_none = (refl, All-nil IsBetweenFrames)
+
+pub is_between : (stream : Held) → IsNew stream → IsBetweenFrames stream
+is_between stream new = (ap (λ held. held.waiting) new, ap (λ held. held.failed) new)
+
+pub idle_more : (count : ℕ) (streams after : List Held) (stream : Held) → AreNew count streams → IsNew stream → after ≡ streams ++ stream ∷ [] → AreNew (count + 1) after
+idle_more count streams after stream so_far new pushed =
+    let rests = map_push (λ held. held.rest) streams stream ∙ ap (λ front. front ++ stream.rest ∷ []) so_far.0
+    ∙ ap (λ last. replicate count [] ++ last ∷ []) (ap (λ held. held.rest) new) ∙ replicate_more count [] in
+    subst (AreNew (count + 1)) (sym pushed)
+    (rests, All-append IsBetweenFrames streams (stream ∷ []) so_far.1 (All-cons IsBetweenFrames stream [] (is_between stream new) (All-nil IsBetweenFrames)))
+
+-- one stream is begun anew
+pub idle_set : (streams : List Held) (line at : ℕ) (stream : Held) → IsNew stream → at ≡ line → map (λ held. held.rest) (set streams at stream) ≡ set (map (λ held. held.rest) streams) line []
+idle_set streams line at stream new same =
+    map-set (λ held. held.rest) streams at stream
+    ∙ ap (λ rest. set (map (λ held. held.rest) streams) at rest) (ap (λ held. held.rest) new)
+    ∙ ap (λ place. set (map (λ held. held.rest) streams) place []) same
+
+-- A stream is taken out and put back: what was heard on it was heard on that line.
+pub heard_at : {A : Type 0} (streams : List Held) (line at again : ℕ) (taken fresh kept : Held) (octets : List ℕ) (events : List (Event A)) → at < length streams → at ≡ line → again ≡ line
+    → taken ≡ get_or streams at taken → Hears line taken.rest octets events kept.rest
+    → Hears line (unfinished_at (rests streams) line) octets events (unfinished_at (rests (set (set streams at fresh) again kept)) line)
+heard_at streams line at again taken fresh kept octets events within here there read heard =
+    let first : unfinished_at (rests streams) line ≡ taken.rest = (
+    ap (λ i. get_or (rests streams) i []) (sym here)
+    ∙ get_or-map (λ held. held.rest) streams at taken [] within
+    ∙ ap (λ held. held.rest) (sym read)
+    ) in
+    let last : unfinished_at (rests (set (set streams at fresh) again kept)) line ≡ kept.rest = (
+    get_or-map (λ held. held.rest) (set (set streams at fresh) again kept) line kept []
+    (subst (λ n. line < n) (sym (length-set (set streams at fresh) again kept ∙ length-set streams at fresh)) (subst (λ i. i < length streams) here within))
+    ∙ ap (λ i. (get_or (set (set streams at fresh) i kept) line kept).rest) there
+    ∙ ap (λ held. held.rest) (get_or-set_same (set streams at fresh) line kept kept (subst (λ n. line < n) (sym (length-set streams at fresh)) (subst (λ i. i < length streams) here within)))
+    ) in
+    subst (λ before. Hears line before octets events (unfinished_at (rests (set (set streams at fresh) again kept)) line)) (sym first)
+    (subst (λ after. Hears line taken.rest octets events after) (sym last) heard)
+
+-- the other lines' octets stay
+pub kept_at : (streams : List Held) (line at again : ℕ) (fresh kept : Held) → at < length streams → at ≡ line → again ≡ line
+    → rests (set (set streams at fresh) again kept) ≡ set (rests streams) line (unfinished_at (rests (set (set streams at fresh) again kept)) line)
+kept_at streams line at again fresh kept within here there =
+    let once : set (set streams at fresh) again kept ≡ set streams line kept =
+    ap (λ i. set (set streams at fresh) i kept) there ∙ ap (λ i. set (set streams i fresh) line kept) here ∙ set-set streams line fresh kept in
+    let rest : unfinished_at (rests (set streams line kept)) line ≡ kept.rest = (
+    ap (λ list. get_or list line []) (map-set (λ held. held.rest) streams line kept)
+    ∙ get_or-set_same (rests streams) line kept.rest [] (subst (λ n. line < n) (sym (length-map streams (λ held. held.rest))) (subst (λ i. i < length streams) here within))
+    ) in
+    ap rests once ∙ map-set (λ held. held.rest) streams line kept
+    ∙ ap (set (rests streams) line) (sym rest)
+    ∙ ap (λ list. set (rests streams) line (unfinished_at (rests list) line)) (sym once)
+
+pub within_rests : (streams : List Held) (unfinished : List (List ℕ)) (line at : ℕ) → rests streams ≡ unfinished → at ≡ line → line < length unfinished → at < length streams
+within_rests streams unfinished line at same here within =
+    subst (λ n. at < n) (length-map streams (λ held. held.rest)) (subst (λ list. at < length list) (sym same) (subst (λ i. i < length unfinished) (sym here) within))
+
+pub is_new_after : (after fresh : Held) → after ≡ fresh → IsNew fresh → IsBetweenFrames after
+is_new_after after fresh same new = is_between after (same ∙ new)

@@ -1,0 +1,11 @@
+pub mod Acts
+pub mod Bytes
+pub mod Heard
+pub mod Idle
+pub mod Lines
+pub mod Octets
+pub mod Played
+pub mod Script
+pub mod SoFar
+pub mod Steps
+pub mod Tellings

@@ -1,0 +1,184 @@
+-- Lines that are played one after the other.
+use Rattle.std.proofs.Common.{◌≡◌, ◌≢◌, ℕ, ◌+◌, List, [], ◌∷◌, ◌++◌, length, refl, sym, ap, ◌∙◌, append_assoc, append-nil, length-append, subst, arith, Ok, Err, inl, inr}
+use Rattle.xp_core.specs.Exchange.{Exchange}
+use Rattle.xp_exchange.specs.declared.fault.ReplayFault.{ReplayFault}
+use Rattle.xp_exchange.specs.declared.fault.ReplayFault.TheVariants.{Script, Journal, Memory, Read, Write}
+use Rattle.xp_exchange.specs.Play.{Standing, PlaysAll}
+use Rattle.xp_exchange.specs.Playing.{Played, ReachesIn}
+use Rattle.xp_exchange.specs.Replaying.{Progress, TakesIn, Overflows}
+use Rattle.xp_exchange.specs.Serial.{IsTold, Stops, StopsAt, PlaysOut, Reaches}
+use Rattle.xp_exchange.specs.Splitting.{joined, line_feed, HasNoFeed, EndsLine}
+use Rattle.xp_exchange.proofs.Tellings.{told_nothing, told_both, told_in_part}
+
+no_feed_more : (octets : List ℕ) (octet : ℕ) → HasNoFeed octets → octet ≢ line_feed → HasNoFeed (octets ++ octet ∷ [])
+no_feed_more [] octet none other = (other, tt)
+no_feed_more (first ∷ octets) octet none other = (none.0, no_feed_more octets octet none.1 other)
+
+module _ {A : Type 0} where
+  -- the subscriptions stay
+  pub same_subs : (old : Standing A) (lines : List (List ℕ)) (new : Standing A) → PlaysAll old lines new → new.exchange.subs ≡ old.exchange.subs
+  same_subs old [] new same = ap (λ moment. moment.exchange.subs) same
+  same_subs old (line ∷ earlier) new played = played.2.acts.subs ∙ same_subs old earlier played.0 played.1
+
+  pub took_none : (old : Progress A) → TakesIn old [] old []
+  took_none old = record {
+    lines = [];
+    whole = append-nil old.line;
+    each = tt;
+    played = refl;
+    number = omega arith;
+    told = told_nothing old.moment.exchange;
+  }
+
+  -- one octet more of the line
+  pub took_octet : (old between new : Progress A) (front : List ℕ) (octet : ℕ) (text : List ℕ) → TakesIn old front between text
+      → new ≡ record between { line = between.line ++ octet ∷ [] } → TakesIn old (front ++ octet ∷ []) new text
+  took_octet old between new front octet text took added =
+      let after : Progress A = record between { line = between.line ++ octet ∷ [] } in
+      let more : TakesIn old (front ++ octet ∷ []) after text = record {
+        lines = took.lines;
+        whole = sym (append_assoc old.line front (octet ∷ [])) ∙ ap (λ some. some ++ octet ∷ []) took.whole ∙ append_assoc (joined took.lines) between.line (octet ∷ []);
+        each = took.each;
+        played = took.played;
+        number = took.number;
+        told = took.told;
+      } in
+      subst (λ now. TakesIn old (front ++ octet ∷ []) now text) (sym added) more
+
+  -- the octets up to a line feed
+  up_to_feed : (old between : Progress A) (front : List ℕ) (octet : ℕ) (text : List ℕ) → (took : TakesIn old front between text) → octet ≡ line_feed
+      → old.line ++ (front ++ octet ∷ []) ≡ joined (between.line ∷ took.lines)
+  up_to_feed old between front octet text took feed =
+      sym (append_assoc old.line front (octet ∷ [])) ∙ ap (λ some. some ++ octet ∷ []) took.whole
+      ∙ append_assoc (joined took.lines) between.line (octet ∷ [])
+      ∙ ap (λ last. joined took.lines ++ (between.line ++ last ∷ [])) feed
+
+  -- a line feed: the line is played
+  pub took_line : (old between new : Progress A) (front : List ℕ) (octet : ℕ) (text more : List ℕ) → TakesIn old front between text → octet ≡ line_feed → HasNoFeed between.line
+      → Played between.moment between.number between.line (Ok tt) new.moment more → new.line ≡ [] → new.number ≡ between.number + 1
+      → TakesIn old (front ++ octet ∷ []) new (text ++ more)
+  took_line old between new front octet text more took feed clean played empty next = record {
+    lines = between.line ∷ took.lines;
+    whole = up_to_feed old between front octet text took feed ∙ sym (append-nil (joined (between.line ∷ took.lines)))
+        ∙ ap (λ rest. joined (between.line ∷ took.lines) ++ rest) (sym empty);
+    each = (clean, took.each);
+    played = (between.moment, took.played, played.0);
+    number = omega (arith, took.number, next);
+    told = told_both old.moment.exchange between.moment.exchange new.moment.exchange text more (same_subs old.moment took.lines between.moment took.played) took.told played.1;
+  }
+
+  reaches : (at : Standing A) (line more : List ℕ) (now : Exchange A) → EndsLine more → ReachesIn at line now → Reaches at line more now
+  reaches at line more now over (inl same) = inl same
+  reaches at line more now over (inr begun) = inr (over, begun)
+
+  -- a line at which it stops
+  stops_at : (fault : ReplayFault) (first at new : Standing A) (line more : List ℕ) (number there : ℕ) (text other : List ℕ) → number ≡ there → at.exchange.subs ≡ first.exchange.subs
+      → IsTold first.exchange at.exchange text → EndsLine more → Played at number line (Err fault) new other
+      → StopsAt first at line more there fault (text ++ other)
+  stops_at (Script found) first at new line more number there text other here same told over played = (
+    played.0 ∙ here,
+    inl (over, played.1),
+    subst (IsTold first.exchange at.exchange) (sym (ap (λ rest. text ++ rest) played.2 ∙ append-nil text)) told,
+  )
+  stops_at Journal first at new line more number there text other here same told over played =
+      (played.0, played.1, told_both first.exchange at.exchange played.0 text other same told played.2, over, played.3, played.4)
+  stops_at Memory first at new line more number there text other here same told over played =
+      (played.0, reaches at line more played.0 over played.1, told_both first.exchange at.exchange played.0 text other same told played.2)
+  stops_at Write first at new line more number there text other here same told over played =
+      (played.0, reaches at line more played.0 over played.1, told_in_part first.exchange at.exchange played.0 text other same told played.2)
+  stops_at Read first at new line more number there text other here same told over played = elim played [ ]
+
+  -- what was read, and what follows
+  onward : (old between : Progress A) (front more : List ℕ) (text : List ℕ) → (took : TakesIn old front between text)
+      → old.line ++ (front ++ more) ≡ joined took.lines ++ (between.line ++ more)
+  onward old between front more text took =
+      sym (append_assoc old.line front more) ∙ ap (λ some. some ++ more) took.whole ∙ append_assoc (joined took.lines) between.line more
+
+  -- it stops at a line that is over
+  pub took_stops : (fault : ReplayFault) (old between : Progress A) (new : Standing A) (front more : List ℕ) (text other : List ℕ) → TakesIn old front between text
+      → EndsLine more → HasNoFeed between.line → Played between.moment between.number between.line (Err fault) new other
+      → Stops old.moment old.number (old.line ++ (front ++ more)) fault (text ++ other)
+  took_stops fault old between new front more text other took over clean played = record {
+    lines = took.lines;
+    line = between.line;
+    more = more;
+    whole = onward old between front more text took;
+    each = took.each;
+    no_feed = clean;
+    at = between.moment;
+    played = took.played;
+    why = stops_at fault old.moment between.moment new between.line more between.number (old.number + length took.lines) text other took.number
+        (same_subs old.moment took.lines between.moment took.played) took.told over played;
+  }
+
+  -- it stops in the midst of a line
+  pub took_overflows : (fault : ReplayFault) (old between : Progress A) (front more : List ℕ) (octet : ℕ) (text : List ℕ) → TakesIn old front between text
+      → octet ≢ line_feed → HasNoFeed between.line → Overflows between fault
+      → Stops old.moment old.number (old.line ++ (front ++ octet ∷ more)) fault text
+  took_overflows (Script found) old between front more octet text took other clean over = record {
+    lines = took.lines;
+    line = between.line ++ octet ∷ [];
+    more = more;
+    whole = onward old between front (octet ∷ more) text took ∙ ap (λ rest. joined took.lines ++ rest) (sym (append_assoc between.line (octet ∷ []) more));
+    each = took.each;
+    no_feed = no_feed_more between.line octet clean other;
+    at = between.moment;
+    played = took.played;
+    why = (over.0 ∙ took.number, inr (omega (arith, over.1, length-append between.line (octet ∷ []))), took.told);
+  }
+  took_overflows Memory old between front more octet text took other clean over = record {
+    lines = took.lines;
+    line = between.line;
+    more = octet ∷ more;
+    whole = onward old between front (octet ∷ more) text took;
+    each = took.each;
+    no_feed = clean;
+    at = between.moment;
+    played = took.played;
+    why = (between.moment.exchange, inl refl, took.told);
+  }
+  took_overflows Journal old between front more octet text took other clean over = elim over [ ]
+  took_overflows Write old between front more octet text took other clean over = elim over [ ]
+  took_overflows Read old between front more octet text took other clean over = elim over [ ]
+
+  -- it can't be read on
+  pub took_unread : (old between : Progress A) (front more : List ℕ) (text : List ℕ) → TakesIn old front between text
+      → Stops old.moment old.number (old.line ++ (front ++ more)) Read text
+  took_unread old between front more text took = record {
+    lines = took.lines;
+    line = [];
+    more = between.line ++ more;
+    whole = onward old between front more text took;
+    each = took.each;
+    no_feed = tt;
+    at = between.moment;
+    played = took.played;
+    why = took.told;
+  }
+
+  -- the last line was played
+  pub took_all : (old between new : Progress A) (octets : List ℕ) (text other : List ℕ) → TakesIn old octets between text → HasNoFeed between.line
+      → Played between.moment between.number between.line (Ok tt) new.moment other
+      → PlaysOut old.moment (old.line ++ octets) (text ++ other)
+  took_all old between new octets text other took clean played = record {
+    lines = took.lines;
+    last = between.line;
+    split = record { whole = took.whole; each = took.each; no_feed = clean };
+    at = new.moment;
+    played = (between.moment, took.played, played.0);
+    told = told_both old.moment.exchange between.moment.exchange new.moment.exchange text other (same_subs old.moment took.lines between.moment took.played) took.told played.1;
+  }
+
+  -- nothing was read yet
+  pub stops_first : (first : Standing A) (number : ℕ) (octets : List ℕ) → Stops first number octets Memory []
+  stops_first first number octets = record {
+    lines = [];
+    line = [];
+    more = octets;
+    whole = refl;
+    each = tt;
+    no_feed = tt;
+    at = first;
+    played = refl;
+    why = (first.exchange, inl refl, told_nothing first.exchange);
+  }

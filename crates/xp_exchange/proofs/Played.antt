@@ -1,0 +1,75 @@
+-- One line that is played.
+use Rattle.std.proofs.Common.{◌≡◌, ◌⊎◌, ℕ, List, [], Option, Some, Result, Ok, Err, inl, inr, sym, subst, append-nil}
+use Rattle.std.specs.Io.KnownBytes.{Appends, Keeps}
+use Rattle.xp_core.specs.declared.event.Event.{Event}
+use Rattle.xp_core.specs.Exchange.{Exchange}
+use Rattle.xp_script.specs.declared.command.Command.{Command}
+use Rattle.xp_script.specs.Command.{said}
+use Rattle.xp_exchange.specs.declared.fault.ReplayFault.{ReplayFault}
+use Rattle.xp_exchange.specs.declared.fault.ReplayFault.TheVariants.{Script, Journal, Memory, Read, Write}
+use Rattle.xp_exchange.specs.Acting.{Acted, ActsOnFirst}
+use Rattle.xp_exchange.specs.Play.{Standing, Plays, BeginsLine}
+use Rattle.xp_exchange.specs.Playing.{Played}
+use Rattle.xp_exchange.proofs.Bytes.{appends_kept}
+use Rattle.xp_exchange.proofs.Tellings.{told_whole}
+
+module _ {A : Type 0} where
+  abbrev begins : (old : Standing A) (line : List ℕ) (command : Command A) (events : List (Event A)) (after : List (List ℕ)) (now : Exchange A)
+      → said old.exchange.subs line ≡ Some command → Plays old.exchange.world old.unfinished command events after
+      → ActsOnFirst old.exchange events now → BeginsLine old line now
+  begins old line command events after now says plays acted = record {
+    command = command;
+    says = says;
+    events = events;
+    after = after;
+    plays = plays;
+    first = acted.first;
+    later = acted.later;
+    in_order = acted.in_order;
+    acts = acted.acts;
+  }
+
+  -- what came of its events is what came of the line
+  pub played : (result : Result (Unit {0}) ReplayFault) (old new : Standing A) (number : ℕ) (line : List ℕ) (command : Command A) (events : List (Event A)) (text : List ℕ)
+      → said old.exchange.subs line ≡ Some command → Plays old.exchange.world old.unfinished command events new.unfinished
+      → Acted old.exchange events result new.exchange text → Played old number line result new text
+  played (Ok done) old new number line command events text says plays acted =
+      (record { command = command; says = says; events = events; plays = plays; acts = acted.0 }, acted.1)
+  played (Err Journal) old new number line command events text says plays acted =
+      (acted.0, begins old line command events new.unfinished acted.0 says plays acted.1, acted.2, acted.3, acted.4)
+  played (Err Memory) old new number line command events text says plays acted =
+      (acted.0, inr (begins old line command events new.unfinished acted.0 says plays acted.1), acted.2)
+  played (Err Write) old new number line command events text says plays acted =
+      (acted.0, inr (begins old line command events new.unfinished acted.0 says plays acted.1), acted.2)
+  played (Err (Script found)) old new number line command events text says plays acted = elim acted [ ]
+  played (Err Read) old new number line command events text says plays acted = elim acted [ ]
+
+  -- what was played to its end was also begun
+  pub played_in_part : (old new : Standing A) (number : ℕ) (line text : List ℕ) → Played old number line (Ok tt) new text → Played old number line (Err Write) new text
+  played_in_part old new number line text done = (
+    new.exchange,
+    inr (record {
+      command = done.0.command;
+      says = done.0.says;
+      events = done.0.events;
+      after = new.unfinished;
+      plays = done.0.plays;
+      first = done.0.events;
+      later = [];
+      in_order = sym (append-nil done.0.events);
+      acts = done.0.acts;
+    }),
+    told_whole old.exchange new.exchange text done.1,
+  )
+
+  -- The line was played, and the writer flushed or not.
+  pub flushed : (result : Result (Unit {0}) ReplayFault) (old new : Standing A) (number : ℕ) (line : List ℕ) (first between last : Option (List ℕ))
+      → (result ≡ Ok tt) ⊎ (result ≡ Err Write)
+      → (text : List ℕ) × Appends first between text × Played old number line (Ok tt) new text → Keeps between last
+      → (text : List ℕ) × Appends first last text × Played old number line result new text
+  flushed result old new number line first between last (inl ok) done keeps =
+      subst (λ answer. (text : List ℕ) × Appends first last text × Played old number line answer new text) (sym ok)
+      (done.0, appends_kept first between last done.0 done.1 keeps, done.2)
+  flushed result old new number line first between last (inr err) done keeps =
+      subst (λ answer. (text : List ℕ) × Appends first last text × Played old number line answer new text) (sym err)
+      (done.0, appends_kept first between last done.0 done.1 keeps, played_in_part old new number line done.0 done.2)

@@ -1,0 +1,190 @@
+-- A script that is read in pieces.
+use Rattle.std.proofs.Common.{◌≡◌, ℕ, ◌+◌, List, [], ◌∷◌, ◌++◌, length, sym, ap, ◌∙◌, append_assoc, append-nil, length-append, subst, arith, Option, None, Some, Result, Ok, Err, IfSome}
+use Rattle.std.specs.List.{AllByRecursion}
+use Rattle.std.specs.Io.KnownBytes.{Appends, Consumes, Keeps, IsAtEnd}
+use Rattle.xp_subs.specs.Tables.{Tables}
+use Rattle.xp_exchange.specs.declared.fault.ReplayFault.{ReplayFault}
+use Rattle.xp_exchange.specs.declared.fault.ReplayFault.TheVariants.{Script, Journal, Memory, Read, Write}
+use Rattle.xp_exchange.specs.Play.{Standing, PlaysAll, start}
+use Rattle.xp_exchange.specs.Replaying.{Progress, TakesIn, Took, Finished, ReplaysFrom}
+use Rattle.xp_exchange.specs.Serial.{IsTold, StopsAt, Stops, Replays}
+use Rattle.xp_exchange.specs.Splitting.{joined, HasNoFeed}
+use Rattle.xp_exchange.proofs.Bytes.{appends_nothing, appends_both, consumes_nothing, consumes_both, consumes_kept}
+use Rattle.xp_exchange.proofs.Lines.{same_subs, took_none, took_stops, took_unread, took_all, stops_first}
+use Rattle.xp_exchange.proofs.Tellings.{told_both, told_in_part}
+
+joined-append : (late early : List (List ℕ)) → joined (late ++ early) ≡ joined early ++ joined late
+joined-append [] early = sym (append-nil (joined early))
+joined-append (line ∷ late) early =
+    ap (λ some. some ++ (line ++ 10 ∷ [])) (joined-append late early) ∙ append_assoc (joined early) (joined late) (line ++ 10 ∷ [])
+
+each-append : (late early : List (List ℕ)) → AllByRecursion HasNoFeed late → AllByRecursion HasNoFeed early → AllByRecursion HasNoFeed (late ++ early)
+each-append [] early a b = b
+each-append (line ∷ late) early a b = (a.0, each-append late early a.1 b)
+
+-- the script begins with what was read, whatever follows
+on_script : (first now : Option (List ℕ)) (taken : List ℕ) (P : List ℕ → Type 0) → Consumes first now taken → ((more : List ℕ) → P (taken ++ more)) → IfSome first P
+on_script None now taken P consumed holds = tt
+on_script (Some script) None taken P consumed holds = elim consumed [ ]
+on_script (Some script) (Some rest) taken P consumed holds = subst P (sym consumed) (holds rest)
+
+on_whole : (first now : Option (List ℕ)) (taken : List ℕ) (P : List ℕ → Type 0) → Consumes first now taken → IsAtEnd now → P taken → IfSome first P
+on_whole None now taken P consumed over holds = tt
+on_whole (Some script) None taken P consumed over holds = elim consumed [ ]
+on_whole (Some script) (Some rest) taken P consumed over holds = subst P (sym (consumed ∙ ap (λ some. taken ++ some) over ∙ append-nil taken)) holds
+
+module _ {A : Type 0} where
+  plays-append : (old : Standing A) (early : List (List ℕ)) (between : Standing A) (late : List (List ℕ)) (new : Standing A)
+      → PlaysAll old early between → PlaysAll between late new → PlaysAll old (late ++ early) new
+  plays-append old early between [] new first same = subst (PlaysAll old early) (sym same) first
+  plays-append old early between (line ∷ late) new first then = (then.0, plays-append old early between late then.0 first then.1, then.2)
+
+  took_both : (old between new : Progress A) (front more : List ℕ) (text other : List ℕ) → TakesIn old front between text → TakesIn between more new other
+      → TakesIn old (front ++ more) new (text ++ other)
+  took_both old between new front more text other first second = record {
+    lines = second.lines ++ first.lines;
+    whole = sym (append_assoc old.line front more) ∙ ap (λ some. some ++ more) first.whole
+        ∙ append_assoc (joined first.lines) between.line more
+        ∙ ap (λ rest. joined first.lines ++ rest) second.whole
+        ∙ sym (append_assoc (joined first.lines) (joined second.lines) new.line)
+        ∙ ap (λ some. some ++ new.line) (sym (joined-append second.lines first.lines));
+    each = each-append second.lines first.lines second.each first.each;
+    played = plays-append old.moment first.lines between.moment second.lines new.moment first.played second.played;
+    number = omega (arith, first.number, second.number, length-append second.lines first.lines);
+    told = told_both old.moment.exchange between.moment.exchange new.moment.exchange text other
+        (same_subs old.moment first.lines between.moment first.played) first.told second.told;
+  }
+
+  stops_from : (fault : ReplayFault) (first between at : Standing A) (line more : List ℕ) (number there : ℕ) (text other : List ℕ) → number ≡ there
+      → between.exchange.subs ≡ first.exchange.subs → IsTold first.exchange between.exchange text
+      → StopsAt between at line more number fault other → StopsAt first at line more there fault (text ++ other)
+  stops_from (Script found) first between at line more number there text other here same told why =
+      (why.0 ∙ here, why.1, told_both first.exchange between.exchange at.exchange text other same told why.2)
+  stops_from Journal first between at line more number there text other here same told why =
+      (why.0, why.1, told_both first.exchange between.exchange why.0 text other same told why.2, why.3, why.4, why.5)
+  stops_from Memory first between at line more number there text other here same told why =
+      (why.0, why.1, told_both first.exchange between.exchange why.0 text other same told why.2)
+  stops_from Write first between at line more number there text other here same told why =
+      (why.0, why.1, told_in_part first.exchange between.exchange why.0 text other same told why.2)
+  stops_from Read first between at line more number there text other here same told why =
+      told_both first.exchange between.exchange at.exchange text other same told why
+
+  stops_later : (fault : ReplayFault) (old between : Progress A) (front more : List ℕ) (text other : List ℕ) → TakesIn old front between text
+      → Stops between.moment between.number (between.line ++ more) fault other
+      → Stops old.moment old.number (old.line ++ (front ++ more)) fault (text ++ other)
+  stops_later fault old between front more text other first stops = record {
+    lines = stops.lines ++ first.lines;
+    line = stops.line;
+    more = stops.more;
+    whole = sym (append_assoc old.line front more) ∙ ap (λ some. some ++ more) first.whole
+        ∙ append_assoc (joined first.lines) between.line more
+        ∙ ap (λ rest. joined first.lines ++ rest) stops.whole
+        ∙ sym (append_assoc (joined first.lines) (joined stops.lines) (stops.line ++ stops.more))
+        ∙ ap (λ some. some ++ (stops.line ++ stops.more)) (sym (joined-append stops.lines first.lines));
+    each = each-append stops.lines first.lines stops.each first.each;
+    no_feed = stops.no_feed;
+    at = stops.at;
+    played = plays-append old.moment first.lines between.moment stops.lines stops.at first.played stops.played;
+    why = stops_from fault old.moment between.moment stops.at stops.line stops.more (between.number + length stops.lines) (old.number + length (stops.lines ++ first.lines)) text other
+        (omega (arith, first.number, length-append stops.lines first.lines)) (same_subs old.moment first.lines between.moment first.played) first.told stops.why;
+  }
+
+  -- A front of the script was read, from this reader on, and what it says was written.
+  pub record ReadTo (first : Progress A) (source now : Option (List ℕ)) (progress : Progress A) (old new : Option (List ℕ)) : Type 0 where
+    pub taken : List ℕ
+    pub consumed : Consumes source now taken
+    pub text : List ℕ
+    pub puts : Appends old new text
+    pub took : TakesIn first taken progress text
+
+  pub read_none : (first : Progress A) (source old : Option (List ℕ)) → ReadTo first source source first old old
+  read_none first source old = record {
+    taken = [];
+    consumed = consumes_nothing source;
+    text = [];
+    puts = appends_nothing old;
+    took = took_none first;
+  }
+
+  pub read_more : (first : Progress A) (source before now : Option (List ℕ)) (progress next : Progress A) (piece octets : List ℕ) (old between new : Option (List ℕ))
+      → ReadTo first source before progress old between → Consumes before now piece → octets ≡ piece
+      → (text : List ℕ) × Appends between new text × Took progress octets (Ok tt) next text
+      → ReadTo first source now next old new
+  read_more first source before now progress next piece octets old between new so_far consumed same took = record {
+    taken = so_far.taken ++ octets;
+    consumed = consumes_both source before now so_far.taken octets so_far.consumed (subst (Consumes before now) (sym same) consumed);
+    text = so_far.text ++ took.0;
+    puts = appends_both old between new so_far.text took.0 so_far.puts took.1;
+    took = took_both first progress next so_far.taken octets so_far.text took.0 so_far.took took.2;
+  }
+
+  pub read_kept : (first : Progress A) (source before now : Option (List ℕ)) (progress : Progress A) (old new : Option (List ℕ))
+      → ReadTo first source before progress old new → Keeps before now → ReadTo first source now progress old new
+  read_kept first source before now progress old new so_far keeps = record {
+    taken = so_far.taken;
+    consumed = consumes_kept source before now so_far.taken so_far.consumed keeps;
+    text = so_far.text;
+    puts = so_far.puts;
+    took = so_far.took;
+  }
+
+  abbrev pub Told : Progress A → Option (List ℕ) → Option (List ℕ) → Result (Unit {0}) ReplayFault → List ℕ → Type 0
+  Told first old new result octets = (text : List ℕ) × Appends old new text × ReplaysFrom first octets result text
+
+  pub told_stops : (first : Progress A) (source before now : Option (List ℕ)) (progress next : Progress A) (piece octets : List ℕ) (old between new : Option (List ℕ)) (fault : ReplayFault)
+      → ReadTo first source before progress old between → Consumes before now piece → octets ≡ piece
+      → (text : List ℕ) × Appends between new text × Took progress octets (Err fault) next text
+      → IfSome source (Told first old new (Err fault))
+  told_stops first source before now progress next piece octets old between new fault so_far consumed same took =
+      on_script source now (so_far.taken ++ octets) (Told first old new (Err fault))
+      (consumes_both source before now so_far.taken octets so_far.consumed (subst (Consumes before now) (sym same) consumed))
+      (λ more. (
+        so_far.text ++ took.0,
+        appends_both old between new so_far.text took.0 so_far.puts took.1,
+        subst (λ rest. Stops first.moment first.number (first.line ++ rest) fault (so_far.text ++ took.0)) (sym (append_assoc so_far.taken octets more))
+            (stops_later fault first progress so_far.taken (octets ++ more) so_far.text took.0 so_far.took (took.2 more)),
+      ))
+
+  pub told_unread : (first : Progress A) (source before now : Option (List ℕ)) (progress : Progress A) (old new : Option (List ℕ))
+      → ReadTo first source before progress old new → IfSome source (Told first old new (Err Read))
+  told_unread first source before now progress old new so_far =
+      on_script source before so_far.taken (Told first old new (Err Read)) so_far.consumed
+      (λ more. (so_far.text, so_far.puts, took_unread first progress so_far.taken more so_far.text so_far.took))
+
+  pub told_all : (first : Progress A) (source before now : Option (List ℕ)) (progress next : Progress A) (nothing : List ℕ) (old between new : Option (List ℕ)) (result : Result (Unit {0}) ReplayFault)
+      → ReadTo first source before progress old between → Consumes before now nothing → nothing ≡ [] → IsAtEnd now → HasNoFeed progress.line
+      → (text : List ℕ) × Appends between new text × Finished progress result next text
+      → IfSome source (Told first old new result)
+  told_all first source before now progress next nothing old between new result so_far consumed none over clean finished =
+      on_whole source now so_far.taken (Told first old new result) whole over
+      (so_far.text ++ finished.0, appends_both old between new so_far.text finished.0 so_far.puts finished.1, go result finished.2)
+    where
+      whole : Consumes source now so_far.taken
+      whole = subst (Consumes source now) (append-nil so_far.taken)
+          (consumes_both source before now so_far.taken [] so_far.consumed (subst (Consumes before now) none consumed))
+
+      go : (result : Result (Unit {0}) ReplayFault) → Finished progress result next finished.0 → ReplaysFrom first so_far.taken result (so_far.text ++ finished.0)
+      go (Ok done) played = took_all first progress next so_far.taken so_far.text finished.0 so_far.took clean played
+      go (Err fault) stopped =
+          subst (λ rest. Stops first.moment first.number (first.line ++ rest) fault (so_far.text ++ finished.0)) (append-nil so_far.taken)
+          (took_stops fault first progress next.moment so_far.taken [] so_far.text finished.0 so_far.took tt clean stopped)
+
+module _ (A : Type 0) where
+  from_start : (tables : Tables) (script : List ℕ) (result : Result (Unit {0}) ReplayFault) (text : List ℕ)
+      → ReplaysFrom {A = A} (record { moment = start tables; line = []; number = 1 }) script result text → Replays A tables script result text
+  from_start tables script (Ok done) text replays = replays
+  from_start tables script (Err fault) text replays = replays
+
+  -- a replay that began with nothing
+  pub told_from_start : (tables : Tables) (source old new : Option (List ℕ)) (first : Progress A) (result : Result (Unit {0}) ReplayFault)
+      → first ≡ record { moment = start tables; line = []; number = 1 } → IfSome source (Told first old new result)
+      → IfSome source (λ script. (text : List ℕ) × Appends old new text × Replays A tables script result text)
+  told_from_start tables None old new first result begun told = tt
+  told_from_start tables (Some script) old new first result begun told =
+      (told.0, told.1, from_start tables script result told.0 (subst (λ progress. ReplaysFrom progress script result told.0) begun told.2))
+
+  -- nothing was read yet
+  pub told_first : (tables : Tables) (source known : Option (List ℕ))
+      → IfSome source (λ script. (text : List ℕ) × Appends known known text × Replays A tables script (Err Memory) text)
+  told_first tables None known = tt
+  told_first tables (Some script) known = ([], appends_nothing known, stops_first (start tables) 1 script)

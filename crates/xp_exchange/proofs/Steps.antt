@@ -1,0 +1,96 @@
+-- One step, and what is told of it.
+use Rattle.std.proofs.Common.{◌≡◌, ℕ, ◌+◌, ◌-◌, ◌<◌, ◌≤◌, List, [], ◌∷◌, ◌++◌, length, take, refl, sym, ap, ◌∙◌, subst, get_or, Option, Result, Ok, Err, inl, inr, arith, length-append}
+use Rattle.std.proofs.lemmas.List.{get_or-append-add}
+use Rattle.std.proofs.lemmas.Bool.{cases_lt}
+use Rattle.std.specs.Io.KnownBytes.{Appends}
+use Rattle.xp_subs.specs.Tables.{Tables}
+use Rattle.xp_core.specs.declared.entry.Entry.{Entry}
+use Rattle.xp_core.specs.declared.event.Event.{Event}
+use Rattle.xp_core.specs.declared.stepped.Stepped.{Stepped}
+use Rattle.xp_core.specs.Exchange.{Exchange, Advances}
+use Rattle.xp_script.specs.Text.{entry_text}
+use Rattle.xp_exchange.specs.declared.fault.ReplayFault.{ReplayFault}
+use Rattle.xp_exchange.specs.declared.fault.ReplayFault.TheVariants.{Script, Journal, Memory, Read, Write}
+use Rattle.xp_core.specs.declared.fault.StepFault.{StepFault}
+use Rattle.xp_core.specs.declared.fault.StepFault.TheVariants as steps
+use Rattle.xp_exchange.specs.Acting.{Tells, Acted, reason}
+use Rattle.xp_exchange.proofs.Acts.{acts_on_one, first_of_all, first_of_none, told_one}
+use Rattle.xp_exchange.proofs.Bytes.{appends_nothing}
+use Rattle.xp_exchange.proofs.Tellings.{told_nothing}
+
+-- the last of a list that was pushed to
+pub last_pushed : {X : Type 0} (xs : List X) (x d : X) (all : List X) (at : ℕ) → all ≡ xs ++ x ∷ [] → at ≡ length all - 1 → get_or all at d ≡ x
+last_pushed xs x d all at pushed place =
+    let count : at ≡ length xs + 0 = omega (arith, place, ap length pushed, length-append xs (x ∷ [])) in
+    ap (λ list. get_or list at d) pushed ∙ ap (λ i. get_or (xs ++ x ∷ []) i d) count ∙ get_or-append-add xs (x ∷ []) 0 d
+
+pub pushed_length : {X : Type 0} (xs : List X) (x : X) (all : List X) → all ≡ xs ++ x ∷ [] → length all ≡ length xs + 1
+pushed_length xs x all pushed = ap length pushed ∙ length-append xs (x ∷ [])
+
+abbrev IsAnswered : {X E : Type 0} → Result X E → Type 0
+IsAnswered (Ok x) = Unit {0}
+IsAnswered (Err e) = ⊥
+
+-- what was answered found room
+pub found_room : {X E : Type 0} (result : Result X E) (x : X) (e : E) (count most : ℕ) → result ≡ Ok x → (most < count → result ≡ Err e) → count ≤ most
+found_room result x e count most ok full = elim (cases_lt most count) [
+  | inl less ↦ elim (subst IsAnswered (sym ok ∙ full less) tt) [ ]
+  | inr enough ↦ enough
+]
+
+module _ {A : Type 0} where
+  pub told_step : (result : Result (Unit {0}) ReplayFault) (old new : Exchange A) (event : Event A) (told : Stepped A) (tables : Tables) (entry : Entry A) (before after : Option (List ℕ))
+      → (advances : Advances old event new told) → length old.history + 4 ≤ old.subs.journal → tables ≡ old.subs → entry ≡ advances.entry → Tells before after (entry_text tables entry) result
+      → (text : List ℕ) × Appends before after text × Acted old (event ∷ []) result new text
+  told_step result old new event told tables entry before after advances room same this tells =
+      go result (subst (λ text. Tells before after text result) (ap (λ subs. entry_text subs entry) same ∙ ap (entry_text old.subs) this) tells)
+    where
+      go : (result : Result (Unit {0}) ReplayFault) → Tells before after (entry_text old.subs advances.entry) result
+          → (text : List ℕ) × Appends before after text × Acted old (event ∷ []) result new text
+      go (Ok done) tells = (entry_text old.subs advances.entry, tells, (acts_on_one old event new told advances room, told_one old event new told advances))
+      go (Err Memory) tells = ([], tells, (old, first_of_none old (event ∷ []), told_nothing old))
+      go (Err Write) tells = (
+        take tells.0 (entry_text old.subs advances.entry),
+        tells.1,
+        (
+          new,
+          first_of_all old new (event ∷ []) (acts_on_one old event new told advances room),
+          record { whole = entry_text old.subs advances.entry; told = told_one old event new told advances; count = tells.0; front = refl },
+        ),
+      )
+      go (Err Journal) tells = elim tells [ ]
+      go (Err Read) tells = elim tells [ ]
+      go (Err (Script number)) tells = elim tells [ ]
+
+  abbrev IsFull : StepFault A → Type 0
+  IsFull (steps.JournalFull event) = Unit {0}
+  IsFull (steps.Memory event) = ⊥
+
+  -- the history is full where want of memory is no answer
+  full_unless : (count most : ℕ) (event back : Event A) → (count ≤ most → steps.JournalFull back ≡ steps.Memory event) → most < count
+  full_unless count most event back memory = elim (cases_lt most count) [
+    | inl less ↦ less
+    | inr enough ↦ elim (subst IsFull (memory enough) tt) [ ]
+  ]
+
+  -- A refused step: the history is full, or memory was wanted.
+  pub stopped : (old new : Exchange A) (event : Event A) (known : Option (List ℕ)) (fault : StepFault A) (why : ReplayFault) → why ≡ reason fault
+      → (length old.history + 4 ≤ old.subs.journal → fault ≡ steps.Memory event)
+      → (text : List ℕ) × Appends known known text × Acted old (event ∷ []) (Err why) new text
+  stopped old new event known fault why told memory =
+      subst (λ reported. (text : List ℕ) × Appends known known text × Acted old (event ∷ []) (Err reported) new text) (sym told) (go fault memory)
+    where
+      go : (fault : StepFault A) → (length old.history + 4 ≤ old.subs.journal → fault ≡ steps.Memory event)
+          → (text : List ℕ) × Appends known known text × Acted old (event ∷ []) (Err (reason fault)) new text
+      go (steps.Memory back) memory = ([], appends_nothing known, (old, first_of_none old (event ∷ []), told_nothing old))
+      go (steps.JournalFull back) memory = (
+        [],
+        appends_nothing known,
+        (
+          old,
+          first_of_none old (event ∷ []),
+          told_nothing old,
+          omega arith,
+          full_unless (length old.history + 4) old.subs.journal event back memory,
+        ),
+      )

@@ -1,0 +1,27 @@
+use Rattle.std.proofs.Common.{◌∙◌, ◌-◌, refl, sym, subst, arith, All, length}
+use Rattle.xp_core.specs.Writable.{AreWritable}
+use Rattle.xp_exchange.proofs.Steps.{told_step, found_room, stopped, last_pushed, pushed_length}
+use Rattle.xp_exchange.proofs.acting.act_on.Goals as goal
+
+pub overflow_sub-entries : goal.overflow_sub-entries
+overflow_sub-entries g c = omega (arith, pushed_length _ _ _ (c.history-entries.ensures.entries ∙ c.in-Ok.ensures.ok.history))
+
+pub bounds-entries-entries : goal.bounds-entries-entries
+bounds-entries-entries g c = omega (arith, pushed_length _ _ _ (c.history-entries.ensures.entries ∙ c.in-Ok.ensures.ok.history))
+
+pub tell-requires : goal.tell-requires
+tell-requires g c =
+    let writable = subst (All (λ entry. AreWritable entry.outputs)) (sym c.history-entries.ensures.entries) c.history-entries.ensures.writable in
+    let pushed = pushed_length _ _ _ (c.history-entries.ensures.entries ∙ c.in-Ok.ensures.ok.history) in
+    subst (λ entry. AreWritable entry.outputs) (sym c.index-entries-entries.is)
+    (writable (length c.history-entries.result.now - 1) c.index-entries-entries.result (omega (arith, pushed)))
+
+pub returns-in-Ok-clause-acted : goal.returns-in-Ok-clause-acted
+returns-in-Ok-clause-acted g c =
+    told_step _ _ _ _ _ _ _ _ _ c.in-Ok.ensures.ok (found_room c.step.result _ _ _ _ c.in-Ok.is c.step.ensures.full) (c.subs.ensures ∙ c.in-Ok.ensures.ok.subs)
+    (c.index-entries-entries.is ∙ last_pushed _ _ _ _ _ (c.history-entries.ensures.entries ∙ c.in-Ok.ensures.ok.history) refl) c.tell.ensures
+
+pub returns-clause-acted : goal.returns-clause-acted
+returns-clause-acted g c =
+    stopped c.args.core.now c.step.new.self c.args.event (g.W.Write.contents c.args.writer.now) c.in-Err.fault c.reason_of.result
+    c.reason_of.ensures c.in-Err.ensures.room

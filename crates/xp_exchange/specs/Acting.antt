@@ -1,0 +1,68 @@
+-- What the private steps of a replay tell one another.
+use Rattle.std.specs.Prelude.{◌≡◌, ℕ, ◌+◌, ◌<◌, Bool, true, false, List, [], ◌++◌, length, take, Option, Result, Ok, Err}
+use Rattle.std.specs.Io.KnownBytes.{Appends}
+use Rattle.xp_frames.specs.declared.fault.FrameFault.{FrameFault}
+use Rattle.xp_frames.specs.Frame.{BadHead, HasNoBadHead}
+use Rattle.xp_frames.specs.Held.{Held, Takes}
+use Rattle.xp_core.specs.declared.event.Event.{Event}
+use Rattle.xp_core.specs.Exchange.{Exchange}
+use Rattle.xp_core.specs.declared.fault.StepFault.{StepFault}
+use Rattle.xp_core.specs.declared.fault.StepFault.TheVariants as steps
+use Rattle.xp_exchange.specs.declared.fault.ReplayFault.{ReplayFault}
+use Rattle.xp_exchange.specs.declared.fault.ReplayFault.TheVariants.{Script, Journal, Memory, Read, Write}
+use Rattle.xp_exchange.specs.Play.{ActsOn}
+use Rattle.xp_exchange.specs.Serial.{IsTold, IsToldInPart}
+
+-- the text was written, or at a fault a front of it
+abbrev pub Puts : Option (List ℕ) → Option (List ℕ) → List ℕ → Result (Unit {0}) ReplayFault → Type 0
+Puts old new text (Ok done) = Appends old new text
+Puts old new text (Err fault) = (fault ≡ Write) × (count : ℕ) × Appends old new (take count text)
+
+-- The text was written, or at a fault a front of it: nothing where memory was wanted.
+abbrev pub Tells : Option (List ℕ) → Option (List ℕ) → List ℕ → Result (Unit {0}) ReplayFault → Type 0
+Tells old new text (Ok done) = Appends old new text
+Tells old new text (Err Memory) = Appends old new []
+Tells old new text (Err Write) = (count : ℕ) × Appends old new (take count text)
+Tells old new text (Err fault) = ⊥
+
+-- all packets were asked for
+abbrev pub emptied : Held → Held
+emptied held = record { waiting = []; rest = held.rest; failed = held.failed }
+
+abbrev pub IsBetweenFrames : Held → Type 0
+IsBetweenFrames held = (held.waiting ≡ []) × (held.failed ≡ false)
+
+-- whether a bad head stands behind the frames
+abbrev pub FailsBehind : Bool → List ℕ → Type 0
+FailsBehind true rest = (fault : FrameFault) × BadHead rest fault
+FailsBehind false rest = HasNoBadHead rest
+
+abbrev pub TakesWhole : Held → List ℕ → Bool → Held → Type 0
+TakesWhole old octets fails new = Takes old octets new × (new.failed ≡ fails) × FailsBehind fails new.rest
+
+module _ {A : Type 0} where
+  abbrev pub reason : StepFault A → ReplayFault
+  reason (steps.JournalFull event) = Journal
+  reason (steps.Memory event) = Memory
+
+  -- The first of the events were acted on.
+  pub record ActsOnFirst (old : Exchange A) (events : List (Event A)) (now : Exchange A) : Type 0 where
+    pub first : List (Event A)
+    pub later : List (Event A)
+    pub in_order : events ≡ first ++ later
+    pub acts : ActsOn old first now
+
+  -- why it stopped among the events, and the text so far
+  abbrev pub Breaks : Exchange A → List (Event A) → ReplayFault → List ℕ → Type 0
+  Breaks old events Journal text =
+      (now : Exchange A) × (acted : ActsOnFirst old events now) × IsTold old now text
+      × (0 < length acted.later) × (now.subs.journal < length now.history + 4)
+  Breaks old events Memory text = (now : Exchange A) × ActsOnFirst old events now × IsTold old now text
+  Breaks old events Write text = (now : Exchange A) × ActsOnFirst old events now × IsToldInPart old now text
+  Breaks old events (Script number) text = ⊥
+  Breaks old events Read text = ⊥
+
+  -- acting on events in turn
+  abbrev pub Acted : Exchange A → List (Event A) → Result (Unit {0}) ReplayFault → Exchange A → List ℕ → Type 0
+  Acted old events (Ok done) new text = ActsOn old events new × IsTold old new text
+  Acted old events (Err fault) new text = Breaks old events fault text

@@ -1,0 +1,109 @@
+-- What the lines of a script do, one after the other.
+use Rattle.std.specs.Prelude.{◌≡◌, ◌⊎◌, ◌+◌, ◌≤◌, ℕ, Bool, true, false, List, [], ◌∷◌, ◌++◌, length, map, replicate, slice_index_or, slice_set, Some}
+use Rattle.xp_subs.specs.Tables.{Tables, line_count}
+use Rattle.xp_core.specs.declared.entry.Entry.{Entry}
+use Rattle.xp_core.specs.declared.event.Event.{Event}
+use Rattle.xp_core.specs.declared.event.What.{What}
+use Rattle.xp_core.specs.declared.event.What.TheVariants.{Up, Down, Expire as TimerExpires}
+use Rattle.xp_core.specs.declared.view.Channel.{Channel}
+use Rattle.xp_core.specs.declared.view.Channel.TheVariants.{Off, P1, P2, P3, P4, P7}
+use Rattle.xp_core.specs.Exchange.{Exchange}
+use Rattle.xp_core.specs.Run.{RunFrom}
+use Rattle.xp_core.specs.View.{view_of}
+use Rattle.xp_core.specs.World.{World, opening, line_at}
+use Rattle.xp_script.specs.declared.command.Command.{Command}
+use Rattle.xp_script.specs.declared.command.Command.TheVariants as commands
+use Rattle.xp_script.specs.Command.{said}
+use Rattle.xp_exchange.specs.Heard.{Hears}
+
+-- by line, the octets of an unfinished frame on its connection
+abbrev pub unfinished_at : List (List ℕ) → ℕ → List ℕ
+unfinished_at unfinished line = slice_index_or unfinished line []
+
+abbrev pub is_off : Channel → Bool
+is_off Off = true
+is_off P1 = false
+is_off P2 = false
+is_off P3 = false
+is_off P4 = false
+is_off P7 = false
+
+-- the line is out of service
+abbrev pub is_off_at : World → ℕ → Bool
+is_off_at world line = is_off (view_of (line_at world line)).channel
+
+-- A connection begins with nothing. A line in service keeps its connection
+abbrev pub risen : Bool → ℕ → List (List ℕ) → List (List ℕ)
+risen true line unfinished = slice_set unfinished line []
+risen false line unfinished = unfinished
+
+module _ {A : Type 0} where
+  abbrev pub event_of : ℕ → What A → Event A
+  event_of line what = record { line = line; what = what }
+
+  -- octets for a line that is out of service are nothing
+  abbrev pub HearsAt : Bool → ℕ → List (List ℕ) → List ℕ → List (Event A) → List (List ℕ) → Type 0
+  HearsAt true line unfinished octets events after = (events ≡ []) × (after ≡ unfinished)
+  HearsAt false line unfinished octets events after =
+      (kept : List ℕ) × Hears line (unfinished_at unfinished line) octets events kept
+      × (after ≡ slice_set unfinished line kept)
+
+  -- the events that a command is, and what is kept of unfinished frames
+  abbrev pub Plays : World → List (List ℕ) → Command A → List (Event A) → List (List ℕ) → Type 0
+  Plays world unfinished commands.Nothing events after = (events ≡ []) × (after ≡ unfinished)
+  Plays world unfinished (commands.Up line) events after =
+      (events ≡ event_of line Up ∷ []) × (after ≡ risen (is_off_at world line) line unfinished)
+  Plays world unfinished (commands.Down line) events after =
+      (events ≡ event_of line Down ∷ []) × (after ≡ unfinished)
+  Plays world unfinished (commands.Expire line) events after =
+      (events ≡ event_of line TimerExpires ∷ []) × (after ≡ unfinished)
+  Plays world unfinished (commands.In line octets) events after =
+      HearsAt (is_off_at world line) line unfinished octets events after
+
+-- A moment between two lines of a script: the exchange, and what is kept of unfinished frames.
+pub record Standing (A : Type 0) : Type 0 where
+  pub exchange : Exchange A
+  pub unfinished : List (List ℕ)
+
+module _ {A : Type 0} where
+  -- nothing was played yet
+  abbrev pub start : Tables → Standing A
+  start tables = record {
+    exchange = record { subs = tables; history = []; world = opening (line_count tables) };
+    unfinished = replicate (line_count tables) [];
+  }
+
+  -- The exchange acts on these events in turn: one entry for each.
+  pub record ActsOn (old : Exchange A) (events : List (Event A)) (new : Exchange A) : Type 0 where
+    pub entries : List (Entry A)
+    pub run : RunFrom old.subs old.history old.world entries new.world
+    pub of_events : map (λ entry. entry.event) entries ≡ events
+    pub history : new.history ≡ old.history ++ entries
+    pub subs : new.subs ≡ old.subs
+    -- each found four places left in the history
+    pub room : (entries ≡ []) ⊎ (length new.history + 3 ≤ old.subs.journal)
+
+  -- One line of a script is played to its end.
+  pub record PlaysLine (old : Standing A) (line : List ℕ) (new : Standing A) : Type 0 where
+    pub command : Command A
+    pub says : said old.exchange.subs line ≡ Some command
+    pub events : List (Event A)
+    pub plays : Plays old.exchange.world old.unfinished command events new.unfinished
+    pub acts : ActsOn old.exchange events new.exchange
+
+  -- At most its first events were acted on.
+  pub record BeginsLine (old : Standing A) (line : List ℕ) (new : Exchange A) : Type 0 where
+    pub command : Command A
+    pub says : said old.exchange.subs line ≡ Some command
+    pub events : List (Event A)
+    pub after : List (List ℕ)
+    pub plays : Plays old.exchange.world old.unfinished command events after
+    pub first : List (Event A)
+    pub later : List (Event A)
+    pub in_order : events ≡ first ++ later
+    pub acts : ActsOn old.exchange first new
+
+  -- The lines of a script are played in turn, here with the latest first.
+  abbrev pub PlaysAll : Standing A → List (List ℕ) → Standing A → Type 0
+  PlaysAll old [] new = new ≡ old
+  PlaysAll old (line ∷ earlier) new = (before : Standing A) × PlaysAll old earlier before × PlaysLine before line new

@@ -1,0 +1,51 @@
+-- What the steps of a replay tell one another of the octets that were read.
+use Rattle.std.specs.Prelude.{◌≡◌, ℕ, ◌+◌, ◌≤◌, List, [], ◌++◌, length, Result, Ok, Err}
+use Rattle.std.specs.List.{AllByRecursion}
+use Rattle.xp_script.specs.Command.{longest}
+use Rattle.xp_exchange.specs.declared.fault.ReplayFault.{ReplayFault}
+use Rattle.xp_exchange.specs.declared.fault.ReplayFault.TheVariants.{Script, Memory}
+use Rattle.xp_exchange.specs.Play.{Standing, PlaysAll}
+use Rattle.xp_exchange.specs.Playing.{Played}
+use Rattle.xp_exchange.specs.Serial.{IsTold, Stops, PlaysOut}
+use Rattle.xp_exchange.specs.Splitting.{joined, HasNoFeed}
+
+-- A replay between two octets: the moment, the line that is not over, and its number.
+pub record Progress (A : Type 0) : Type 0 where
+  pub moment : Standing A
+  pub line : List ℕ
+  pub number : ℕ
+
+module _ {A : Type 0} where
+  -- The octets end these lines, the latest first, which were played, and begin another.
+  pub record TakesIn (old : Progress A) (octets : List ℕ) (new : Progress A) (text : List ℕ) : Type 0 where
+    pub lines : List (List ℕ)
+    pub whole : old.line ++ octets ≡ joined lines ++ new.line
+    pub each : AllByRecursion HasNoFeed lines
+    pub played : PlaysAll old.moment lines new.moment
+    pub number : new.number ≡ old.number + length lines
+    pub told : IsTold old.moment.exchange new.moment.exchange text
+
+  -- At a fault it stops there, whatever follows.
+  abbrev pub Took : Progress A → List ℕ → Result (Unit {0}) ReplayFault → Progress A → List ℕ → Type 0
+  Took old octets (Ok done) new text = TakesIn old octets new text
+  Took old octets (Err fault) new text =
+      (more : List ℕ) → Stops old.moment old.number (old.line ++ (octets ++ more)) fault text
+
+  abbrev pub Ended : Progress A → Result (Unit {0}) ReplayFault → Progress A → List ℕ → Type 0
+  Ended old (Ok done) new text =
+      Played old.moment old.number old.line (Ok done) new.moment text × (new.line ≡ []) × (new.number ≡ old.number + 1)
+  Ended old (Err fault) new text = Played old.moment old.number old.line (Err fault) new.moment text
+
+  abbrev pub Finished : Progress A → Result (Unit {0}) ReplayFault → Progress A → List ℕ → Type 0
+  Finished old result new text = Played old.moment old.number old.line result new.moment text
+
+  -- the line would be too long, or memory was wanted
+  abbrev pub Overflows : Progress A → ReplayFault → Type 0
+  Overflows old (Script found) = (found ≡ old.number) × (longest ≤ length old.line)
+  Overflows old Memory = Unit {0}
+  Overflows old fault = ⊥
+
+  -- from here on to the end of the octets
+  abbrev pub ReplaysFrom : Progress A → List ℕ → Result (Unit {0}) ReplayFault → List ℕ → Type 0
+  ReplaysFrom old octets (Ok done) text = PlaysOut old.moment (old.line ++ octets) text
+  ReplaysFrom old octets (Err fault) text = Stops old.moment old.number (old.line ++ octets) fault text

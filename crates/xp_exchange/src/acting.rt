@@ -1,0 +1,80 @@
+//! The exchange acts on events, and what it enters is written.
+
+ghost use Rattle.std.specs.Prelude.{◌≡◌, ◌<◌, ℕ, List, [], ◌∷◌, All};
+ghost use Rattle.std.specs.Io.KnownBytes.{Appends};
+ghost use Rattle.xp_core.specs.Exchange.{IsReadable};
+ghost use Rattle.xp_core.specs.Writable.{AreWritable};
+ghost use Rattle.xp_exchange.specs.Acting.{Acted, Tells, reason};
+ghost use Rattle.xp_script.specs.Text.{entry_text};
+ghost use Rattle.xp_subs.specs.Tables.{line_count};
+
+use crate::fault::ReplayFault;
+use crate::writing::write_out;
+use std::alloc::Allocator;
+use std::collections::VecDeque;
+use std::io::Write;
+use xp_core::{Core, Entry, Event, StepFault};
+use xp_script::write_entry;
+use xp_subs::Subs;
+
+/// Acts on the events in turn, each written before the next.
+pub fn act_on_all<A: Allocator + Copy, W: Write>(
+    alloc: A,
+    core: &mut Core<A>,
+    mut events: VecDeque<Event<A>, A>,
+    writer: &mut W,
+) -> Result<(), ReplayFault>
+    requires { All (λ event. (event.line < line_count core.old.subs) × IsReadable event.what) events.items }
+    ensures acted { (text : List ℕ) × Appends (W.contents writer.old) (W.contents writer.new) text × Acted core.old events.items result core.new text }
+    ensures subs { core.new.subs ≡ core.old.subs }
+{
+    while let Some(event) = events.pop_front() {
+        act_on(alloc, core, event, writer)?;
+    }
+    Ok(())
+}
+
+fn act_on<A: Allocator + Copy, W: Write>(
+    alloc: A,
+    core: &mut Core<A>,
+    event: Event<A>,
+    writer: &mut W,
+) -> Result<(), ReplayFault>
+    requires line { event.line < line_count core.old.subs }
+    requires readable { IsReadable event.what }
+    ensures acted { (text : List ℕ) × Appends (W.contents writer.old) (W.contents writer.new) text × Acted core.old (event ∷ []) result core.new text }
+    ensures subs { core.new.subs ≡ core.old.subs }
+{
+    match core.step(event) {
+        Ok(_) => {
+            let entries = core.history();
+            tell(alloc, core.subs(), &entries[entries.len() - 1], writer)
+        }
+        Err(fault) => Err(reason_of(&fault)),
+    }
+}
+
+/// Why a step was refused, without the event.
+fn reason_of<A: Allocator>(fault: &StepFault<A>) -> ReplayFault
+    ensures { result ≡ reason fault.now }
+{
+    match fault {
+        StepFault::JournalFull(_) => ReplayFault::Journal,
+        StepFault::Memory(_) => ReplayFault::Memory,
+    }
+}
+
+/// Writes the text of an entry.
+fn tell<A: Allocator + Copy, W: Write>(
+    alloc: A,
+    subs: &Subs,
+    entry: &Entry<A>,
+    writer: &mut W,
+) -> Result<(), ReplayFault>
+    requires { AreWritable entry.now.outputs }
+    ensures { Tells (W.contents writer.old) (W.contents writer.new) (entry_text subs.now entry.now) result }
+{
+    let mut text = Vec::new(alloc);
+    write_entry(alloc, subs, entry, &mut text)?;
+    write_out(writer, &text)
+}

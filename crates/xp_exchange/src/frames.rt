@@ -1,0 +1,87 @@
+//! The events that the frames of a line are.
+
+ghost use Rattle.std.specs.Prelude.{◌≡◌, [], All, IfOk, OnOk};
+ghost use Rattle.xp_core.specs.Exchange.{IsReadable};
+ghost use Rattle.xp_exchange.specs.Acting.{emptied, IsBetweenFrames, TakesWhole};
+ghost use Rattle.xp_exchange.specs.Heard.{Hears, IsReadAs, AreRead};
+
+use std::alloc::{AllocError, Allocator};
+use std::collections::VecDeque;
+use xp_core::{Event, What};
+use xp_frames::{Deframer, FrameFault};
+use xp_packets::{PacketFault, decode};
+use xp_subs::LineNo;
+
+/// The events that octets of a line are: those of its frames, and that it goes down where a head is bad. Then its
+/// stream begins anew.
+pub fn hear<A: Allocator + Copy>(
+    alloc: A,
+    line: LineNo,
+    stream: &mut Deframer<A>,
+    octets: &[u8],
+) -> Result<VecDeque<Event<A>, A>, AllocError>
+    requires { IsBetweenFrames stream.old }
+    ensures heard { IfOk result (λ events. Hears line stream.old.rest octets.now events.items stream.new.rest) }
+    ensures between { OnOk result (IsBetweenFrames stream.new) }
+    ensures fit { IfOk result (λ events. All (λ event. (event.line ≡ line) × IsReadable event.what) events.items) }
+{
+    if !fails_with(stream, octets)? {
+        return events_of(alloc, line, stream);
+    }
+    let mut events = events_of(alloc, line, stream)?;
+    let what = What::Down;
+    events.push_back(Event { line, what })?;
+    *stream = Deframer::new(alloc);
+    Ok(events)
+}
+
+/// Takes octets in: whether a bad head stands behind their frames.
+fn fails_with<A: Allocator + Copy>(
+    stream: &mut Deframer<A>,
+    octets: &[u8],
+) -> Result<bool, AllocError>
+    requires { IsBetweenFrames stream.old }
+    ensures { IfOk result (λ fails. TakesWhole stream.old octets.now fails stream.new) }
+{
+    match stream.feed(octets) {
+        Ok(()) => Ok(false),
+        Err(FrameFault::Memory) => Err(AllocError),
+        Err(FrameFault::Version(_) | FrameFault::Length(_) | FrameFault::Failed) => Ok(true),
+    }
+}
+
+/// The events of the packets that wait, which wait no more.
+fn events_of<A: Allocator + Copy>(
+    alloc: A,
+    line: LineNo,
+    stream: &mut Deframer<A>,
+) -> Result<VecDeque<Event<A>, A>, AllocError>
+    ensures read { IfOk result (λ events. AreRead line stream.old.waiting events.items) }
+    ensures fit { IfOk result (λ events. All (λ event. (event.line ≡ line) × IsReadable event.what) events.items) }
+    ensures stream { OnOk result (stream.new ≡ emptied stream.old) }
+{
+    let mut events = VecDeque::new(alloc);
+    while let Some(packet) = stream.next() {
+        let event = event_of(alloc, line, &packet)?;
+        events.push_back(event)?;
+    }
+    Ok(events)
+}
+
+/// A packet, or octets that are none, come on a line.
+fn event_of<A: Allocator + Copy>(
+    alloc: A,
+    line: LineNo,
+    octets: &[u8],
+) -> Result<Event<A>, AllocError>
+    ensures line { IfOk result (λ event. event.line ≡ line) }
+    ensures read { IfOk result (λ event. IsReadAs octets.now event.what) }
+    ensures fit { IfOk result (λ event. IsReadable event.what) }
+{
+    let what = match decode(alloc, octets) {
+        Ok((identifier, packet)) => What::Frame { identifier, packet },
+        Err(PacketFault::Wrong(wrong)) => What::WrongFrame(wrong),
+        Err(PacketFault::Memory) => return Err(AllocError),
+    };
+    Ok(Event { line, what })
+}

@@ -1,0 +1,127 @@
+//! Playing the lines of a script.
+
+ghost use Rattle.std.specs.Prelude.{◌≡◌, ◌+◌, ◌<◌, ◌^◌, ℕ, List, [], ◌∷◌, All, IfOk, OnOk, length};
+ghost use Rattle.std.specs.Io.KnownBytes.{Appends};
+ghost use Rattle.xp_core.specs.Exchange.{IsReadable};
+ghost use Rattle.xp_exchange.specs.Play.{Plays, is_off_at};
+ghost use Rattle.xp_exchange.specs.Playing.{Played};
+ghost use Rattle.xp_script.specs.Command.{HasLine};
+ghost use Rattle.xp_subs.specs.Tables.{line_count};
+
+use crate::acting::act_on_all;
+use crate::fault::ReplayFault;
+use crate::streams::Streams;
+use std::alloc::{AllocError, Allocator, Global};
+use std::collections::VecDeque;
+use std::io::Write;
+use std::marker::Model;
+use xp_core::{Channel, Core, Event, What};
+use xp_script::{Command, LineFault};
+use xp_subs::{LineNo, Subs};
+
+/// An exchange that a script is played to.
+#[derive(Drop)]
+pub struct Playing<A: Allocator = Global> {
+    alloc: A,
+    core: Core<A>,
+    streams: Streams<A>,
+}
+
+impl<A: Allocator> Model for Playing<A> {
+    ghost use Rattle.std.specs.Prelude.{◌≡◌, length};
+    ghost use Rattle.xp_exchange.specs.Play.{Standing};
+    ghost use Rattle.xp_subs.specs.Tables.{line_count};
+
+    ghost Value = { Standing A };
+
+    ghost view = { λ p. record { exchange = p.core; unfinished = p.streams } };
+
+    ghost invariant = { λ p. length p.streams ≡ line_count p.core.subs };
+}
+
+impl<A: Allocator + Copy> Playing<A> {
+    ghost use Rattle.xp_exchange.specs.Play.{start};
+
+    /// An exchange with these subscriptions, to which nothing was played yet.
+    pub fn new(alloc: A, subs: Subs) -> Result<Playing<A>, AllocError>
+        ensures { IfOk result (λ playing. playing ≡ start subs) }
+    {
+        let streams = Streams::new(alloc, subs.counts().lines)?;
+        let core = Core::new(alloc, subs)?;
+        Ok(Playing {
+            alloc,
+            core,
+            streams,
+        })
+    }
+
+    /// Plays the line of this number, and writes what is put out and recorded.
+    pub fn play<W: Write>(
+        &mut self,
+        number: u64,
+        line: &[u8],
+        writer: &mut W,
+    ) -> Result<(), ReplayFault>
+        ensures { (text : List ℕ) × Appends (W.contents writer.old) (W.contents writer.new) text × Played self.old number line.now result self.new text }
+    {
+        let command = match Command::read(self.alloc, self.core.subs(), line) {
+            Ok(command) => command,
+            Err(LineFault::Faulty) => return Err(ReplayFault::Script(number)),
+            Err(LineFault::Memory) => return Err(ReplayFault::Memory),
+        };
+        let events = events_of(self.alloc, &self.core, &mut self.streams, command)?;
+        act_on_all(self.alloc, &mut self.core, events, writer)
+    }
+}
+
+/// The events that a command is.
+fn events_of<A: Allocator + Copy>(
+    alloc: A,
+    core: &Core<A>,
+    streams: &mut Streams<A>,
+    command: Command<A>,
+) -> Result<VecDeque<Event<A>, A>, AllocError>
+    requires line { HasLine (line_count core.now.subs) command }
+    requires lines { length streams.old ≡ line_count core.now.subs }
+    ensures plays { IfOk result (λ events. Plays core.now.world streams.old command events.items streams.new) }
+    ensures fit { IfOk result (λ events. All (λ event. (event.line < line_count core.now.subs) × IsReadable event.what) events.items) }
+    ensures lines { length streams.new ≡ length streams.old }
+{
+    match command {
+        Command::Nothing => Ok(VecDeque::new(alloc)),
+        Command::Up(line) => {
+            if is_off(core, line) {
+                streams.begin(line);
+            }
+            one(alloc, line, What::Up)
+        }
+        Command::Down(line) => one(alloc, line, What::Down),
+        Command::Expire(line) => one(alloc, line, What::Expire),
+        Command::In(line, octets) => {
+            if is_off(core, line) {
+                return Ok(VecDeque::new(alloc));
+            }
+            streams.hear(line, octets.as_slice())
+        }
+    }
+}
+
+/// Whether a line is out of service.
+fn is_off<A: Allocator>(core: &Core<A>, line: LineNo) -> bool
+    ensures { result ≡ is_off_at core.now.world line }
+{
+    matches!(core.line(line).channel, Channel::Off)
+}
+
+/// One event.
+fn one<A: Allocator>(
+    alloc: A,
+    line: LineNo,
+    what: What<A>,
+) -> Result<VecDeque<Event<A>, A>, AllocError>
+    ensures { IfOk result (λ events. events.items ≡ record { line = line; what = what } ∷ []) }
+{
+    let mut events = VecDeque::new(alloc);
+    events.push_back(Event { line, what })?;
+    Ok(events)
+}

@@ -1,0 +1,161 @@
+//! A whole script, in pieces as the reader gives them.
+
+ghost use Rattle.std.specs.Prelude.{◌≡◌, ◌≢◌, ◌+◌, ◌<◌, ◌≤◌, ◌^◌, ℕ, List, [], ◌∷◌, ◌++◌, IfOk, IfErr, IfSome, OnOk, length};
+ghost use Rattle.std.specs.Io.KnownBytes.{Appends};
+ghost use Rattle.xp_exchange.specs.Replaying.{Took, Ended, Finished, Overflows, ReplaysFrom};
+ghost use Rattle.xp_exchange.specs.Serial.{Replays};
+ghost use Rattle.xp_exchange.specs.Splitting.{line_feed, HasNoFeed};
+
+use crate::fault::ReplayFault;
+use crate::playing::Playing;
+use std::alloc::{AllocError, Allocator, Global};
+use std::io::{ErrorKind, Read, Write};
+use std::marker::Model;
+use xp_script::LONGEST;
+use xp_subs::Subs;
+
+/// How often a script is read from before it is given up.
+const MOST_READS: u32 = 1_000_000_000;
+
+/// How many octets one read takes at most.
+const PIECE: usize = 4096;
+
+const LINE_FEED: u8 = b'\n';
+
+/// Replays a script: plays its lines in turn to an exchange with these subscriptions, and writes what it puts out
+/// and records, each line's before the next is played.
+///
+/// # Errors
+///
+/// `Script` with the number of the first line that is none, of which nothing is done; `Journal` where fewer than
+/// four places of the history are left for an event; `Memory`; `Read`, also after 1,000,000,000 reads. What was
+/// entered before is written, but for an entry whose own text finds no memory. `Write` where it cannot be
+/// written; then a front of it is.
+pub fn replay<A: Allocator + Copy, R: Read + Drop, W: Write>(
+    alloc: A,
+    subs: Subs,
+    mut reader: R,
+    writer: &mut W,
+) -> Result<(), ReplayFault>
+    ensures { IfSome (R.remaining reader) (λ script. (text : List ℕ) × Appends (W.contents writer.old) (W.contents writer.new) text × Replays A subs script result text) }
+{
+    let mut script = UnfinishedScript::new(alloc, subs)?;
+    script.read_all(&mut reader, writer)
+}
+
+/// A script on the way.
+#[derive(Drop)]
+struct UnfinishedScript<A: Allocator = Global> {
+    playing: Playing<A>,
+    /// The octets of the line that is not over.
+    line: Vec<u8, A>,
+    /// Its number.
+    number: u64,
+}
+
+impl<A: Allocator> Model for UnfinishedScript<A> {
+    ghost use Rattle.std.specs.Prelude.{◌≤◌, length};
+    ghost use Rattle.xp_exchange.specs.Replaying.{Progress};
+    ghost use Rattle.xp_exchange.specs.Splitting.{HasNoFeed};
+
+    ghost Value = { Progress A };
+
+    ghost view = { λ r. record { moment = r.playing; line = r.line.items; number = r.number } };
+
+    ghost invariant = { λ r. HasNoFeed r.line.items };
+}
+
+impl<A: Allocator + Copy> UnfinishedScript<A> {
+    ghost use Rattle.xp_exchange.specs.Play.{start};
+
+    fn new(alloc: A, subs: Subs) -> Result<UnfinishedScript<A>, AllocError>
+        ensures { IfOk result (λ script. script ≡ record { moment = start subs; line = []; number = 1 }) }
+    {
+        let playing = Playing::new(alloc, subs)?;
+        Ok(UnfinishedScript {
+            playing,
+            line: Vec::new(alloc),
+            number: 1,
+        })
+    }
+
+    /// Reads the script to its end.
+    fn read_all<R: Read, W: Write>(
+        &mut self,
+        reader: &mut R,
+        writer: &mut W,
+    ) -> Result<(), ReplayFault>
+        requires { self.old.number ≤ 1 }
+        ensures { IfSome (R.remaining reader.old) (λ octets. (text : List ℕ) × Appends (W.contents writer.old) (W.contents writer.new) text × ReplaysFrom self.old octets result text) }
+    {
+        let mut piece = [0; PIECE];
+        for _ in 0..MOST_READS {
+            match reader.read(&mut piece) {
+                Ok(0) => return self.finish(writer),
+                Ok(count) => self.take(&piece[..count], writer)?,
+                Err(error) => {
+                    if error.kind() != ErrorKind::Interrupted {
+                        return Err(ReplayFault::Read);
+                    }
+                }
+            }
+        }
+        Err(ReplayFault::Read)
+    }
+
+    /// Takes the next octets of the script.
+    fn take<W: Write>(&mut self, octets: &[u8], writer: &mut W) -> Result<(), ReplayFault>
+        requires { self.old.number + length octets.now < 2 ^ 64 }
+        ensures took { (text : List ℕ) × Appends (W.contents writer.old) (W.contents writer.new) text × Took self.old octets.now result self.new text }
+        ensures number { OnOk result (self.new.number ≤ self.old.number + length octets.now) }
+    {
+        for octet in octets {
+            if *octet == LINE_FEED {
+                self.end_line(writer)?;
+            } else {
+                self.add(*octet)?;
+            }
+        }
+        Ok(())
+    }
+
+    /// Plays the line that is over.
+    fn end_line<W: Write>(&mut self, writer: &mut W) -> Result<(), ReplayFault>
+        requires { self.old.number + 1 < 2 ^ 64 }
+        ensures ended { (text : List ℕ) × Appends (W.contents writer.old) (W.contents writer.new) text × Ended self.old result self.new text }
+        ensures line { HasNoFeed self.old.line }
+    {
+        self.playing.play(self.number, &self.line, writer)?;
+        self.line.clear();
+        self.number += 1;
+        Ok(())
+    }
+
+    /// Adds an octet to the line.
+    fn add(&mut self, octet: u8) -> Result<(), ReplayFault>
+        requires { octet ≢ line_feed }
+        ensures added { OnOk result (self.new ≡ record self.old { line = self.old.line ++ octet ∷ [] }) }
+        ensures refused { IfErr result (λ fault. Overflows self.old fault) }
+        ensures line { HasNoFeed self.old.line }
+    {
+        if self.line.len() >= LONGEST {
+            return Err(ReplayFault::Script(self.number));
+        }
+        match self.line.push(octet) {
+            Ok(()) => Ok(()),
+            Err(_) => Err(ReplayFault::Memory),
+        }
+    }
+
+    /// Plays the last line, which may lack its line feed.
+    fn finish<W: Write>(&mut self, writer: &mut W) -> Result<(), ReplayFault>
+        ensures finished { (text : List ℕ) × Appends (W.contents writer.old) (W.contents writer.new) text × Finished self.old result self.new text }
+        ensures line { HasNoFeed self.old.line }
+    {
+        self.playing.play(self.number, &self.line, writer)?;
+        match writer.flush() {
+            Ok(()) => Ok(()),
+            Err(_) => Err(ReplayFault::Write),
+        }
+    }
+}

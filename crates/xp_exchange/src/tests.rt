@@ -1,0 +1,66 @@
+//! Whole scripts, and the text of what the exchange puts out and records.
+
+mod calls;
+mod history;
+mod lines;
+mod memory;
+mod stops;
+
+use crate::{ReplayFault, replay};
+use std::alloc::{AllocError, Global};
+use std::io;
+use std::io::{ErrorKind, Read, Write};
+use std::process::Abort;
+use std::test::Fail;
+use xp_refusing::Refusing;
+use xp_subs::{Subs, SubsFault};
+
+/// Three stations with five lines.
+const THREE_STATIONS: &str = r#"[[station]]
+address = "2080010"
+line = [{ name = "a1", port = 19981 }]
+[[station]]
+address = "2080020"
+fast_select = true
+line = [{ name = "b1", port = 19982 }]
+[[station]]
+address = "2080030"
+line = [{ name = "h1", port = 19983 }, { name = "h2", port = 19984, address = "2080032" }, { name = "h3", port = 19985 }]
+"#;
+
+/// All lines come into service.
+const ALL_UP: &str = "up a1\nup b1\nup h1\nup h2\nup h3\n";
+
+/// a1 calls 2080020, with user data of four octets.
+const CALL: &str = "in a1 0000000d10010b07208002000001000000\n";
+
+/// That call comes to b1.
+const INCOMING: &str = "out b1 0000001610010b77208002020800100642070743020201000000\n";
+
+/// How a script ended.
+type Ended = Result<(), ReplayFault>;
+
+fn three_stations(alloc: Global) -> Result<Subs, SubsFault> {
+    Subs::read(alloc, THREE_STATIONS)
+}
+
+/// Two texts in one.
+fn joined(alloc: Global, first: &str, second: &str) -> Result<String, AllocError> {
+    format!(in alloc; "{first}{second}")
+}
+
+/// That a script for these subscriptions ends so, with this text.
+fn is_replayed(rt: &impl Abort, alloc: Global, subs: Subs, script: &[u8], expected: (Ended, &str)) {
+    let mut text = Vec::new(alloc);
+    let ended = replay(alloc, subs, script, &mut text);
+    assert_eq!(rt; text.as_slice(), expected.1.as_bytes());
+    assert_eq!(rt; ended, expected.0);
+}
+
+/// That the three stations' script, after which all lines are up, is told so.
+fn is_told(rt: &impl Abort, alloc: Global, script: &str, expected: &str) -> Result<(), Fail> {
+    let script = joined(alloc, ALL_UP, script)?;
+    let subs = three_stations(alloc)?;
+    is_replayed(rt, alloc, subs, script.as_bytes(), (Ok(()), expected));
+    Ok(())
+}

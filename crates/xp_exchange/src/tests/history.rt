@@ -1,0 +1,21 @@
+//! What a crate above the exchange knows of its history, with no proof of its own.
+
+ghost use Rattle.xp_core.specs.Run.{Run};
+
+use super::*;
+use std::alloc::Allocator;
+use xp_core::{Core, Entry};
+
+/// The entries of an exchange, which are a run of the machine to what it shows.
+fn entries<A: Allocator + Copy>(core: &Core<A>) -> &[Entry<A>]
+    ensures { Run core.now.subs core.now.history core.now.world }
+{
+    core.history()
+}
+
+#[test]
+fn history_leads_to_what_is_shown(rt: HostRuntime) -> Result<(), Fail> {
+    let core = Core::new(rt.alloc(), three_stations(rt.alloc())?)?;
+    assert!(&rt; entries(&core).is_empty());
+    Ok(())
+}
