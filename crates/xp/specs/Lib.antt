@@ -1,0 +1,4 @@
+pub mod Commands
+pub mod Failures
+pub mod SetUp
+pub mod Tasks

@@ -1,0 +1,126 @@
+//! The words of the command line.
+
+ghost use Rattle.std.specs.Prelude.{◌≡◌, Some, IfSome, IfOk, codes, false, map, option_map, string_bytes};
+ghost use Rattle.clap.specs.Words.{app_of, first_of, rule_of, subcommand_name_of, subcommand_rows_of};
+ghost use Rattle.clap.specs.declared.builder.command.Command.TheViews.{out-Command as fields_of};
+ghost use Rattle.xp.specs.Commands.{Ask, command_of, file as file_rule, program};
+ghost use Rattle.xp.specs.Tasks.{word_of};
+
+use crate::task::Task;
+use clap::error::ErrorKind;
+use clap::{Arg, ArgMatches, Command, Error};
+use std::alloc::{AllocError, Global};
+
+const ABOUT: &str = "The call-control exchange of an X.25 packet network.";
+
+const EXAMPLES: &str = "\
+Examples:
+  xp check examples/three-stations.toml
+  xp replay examples/three-stations.toml < examples/call.script
+
+The exit status is 0 when all was done, 2 for wrong arguments or a faulty line
+of a script, 3 for a subscription file that cannot be read or is refused, 4 for
+a full journal or want of memory, and 5 for input or output that fails.";
+
+const CHECK: &str = "Checks a subscription file, and counts what it sets up";
+
+const CHECKED: &str = "\
+Prints one line, as: stations 3 lines 5 groups 0
+A group that several stations share counts once.
+
+Example:
+  xp check examples/three-stations.toml";
+
+const REPLAY: &str = "Replays a script from standard input, and prints what comes of it";
+
+const REPLAYED: &str = "\
+A line of a script is one of these, where NAME is a line of the FILE:
+  up NAME         a connection of the line comes
+  down NAME       the connection goes
+  expire NAME     the line's time to answer an incoming call is over
+  in NAME DIGITS  octets come in, as hexadecimal digits: frames (RFC 1613)
+Empty lines, and those that begin with #, do nothing.
+
+Prints `out NAME DIGITS` for each frame that the exchange puts out, and
+`record ..` for each call that ended.
+
+Example:
+  xp replay examples/three-stations.toml < examples/call.script";
+
+const FILE: &str = "The subscription file (TOML): the stations and their lines";
+
+/// What the words ask for.
+#[derive(Clone, Copy, Debug, PartialEq, Eq)]
+pub struct Arguments<'a> {
+    pub task: Task,
+    /// The name of the subscription file.
+    pub file: &'a str,
+}
+
+impl<'a> Arguments<'a> {
+    /// Reads the words of a command line, of which the first is the program's own.
+    pub fn read(alloc: Global, words: &'a [String]) -> Result<Arguments<'a>, Error>
+        ensures { IfOk result (λ arguments. Ask (map string_bytes words.now) arguments.task arguments.file.now) }
+    {
+        let matches = command(alloc)?.try_get_matches_from(words)?;
+        match Arguments::named(&matches) {
+            Some(arguments) => Ok(arguments),
+            None => Err(refused(alloc, "a command is missing")?),
+        }
+    }
+
+    /// The command that was found among the words, with its file.
+    fn named(matches: &ArgMatches<'a>) -> Option<Arguments<'a>>
+        ensures task { IfSome result (λ arguments. subcommand_name_of matches.now ≡ Some (word_of arguments.task)) }
+        ensures file { IfSome result (λ arguments. option_map (λ rows. first_of (codes "FILE") rows.1) (subcommand_rows_of matches.now) ≡ Some (Some arguments.file.now)) }
+    {
+        let (word, matches) = matches.subcommand()?;
+        let task = Task::named(word)?;
+        let file = matches.get_str("FILE")?;
+        Some(Arguments { task, file })
+    }
+}
+
+/// What is told where the words are refused for this reason.
+pub fn refused(alloc: Global, reason: &str) -> Result<Error, Error> {
+    Ok(command(alloc)?.error(ErrorKind::InvalidValue, reason)?)
+}
+
+/// The program's command line.
+fn command<'a>(alloc: Global) -> Result<Command<'a>, AllocError>
+    ensures { IfOk result (λ command. app_of command ≡ program) }
+{
+    let check = command_for(alloc, Task::Check, CHECK, CHECKED)?;
+    let replay = command_for(alloc, Task::Replay, REPLAY, REPLAYED)?;
+    Command::new(alloc, "xp")
+        .about(ABOUT)
+        .after_help(EXAMPLES)
+        .subcommand_required(true)
+        .arg_required_else_help(true)
+        .subcommand(check)?
+        .subcommand(replay)?
+        .bin_name("xp")
+}
+
+/// The command that asks for a task, with what its help says before and after the arguments.
+fn command_for<'a>(
+    alloc: Global,
+    task: Task,
+    before: &'a str,
+    after: &'a str,
+) -> Result<Command<'a>, AllocError>
+    ensures shape { IfOk result (λ command. app_of command ≡ command_of task) }
+    ensures local { IfOk result (λ command. (fields_of command).has_globals ≡ false) }
+{
+    Command::new(alloc, task.word())
+        .about(before)
+        .after_help(after)
+        .arg(file(alloc))
+}
+
+fn file<'a>(alloc: Global) -> Arg<'a>
+    ensures rule { rule_of result ≡ file_rule }
+    ensures local { result.global ≡ false }
+{
+    Arg::new(alloc, "FILE").required(true).help(FILE)
+}
