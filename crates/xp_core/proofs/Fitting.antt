@@ -1,5 +1,5 @@
 -- What is put out can be written: identifiers have twelve bits, and user data are short.
-use Rattle.std.proofs.Common.{◌≡◌, ℕ, ◌<◌, Bool, true, false, cond, ltb, Option, Some, None, List, [], ◌∷◌, ◌++◌, All, length, refl, ap, sym, subst, arith}
+use Rattle.std.proofs.Common.{◌≡◌, ◌∙◌, ℕ, ◌<◌, Bool, true, false, cond, ltb, IfOk, OnErr, Result, Ok, Err, Option, Some, None, List, [], ◌∷◌, ◌++◌, All, length, refl, ap, sym, subst, arith}
 use Rattle.std.proofs.lemmas.Bool.{le-ltb, ltb-false}
 use Rattle.std.proofs.lemmas.List.Elements.{All-nil, All-pop, All-push, All-from_recursion}
 use Rattle.std.specs.List.{AllByRecursion}
@@ -159,3 +159,24 @@ module _ {A : Type 0} where
       let W : List (Output A) → Type 0 = λ outputs. AreWritable outputs in
       subst W (sym done.outputs)
       (All-pop (λ e. AreWritable e.outputs) new.history old.history (Some done.entry) done.history (run_fits old.subs new.history new.world led.run led.readable)).1
+
+  -- a call that hands on its outcome has led on, or changed nothing
+  pub outcome_leads : {E : Type 0} (old new : Exchange A) (event : Event A) (outcome : Result (Stepped A) E)
+      → LeadsTo old.subs old.history old.world → IsReadable event.what → IfOk outcome (λ told. Advances old event new told)
+      → OnErr outcome (new.world ≡ old.world) → OnErr outcome (new.history ≡ old.history) → LeadsTo old.subs new.history new.world
+  outcome_leads old new event (Ok told) leads readable done world history = advances_lead old event new told leads readable done
+  outcome_leads old new event (Err fault) leads readable done world history =
+      let P : World → Type 0 = λ w. LeadsTo old.subs new.history w in
+      let Q : List (Entry A) → Type 0 = λ h. LeadsTo old.subs h old.world in
+      subst P (sym world) (subst Q (sym history) leads)
+
+  abbrev exchange_of : Tables → List (Entry A) → World → Exchange A
+  exchange_of subs history world = record { subs = subs; history = history; world = world }
+
+  -- a call that hands on a failure has changed nothing
+  pub outcome_keeps : {E : Type 0} (subs : Tables) (world next : World) (history entries : List (Entry A)) (outcome : Result (Stepped A) E) (old : Exchange A)
+      → OnErr outcome (next ≡ world) → OnErr outcome (entries ≡ history) → exchange_of subs history world ≡ old
+      → OnErr outcome (exchange_of subs entries next ≡ old)
+  outcome_keeps subs world next history entries (Ok told) old same_world same_history shown = tt
+  outcome_keeps subs world next history entries (Err fault) old same_world same_history shown =
+      ap (exchange_of subs entries) same_world ∙ ap (λ h. exchange_of subs h world) same_history ∙ shown

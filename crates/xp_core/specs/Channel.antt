@@ -3,6 +3,10 @@ use Rattle.std.specs.Prelude.{ℕ, Option, Some, None}
 use Rattle.xp_core.specs.declared.channel.ChannelState.{ChannelState}
 use Rattle.xp_core.specs.declared.channel.ChannelState.TheVariants.{Off, Ready, Waiting, Ringing, Talking, Cleared}
 
+-- the logical channel identifier of a line that has not asked for a call itself
+abbrev pub INITIAL_IDENTIFIER : ℕ
+INITIAL_IDENTIFIER = 1
+
 -- the call that a line in this state is in
 abbrev pub call_of : ChannelState → Option ℕ
 call_of (Waiting number) = Some number

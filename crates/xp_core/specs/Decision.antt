@@ -1,5 +1,5 @@
 -- The decision on a call request (X.25 clauses 4.1.3 and 4.1.10): which lines may be taken, and why none is.
-use Rattle.std.specs.Prelude.{◌≡◌, ℕ, ◌<◌, ◌==◌, ◌&&◌, Bool, ◌⊎◌, true, false, not, if◌then◌else◌, Option, None, Some, List, [], ◌∷◌, Contains, is_none, length, nat_lt}
+use Rattle.std.specs.Prelude.{◌≡◌, ℕ, ◌==◌, ◌&&◌, Bool, ◌⊎◌, true, false, not, if◌then◌else◌, Option, None, Some, List, [], ◌∷◌, Contains, is_none, length, nat_lt}
 use Rattle.std.specs.List.{list_all, list_any}
 use Rattle.xp_packets.specs.declared.block.Block.{Block}
 use Rattle.xp_subs.specs.declared.target.Target.{Target}
@@ -60,12 +60,16 @@ abbrev pub Chosen : World → ℕ → List ℕ → Verdict → Type 0
 Chosen world caller lines (Take line) = Contains lines line × (is_idle world caller line ≡ true)
 Chosen world caller lines (Refuse why) = (list_any (is_idle world caller) lines ≡ false) × (why ≡ why_none world lines)
 
+-- how many octets of user data a call request may have (clause 5.2.1.1.7)
+abbrev pub MOST_USER_DATA : ℕ
+MOST_USER_DATA = 16
+
 module _ {A : Type 0} where
   -- the reasons against a call that lie in its request alone, in order
   abbrev pub reasons : Tables → Block A → List (Bool × Refusal)
   reasons tables block =
       (nat_lt 0 (length block.facilities), refusal INVALID_FACILITY_REQUEST FACILITY_CODE_NOT_ALLOWED)
-      ∷ (nat_lt 16 (length block.user), refusal LOCAL_PROCEDURE_ERROR PACKET_TOO_LONG)
+      ∷ (nat_lt MOST_USER_DATA (length block.user), refusal LOCAL_PROCEDURE_ERROR PACKET_TOO_LONG)
       ∷ (is_none (target_of tables block.called), refusal NOT_OBTAINABLE INVALID_CALLED_ADDRESS)
       ∷ []
 
@@ -80,8 +84,3 @@ module _ {A : Type 0} where
   Decided tables world caller block (Take line) = IsPlaced tables world caller block (Take line)
   Decided tables world caller block (Refuse why) =
       (first_of (reasons tables block) ≡ Some why) ⊎ IsPlaced tables world caller block (Refuse why)
-
--- a line taken is one of so many
-abbrev pub IsWithin : Verdict → ℕ → Type 0
-IsWithin (Take line) count = line < count
-IsWithin (Refuse why) count = Unit {0}

@@ -17,6 +17,7 @@ use Rattle.xp_core.specs.declared.output.Put.TheVariants.{Send}
 use Rattle.xp_core.specs.declared.record.Record.{Record}
 use Rattle.xp_core.specs.declared.verdict.Verdict.{Verdict}
 use Rattle.xp_core.specs.declared.verdict.Verdict.TheVariants.{Take, Refuse}
+use Rattle.xp_core.specs.Channel.{INITIAL_IDENTIFIER}
 use Rattle.xp_core.specs.Clearing.{cause_told, diagnostic_told, far_end, record_of}
 use Rattle.xp_core.specs.World.{World, line_at, call_on, edited, add_records}
 
@@ -24,9 +25,13 @@ use Rattle.xp_core.specs.World.{World, line_at, call_on, edited, add_records}
 abbrev pub standard_facilities : List ℕ
 standard_facilities = 0x42 ∷ 7 ∷ 7 ∷ 0x43 ∷ 2 ∷ 2 ∷ []
 
--- a line's state becomes this; its identifier and connection stay
+-- a line comes to this state, under this identifier; its connection stays
+abbrev pub moved_as : World → ℕ → ℕ → ChannelState → Edit
+moved_as world line identifier state = Line line (record (line_at world line) { state = state; identifier = identifier })
+
+-- under its own identifier
 abbrev pub moved : World → ℕ → ChannelState → Edit
-moved world line state = Line line (record (line_at world line) { state = state })
+moved world line state = moved_as world line (line_at world line).identifier state
 
 pub record Move (A : Type 0) : Type 0 where
   pub outputs : List (Output A)
@@ -64,11 +69,11 @@ module _ {A : Type 0} where
   abbrev pub ending : World → ℕ → ℕ → ℕ → Move A
   ending world line cause diagnostic = ended world line cause diagnostic (call_on world line)
 
-  -- a line comes into service: it is ready, under identifier 1, on its next connection
+  -- a line comes into service: it is ready, on its next connection
   abbrev pub rises : World → ℕ → Move A
   rises world line = record {
     outputs = [];
-    edits = Line line (record { state = Ready; identifier = 1; connection = (line_at world line).connection + 1 }) ∷ [];
+    edits = Line line (record { state = Ready; identifier = INITIAL_IDENTIFIER; connection = (line_at world line).connection + 1 }) ∷ [];
     records = [];
   }
 
@@ -119,12 +124,12 @@ module _ {A : Type 0} where
   -- a call request that is put to a line: it gets the next number, and its line takes over its identifier
   abbrev pub put_request : World → ℕ → ℕ → Block A → ℕ → Packet A → Move A
   put_request world caller identifier block called packet = record {
-    outputs = send_as world called 1 packet ∷ [];
+    outputs = send_as world called INITIAL_IDENTIFIER packet ∷ [];
     edits =
         Number
         ∷ Begin (record { number = world.next; caller = caller; called = called; dialled = block.called })
-        ∷ Line caller (record (line_at world caller) { state = Waiting world.next; identifier = identifier })
-        ∷ Line called (record (line_at world called) { state = Ringing world.next; identifier = 1 })
+        ∷ moved_as world caller identifier (Waiting world.next)
+        ∷ moved_as world called INITIAL_IDENTIFIER (Ringing world.next)
         ∷ [];
     records = [];
   }
@@ -133,7 +138,7 @@ module _ {A : Type 0} where
   abbrev pub refused_request : World → ℕ → ℕ → Block A → Refusal → Move A
   refused_request world caller identifier block why = record {
     outputs = send_as world caller identifier (clear_indication why.cause why.diagnostic) ∷ [];
-    edits = Number ∷ Line caller (record (line_at world caller) { state = Cleared; identifier = identifier }) ∷ [];
+    edits = Number ∷ moved_as world caller identifier Cleared ∷ [];
     records = record {
       number = world.next;
       caller = caller;

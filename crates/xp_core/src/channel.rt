@@ -44,6 +44,9 @@ pub struct LogicalChannel {
 }
 
 impl LogicalChannel {
+    /// The identifier of a line that has not asked for a call itself.
+    pub const INITIAL_IDENTIFIER: u16 = 1;
+
     /// A line that never was in service.
     pub const OFF: LogicalChannel = LogicalChannel {
         state: ChannelState::Off,

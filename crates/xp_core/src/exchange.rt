@@ -69,14 +69,13 @@ impl<A: Allocator + Copy> Core<A> {
         if self.history.len() + 4 > self.subs.journal() as usize {
             return Err(StepFault::JournalFull(event));
         }
-        let told = advance(
-            self.alloc,
-            &self.subs,
-            &mut self.machine,
-            &mut self.history,
-            event,
-        )?;
-        Ok(told)
+        let Core {
+            alloc,
+            subs,
+            machine,
+            history,
+        } = self;
+        advance(*alloc, subs, machine, history, event)
     }
 }
 

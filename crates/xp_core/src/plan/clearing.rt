@@ -9,7 +9,7 @@ ghost use Rattle.xp_core.specs.World.{line_at};
 
 use super::Plan;
 use super::lists::{one, with};
-use super::send::{moved, send};
+use super::send::{clear_indication, moved, send};
 use crate::call::LiveCall;
 use crate::cause::{DTE_CAUSES, NO_ADDITIONAL_INFORMATION, OUT_OF_ORDER};
 use crate::channel::{ChannelState, LogicalChannel};
@@ -46,14 +46,9 @@ fn ending<A: Allocator>(
         },
         Some(call) => {
             let far = call.far_end(line);
-            let indication = Packet::Clear {
-                cause,
-                diagnostic: Some(diagnostic),
-                block: None,
-            };
             Plan {
                 taken: None,
-                outputs: outputs.with(send(machine, far, indication)),
+                outputs: outputs.with(send(machine, far, clear_indication(cause, diagnostic))),
                 edits: with(
                     one(Edit::End(call.number)),
                     moved(machine, far, ChannelState::Cleared),
@@ -72,7 +67,7 @@ pub fn rise<A: Allocator>(machine: &Machine<A>, line: LineNo, outputs: Buffer<A>
 {
     let becomes = LogicalChannel {
         state: ChannelState::Ready,
-        identifier: 1,
+        identifier: LogicalChannel::INITIAL_IDENTIFIER,
         connection: machine.line(line).connection + 1,
     };
     Plan {

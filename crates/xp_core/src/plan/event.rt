@@ -33,89 +33,50 @@ pub fn plan_of<A: Allocator + Copy>(
     ensures { IfOk result (λ plan. Acts subs.now machine.now event.now.line event.now.what (cell (state_at machine.now event.now.line) (kind_of event.now.what)) plan.taken (move_of plan)) }
 {
     let line = event.line;
-    match machine.line(line).state.action(Kind::of(&event.what)) {
-        Action::Nothing => Ok(Plan::still(Buffer::with_room(alloc, 0)?)),
-        Action::Rise => Ok(rise(machine, line, Buffer::with_room(alloc, 0)?)),
-        Action::Fall => Ok(fall(machine, line, Buffer::with_room(alloc, 1)?)),
-        Action::Free => Ok(free(machine, line, Buffer::with_room(alloc, 0)?)),
-        Action::NewCall => new_call(alloc, subs, machine, event),
-        Action::Answer => answered(alloc, subs, machine, event),
-        Action::Confirm => confirmed(alloc, subs, machine, event),
-    }
-}
-
-/// A call request is decided.
-fn new_call<A: Allocator + Copy>(
-    alloc: A,
-    subs: &Subs,
-    machine: &Machine<A>,
-    event: &Event<A>,
-) -> Result<Plan<A>, AllocError>
-    requires line { event.now.line < line_count subs.now }
-    requires lines { length machine.now.lines ≡ line_count subs.now }
-    requires kind { kind_of event.now.what ≡ Kind.Call }
-    ensures { IfOk result (λ plan. Acts subs.now machine.now event.now.line event.now.what Action.NewCall plan.taken (move_of plan)) }
-{
-    match &event.what {
-        What::Frame {
-            identifier,
-            packet: Packet::Call { d, block },
-        } => {
+    let action = machine.line(line).state.action(Kind::of(&event.what));
+    match (action, &event.what) {
+        (Action::Nothing, _) => Ok(Plan::still(Buffer::with_room(alloc, 0)?)),
+        (Action::Rise, _) => Ok(rise(machine, line, Buffer::with_room(alloc, 0)?)),
+        (Action::Fall, _) => Ok(fall(machine, line, Buffer::with_room(alloc, 1)?)),
+        (Action::Free, _) => Ok(free(machine, line, Buffer::with_room(alloc, 0)?)),
+        (
+            Action::NewCall,
+            What::Frame {
+                identifier,
+                packet: Packet::Call { d, block },
+            },
+        ) => {
             let call = CallRequest {
-                caller: event.line,
+                caller: line,
                 identifier: *identifier,
                 d: *d,
                 block,
             };
-            let verdict = decide(subs, machine, event.line, block);
+            let verdict = decide(subs, machine, line, block);
             request(alloc, subs, machine, &call, verdict)
         }
-        _ => unreachable!(),
-    }
-}
-
-/// An incoming call is answered.
-fn answered<A: Allocator + Copy>(
-    alloc: A,
-    subs: &Subs,
-    machine: &Machine<A>,
-    event: &Event<A>,
-) -> Result<Plan<A>, AllocError>
-    requires line { event.now.line < line_count subs.now }
-    requires kind { kind_of event.now.what ≡ Kind.Accepted }
-    ensures { IfOk result (λ plan. Acts subs.now machine.now event.now.line event.now.what Action.Answer plan.taken (move_of plan)) }
-{
-    match &event.what {
-        What::Frame {
-            packet: Packet::Accepted { d, .. },
-            ..
-        } => answer(alloc, subs, machine, event.line, *d),
-        _ => unreachable!(),
-    }
-}
-
-/// A clear request is confirmed.
-fn confirmed<A: Allocator + Copy>(
-    alloc: A,
-    subs: &Subs,
-    machine: &Machine<A>,
-    event: &Event<A>,
-) -> Result<Plan<A>, AllocError>
-    requires { kind_of event.now.what ≡ Kind.Clear }
-    ensures { IfOk result (λ plan. Acts subs.now machine.now event.now.line event.now.what Action.Confirm plan.taken (move_of plan)) }
-{
-    match &event.what {
-        What::Frame {
-            packet: Packet::Clear {
-                cause,
-                diagnostic,
+        (
+            Action::Answer,
+            What::Frame {
+                packet: Packet::Accepted { d, .. },
                 ..
             },
-            ..
-        } => {
+        ) => answer(alloc, subs, machine, line, *d),
+        (
+            Action::Confirm,
+            What::Frame {
+                packet: Packet::Clear {
+                    cause,
+                    diagnostic,
+                    ..
+                },
+                ..
+            },
+        ) => {
             let outputs = Buffer::with_room(alloc, 2)?;
-            Ok(confirm(machine, event.line, *cause, *diagnostic, outputs))
+            Ok(confirm(machine, line, *cause, *diagnostic, outputs))
         }
-        _ => unreachable!(),
+        // The table has these for their own packets alone.
+        (Action::NewCall | Action::Answer | Action::Confirm, _) => unreachable!(),
     }
 }

@@ -2,14 +2,13 @@
 
 ghost use Rattle.std.specs.Prelude.{◌≡◌, ◌<◌, [], Some, None, IfOk};
 ghost use Rattle.xp_subs.specs.Tables.{line_count};
-ghost use Rattle.xp_core.specs.Decision.{IsWithin};
 ghost use Rattle.xp_core.specs.Moves.{incoming as incoming_packet, requests, put_request, refused_request, standard_facilities as standard};
-ghost use Rattle.xp_core.specs.Plan.{IsPlan};
+ghost use Rattle.xp_core.specs.Plan.{IsPlan, IsWithin};
 ghost use Rattle.xp_core.specs.Step.{taken_by};
 
 use super::Plan;
 use super::lists::{one, with};
-use super::send::send_as;
+use super::send::{clear_indication, moved_as, send_as};
 use crate::call::LiveCall;
 use crate::cause::Refusal;
 use crate::channel::{ChannelState, LogicalChannel};
@@ -109,32 +108,18 @@ fn put<A: Allocator>(
         called,
         dialled: request.block.called.copy(),
     };
-    let waiting = LogicalChannel {
-        state: ChannelState::Waiting(number),
-        identifier: request.identifier,
-        connection: machine.line(caller).connection,
-    };
-    let ringing = LogicalChannel {
-        state: ChannelState::Ringing(number),
-        identifier: 1,
-        connection: machine.line(called).connection,
-    };
+    let waiting = ChannelState::Waiting(number);
+    let ringing = ChannelState::Ringing(number);
+    let identifier = LogicalChannel::INITIAL_IDENTIFIER;
+    let edits = with(one(Edit::Number), Edit::Begin(call));
+    let edits = with(
+        edits,
+        moved_as(machine, caller, request.identifier, waiting),
+    );
     Plan {
         taken: Some(called),
-        outputs: outputs.with(send_as(machine, called, 1, packet)),
-        edits: with(
-            with(
-                with(one(Edit::Number), Edit::Begin(call)),
-                Edit::Line {
-                    line: caller,
-                    becomes: waiting,
-                },
-            ),
-            Edit::Line {
-                line: called,
-                becomes: ringing,
-            },
-        ),
+        outputs: outputs.with(send_as(machine, called, identifier, packet)),
+        edits: with(edits, moved_as(machine, called, identifier, ringing)),
         records: ArrayVec::new(),
     }
 }
@@ -152,25 +137,13 @@ fn refused<A: Allocator>(
 {
     let caller = request.caller;
     let identifier = request.identifier;
-    let cleared = LogicalChannel {
-        state: ChannelState::Cleared,
-        identifier,
-        connection: machine.line(caller).connection,
-    };
-    let indication = Packet::Clear {
-        cause: why.cause,
-        diagnostic: Some(why.diagnostic),
-        block: None,
-    };
+    let indication = clear_indication(why.cause, why.diagnostic);
     Plan {
         taken: None,
         outputs: outputs.with(send_as(machine, caller, identifier, indication)),
         edits: with(
             one(Edit::Number),
-            Edit::Line {
-                line: caller,
-                becomes: cleared,
-            },
+            moved_as(machine, caller, identifier, ChannelState::Cleared),
         ),
         records: one(Record {
             number: machine.next(),

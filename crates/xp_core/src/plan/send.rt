@@ -1,5 +1,5 @@
 ghost use Rattle.std.specs.Prelude.{◌≡◌};
-ghost use Rattle.xp_core.specs.Moves.{send_as as output_as, send as output_to, moved as moved_line};
+ghost use Rattle.xp_core.specs.Moves.{clear_indication as indication, send_as as output_as, send as output_to, moved as moved_line, moved_as as moved_line_as};
 
 use crate::channel::{ChannelState, LogicalChannel};
 use crate::edit::Edit;
@@ -34,17 +34,39 @@ pub fn send<A: Allocator>(machine: &Machine<A>, line: LineNo, packet: Packet<A>)
     send_as(machine, line, machine.line(line).identifier, packet)
 }
 
-/// The change of a line to this state.
-pub fn moved<A: Allocator>(machine: &Machine<A>, line: LineNo, state: ChannelState) -> Edit
-    ensures { result ≡ moved_line machine.now line state }
+/// A clear indication (X.25 clause 5.2.3).
+pub fn clear_indication<A: Allocator>(cause: u8, diagnostic: u8) -> Packet<A>
+    ensures { result ≡ indication cause diagnostic }
 {
-    let channel = machine.line(line);
+    Packet::Clear {
+        cause,
+        diagnostic: Some(diagnostic),
+        block: None,
+    }
+}
+
+/// The change of a line to this state, under this identifier.
+pub fn moved_as<A: Allocator>(
+    machine: &Machine<A>,
+    line: LineNo,
+    identifier: u16,
+    state: ChannelState,
+) -> Edit
+    ensures { result ≡ moved_line_as machine.now line identifier state }
+{
     Edit::Line {
         line,
         becomes: LogicalChannel {
             state,
-            identifier: channel.identifier,
-            connection: channel.connection,
+            identifier,
+            connection: machine.line(line).connection,
         },
     }
+}
+
+/// The change of a line to this state, under the line's own identifier.
+pub fn moved<A: Allocator>(machine: &Machine<A>, line: LineNo, state: ChannelState) -> Edit
+    ensures { result ≡ moved_line machine.now line state }
+{
+    moved_as(machine, line, machine.line(line).identifier, state)
 }
