@@ -12,21 +12,8 @@ use std::io;
 use std::io::{ErrorKind, Read, Write};
 use std::process::Abort;
 use std::test::Fail;
-use xp_refusing::Refusing;
+use xp_testing::{Refusing, THREE_STATIONS};
 use xp_subs::{Subs, SubsFault};
-
-/// Three stations with five lines.
-const THREE_STATIONS: &str = r#"[[station]]
-address = "2080010"
-line = [{ name = "a1", port = 19981 }]
-[[station]]
-address = "2080020"
-fast_select = true
-line = [{ name = "b1", port = 19982 }]
-[[station]]
-address = "2080030"
-line = [{ name = "h1", port = 19983 }, { name = "h2", port = 19984, address = "2080032" }, { name = "h3", port = 19985 }]
-"#;
 
 /// All lines come into service.
 const ALL_UP: &str = "up a1\nup b1\nup h1\nup h2\nup h3\n";

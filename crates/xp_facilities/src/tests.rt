@@ -3,7 +3,7 @@ use std::alloc::{AllocError, Allocator, Global};
 use std::process::Abort;
 use std::test::Fail;
 use xp_packets::{Digits, Octets};
-use xp_refusing::Refusing;
+use xp_testing::Refusing;
 
 fn digits(values: &[u8]) -> Digits {
     let mut digits = Digits::new();

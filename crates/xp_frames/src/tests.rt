@@ -1,7 +1,7 @@
 use super::*;
 use std::alloc::Allocator;
 use std::test::Fail;
-use xp_refusing::Refusing;
+use xp_testing::Refusing;
 
 // A call packet of 13 octets in its frame.
 const FRAMED_CALL: [u8; 17] = [

@@ -4,7 +4,7 @@ use super::*;
 use std::alloc::{AllocError, Global};
 use std::process::Abort;
 use std::test::Fail;
-use xp_refusing::Refusing;
+use xp_testing::Refusing;
 
 fn digits(of: &[u8]) -> Digits {
     let mut digits = Digits::new();

@@ -17,21 +17,8 @@ use xp_core::{
     Core, Entry, Event, Outgoing, Output, Outputs, Put, Record, Records, StepFault, What,
 };
 use xp_packets::{Digits, End, Octets, PacketFault, decode};
-use xp_refusing::Refusing;
+use xp_testing::{Refusing, THREE_STATIONS};
 use xp_subs::{LineNo, Subs, SubsFault};
-
-/// Three stations with five lines.
-const THREE_STATIONS: &str = r#"[[station]]
-address = "2080010"
-line = [{ name = "a1", port = 19981 }]
-[[station]]
-address = "2080020"
-fast_select = true
-line = [{ name = "b1", port = 19982 }]
-[[station]]
-address = "2080030"
-line = [{ name = "h1", port = 19983 }, { name = "h2", port = 19984, address = "2080032" }, { name = "h3", port = 19985 }]
-"#;
 
 const A1: LineNo = 0;
 

@@ -11,19 +11,7 @@ use crate::{Subs, SubsFault};
 use std::alloc::{AllocError, Global};
 use std::process::Abort;
 use xp_packets::Digits;
-
-/// Three stations with five lines.
-const THREE_STATIONS: &str = r#"[[station]]
-address = "2080010"
-line = [{ name = "a1", port = 19981 }]
-[[station]]
-address = "2080020"
-fast_select = true
-line = [{ name = "b1", port = 19982 }]
-[[station]]
-address = "2080030"
-line = [{ name = "h1", port = 19983 }, { name = "h2", port = 19984, address = "2080032" }, { name = "h3", port = 19985 }]
-"#;
+use xp_testing::THREE_STATIONS;
 
 /// The lines of a station that has one.
 const ONE_LINE: &str = r#"[{ name = "a", port = 1 }]"#;

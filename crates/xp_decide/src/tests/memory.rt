@@ -4,7 +4,7 @@ use crate::laws;
 use std::alloc::{AllocError, Allocator, Global};
 use std::test::Fail;
 use xp_packets::Block;
-use xp_refusing::Refusing;
+use xp_testing::Refusing;
 use xp_subs::Subs;
 
 // Requests for memory that the block takes: one for its facilities, one for its user data.

@@ -23,10 +23,10 @@ use denote.Triple.Statement.{Contract}
 use denote.Triple.Spec.{triple_of}
 use Rattle.std.specs.contracts.option.Option as options
 use Rattle.std.proofs.alloc.Calls.{Al, seen}
-use Rattle.xp_refusing.specs.declared.Refusing.{Refusing}
-use Rattle.xp_refusing.specs.contracts.Refusing as refusing
-use Rattle.xp_refusing.specs.contracts.Refusing.granted as called
-use Rattle.xp_refusing.specs.contracts.Refusing.granted.Key as key
+use Rattle.xp_testing.specs.declared.refusing.Refusing.{Refusing}
+use Rattle.xp_testing.specs.contracts.refusing.Refusing as refusing
+use Rattle.xp_testing.specs.contracts.refusing.Refusing.granted as called
+use Rattle.xp_testing.specs.contracts.refusing.Refusing.granted.Key as key
 
 -- an optional reference, as the machine holds it
 abbrev pub machine_value : {X : Type 0} → Option (Bor X) → Val

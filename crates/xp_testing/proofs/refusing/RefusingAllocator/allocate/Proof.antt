@@ -38,14 +38,14 @@ use denote.Triple.Walked.{Stays, stay_dropped, walk_of, ends_at, walked, Goes-dr
 use Rattle.std.specs.Allocator.{block_if_ok}
 use Rattle.std.proofs.alloc.Shapes.{after, front, arm_body}
 use Rattle.std.proofs.alloc.Calls.{Al, Answer, answer_val, Answer-typed, Answer-Ok, Answer-err, takes_key, Takes, at_takes, Answered, Takes-goes, Takes-gives, answers, token}
-use Rattle.xp_refusing.specs.declared.Refusing.{Refusing}
-use Rattle.xp_refusing.specs.contracts.Refusing as refusing
-use Rattle.xp_refusing.specs.contracts.RefusingAllocator.allocate as F
-use Rattle.xp_refusing.specs.contracts.RefusingAllocator.allocate.Key as key
-use Rattle.xp_refusing.proofs.RefusingAllocator.allocate.Statement as stated
-use Rattle.xp_refusing.proofs.RefusingAllocator.allocate.Code as code
-use Rattle.xp_refusing.proofs.Granted.{granted_key, Grants, at_grants, IsInner, machine_value, seen_if_lent, machine_value-typed, Grants-goes, Grants-gives}
-use Rattle.xp_refusing.proofs.Refusing.granted.Met as granted_met
+use Rattle.xp_testing.specs.declared.refusing.Refusing.{Refusing}
+use Rattle.xp_testing.specs.contracts.refusing.Refusing as refusing
+use Rattle.xp_testing.specs.contracts.refusing.RefusingAllocator.allocate as F
+use Rattle.xp_testing.specs.contracts.refusing.RefusingAllocator.allocate.Key as key
+use Rattle.xp_testing.proofs.refusing.RefusingAllocator.allocate.Statement as stated
+use Rattle.xp_testing.proofs.refusing.RefusingAllocator.allocate.Code as code
+use Rattle.xp_testing.proofs.Granted.{granted_key, Grants, at_grants, IsInner, machine_value, seen_if_lent, machine_value-typed, Grants-goes, Grants-gives}
+use Rattle.xp_testing.proofs.refusing.Refusing.granted.Met as granted_met
 
 module _ (Z : Al) where
   abbrev args : Args
@@ -148,4 +148,4 @@ allocate_spec 𝓤 𝓛 𝓜 𝓡 wired Y L g d drops met _ =
     entered 𝓤 𝓛.H (triple_of 𝓛 (F.signature Y) (F.spec Y g d drops 𝓛 𝓜.mem 𝓡.returns)) 𝓣.C 𝓣.Λ (key.name (args Z)) (here Z) (code.unfolded 𝓤 𝓛.H 𝓜 𝓡 wired (Y, tt) d drops)
     (walk_Meets 𝓛 (ended Z) (stayed Z) (Goes-dropped 𝓛 2 (self Z) yes (λ κs x f. refl), (Goes-dropped 𝓛 2 (plain (λ _. usize)) yes (λ κs x f. refl), (Goes-dropped 𝓛 2 (plain (λ _. usize)) yes (λ κs x f. refl), tt))) c body (WpFn-mono 𝓤 𝓛.H 𝓛.laws 𝓣 (here Z))
     (walked 𝓛 (ended Z) (stayed Z) c body (λ κs. (shr_vals, (uint_vals w64, (uint_vals w64, tt)))) (λ κs. ((λ r vs s. s.0), (uint_Tells w64, (uint_Tells w64, tt))))
-    (λ κs qs bounds a τ are. walk Z 𝓛 𝓜.mem 𝓡.returns 𝓣 (met.allocate drops) (granted_met.met 𝓤 𝓛 𝓜 𝓡 (code.calls-xp_refusing::Refusing::granted 𝓡.env wired) Y L) κs.0 κs.1.0 qs.0 qs.1.0 bounds.0 a.0 a.1.0 a.1.1.0 τ are.1.0.1 are.1.1.0.1)))
+    (λ κs qs bounds a τ are. walk Z 𝓛 𝓜.mem 𝓡.returns 𝓣 (met.allocate drops) (granted_met.met 𝓤 𝓛 𝓜 𝓡 (code.calls-xp_testing::refusing::Refusing::granted 𝓡.env wired) Y L) κs.0 κs.1.0 qs.0 qs.1.0 bounds.0 a.0 a.1.0 a.1.1.0 τ are.1.0.1 are.1.1.0.1)))

@@ -34,12 +34,12 @@ use denote.Triple.Statement.{Triple}
 use denote.Triple.Table.{entered}
 use denote.Triple.Walked.{Stays, stay_dropped, walk_of, ends_at, walked, Goes-dropped, walk_Meets}
 use Rattle.std.proofs.alloc.Calls.{Al, α, seen, token, gives_key, Gives, at_gives, Gives-goes, Gives-Gives}
-use Rattle.xp_refusing.specs.declared.Refusing.{Refusing}
-use Rattle.xp_refusing.specs.contracts.Refusing as refusing
-use Rattle.xp_refusing.specs.contracts.RefusingAllocator.deallocate as F
-use Rattle.xp_refusing.specs.contracts.RefusingAllocator.deallocate.Key as key
-use Rattle.xp_refusing.proofs.RefusingAllocator.deallocate.Statement as stated
-use Rattle.xp_refusing.proofs.RefusingAllocator.deallocate.Code as code
+use Rattle.xp_testing.specs.declared.refusing.Refusing.{Refusing}
+use Rattle.xp_testing.specs.contracts.refusing.Refusing as refusing
+use Rattle.xp_testing.specs.contracts.refusing.RefusingAllocator.deallocate as F
+use Rattle.xp_testing.specs.contracts.refusing.RefusingAllocator.deallocate.Key as key
+use Rattle.xp_testing.proofs.refusing.RefusingAllocator.deallocate.Statement as stated
+use Rattle.xp_testing.proofs.refusing.RefusingAllocator.deallocate.Code as code
 
 module _ (Z : Al) where
   abbrev args : Args

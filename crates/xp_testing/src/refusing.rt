@@ -2,7 +2,6 @@
 //!
 //! A test counts up the number of the refused request until a run meets no refusal, so each growth of the
 //! call under test is refused once, and the same call can then be made again.
-#![tactic(auto)]
 
 ghost use Rattle.std.specs.Prelude.{◌≡◌, ◌<◌, IfSome, IsTrue};
 
@@ -72,6 +71,3 @@ unsafe impl<B: Allocator> Allocator for Refusing<B> {
         self.inner.deallocate(ptr, size, align);
     }
 }
-
-#[cfg(test)]
-mod tests;

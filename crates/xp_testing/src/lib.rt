@@ -1,0 +1,11 @@
+//! What the tests of the crates share.
+#![tactic(auto)]
+
+mod refusing;
+mod stations;
+
+pub use refusing::Refusing;
+pub use stations::THREE_STATIONS;
+
+#[cfg(test)]
+mod tests;
