@@ -1,4 +1,4 @@
--- Clearing causes and diagnostics, as X.25 codes them (clause 5.2.3.1.1 and Annex E).
+-- Clearing causes and diagnostics, as X.25 codes them (clause 5.2.4 and Annex E).
 use Rattle.std.specs.Prelude.{ℕ}
 
 abbrev pub NUMBER_BUSY : ℕ

@@ -1,4 +1,4 @@
--- What the clearing of a call tells (X.25 clauses 4.1.7 and 5.2.3).
+-- What the clearing of a call tells (X.25 clauses 4.1.7 and 5.2.4).
 use Rattle.std.specs.Prelude.{ℕ, Option, Some, unwrap_or, nat_le, if◌then◌else◌, ◌==◌}
 use Rattle.xp_core.specs.declared.call.LiveCall.{LiveCall}
 use Rattle.xp_core.specs.Causes.{DTE_CAUSES, NO_ADDITIONAL_INFORMATION}

@@ -60,7 +60,7 @@ abbrev pub Chosen : World → ℕ → List ℕ → Verdict → Type 0
 Chosen world caller lines (Take line) = Contains lines line × (is_idle world caller line ≡ true)
 Chosen world caller lines (Refuse why) = (list_any (is_idle world caller) lines ≡ false) × (why ≡ why_none world lines)
 
--- how many octets of user data a call request may have (clause 5.2.1.1.7)
+-- how many octets of user data a call request may have (clause 5.2.2)
 abbrev pub MOST_USER_DATA : ℕ
 MOST_USER_DATA = 16
 

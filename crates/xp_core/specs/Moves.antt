@@ -21,7 +21,7 @@ use Rattle.xp_core.specs.Channel.{INITIAL_IDENTIFIER}
 use Rattle.xp_core.specs.Clearing.{cause_told, diagnostic_told, far_end, record_of}
 use Rattle.xp_core.specs.World.{World, line_at, call_on, edited, add_records}
 
--- packet size 128 and window size 2 in both directions (X.25 clause 7.2)
+-- packet size 128 and window size 2 in both directions (X.25 clauses 7.2.2.1.1 and 7.2.2.1.2)
 abbrev pub standard_facilities : List ℕ
 standard_facilities = 0x42 ∷ 7 ∷ 7 ∷ 0x43 ∷ 2 ∷ 2 ∷ []
 
@@ -94,7 +94,7 @@ module _ {A : Type 0} where
   abbrev pub frees : World → ℕ → Move A
   frees world line = record still { edits = moved world line Ready ∷ [] }
 
-  -- the call connected packet (clause 5.2.2): it names the called line where the caller dialled something else
+  -- the call connected packet (clause 5.2.3): it names the called line where the caller dialled something else
   abbrev pub connected : Tables → ℕ → List ℕ → Bool → Packet A
   connected tables called dialled d = let address = address_of tables called in
       Accepted d (Some (record {
@@ -116,7 +116,7 @@ module _ {A : Type 0} where
   abbrev pub answers : Tables → World → ℕ → Bool → Move A
   answers tables world line d = answered tables world line d (call_on world line)
 
-  -- the incoming call packet (clause 5.2.1)
+  -- the incoming call packet (clause 5.2.2)
   abbrev pub incoming : Tables → ℕ → ℕ → Bool → Block A → Packet A
   incoming tables caller called d block =
       Call d (record { called = address_of tables called; calling = address_of tables caller; facilities = standard_facilities; user = block.user })

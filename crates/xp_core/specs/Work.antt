@@ -2,7 +2,7 @@
 use Rattle.std.specs.Prelude.{◌≡◌}
 use Rattle.xp_subs.specs.Tables.{Tables}
 use Rattle.xp_core.specs.declared.event.Event.{Event}
-use Rattle.xp_core.specs.declared.stepped.Work.{Work}
+use Rattle.xp_core.specs.declared.advance.Work.{Work}
 use Rattle.xp_core.specs.Moves.{Move, after}
 use Rattle.xp_core.specs.Step.{Acts}
 use Rattle.xp_core.specs.Table.{cell, kind_of}

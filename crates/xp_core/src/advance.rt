@@ -10,10 +10,22 @@ use crate::entry::Entry;
 use crate::event::Event;
 use crate::fault::StepFault;
 use crate::machine::Machine;
+use crate::output::Outputs;
 use crate::plan::{Plan, plan_of};
-use crate::stepped::{Stepped, Work};
+use crate::record::Records;
+use crate::stepped::Stepped;
 use std::alloc::{AllocError, Allocator};
-use xp_subs::Subs;
+use xp_subs::{LineNo, Subs};
+
+/// What is made of an event before it is entered.
+#[derive(Drop)]
+pub struct Work<A: Allocator> {
+    pub taken: Option<LineNo>,
+    pub outputs: Outputs<A>,
+    /// The copy that is told.
+    pub told: Outputs<A>,
+    pub records: Records,
+}
 
 /// Enters one event: makes all growths, and then changes the state and the history.
 pub fn advance<A: Allocator + Copy>(

@@ -1,4 +1,4 @@
-//! Clearing causes and diagnostics of the exchange (X.25 clause 5.2.3.1.1 and Annex E).
+//! Clearing causes and diagnostics of the exchange (X.25 clause 5.2.4 and Annex E).
 
 /// Clearing cause: number busy.
 pub const NUMBER_BUSY: u8 = 0x01;

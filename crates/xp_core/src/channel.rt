@@ -1,7 +1,7 @@
 ghost use Rattle.std.specs.Prelude.{◌≡◌};
 ghost use Rattle.xp_core.specs.Channel.{call_of};
 
-/// The state of a line's logical channel (X.25 Annex B, figure B-1).
+/// The state of a line's logical channel (X.25 Annex B).
 #[derive(Clone, Copy, Debug, Default, PartialEq, Eq)]
 pub enum ChannelState {
     /// Out of service: no connection.

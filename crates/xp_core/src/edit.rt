@@ -20,5 +20,5 @@ pub enum Edit {
     End(u64),
 }
 
-/// The changes that one event brings, in order.
+/// The changes that one event brings, in order. There is room for a call that ends and one that begins.
 pub type Edits = ArrayVec<Edit, 8>;

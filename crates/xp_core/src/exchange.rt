@@ -17,6 +17,10 @@ use std::alloc::{AllocError, Allocator, Global};
 use std::marker::Model;
 use xp_subs::{LineNo, Subs};
 
+/// How many places of the history have to be left for an event: one for its entry, and three for stalls that may
+/// follow it.
+const PLACES_FOR_AN_EVENT: usize = 4;
+
 /// The exchange for one event at a time.
 #[derive(Drop)]
 pub struct Core<A: Allocator = Global> {
@@ -55,8 +59,12 @@ impl<A: Allocator + Copy> Core<A> {
         })
     }
 
-    /// Acts on one event. It answers `JournalFull` where fewer than four places of the history are left,
-    /// and `Memory` where no memory was found; then the event comes back, and nothing has changed.
+    /// Acts on one event: one entry of the history.
+    ///
+    /// # Errors
+    ///
+    /// `JournalFull` where fewer than four places of the history are left, and else `Memory` where no memory was
+    /// found. Then the event comes back, and nothing has changed.
     pub fn step(&mut self, event: Event<A>) -> Result<Stepped<A>, StepFault<A>>
         requires line { event.line < line_count self.old.subs }
         requires readable { IsReadable event.what }
@@ -66,7 +74,7 @@ impl<A: Allocator + Copy> Core<A> {
         ensures room { length self.old.history + 4 ≤ self.old.subs.journal → IfErr result (λ fault. fault ≡ StepFault.Memory event) }
         ensures err { OnErr result (self.new ≡ self.old) }
     {
-        if self.history.len() + 4 > self.subs.journal() as usize {
+        if self.history.len() + PLACES_FOR_AN_EVENT > self.subs.journal() as usize {
             return Err(StepFault::JournalFull(event));
         }
         let Core {
@@ -84,7 +92,7 @@ impl<A: Allocator> Core<A> {
     ghost use Rattle.xp_core.specs.Run.{Run};
     ghost use Rattle.xp_core.specs.Writable.{AreWritable};
 
-    /// What can be seen of a line.
+    /// What can be seen of a line. One that there is not shows as out of service.
     pub fn line(&self, line: LineNo) -> LineView
         ensures { result ≡ view_of (line_at self.now.world line) }
     {

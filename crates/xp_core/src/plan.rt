@@ -4,15 +4,15 @@ mod answer;
 mod clearing;
 mod decision;
 mod event;
-mod lists;
 mod request;
 mod send;
 
-ghost use Rattle.std.specs.Prelude.{◌≡◌, []};
+ghost use Rattle.std.specs.Prelude.{◌≡◌, ◌+◌, ◌<◌, [], ◌∷◌, ◌++◌, None, Some};
+ghost use Rattle.arrayvec.specs.ArrayVec.{array_vec_len};
 
-use crate::edit::Edits;
+use crate::edit::{Edit, Edits};
 use crate::output::Buffer;
-use crate::record::Records;
+use crate::record::{Record, Records};
 use arrayvec::ArrayVec;
 pub use event::plan_of;
 use std::alloc::{Allocator, Global};
@@ -28,14 +28,14 @@ pub struct Plan<A: Allocator = Global> {
 }
 
 impl<A: Allocator> Plan<A> {
-    ghost use Rattle.xp_core.specs.Plan.{IsPlan};
-    ghost use Rattle.xp_core.specs.Moves.{still};
-    ghost use Rattle.std.specs.Prelude.{None};
-
-    /// Nothing happens.
-    pub fn still(outputs: Buffer<A>) -> Plan<A>
-        requires { outputs.outputs ≡ [] }
-        ensures { IsPlan result None still }
+    /// These outputs alone.
+    pub fn of(outputs: Buffer<A>) -> Plan<A>
+        ensures takes { result.taken ≡ None }
+        ensures outputs { result.outputs ≡ outputs }
+        ensures edits { result.edits.items ≡ [] }
+        ensures records { result.records.items ≡ [] }
+        ensures no_edits { array_vec_len result.edits ≡ 0 }
+        ensures no_records { array_vec_len result.records ≡ 0 }
     {
         Plan {
             taken: None,
@@ -43,5 +43,41 @@ impl<A: Allocator> Plan<A> {
             edits: ArrayVec::new(),
             records: ArrayVec::new(),
         }
+    }
+
+    /// The plan with this line taken.
+    pub fn taking(self, line: LineNo) -> Plan<A>
+        ensures { result ≡ record self { taken = Some line } }
+    {
+        Plan {
+            taken: Some(line),
+            ..self
+        }
+    }
+
+    /// The plan with one more change, after the others.
+    pub fn with_edit(mut self, edit: Edit) -> Plan<A>
+        requires { array_vec_len self.edits < 8 }
+        ensures takes { result.taken ≡ self.taken }
+        ensures outputs { result.outputs ≡ self.outputs }
+        ensures edits { result.edits.items ≡ self.edits.items ++ edit ∷ [] }
+        ensures count { array_vec_len result.edits ≡ array_vec_len self.edits + 1 }
+        ensures records { result.records ≡ self.records }
+    {
+        self.edits.push(edit);
+        self
+    }
+
+    /// The plan with one more record, after the others.
+    pub fn with_record(mut self, charged: Record) -> Plan<A>
+        requires { array_vec_len self.records < 2 }
+        ensures takes { result.taken ≡ self.taken }
+        ensures outputs { result.outputs ≡ self.outputs }
+        ensures edits { result.edits ≡ self.edits }
+        ensures records { result.records.items ≡ self.records.items ++ charged ∷ [] }
+        ensures count { array_vec_len result.records ≡ array_vec_len self.records + 1 }
+    {
+        self.records.push(charged);
+        self
     }
 }

@@ -8,8 +8,8 @@ use std::alloc::{AllocError, Allocator, Global};
 use std::process::Abort;
 use std::test::Fail;
 use xp_packets::{Block, Digits, End, Octets, Packet};
-use xp_testing::{Refusing, THREE_STATIONS};
 use xp_subs::{LineNo, Subs, SubsFault};
+use xp_testing::{Refusing, THREE_STATIONS};
 
 const A1: LineNo = 0;
 

@@ -23,7 +23,7 @@ pub enum Channel {
 #[derive(Clone, Copy, Debug, PartialEq, Eq)]
 pub struct LineView {
     pub channel: Channel,
-    /// The logical channel identifier of packets to the line.
+    /// The logical channel identifier of packets to the line, 0 to 4,095.
     pub identifier: u16,
     /// The number of the call that the line is in.
     pub call: Option<u64>,

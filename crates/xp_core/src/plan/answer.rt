@@ -6,13 +6,11 @@ ghost use Rattle.xp_core.specs.Moves.{answers, connected as connected_packet};
 ghost use Rattle.xp_core.specs.Plan.{IsPlan};
 
 use super::Plan;
-use super::lists::{one, with};
 use super::request::standard_facilities;
 use super::send::{moved, send};
 use crate::channel::ChannelState;
 use crate::machine::Machine;
 use crate::output::Buffer;
-use arrayvec::ArrayVec;
 use std::alloc::{AllocError, Allocator};
 use xp_packets::{Block, Digits, Octets, Packet};
 use xp_subs::{LineNo, Subs};
@@ -30,24 +28,19 @@ pub fn answer<A: Allocator + Copy>(
 {
     let outputs = Buffer::with_room(alloc, 1)?;
     match machine.call_on(line) {
-        None => Ok(Plan::still(outputs)),
+        None => Ok(Plan::of(outputs)),
         Some(call) => {
             let packet = connected(alloc, subs, line, &call.dialled, d)?;
             let talking = ChannelState::Talking(call.number);
-            Ok(Plan {
-                taken: None,
-                outputs: outputs.with(send(machine, call.caller, packet)),
-                edits: with(
-                    one(moved(machine, line, talking)),
-                    moved(machine, call.caller, talking),
-                ),
-                records: ArrayVec::new(),
-            })
+            let plan = Plan::of(outputs.with(send(machine, call.caller, packet)))
+                .with_edit(moved(machine, line, talking))
+                .with_edit(moved(machine, call.caller, talking));
+            Ok(plan)
         }
     }
 }
 
-/// The call connected packet (X.25 clause 5.2.2).
+/// The call connected packet (X.25 clause 5.2.3).
 fn connected<A: Allocator + Copy>(
     alloc: A,
     subs: &Subs,

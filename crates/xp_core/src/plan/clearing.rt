@@ -8,7 +8,6 @@ ghost use Rattle.xp_core.specs.Plan.{IsPlan};
 ghost use Rattle.xp_core.specs.World.{line_at};
 
 use super::Plan;
-use super::lists::{one, with};
 use super::send::{clear_indication, moved, send};
 use crate::call::LiveCall;
 use crate::cause::{DTE_CAUSES, NO_ADDITIONAL_INFORMATION, OUT_OF_ORDER};
@@ -17,7 +16,6 @@ use crate::edit::Edit;
 use crate::machine::Machine;
 use crate::output::Buffer;
 use crate::record::Record;
-use arrayvec::ArrayVec;
 use std::alloc::Allocator;
 use xp_packets::{End, Packet};
 use xp_subs::LineNo;
@@ -38,23 +36,14 @@ fn ending<A: Allocator>(
     ensures few { array_vec_len result.edits ≤ 2 }
 {
     match machine.call_on(line) {
-        None => Plan {
-            taken: None,
-            outputs,
-            edits: ArrayVec::new(),
-            records: ArrayVec::new(),
-        },
+        None => Plan::of(outputs),
         Some(call) => {
             let far = call.far_end(line);
-            Plan {
-                taken: None,
-                outputs: outputs.with(send(machine, far, clear_indication(cause, diagnostic))),
-                edits: with(
-                    one(Edit::End(call.number)),
-                    moved(machine, far, ChannelState::Cleared),
-                ),
-                records: one(call.record(cause, diagnostic)),
-            }
+            let indication = send(machine, far, clear_indication(cause, diagnostic));
+            Plan::of(outputs.with(indication))
+                .with_edit(Edit::End(call.number))
+                .with_edit(moved(machine, far, ChannelState::Cleared))
+                .with_record(call.record(cause, diagnostic))
         }
     }
 }
@@ -70,12 +59,7 @@ pub fn rise<A: Allocator>(machine: &Machine<A>, line: LineNo, outputs: Buffer<A>
         identifier: LogicalChannel::INITIAL_IDENTIFIER,
         connection: machine.line(line).connection + 1,
     };
-    Plan {
-        taken: None,
-        outputs,
-        edits: one(Edit::Line { line, becomes }),
-        records: ArrayVec::new(),
-    }
+    Plan::of(outputs).with_edit(Edit::Line { line, becomes })
 }
 
 /// A line goes out of service: its call ends as out of order.
@@ -84,24 +68,14 @@ pub fn fall<A: Allocator>(machine: &Machine<A>, line: LineNo, outputs: Buffer<A>
     requires room { 0 < outputs.room }
     ensures { IsPlan result None (falls machine.now line) }
 {
-    let Plan {
-        taken,
-        outputs,
-        edits,
-        records,
-    } = ending(
+    ending(
         machine,
         line,
         OUT_OF_ORDER,
         NO_ADDITIONAL_INFORMATION,
         outputs,
-    );
-    Plan {
-        taken,
-        outputs,
-        edits: with(edits, moved(machine, line, ChannelState::Off)),
-        records,
-    }
+    )
+    .with_edit(moved(machine, line, ChannelState::Off))
 }
 
 /// A clear request is confirmed at once (X.25 clause 4.1.7), and the line's call ends.
@@ -117,24 +91,9 @@ pub fn confirm<A: Allocator>(
     ensures { IsPlan result None (confirms machine.now line cause diagnostic) }
 {
     let confirmation = send(machine, line, Packet::ClearConfirm { block: None });
-    let Plan {
-        taken,
-        outputs,
-        edits,
-        records,
-    } = ending(
-        machine,
-        line,
-        cause_told(cause),
-        diagnostic_told(diagnostic),
-        outputs.with(confirmation),
-    );
-    Plan {
-        taken,
-        outputs,
-        edits: with(edits, moved(machine, line, ChannelState::Ready)),
-        records,
-    }
+    let (cause, diagnostic) = (cause_told(cause), diagnostic_told(diagnostic));
+    let ready = moved(machine, line, ChannelState::Ready);
+    ending(machine, line, cause, diagnostic, outputs.with(confirmation)).with_edit(ready)
 }
 
 /// A cleared line is free again.
@@ -142,12 +101,7 @@ pub fn free<A: Allocator>(machine: &Machine<A>, line: LineNo, outputs: Buffer<A>
     requires { outputs.outputs ≡ [] }
     ensures { IsPlan result None (frees machine.now line) }
 {
-    Plan {
-        taken: None,
-        outputs,
-        edits: one(moved(machine, line, ChannelState::Ready)),
-        records: ArrayVec::new(),
-    }
+    Plan::of(outputs).with_edit(moved(machine, line, ChannelState::Ready))
 }
 
 /// The cause that the other end is told: that of a DTE (80 to FF) as it is, every other as 00.

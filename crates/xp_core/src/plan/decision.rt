@@ -17,7 +17,7 @@ use std::alloc::Allocator;
 use xp_packets::Block;
 use xp_subs::{LineNo, Subs};
 
-/// How many octets of user data a call request may have (X.25 clause 5.2.1.1.7).
+/// How many octets of user data a call request may have (X.25 clause 5.2.2).
 const MOST_USER_DATA: usize = 16;
 
 /// Decides a call request: the first reason against it, or an idle line of its target.

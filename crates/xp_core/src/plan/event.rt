@@ -35,7 +35,7 @@ pub fn plan_of<A: Allocator + Copy>(
     let line = event.line;
     let action = machine.line(line).state.action(Kind::of(&event.what));
     match (action, &event.what) {
-        (Action::Nothing, _) => Ok(Plan::still(Buffer::with_room(alloc, 0)?)),
+        (Action::Nothing, _) => Ok(Plan::of(Buffer::with_room(alloc, 0)?)),
         (Action::Rise, _) => Ok(rise(machine, line, Buffer::with_room(alloc, 0)?)),
         (Action::Fall, _) => Ok(fall(machine, line, Buffer::with_room(alloc, 1)?)),
         (Action::Free, _) => Ok(free(machine, line, Buffer::with_room(alloc, 0)?)),

@@ -7,7 +7,6 @@ ghost use Rattle.xp_core.specs.Plan.{IsPlan, IsWithin};
 ghost use Rattle.xp_core.specs.Step.{taken_by};
 
 use super::Plan;
-use super::lists::{one, with};
 use super::send::{clear_indication, moved_as, send_as};
 use crate::call::LiveCall;
 use crate::cause::Refusal;
@@ -17,7 +16,6 @@ use crate::machine::Machine;
 use crate::output::Buffer;
 use crate::record::Record;
 use crate::verdict::Verdict;
-use arrayvec::ArrayVec;
 use std::alloc::{AllocError, Allocator};
 use xp_packets::{Block, End, Octets, Packet};
 use xp_subs::{LineNo, Subs};
@@ -64,7 +62,7 @@ pub fn request<A: Allocator + Copy>(
     }
 }
 
-/// The incoming call packet (X.25 clause 5.2.1).
+/// The incoming call packet (X.25 clause 5.2.2).
 fn incoming<A: Allocator + Copy>(
     alloc: A,
     subs: &Subs,
@@ -111,17 +109,12 @@ fn put<A: Allocator>(
     let waiting = ChannelState::Waiting(number);
     let ringing = ChannelState::Ringing(number);
     let identifier = LogicalChannel::INITIAL_IDENTIFIER;
-    let edits = with(one(Edit::Number), Edit::Begin(call));
-    let edits = with(
-        edits,
-        moved_as(machine, caller, request.identifier, waiting),
-    );
-    Plan {
-        taken: Some(called),
-        outputs: outputs.with(send_as(machine, called, identifier, packet)),
-        edits: with(edits, moved_as(machine, called, identifier, ringing)),
-        records: ArrayVec::new(),
-    }
+    Plan::of(outputs.with(send_as(machine, called, identifier, packet)))
+        .taking(called)
+        .with_edit(Edit::Number)
+        .with_edit(Edit::Begin(call))
+        .with_edit(moved_as(machine, caller, request.identifier, waiting))
+        .with_edit(moved_as(machine, called, identifier, ringing))
 }
 
 /// The call is cleared at once.
@@ -138,23 +131,19 @@ fn refused<A: Allocator>(
     let caller = request.caller;
     let identifier = request.identifier;
     let indication = clear_indication(why.cause, why.diagnostic);
-    Plan {
-        taken: None,
-        outputs: outputs.with(send_as(machine, caller, identifier, indication)),
-        edits: with(
-            one(Edit::Number),
-            moved_as(machine, caller, identifier, ChannelState::Cleared),
-        ),
-        records: one(Record {
-            number: machine.next(),
-            caller,
-            called: None,
-            dialled: request.block.called.copy(),
-            payer: End::Caller,
-            from_caller: 0,
-            from_called: 0,
-            cause: why.cause,
-            diagnostic: why.diagnostic,
-        }),
-    }
+    let record = Record {
+        number: machine.next(),
+        caller,
+        called: None,
+        dialled: request.block.called.copy(),
+        payer: End::Caller,
+        from_caller: 0,
+        from_called: 0,
+        cause: why.cause,
+        diagnostic: why.diagnostic,
+    };
+    Plan::of(outputs.with(send_as(machine, caller, identifier, indication)))
+        .with_edit(Edit::Number)
+        .with_edit(moved_as(machine, caller, identifier, ChannelState::Cleared))
+        .with_record(record)
 }

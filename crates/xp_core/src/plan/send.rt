@@ -34,7 +34,7 @@ pub fn send<A: Allocator>(machine: &Machine<A>, line: LineNo, packet: Packet<A>)
     send_as(machine, line, machine.line(line).identifier, packet)
 }
 
-/// A clear indication (X.25 clause 5.2.3).
+/// A clear indication (X.25 clause 5.2.4).
 pub fn clear_indication<A: Allocator>(cause: u8, diagnostic: u8) -> Packet<A>
     ensures { result ≡ indication cause diagnostic }
 {
