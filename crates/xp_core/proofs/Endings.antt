@@ -33,7 +33,7 @@ module _ {X : Type 0} where
   kept_by : (p : X → Bool) (xs : List X) (x : X) → Contains xs x → p x ≡ true → Contains (filter p xs) x
   kept_by p xs x at = All-contains (λ y. p y ≡ true → Contains (filter p xs) y) xs x (all_kept p xs) at
 
-gone_from : (calls : List LiveCall) (number : ℕ) (call : LiveCall) → Contains (calls_without calls number) call → call.number ≡ number → ⊥
+pub gone_from : (calls : List LiveCall) (number : ℕ) (call : LiveCall) → Contains (calls_without calls number) call → call.number ≡ number → ⊥
 gone_from calls number call at same =
     let stays : not (eqb call.number number) ≡ true =
     All-contains (λ c. not (eqb c.number number) ≡ true) (calls_without calls number) call (filter_passes (λ c. not (eqb c.number number)) calls) at in
@@ -44,7 +44,7 @@ stays_in : (calls : List LiveCall) (number : ℕ) (call : LiveCall) → Contains
 stays_in calls number call at other = kept_by (λ c. not (eqb c.number number)) calls call at (ap not (ne_eqb call.number number other))
 
 -- a number that is not yet given is no live call's
-not_live : (world : World) (number : ℕ) → holders world number ≡ 0 → IsLive world number → ⊥
+pub not_live : (world : World) (number : ℕ) → holders world number ≡ 0 → IsLive world number → ⊥
 not_live world number none live =
     absurd (omega (arith, none, count_by_contains (λ c. eqb c.number number) world.calls live.0 live.1 (eq-eqb live.0.number number live.2)))
 

@@ -1,10 +1,16 @@
+pub mod Acceptance
+pub mod Cells
 pub mod Changes
+pub mod Clearings
 pub mod Counts
+pub mod Couplings
 pub mod Edits
 pub mod Endings
 pub mod Fitting
 pub mod Idle
+pub mod InCall
 pub mod Ledger
+pub mod Requests
 pub mod RunLemmas
 pub mod Searches
 pub mod Sounds

@@ -2,6 +2,7 @@ pub mod Buffered
 pub mod Causes
 pub mod Channel
 pub mod Clearing
+pub mod Coupling
 pub mod Decision
 pub mod Exchange
 pub mod Moves

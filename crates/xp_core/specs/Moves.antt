@@ -59,6 +59,7 @@ module _ {A : Type 0} where
 
   -- the call that a line is in ends: its other line is told so and is cleared, and there is one record
   abbrev pub ended : World → ℕ → ℕ → ℕ → Option LiveCall → Move A
+  -- a line in p1 or p7 is in no call; no other line of a run comes here: Coupling
   ended world line cause diagnostic None = still
   ended world line cause diagnostic (Some call) = record {
     outputs = send world (far_end call line) (clear_indication cause diagnostic) ∷ [];
@@ -106,6 +107,7 @@ module _ {A : Type 0} where
 
   -- both lines of the call are in data transfer, and the caller is told so (clause 4.1.5)
   abbrev pub answered : Tables → World → ℕ → Bool → Option LiveCall → Move A
+  -- no world of a run comes here: Coupling
   answered tables world line d None = still
   answered tables world line d (Some call) = record {
     outputs = send world call.caller (connected tables line call.dialled d) ∷ [];

@@ -88,13 +88,16 @@ impl<A: Allocator + Copy> Core<A> {
 }
 
 impl<A: Allocator> Core<A> {
+    ghost use Rattle.xp_core.specs.Coupling.{AreCoupled};
     ghost use Rattle.xp_core.specs.Records.{OneRecordEach};
     ghost use Rattle.xp_core.specs.Run.{Run};
     ghost use Rattle.xp_core.specs.Writable.{AreWritable};
 
-    /// What can be seen of a line. One that there is not shows as out of service.
+    /// What can be seen of a line. In p2, p3 and p4 it is one of the two lines of the live call that it shows. A line
+    /// that there is not shows as out of service.
     pub fn line(&self, line: LineNo) -> LineView
-        ensures { result ≡ view_of (line_at self.now.world line) }
+        ensures view { result ≡ view_of (line_at self.now.world line) }
+        ensures coupled { AreCoupled self.now.subs self.now.world }
     {
         self.machine.line(line).view()
     }
