@@ -1,5 +1,5 @@
 -- The values of the subscription file's keys, as they are read off the tables of a TOML document.
-use Rattle.std.specs.Prelude.{ℕ, ℤ, pos, List, [], ◌∷◌, Bool, true, false, ◌&&◌, Option, None, Some, Result, Ok, Err, option_and_then, option_map, map, nat_le, if◌then◌else◌}
+use Rattle.std.specs.Prelude.{◌≡◌, ℕ, ℤ, pos, List, [], ◌∷◌, Bool, true, false, ◌&&◌, Option, None, Some, Result, Ok, Err, option_and_then, option_map, map, nat_le, if◌then◌else◌}
 use Rattle.std.specs.List.{list_any}
 use Rattle.toml.specs.Data.{Data, Items, no_items, item, Members, no_members, member, get_member, as_str, as_integer, as_bool, as_array, as_table}
 use Rattle.xp_file.specs.declared.fault.SubsFault.{SubsFault}
@@ -80,6 +80,10 @@ each read (table ∷ tables) = do
   x ← read table
   xs ← each read tables
   Ok (x ∷ xs)
+
+-- all that is returned at a table, as it is shown, is what is read of it
+abbrev pub Reads : {X A : Type 0} → (X → Members) → (X → Result A SubsFault → Type 0) → (Members → Result A SubsFault) → Type 0
+Reads {X} {A} shown Returns read = (table : X) (answer : Result A SubsFault) → Returns table answer → read (shown table) ≡ answer
 
 -- the table has no other keys
 abbrev pub has_only : List Key → Members → Bool

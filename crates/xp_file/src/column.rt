@@ -1,9 +1,10 @@
 //! The tables of an array, and one key of each of them in turn.
 ghost use Rattle.std.specs.Prelude.{◌≡◌, ◌≢◌, ◌<◌, [], length, Ok, Err, None, Some, IfOk, IfErr, option_map, map};
+ghost use Rattle.std.specs.Fn.{FnReturnsAt};
 ghost use Rattle.toml.specs.View.{items_view, table_view};
 ghost use Rattle.xp_file.specs.declared.fault.SubsFault.TheVariants.{Memory as OutOfMemory};
 ghost use Rattle.xp_file.specs.declared.key.Key.TheVariants as keys;
-ghost use Rattle.xp_file.specs.Reading.{each, number_in, line_name_in, group_name_in, address_in, tables_among, tables_in, some_tables_in, required, optional, defaulted, flag};
+ghost use Rattle.xp_file.specs.Reading.{Reads, each, number_in, line_name_in, group_name_in, address_in, tables_among, tables_in, some_tables_in, required, optional, defaulted, flag};
 
 use crate::fault::SubsFault;
 use crate::field::{
@@ -26,16 +27,12 @@ pub(crate) fn some_tables_at(
     ensures refused { IfErr result (λ fault. fault ≢ OutOfMemory → required some_tables_in key (table_view table.now) ≡ Err fault) }
     ensures some { IfOk result (λ tables. 0 < length tables.items) }
 {
-    let Some(value) = value_at(table, key) else {
-        return Err(SubsFault::Field(key));
-    };
-    let Some(array) = value.as_array() else {
-        return Err(SubsFault::Field(key));
-    };
-    match tables_among(alloc, array)? {
-        Some(tables) if !tables.is_empty() => Ok(tables),
-        _ => Err(SubsFault::Field(key)),
-    }
+    let array = value_at(table, key)
+        .and_then(|value| value.as_array())
+        .ok_or(SubsFault::Field(key))?;
+    tables_among(alloc, array)?
+        .filter(|tables| !tables.is_empty())
+        .ok_or(SubsFault::Field(key))
 }
 
 /// The tables of an array, none where it is absent.
@@ -46,13 +43,8 @@ pub(crate) fn tables_at(alloc: Global, table: &Table, key: Key) -> Result<Vec<&T
     let Some(value) = value_at(table, key) else {
         return Ok(Vec::new(alloc));
     };
-    let Some(array) = value.as_array() else {
-        return Err(SubsFault::Field(key));
-    };
-    match tables_among(alloc, array)? {
-        Some(tables) => Ok(tables),
-        None => Err(SubsFault::Field(key)),
-    }
+    let array = value.as_array().ok_or(SubsFault::Field(key))?;
+    tables_among(alloc, array)?.ok_or(SubsFault::Field(key))
 }
 
 /// The values as tables, where each is one.
@@ -61,12 +53,29 @@ fn tables_among(alloc: Global, values: &[Value]) -> Result<Option<Vec<&Table>>, 
 {
     let mut tables = Vec::new(alloc);
     for value in values {
-        match value.as_table() {
-            Some(inner) => tables.push(inner)?,
-            None => return Ok(None),
-        }
+        let Some(inner) = value.as_table() else {
+            return Ok(None);
+        };
+        tables.push(inner)?;
     }
     Ok(Some(tables))
+}
+
+/// What is read of each table, until one is refused.
+fn each<T: Drop, F: Fn(&Table) -> Result<T, SubsFault>>(
+    alloc: Global,
+    tables: &[&Table],
+    read: F,
+) -> Result<Vec<T>, SubsFault>
+    requires { F.IsAlwaysCallable read }
+    ensures ok { IfOk result (λ values. (reading : _) → Reads table_view (FnReturnsAt F.Fn read) reading → each reading (map (λ table. table_view table.now) tables.now) ≡ Ok values.items) }
+    ensures refused { IfErr result (λ fault. (reading : _) → Reads table_view (FnReturnsAt F.Fn read) reading → fault ≢ OutOfMemory → each reading (map (λ table. table_view table.now) tables.now) ≡ Err fault) }
+{
+    let mut values = Vec::new(alloc);
+    for table in tables {
+        values.push(read(table)?)?;
+    }
+    Ok(values)
 }
 
 /// The names of lines.
@@ -74,11 +83,7 @@ pub(crate) fn line_names(alloc: Global, tables: &[&Table]) -> Result<Vec<LineNam
     ensures ok { IfOk result (λ names. each (required line_name_in keys.Name) (map (λ table. table_view table.now) tables.now) ≡ Ok names.items) }
     ensures refused { IfErr result (λ fault. fault ≢ OutOfMemory → each (required line_name_in keys.Name) (map (λ table. table_view table.now) tables.now) ≡ Err fault) }
 {
-    let mut names = Vec::new(alloc);
-    for table in tables {
-        names.push(line_name_at(table, Key::Name)?)?;
-    }
-    Ok(names)
+    each(alloc, tables, |table| line_name_at(table, Key::Name))
 }
 
 /// Numbers in a range.
@@ -92,11 +97,7 @@ pub(crate) fn numbers(
     ensures ok { IfOk result (λ numbers. each (required (number_in low high) key) (map (λ table. table_view table.now) tables.now) ≡ Ok numbers.items) }
     ensures refused { IfErr result (λ fault. fault ≢ OutOfMemory → each (required (number_in low high) key) (map (λ table. table_view table.now) tables.now) ≡ Err fault) }
 {
-    let mut numbers = Vec::new(alloc);
-    for table in tables {
-        numbers.push(number_at(table, key, low, high)?)?;
-    }
-    Ok(numbers)
+    each(alloc, tables, |table| number_at(table, key, low, high))
 }
 
 /// Addresses, where they are there.
@@ -107,11 +108,11 @@ pub(crate) fn optional_addresses(
     ensures ok { IfOk result (λ addresses. each (optional address_in keys.Address) (map (λ table. table_view table.now) tables.now) ≡ Ok addresses.items) }
     ensures refused { IfErr result (λ fault. fault ≢ OutOfMemory → each (optional address_in keys.Address) (map (λ table. table_view table.now) tables.now) ≡ Err fault) }
 {
-    let mut addresses = Vec::new(alloc);
-    for table in tables {
-        addresses.push(optional_address_at(table, Key::Address)?)?;
-    }
-    Ok(addresses)
+    each(
+        alloc,
+        tables,
+        |table| optional_address_at(table, Key::Address),
+    )
 }
 
 /// The names of groups.
@@ -119,11 +120,7 @@ pub(crate) fn group_names(alloc: Global, tables: &[&Table]) -> Result<Vec<GroupN
     ensures ok { IfOk result (λ names. each (required group_name_in keys.Name) (map (λ table. table_view table.now) tables.now) ≡ Ok names.items) }
     ensures refused { IfErr result (λ fault. fault ≢ OutOfMemory → each (required group_name_in keys.Name) (map (λ table. table_view table.now) tables.now) ≡ Err fault) }
 {
-    let mut names = Vec::new(alloc);
-    for table in tables {
-        names.push(group_name_at(table, Key::Name)?)?;
-    }
-    Ok(names)
+    each(alloc, tables, |table| group_name_at(table, Key::Name))
 }
 
 /// True or false, false where it is absent.
@@ -131,9 +128,5 @@ pub(crate) fn flags(alloc: Global, tables: &[&Table], key: Key) -> Result<Vec<bo
     ensures ok { IfOk result (λ flags. each (flag key) (map (λ table. table_view table.now) tables.now) ≡ Ok flags.items) }
     ensures refused { IfErr result (λ fault. fault ≢ OutOfMemory → each (flag key) (map (λ table. table_view table.now) tables.now) ≡ Err fault) }
 {
-    let mut flags = Vec::new(alloc);
-    for table in tables {
-        flags.push(flag_at(table, key)?)?;
-    }
-    Ok(flags)
+    each(alloc, tables, |table| flag_at(table, key))
 }

@@ -36,19 +36,27 @@ impl Redirection {
 /// The facilities to which a station subscribes or not.
 #[derive(Clone, Copy)]
 pub struct Facilities {
+    /// Outgoing calls barred (X.25 clause 6.6).
     pub outgoing_barred: bool,
+    /// Incoming calls barred (X.25 clause 6.5).
     pub incoming_barred: bool,
+    /// Reverse charging acceptance (X.25 clause 6.19).
     pub reverse_charging: bool,
+    /// Fast select acceptance (X.25 clause 6.17).
     pub fast_select: bool,
+    /// Closed user group with outgoing access (X.25 clause 6.14.2).
     pub outgoing_access: bool,
+    /// Closed user group with incoming access (X.25 clause 6.14.3).
     pub incoming_access: bool,
 }
 
-/// The lines of a station, a list for each key.
+/// The lines of a station in order, at least one: a list for each key, all of one length.
 #[derive(Drop)]
 pub struct LineColumns {
     pub names: Vec<LineName>,
+    /// 1 to 65,535.
     pub ports: Vec<u16>,
+    /// The lines' own addresses, 1 to 15 digits, where they have one beside their station's.
     pub addresses: Vec<Option<Digits>>,
 }
 
@@ -64,12 +72,15 @@ impl Model for LineColumns {
     } };
 }
 
-/// The groups of a station, a list for each key.
+/// The closed user groups of a station in order: a list for each key, all of one length.
 #[derive(Drop)]
 pub struct GroupColumns {
     pub names: Vec<GroupName>,
+    /// The numbers by which the station selects the groups, 0 to 9,999.
     pub indexes: Vec<u16>,
+    /// Outgoing calls barred within the group.
     pub outgoing_barred: Vec<bool>,
+    /// Incoming calls barred within the group.
     pub incoming_barred: Vec<bool>,
 }
 
@@ -89,8 +100,10 @@ impl Model for GroupColumns {
 /// A station.
 #[derive(Drop)]
 pub struct StationEntry {
+    /// 1 to 15 digits.
     pub address: Digits,
     pub facilities: Facilities,
+    /// The index of the preferential group, 0 to 9,999.
     pub preferential: Option<u16>,
     pub lines: LineColumns,
     pub groups: GroupColumns,

@@ -26,13 +26,9 @@ pub(crate) fn value_at(table: &Table, key: Key) -> Option<&Value>
 pub(crate) fn number_at(table: &Table, key: Key, low: u16, high: u16) -> Result<u16, SubsFault>
     ensures { result ≡ required (number_in low high) key (table_view table.now) }
 {
-    match value_at(table, key) {
-        Some(value) => match short(value, low, high) {
-            Some(number) => Ok(number),
-            None => Err(SubsFault::Field(key)),
-        },
-        None => Err(SubsFault::Field(key)),
-    }
+    value_at(table, key)
+        .and_then(|value| short(value, low, high))
+        .ok_or(SubsFault::Field(key))
 }
 
 /// A number in a range, where it is there.
@@ -45,10 +41,9 @@ pub(crate) fn optional_number_at(
     ensures { result ≡ optional (number_in low high) key (table_view table.now) }
 {
     match value_at(table, key) {
-        Some(value) => match short(value, low, high) {
-            Some(number) => Ok(Some(number)),
-            None => Err(SubsFault::Field(key)),
-        },
+        Some(value) => short(value, low, high)
+            .map(Some)
+            .ok_or(SubsFault::Field(key)),
         None => Ok(None),
     }
 }
@@ -64,10 +59,7 @@ pub(crate) fn number_or(
     ensures { result ≡ defaulted (number_in low high) absent key (table_view table.now) }
 {
     match value_at(table, key) {
-        Some(value) => match number(value, low, high) {
-            Some(number) => Ok(number),
-            None => Err(SubsFault::Field(key)),
-        },
+        Some(value) => number(value, low, high).ok_or(SubsFault::Field(key)),
         None => Ok(absent),
     }
 }
@@ -77,10 +69,7 @@ pub(crate) fn flag_at(table: &Table, key: Key) -> Result<bool, SubsFault>
     ensures { result ≡ flag key (table_view table.now) }
 {
     match value_at(table, key) {
-        Some(value) => match value.as_bool() {
-            Some(set) => Ok(set),
-            None => Err(SubsFault::Field(key)),
-        },
+        Some(value) => value.as_bool().ok_or(SubsFault::Field(key)),
         None => Ok(false),
     }
 }
@@ -89,13 +78,9 @@ pub(crate) fn flag_at(table: &Table, key: Key) -> Result<bool, SubsFault>
 pub(crate) fn address_at(table: &Table, key: Key) -> Result<Digits, SubsFault>
     ensures { result ≡ required address_in key (table_view table.now) }
 {
-    match value_at(table, key) {
-        Some(value) => match address(value) {
-            Some(address) => Ok(address),
-            None => Err(SubsFault::Field(key)),
-        },
-        None => Err(SubsFault::Field(key)),
-    }
+    value_at(table, key)
+        .and_then(address)
+        .ok_or(SubsFault::Field(key))
 }
 
 /// An address, where it is there.
@@ -103,10 +88,7 @@ pub(crate) fn optional_address_at(table: &Table, key: Key) -> Result<Option<Digi
     ensures { result ≡ optional address_in key (table_view table.now) }
 {
     match value_at(table, key) {
-        Some(value) => match address(value) {
-            Some(address) => Ok(Some(address)),
-            None => Err(SubsFault::Field(key)),
-        },
+        Some(value) => address(value).map(Some).ok_or(SubsFault::Field(key)),
         None => Ok(None),
     }
 }
@@ -115,26 +97,18 @@ pub(crate) fn optional_address_at(table: &Table, key: Key) -> Result<Option<Digi
 pub(crate) fn line_name_at(table: &Table, key: Key) -> Result<LineName, SubsFault>
     ensures { result ≡ required line_name_in key (table_view table.now) }
 {
-    match value_at(table, key) {
-        Some(value) => match line_name(value) {
-            Some(name) => Ok(name),
-            None => Err(SubsFault::Field(key)),
-        },
-        None => Err(SubsFault::Field(key)),
-    }
+    value_at(table, key)
+        .and_then(line_name)
+        .ok_or(SubsFault::Field(key))
 }
 
 /// A group's name, which has to be there.
 pub(crate) fn group_name_at(table: &Table, key: Key) -> Result<GroupName, SubsFault>
     ensures { result ≡ required group_name_in key (table_view table.now) }
 {
-    match value_at(table, key) {
-        Some(value) => match group_name(value) {
-            Some(name) => Ok(name),
-            None => Err(SubsFault::Field(key)),
-        },
-        None => Err(SubsFault::Field(key)),
-    }
+    value_at(table, key)
+        .and_then(group_name)
+        .ok_or(SubsFault::Field(key))
 }
 
 /// A table, where it is there.
@@ -143,10 +117,7 @@ pub(crate) fn optional_table_at(table: &Table, key: Key) -> Result<Option<&Table
     ensures refused { IfErr result (λ fault. optional as_table key (table_view table.now) ≡ Err fault) }
 {
     match value_at(table, key) {
-        Some(value) => match value.as_table() {
-            Some(inner) => Ok(Some(inner)),
-            None => Err(SubsFault::Field(key)),
-        },
+        Some(value) => value.as_table().map(Some).ok_or(SubsFault::Field(key)),
         None => Ok(None),
     }
 }
@@ -180,45 +151,29 @@ fn number(value: &Value, low: u32, high: u32) -> Option<u32>
     ensures range { IfSome result (λ number. number ≤ high) }
 {
     let number = u32::try_from(value.as_integer()?).ok()?;
-    if low <= number && number <= high {
-        Some(number)
-    } else {
-        None
-    }
+    (low..=high).contains(&number).then_some(number)
 }
 
 fn short(value: &Value, low: u16, high: u16) -> Option<u16>
     ensures { result ≡ number_in low high (view value.now) }
 {
-    match number(value, low.into(), high.into()) {
-        Some(number) => Some(number as u16),
-        None => None,
-    }
+    number(value, low.into(), high.into()).map(|number| number as u16)
 }
 
 fn address(value: &Value) -> Option<Digits>
     ensures { result ≡ address_in (view value.now) }
 {
-    match value.as_str() {
-        Some(text) => read_digits(text),
-        None => None,
-    }
+    read_digits(value.as_str()?)
 }
 
 fn line_name(value: &Value) -> Option<LineName>
     ensures { result ≡ line_name_in (view value.now) }
 {
-    match value.as_str() {
-        Some(text) => LineName::read(text),
-        None => None,
-    }
+    LineName::read(value.as_str()?)
 }
 
 fn group_name(value: &Value) -> Option<GroupName>
     ensures { result ≡ group_name_in (view value.now) }
 {
-    match value.as_str() {
-        Some(text) => GroupName::read(text),
-        None => None,
-    }
+    GroupName::read(value.as_str()?)
 }

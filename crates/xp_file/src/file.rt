@@ -22,12 +22,16 @@ use std::alloc::Global;
 use std::marker::Model;
 use toml::Table;
 
-/// All that the subscription file says.
+/// All that the subscription file says, with the values of the keys that it leaves out.
 #[derive(Drop)]
 pub struct File {
+    /// The segments that a call may have in one direction, 1 to 99,999,999.
     pub segment_limit: u32,
+    /// The entries that the history may have, 4 to 10,000,000.
     pub journal: u32,
+    /// The host on whose ports the exchange listens.
     pub host: String,
+    /// The stations in order, at least one.
     pub stations: Vec<StationEntry>,
 }
 
@@ -44,6 +48,24 @@ impl Model for File {
       stations = file.stations.items;
     } };
 }
+
+/// The most segments in one direction of a call, which is also the limit of a file that sets none.
+const MAX_SEGMENT_LIMIT: u32 = 99_999_999;
+
+/// The fewest entries that a history may be limited to.
+const MIN_JOURNAL: u32 = 4;
+
+/// The most entries that a history may be limited to.
+const MAX_JOURNAL: u32 = 10_000_000;
+
+/// The limit of a history where the file sets none.
+const DEFAULT_JOURNAL: u32 = 1_000_000;
+
+/// The host of a file that names none.
+const DEFAULT_HOST: &str = "127.0.0.1";
+
+/// The greatest index of a group, which has four digits (X.25 clause 6.14.6).
+const MAX_INDEX: u16 = 9_999;
 
 const TOP_KEYS: [Key; 4] = [Key::SegmentLimit, Key::Journal, Key::Host, Key::Station];
 
@@ -100,7 +122,7 @@ fn lines(alloc: Global, tables: &[&Table]) -> Result<LineColumns, SubsFault>
     ensures even { IfOk result IsEvenLines }
 {
     let names = line_names(alloc, tables)?;
-    let ports = numbers(alloc, tables, Key::Port, 1, 65_535)?;
+    let ports = numbers(alloc, tables, Key::Port, 1, u16::MAX)?;
     let addresses = optional_addresses(alloc, tables)?;
     Ok(LineColumns {
         names,
@@ -116,7 +138,7 @@ fn groups(alloc: Global, tables: &[&Table]) -> Result<GroupColumns, SubsFault>
     ensures even { IfOk result IsEvenGroups }
 {
     let names = group_names(alloc, tables)?;
-    let indexes = numbers(alloc, tables, Key::Index, 0, 9_999)?;
+    let indexes = numbers(alloc, tables, Key::Index, 0, MAX_INDEX)?;
     let outgoing_barred = flags(alloc, tables, Key::OutgoingBarred)?;
     let incoming_barred = flags(alloc, tables, Key::IncomingBarred)?;
     Ok(GroupColumns {
@@ -159,10 +181,7 @@ fn are_listed(table: &Table, lines: &[&Table], groups: &[&Table], redirect: Opti
     let own = has_only(table, &STATION_KEYS);
     let lines = all_have_only(lines, &LINE_KEYS);
     let groups = all_have_only(groups, &GROUP_KEYS);
-    let redirect = match redirect {
-        Some(redirect) => has_only(redirect, &REDIRECT_KEYS),
-        None => true,
-    };
+    let redirect = redirect.is_none_or(|redirect| has_only(redirect, &REDIRECT_KEYS));
     own && lines && groups && redirect
 }
 
@@ -176,7 +195,7 @@ fn entry(alloc: Global, table: &Table) -> Result<StationEntry, SubsFault>
     let address = address_at(table, Key::Address)?;
     let line_tables = some_tables_at(alloc, table, Key::Line)?;
     let facilities = facilities(table)?;
-    let preferential = optional_number_at(table, Key::Preferential, 0, 9_999)?;
+    let preferential = optional_number_at(table, Key::Preferential, 0, MAX_INDEX)?;
     let group_tables = tables_at(alloc, table, Key::Group)?;
     let redirect_table = optional_table_at(table, Key::Redirect)?;
     let lines = lines(alloc, &line_tables)?;
@@ -215,8 +234,20 @@ fn read_table(alloc: Global, table: &Table) -> Result<File, SubsFault>
     ensures some { IfOk result (λ file. 0 < length file.stations) }
     ensures even { IfOk result (λ file. All (λ entry. IsEvenLines entry.lines × IsEvenGroups entry.groups) file.stations) }
 {
-    let segment_limit = number_or(table, Key::SegmentLimit, 1, 99_999_999, 99_999_999)?;
-    let journal = number_or(table, Key::Journal, 4, 10_000_000, 1_000_000)?;
+    let segment_limit = number_or(
+        table,
+        Key::SegmentLimit,
+        1,
+        MAX_SEGMENT_LIMIT,
+        MAX_SEGMENT_LIMIT,
+    )?;
+    let journal = number_or(
+        table,
+        Key::Journal,
+        MIN_JOURNAL,
+        MAX_JOURNAL,
+        DEFAULT_JOURNAL,
+    )?;
     let host = host(alloc, table)?;
     let tables = some_tables_at(alloc, table, Key::Station)?;
     if !has_only(table, &TOP_KEYS) {
@@ -235,13 +266,11 @@ fn host(alloc: Global, table: &Table) -> Result<String, SubsFault>
     ensures ok { IfOk result (λ host. defaulted as_str (codes "127.0.0.1") keys.Host (table_view table.now) ≡ Ok (string_bytes host)) }
     ensures refused { IfErr result (λ fault. fault ≢ OutOfMemory → defaulted as_str (codes "127.0.0.1") keys.Host (table_view table.now) ≡ Err fault) }
 {
-    let Some(value) = value_at(table, Key::Host) else {
-        return Ok(String::from_str(alloc, "127.0.0.1")?);
+    let text = match value_at(table, Key::Host) {
+        Some(value) => value.as_str().ok_or(SubsFault::Field(Key::Host))?,
+        None => DEFAULT_HOST,
     };
-    match value.as_str() {
-        Some(text) => Ok(String::from_str(alloc, text)?),
-        None => Err(SubsFault::Field(Key::Host)),
-    }
+    Ok(String::from_str(alloc, text)?)
 }
 
 impl File {

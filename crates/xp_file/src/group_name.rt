@@ -32,8 +32,7 @@ impl GroupName {
         if !is_name(text) {
             return None;
         }
-        let mut octets = ArrayVec::new();
-        let _ = octets.try_extend_from_slice(text.as_bytes());
+        let octets = ArrayVec::try_from(text.as_bytes()).ok()?;
         Some(GroupName { octets })
     }
 
@@ -41,8 +40,7 @@ impl GroupName {
     pub fn copy(&self) -> GroupName
         ensures { result ≡ self.now }
     {
-        let mut octets = ArrayVec::new();
-        let _ = octets.try_extend_from_slice(self.octets.as_slice());
+        let octets = ArrayVec::try_from(self.octets.as_slice()).unwrap();
         GroupName { octets }
     }
 }

@@ -35,10 +35,8 @@ impl LineName {
         if !is_name(text) {
             return None;
         }
-        match ArrayString::from(text) {
-            Ok(text) => Some(LineName { text }),
-            Err(_) => None,
-        }
+        let text = ArrayString::from(text).ok()?;
+        Some(LineName { text })
     }
 
     /// An equal copy.

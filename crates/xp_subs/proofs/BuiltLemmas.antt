@@ -1,5 +1,5 @@
 -- The stations and lines that are built: which line is whose, and what the indexes say of them.
-use Rattle.std.proofs.Common.{◌≡◌, ℕ, zero, suc, ◌+◌, ◌-◌, ◌<◌, ◌≤◌, List, [], ◌∷◌, ◌++◌, Option, None, Some, ◌⊎◌, inl, inr, Contains, All, IsTrue, Ok, length, map, get_or, refl, sym, ap, subst, ◌∙◌, arith, length-append}
+use Rattle.std.proofs.Common.{◌≡◌, ℕ, zero, suc, ◌+◌, ◌-◌, ◌<◌, ◌≤◌, List, [], ◌∷◌, ◌++◌, true, Option, None, Some, ◌⊎◌, inl, inr, Contains, All, IsTrue, Ok, length, map, get_or, refl, sym, ap, subst, ◌∙◌, arith, length-append}
 use Rattle.std.specs.Prelude.{position}
 use Rattle.std.specs.Map.{lookup}
 use Rattle.std.proofs.lemmas.Bool.{cases_lt}
@@ -18,11 +18,12 @@ use Rattle.xp_subs.specs.declared.subs.Subs.TheInside.{Inside}
 use Rattle.xp_subs.specs.Kept.{tables, Keeps}
 use Rattle.xp_subs.specs.Fit.{IsFit, IsFitStation}
 use Rattle.xp_subs.specs.Passes.{Used, nothing_used, line_total, with_stations}
-use Rattle.xp_subs.specs.Sound.{IsSound, IsTarget, Lists}
-use Rattle.xp_subs.specs.Tables.{Tables, no_line, no_station, station_at, line_at, station_of, target_of, line_named_of, has_address, whole_station, one_line, first_target, station_count, line_count, group_count}
+use Rattle.xp_subs.specs.Sound.{IsSound, IsTarget, HasAddress, Lists}
+use Rattle.xp_subs.specs.Tables.{Tables, holds, no_line, no_station, station_at, line_at, station_of, target_of, line_named_of, has_address, whole_station, one_line, first_target, station_count, line_count, group_count}
 use Rattle.xp_subs.proofs.AgreeLemmas.{Agrees, Own, owns, no_own, lead}
 use Rattle.xp_subs.proofs.EntersLemmas.{AllEven, own_list, station_addresses, all_names, all_owns, stations_agree}
 use Rattle.xp_subs.proofs.PositionLemmas.{position-map}
+use Rattle.xp_subs.proofs.TableLemmas.{same_is}
 
 pub even_from : (entries : List StationEntry) → All IsFitStation entries → AllEven entries
 unfolding AllEven
@@ -269,6 +270,35 @@ module _ (tables : Tables) (used : Used)
           subst (IsTarget tables) this (placed l within, (within, refl))
       by None e None f is = absurd (none_is_some is)
 
+held_is : (a : List ℕ) (own : Option (List ℕ)) → holds a own ≡ true → own ≡ Some a
+held_is a None e = cc
+held_is a (Some x) e = ap (λ y. Some y) (sym (same_is a x e))
+
+-- an address leads only to where it stands
+leads_held : (tables : Tables) (a : List ℕ) (target : Target) → target_of tables a ≡ Some target → HasAddress tables target a
+leads_held tables a target found =
+    by (position (λ (s : Station). same a s.address) tables.stations) refl (position (has_address a) tables.lines) refl found
+  where
+    by : (s : Option ℕ) → position (λ (s : Station). same a s.address) tables.stations ≡ s
+        → (l : Option ℕ) → position (has_address a) tables.lines ≡ l
+        → first_target (whole_station s) (one_line tables.lines l) ≡ Some target → HasAddress tables target a
+    by (Some s) e l f is =
+        let (_, here, _) = position-Some (λ (s : Station). same a s.address) tables.stations s no_station e in
+        let this : record { station = s; line = None } ≡ target = cc in
+        subst (λ t. HasAddress tables t a) this (sym (same_is a (station_at tables s).address here))
+    by None e (Some l) f is =
+        let (_, here, _) = position-Some (has_address a) tables.lines l no_line f in
+        let this : record { station = station_of tables l; line = Some l } ≡ target = cc in
+        subst (λ t. HasAddress tables t a) this (held_is a (line_at tables l).address here)
+    by None e None f is = absurd (none_is_some is)
+
+-- and a name only to a line of this name
+name_held : (tables : Tables) (n : List ℕ) (line : ℕ) → line_named_of tables n ≡ Some line
+    → (line < line_count tables) × ((line_at tables line).name ≡ n)
+name_held tables n line found =
+    let (within, here, _) = position-Some (λ (l : Line). same n l.name) tables.lines line no_line found in
+    (within, sym (same_is n (line_at tables line).name here))
+
 -- the facts of a file that is built
 module _ (file : FileData) (used : Used) (fit : IsFit file.stations) (some : 0 < length file.stations)
     (once : with_stations 0 0 file.stations nothing_used ≡ Ok used) where
@@ -348,6 +378,8 @@ module _ (file : FileData) (used : Used) (fit : IsFit file.stations) (some : 0 <
     line_found = line_found (tables_of file) used all_agree;
     named = named (tables_of file) used all_agree;
     target = leads_in (tables_of file) used all_agree (λ line within. (built_placed line within).0);
+    address_held = leads_held (tables_of file);
+    name_held = name_held (tables_of file);
     spelled = built_spelled;
   }
 

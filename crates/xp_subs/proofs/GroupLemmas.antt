@@ -195,7 +195,8 @@ itself : (known : List (List ℕ)) → Extends known known
 unfolding Extends
 itself known = ([], sym (append-nil known))
 
-all_reached : (file : FileData) → IsFit file.stations → group_count (tables_of file) ≡ length (mentions [] file.stations)
+-- the groups are as many as the names that are known
+pub all_reached : (file : FileData) → IsFit file.stations → group_count (tables_of file) ≡ length (mentions [] file.stations)
 unfolding tables_of
 all_reached file fit = stations_reached file.stations 0 [] (mentions [] file.stations) fit.each (itself (mentions [] file.stations))
 

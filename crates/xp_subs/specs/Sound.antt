@@ -15,6 +15,13 @@ IsTarget tables target = (target.station < station_count tables) × one target.l
   one None = Unit {0}
   one (Some line) = (line < line_count tables) × (station_of tables line ≡ target.station)
 
+-- the station, or the one line of it, has this address as its own
+abbrev pub HasAddress : Tables → Target → List ℕ → Type 0
+HasAddress tables target address = one target.line where
+  one : Option ℕ → Type 0
+  one None = (station_at tables target.station).address ≡ address
+  one (Some line) = (line_at tables line).address ≡ Some address
+
 pub record IsSound (tables : Tables) : Type 0 where
   -- at least one line, at most 512, in at most 256 stations
   pub some_line : 0 < line_count tables
@@ -33,7 +40,10 @@ pub record IsSound (tables : Tables) : Type 0 where
       → target_of tables address ≡ Some (record { station = station_of tables line; line = Some line })
   pub named : (line : ℕ) → line < line_count tables
       → line_named_of tables (line_at tables line).name ≡ Some line
-  -- an address leads nowhere else
+  -- and nowhere else
   pub target : (address : List ℕ) (target : Target) → target_of tables address ≡ Some target → IsTarget tables target
+  pub address_held : (address : List ℕ) (target : Target) → target_of tables address ≡ Some target → HasAddress tables target address
+  pub name_held : (name : List ℕ) (line : ℕ) → line_named_of tables name ≡ Some line
+      → (line < line_count tables) × ((line_at tables line).name ≡ name)
   -- each name is one that a line may have
   pub spelled : (line : ℕ) → line < line_count tables → IsTrue (is_line_name (line_at tables line).name)

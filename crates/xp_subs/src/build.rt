@@ -1,10 +1,10 @@
 //! The tables that a subscription file sets up.
-ghost use Rattle.std.specs.Prelude.{◌≡◌, ◌≤◌, ◌<◌, ◌+◌, ◌++◌, [], IfOk, OnOk, length, fold, map, max};
+ghost use Rattle.std.specs.Prelude.{◌≡◌, ◌≤◌, ◌<◌, ◌+◌, ◌++◌, [], IfOk, OnOk, length, fold};
 ghost use Rattle.xp_file.specs.Entries.{IsEvenLines, IsEvenGroups};
 ghost use Rattle.xp_subs.specs.Built.{numbers, lines_of, lines_from, line_in, mention, mentions, group_number, memberships_of, station_from, stations_from};
 ghost use Rattle.xp_subs.specs.Fit.{IsFit, IsFitStation};
-ghost use Rattle.xp_subs.specs.Tables.{groups_among};
 
+use crate::limits::{MAX_GROUPS_OF_STATION, MAX_LINES_OF_STATION};
 use crate::line::Line;
 use crate::station::{Membership, Station};
 use crate::{GroupNo, LineNo, StationNo};
@@ -73,10 +73,6 @@ fn station(entry: &StationEntry, first: LineNo, known: &IndexSet<GroupName>) -> 
     ensures { result ≡ station_from known.now.keys first entry.now }
 {
     let facilities = entry.facilities;
-    let redirect = match &entry.redirect {
-        Some(redirect) => Some(redirect.copy()),
-        None => None,
-    };
     Station {
         address: entry.address.copy(),
         lines: line_numbers(first, entry.lines.names.len()),
@@ -88,11 +84,11 @@ fn station(entry: &StationEntry, first: LineNo, known: &IndexSet<GroupName>) -> 
         incoming_access: facilities.incoming_access,
         preferential: entry.preferential,
         memberships: memberships(&entry.groups, known),
-        redirect,
+        redirect: entry.redirect.as_ref().map(|redirect| redirect.copy()),
     }
 }
 
-fn line_numbers(first: LineNo, count: usize) -> ArrayVec<LineNo, 32>
+fn line_numbers(first: LineNo, count: usize) -> ArrayVec<LineNo, MAX_LINES_OF_STATION>
     requires few { count ≤ 32 }
     requires fits { first + count ≤ 512 }
     ensures { result.items ≡ numbers first count }
@@ -104,7 +100,10 @@ fn line_numbers(first: LineNo, count: usize) -> ArrayVec<LineNo, 32>
     numbers
 }
 
-fn memberships(groups: &GroupColumns, known: &IndexSet<GroupName>) -> ArrayVec<Membership, 64>
+fn memberships(
+    groups: &GroupColumns,
+    known: &IndexSet<GroupName>,
+) -> ArrayVec<Membership, MAX_GROUPS_OF_STATION>
     requires few { length groups.now.names ≤ 64 }
     requires even { IsEvenGroups groups.now }
     requires known { length known.now.keys ≤ 16384 }
@@ -127,10 +126,7 @@ fn group_number(known: &IndexSet<GroupName>, name: &GroupName) -> GroupNo
     requires { length known.now.keys ≤ 16384 }
     ensures { result ≡ group_number known.now.keys name.now }
 {
-    match known.get_index_of(name) {
-        Some(place) => place as GroupNo,
-        None => 0,
-    }
+    known.get_index_of(name).unwrap_or(0) as GroupNo
 }
 
 /// The lines of all stations in order.
@@ -166,35 +162,12 @@ fn line(station: StationNo, columns: &LineColumns, place: usize) -> Line
     requires even { IsEvenLines columns.now }
     ensures { result ≡ line_in station columns.now place }
 {
-    let address = match &columns.addresses[place] {
-        Some(address) => Some(address.copy()),
-        None => None,
-    };
     Line {
         name: columns.names[place].copy(),
         port: columns.ports[place],
-        address,
+        address: columns.addresses[place]
+            .as_ref()
+            .map(|address| address.copy()),
         station,
     }
-}
-
-/// One more than the greatest number of a group.
-pub(crate) fn group_count(stations: &[Station]) -> usize
-    ensures { result ≡ groups_among 0 stations.now }
-{
-    let mut count = 0;
-    for station in stations {
-        count = greatest(count, &station.memberships);
-    }
-    count
-}
-
-fn greatest(least: usize, memberships: &[Membership]) -> usize
-    ensures { result ≡ fold max least (map (λ held. held.group + 1) memberships.now) }
-{
-    let mut most = least;
-    for held in memberships {
-        most = most.max(held.group as usize + 1);
-    }
-    most
 }

@@ -18,10 +18,9 @@ fn has_own_indexes(station: &StationEntry) -> bool
     let groups = &station.groups;
     all_differ(&groups.indexes)
         && all_differ(&groups.names)
-        && match station.preferential {
-            Some(index) => groups.indexes.contains(&index),
-            None => true,
-        }
+        && station
+            .preferential
+            .is_none_or(|index| groups.indexes.contains(&index))
 }
 
 /// Whether no two are equal. A station has few enough groups for a search.

@@ -5,19 +5,19 @@ ghost use Rattle.xp_subs.specs.Passes.{station_over, first_over, line_total, ove
 use xp_file::{Key, StationEntry};
 
 /// The most stations of an exchange.
-const MOST_STATIONS: usize = 256;
+const MAX_STATIONS: usize = 256;
 /// The most lines of an exchange.
-const MOST_LINES: usize = 512;
+const MAX_LINES: usize = 512;
 /// The most lines of a station.
-const MOST_LINES_OF_STATION: usize = 32;
+pub(crate) const MAX_LINES_OF_STATION: usize = 32;
 /// The most groups of a station.
-const MOST_GROUPS_OF_STATION: usize = 64;
+pub(crate) const MAX_GROUPS_OF_STATION: usize = 64;
 
 /// The first limit that the stations pass.
 pub(crate) fn over_limit(stations: &[StationEntry]) -> Option<Key>
     ensures { result ≡ over_limit stations.now }
 {
-    if stations.len() > MOST_STATIONS {
+    if stations.len() > MAX_STATIONS {
         Some(Key::Station)
     } else if has_too_many_lines(stations) {
         Some(Key::Line)
@@ -32,7 +32,7 @@ fn has_too_many_lines(stations: &[StationEntry]) -> bool
     let mut total = 0;
     for station in stations {
         total += station.lines.names.len();
-        if total > MOST_LINES {
+        if total > MAX_LINES {
             return true;
         }
     }
@@ -43,9 +43,8 @@ fn first_over(stations: &[StationEntry]) -> Option<Key>
     ensures { result ≡ first_over stations.now }
 {
     for station in stations {
-        let over = station_over(station);
-        if over.is_some() {
-            return over;
+        if let Some(key) = station_over(station) {
+            return Some(key);
         }
     }
     None
@@ -54,9 +53,9 @@ fn first_over(stations: &[StationEntry]) -> Option<Key>
 fn station_over(station: &StationEntry) -> Option<Key>
     ensures { result ≡ station_over station.now }
 {
-    if station.lines.names.len() > MOST_LINES_OF_STATION {
+    if station.lines.names.len() > MAX_LINES_OF_STATION {
         Some(Key::Line)
-    } else if station.groups.names.len() > MOST_GROUPS_OF_STATION {
+    } else if station.groups.names.len() > MAX_GROUPS_OF_STATION {
         Some(Key::Group)
     } else {
         None

@@ -53,11 +53,10 @@ fn from_file(alloc: Global, file: File, uses: Uses) -> Result<Subs, AllocError>
     let known = build::group_names(alloc, &file.stations)?;
     let stations = build::stations(alloc, &file.stations, &known)?;
     let lines = build::lines(alloc, &file.stations)?;
-    let groups = build::group_count(&stations);
     Ok(Subs {
         stations,
         lines,
-        groups,
+        groups: known.len(),
         segment_limit: file.segment_limit,
         journal: file.journal,
         host: file.host,

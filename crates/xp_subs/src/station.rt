@@ -1,17 +1,19 @@
+use crate::limits::{MAX_GROUPS_OF_STATION, MAX_LINES_OF_STATION};
 use crate::{GroupNo, LineNo};
 use arrayvec::ArrayVec;
 use xp_file::Redirection;
 use xp_packets::Digits;
 
-/// A station's membership of a closed user group (X.25 clause 6.14).
+/// A station's membership of a closed user group, with the calls that are barred to it there (X.25 clauses 6.14.1,
+/// 6.14.4 and 6.14.5).
 #[derive(Clone, Copy, Debug, Default, PartialEq, Eq)]
 pub struct Membership {
     pub group: GroupNo,
     /// The number by which the station selects the group, 0 to 9,999.
     pub index: u16,
-    /// Outgoing calls barred within the group (X.25 clause 6.14.4).
+    /// Outgoing calls barred within the group.
     pub outgoing_barred: bool,
-    /// Incoming calls barred within the group (X.25 clause 6.14.5).
+    /// Incoming calls barred within the group.
     pub incoming_barred: bool,
 }
 
@@ -21,7 +23,7 @@ pub struct Station {
     /// 1 to 15 digits.
     pub address: Digits,
     /// Its lines in order, at least one.
-    pub lines: ArrayVec<LineNo, 32>,
+    pub lines: ArrayVec<LineNo, MAX_LINES_OF_STATION>,
     /// Outgoing calls barred (X.25 clause 6.6).
     pub outgoing_barred: bool,
     /// Incoming calls barred (X.25 clause 6.5).
@@ -36,6 +38,6 @@ pub struct Station {
     pub incoming_access: bool,
     /// The index of the preferential group, one of the memberships'.
     pub preferential: Option<u16>,
-    pub memberships: ArrayVec<Membership, 64>,
+    pub memberships: ArrayVec<Membership, MAX_GROUPS_OF_STATION>,
     pub redirect: Option<Redirection>,
 }

@@ -49,10 +49,7 @@ impl Subs {
         ensures found { result ≡ line_named_of self.now name.now }
         ensures line { IfSome result (λ line. line < line_count self.now) }
     {
-        match LineName::read(name) {
-            Some(name) => self.names.get(&name).copied(),
-            None => None,
-        }
+        self.names.get(&LineName::read(name)?).copied()
     }
 
     /// A station with all to which it subscribes.

@@ -48,9 +48,8 @@ impl Uses {
         ensures ok { OnOk result (with_address target address.now self.old ≡ Ok self.new) }
         ensures refused { IfErr result (λ fault. fault ≢ OutOfMemory → with_address target address.now self.old ≡ Err fault) }
     {
-        match self.targets.insert(address.copy(), target)? {
-            Some(_) => return Err(SubsFault::TwiceUsed(Key::Address)),
-            None => {}
+        if self.targets.insert(address.copy(), target)?.is_some() {
+            return Err(SubsFault::TwiceUsed(Key::Address));
         }
         Ok(())
     }
@@ -59,9 +58,8 @@ impl Uses {
         ensures ok { OnOk result (with_name line name.now self.old ≡ Ok self.new) }
         ensures refused { IfErr result (λ fault. fault ≢ OutOfMemory → with_name line name.now self.old ≡ Err fault) }
     {
-        match self.names.insert(name.copy(), line)? {
-            Some(_) => return Err(SubsFault::TwiceUsed(Key::Name)),
-            None => {}
+        if self.names.insert(name.copy(), line)?.is_some() {
+            return Err(SubsFault::TwiceUsed(Key::Name));
         }
         Ok(())
     }
@@ -70,11 +68,10 @@ impl Uses {
         ensures ok { OnOk result (with_port port self.old ≡ Ok self.new) }
         ensures refused { IfErr result (λ fault. fault ≢ OutOfMemory → with_port port self.old ≡ Err fault) }
     {
-        if self.ports.insert(port)? {
-            Ok(())
-        } else {
-            Err(SubsFault::TwiceUsed(Key::Port))
+        if !self.ports.insert(port)? {
+            return Err(SubsFault::TwiceUsed(Key::Port));
         }
+        Ok(())
     }
 
     fn enter_names(&mut self, first: LineNo, names: &[LineName]) -> Result<(), SubsFault>

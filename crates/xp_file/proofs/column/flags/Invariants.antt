@@ -1,8 +1,0 @@
-use Rattle.std.proofs.Common.{◌≡◌, Ok, map, take}
-use Rattle.toml.specs.View.{table_view}
-use Rattle.xp_file.specs.Reading.{each, flag}
-use Rattle.xp_file.proofs.column.flags.Given as goal
-
-abbrev pub invariant-loop-table : goal.invariant-loop-table
-invariant-loop-table l =
-    each (flag l.key) (map (λ table. table_view table.now) (take l.table-index l.tables)) ≡ Ok l.flags.items
