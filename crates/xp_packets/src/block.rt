@@ -1,4 +1,4 @@
-//! The block of addresses, facilities and user data (X.25 clauses 5.2.1 to 5.2.4).
+//! The block of addresses, facilities and user data (X.25 clauses 5.2.1 to 5.2.5).
 
 ghost use Rattle.std.specs.Prelude.{◌≡◌, ◌≤◌, ◌++◌, false, length, IfOk, OnOk};
 ghost use Rattle.xp_packets.specs.Addresses.{AreAddresses, BlockHasAddresses};
@@ -13,14 +13,14 @@ use crate::octets::{Octets, octets_of};
 use std::alloc::{AllocError, Allocator, Global};
 
 /// The address block, facilities and user data of a call set-up or clearing packet
-/// (X.25 clauses 5.2.1 to 5.2.4).
+/// (X.25 clauses 5.2.1 to 5.2.5).
 #[derive(Debug, Drop, PartialEq)]
 pub struct Block<A: Allocator = Global> {
     pub called: Digits,
     pub calling: Digits,
     /// At most 109 octets.
     pub facilities: Octets<A>,
-    /// At most 128 octets.
+    /// User data, at most 128 octets; none in a clear confirmation.
     pub user: Octets<A>,
 }
 
@@ -105,10 +105,10 @@ fn fields_of(octets: &[u8]) -> Result<(&[u8], &[u8]), PacketFault>
     }
 }
 
-/// Octets of facilities (clause 5.2.1).
+/// Octets of facilities (clause 5.2.2).
 pub(crate) const MOST_FACILITIES: usize = 109;
 
-/// Octets of user data (clause 5.2.1).
+/// Octets of user data (clause 5.2.2).
 pub(crate) const MOST_USER: usize = 128;
 
 /// Writes a block, with both length octets.

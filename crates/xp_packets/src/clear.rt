@@ -1,4 +1,4 @@
-//! Clearing packets (X.25 clauses 5.2.3 and 5.2.4).
+//! Clearing packets (X.25 clauses 5.2.4 and 5.2.5).
 
 ghost use Rattle.std.specs.Prelude.{◌≡◌, ◌++◌, OnOk};
 ghost use Rattle.xp_packets.specs.Reading.{Gives, clear_at, confirm_at};
@@ -43,7 +43,7 @@ pub(crate) fn confirm_of<A: Allocator + Copy>(
     match optional_block_of(alloc, rest)? {
         None => Ok(Packet::ClearConfirm { block: None }),
         Some(block) => {
-            if block.user.len() > 0 {
+            if !block.user.is_empty() {
                 return Err(PacketFault::Wrong(Wrong::Long));
             }
             Ok(Packet::ClearConfirm { block: Some(block) })
@@ -51,7 +51,7 @@ pub(crate) fn confirm_of<A: Allocator + Copy>(
     }
 }
 
-/// Writes the cause of a clear or a reset, and its diagnostic where it has one.
+/// Writes the cause of a clear or a reset, and its diagnostic where it has one (clauses 5.2.4 and 5.4.3).
 pub(crate) fn push_cause<A: Allocator>(
     out: &mut Vec<u8, A>,
     cause: u8,

@@ -7,23 +7,25 @@ use std::alloc::{AllocError, Allocator, Global};
 /// A packet between a DTE and the exchange (X.25 clause 5), without its logical channel identifier.
 #[derive(Debug, Drop, PartialEq)]
 pub enum Packet<A: Allocator = Global> {
-    /// Call request and incoming call (clause 5.2.1).
+    /// Call request and incoming call (clause 5.2.2).
     Call {
+        /// The D bit.
         d: bool,
         block: Block<A>,
     },
-    /// Call accepted and call connected (clause 5.2.2).
+    /// Call accepted and call connected (clause 5.2.3).
     Accepted {
+        /// The D bit.
         d: bool,
         block: Option<Block<A>>,
     },
-    /// Clear request and clear indication (clause 5.2.3).
+    /// Clear request and clear indication (clause 5.2.4). A block stands only behind a diagnostic.
     Clear {
         cause: u8,
         diagnostic: Option<u8>,
         block: Option<Block<A>>,
     },
-    /// Clear confirmation (clause 5.2.4).
+    /// Clear confirmation (clause 5.2.5), whose block has no user data.
     ClearConfirm {
         block: Option<Block<A>>,
     },
@@ -32,24 +34,31 @@ pub enum Packet<A: Allocator = Global> {
         q: bool,
         d: bool,
         more: bool,
+        /// P(S), 0 to 7.
         ps: u8,
+        /// P(R), 0 to 7.
         pr: u8,
+        /// 0 to 1,024 octets of user data.
         octets: Octets<A>,
     },
     /// Receive ready (clause 5.4.1).
     Ready {
+        /// P(R), 0 to 7.
         pr: u8,
     },
     /// Receive not ready (clause 5.4.2).
     NotReady {
+        /// P(R), 0 to 7.
         pr: u8,
     },
     /// Reject (clause 5.7.1).
     Reject {
+        /// P(R), 0 to 7.
         pr: u8,
     },
     /// Interrupt (clause 5.3.2).
     Interrupt {
+        /// 1 to 32 octets of user data.
         octets: Octets<A>,
     },
     /// Interrupt confirmation (clause 5.3.3).
