@@ -24,13 +24,13 @@ pub(crate) fn addresses_of(
     let count = called + calling;
     let size = (count + 1) / 2;
     if octets.len() < size {
-        return Err(PacketFault::Wrong(Wrong::Address));
+        return Err(Wrong::Address.into());
     }
     let (run, rest) = octets.split_at(size);
     let to = digits_of(run, 0, called)?;
     let by = digits_of(run, called, calling)?;
     if count % 2 == 1 && half_octet(run, count) != 0 {
-        return Err(PacketFault::Wrong(Wrong::Address));
+        return Err(Wrong::Address.into());
     }
     Ok((to, by, rest))
 }
@@ -45,7 +45,7 @@ fn digits_of(octets: &[u8], from: usize, count: usize) -> Result<Digits, PacketF
     for place in 0..count {
         let digit = half_octet(octets, from + place);
         if digit >= 10 {
-            return Err(PacketFault::Wrong(Wrong::Address));
+            return Err(Wrong::Address.into());
         }
         digits.push(digit);
     }

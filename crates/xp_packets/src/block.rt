@@ -14,7 +14,7 @@ use std::alloc::{AllocError, Allocator, Global};
 
 /// The address block, facilities and user data of a call set-up or clearing packet
 /// (X.25 clauses 5.2.1 to 5.2.5).
-#[derive(Debug, Drop, PartialEq)]
+#[derive(Clone, Debug, Drop, PartialEq)]
 pub struct Block<A: Allocator = Global> {
     pub called: Digits,
     pub calling: Digits,
@@ -29,14 +29,7 @@ impl<A: Allocator + Copy> Block<A> {
     pub fn copy(&self) -> Result<Block<A>, AllocError>
         ensures { IfOk result (λ copied. copied ≡ self.now) }
     {
-        let facilities = self.facilities.copy()?;
-        let user = self.user.copy()?;
-        Ok(Block {
-            called: self.called.copy(),
-            calling: self.calling.copy(),
-            facilities,
-            user,
-        })
+        self.clone()
     }
 }
 
@@ -49,7 +42,7 @@ pub(crate) fn block_of<A: Allocator + Copy>(
     ensures { Gives (λ x. x) result (block_at octets.now) }
 {
     match octets {
-        [] => Err(PacketFault::Wrong(Wrong::Short)),
+        [] => Err(Wrong::Short.into()),
         [lengths, rest @ ..] => {
             let called = usize::from(*lengths % 16);
             let calling = usize::from(*lengths / 16);
@@ -94,11 +87,11 @@ fn fields_of(octets: &[u8]) -> Result<(&[u8], &[u8]), PacketFault>
         [size, rest @ ..] => {
             let size = usize::from(*size);
             if size > MOST_FACILITIES || rest.len() < size {
-                return Err(PacketFault::Wrong(Wrong::Facilities));
+                return Err(Wrong::Facilities.into());
             }
             let (facilities, user) = rest.split_at(size);
             if user.len() > MOST_USER {
-                return Err(PacketFault::Wrong(Wrong::Long));
+                return Err(Wrong::Long.into());
             }
             Ok((facilities, user))
         }

@@ -15,7 +15,7 @@ pub(crate) fn clear_of<A: Allocator + Copy>(alloc: A, rest: &[u8]) -> Result<Pac
     ensures { Gives (λ x. x) result (clear_at rest.now) }
 {
     match rest {
-        [] => Err(PacketFault::Wrong(Wrong::Short)),
+        [] => Err(Wrong::Short.into()),
         [cause] => Ok(Packet::Clear {
             cause: *cause,
             diagnostic: None,
@@ -44,7 +44,7 @@ pub(crate) fn confirm_of<A: Allocator + Copy>(
         None => Ok(Packet::ClearConfirm { block: None }),
         Some(block) => {
             if !block.user.is_empty() {
-                return Err(PacketFault::Wrong(Wrong::Long));
+                return Err(Wrong::Long.into());
             }
             Ok(Packet::ClearConfirm { block: Some(block) })
         }

@@ -1,6 +1,6 @@
 ghost use Rattle.std.specs.Prelude.{◌≡◌};
 ghost use Rattle.xp_packets.specs.Diagnostics.{diagnostic_of};
-ghost use Rattle.xp_packets.specs.declared.fault.PacketFault.TheVariants.{Memory};
+ghost use Rattle.xp_packets.specs.declared.fault.PacketFault.TheVariants.{Memory, Wrong as Said};
 
 use std::alloc::AllocError;
 use thiserror::Error;
@@ -53,6 +53,14 @@ pub enum PacketFault {
     /// No memory was left, which no diagnostic tells.
     #[error("out of memory")]
     Memory,
+}
+
+impl From<Wrong> for PacketFault {
+    ghost from_gives = { λ wrong fault. fault ≡ Said wrong };
+
+    fn from(wrong: Wrong) -> PacketFault {
+        PacketFault::Wrong(wrong)
+    }
 }
 
 impl From<AllocError> for PacketFault {

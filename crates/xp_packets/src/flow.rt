@@ -14,6 +14,6 @@ pub(crate) fn alone<A: Allocator>(packet: Packet<A>, rest: &[u8]) -> Result<Pack
 {
     match rest {
         [] => Ok(packet),
-        [_, ..] => Err(PacketFault::Wrong(Wrong::Long)),
+        [_, ..] => Err(Wrong::Long.into()),
     }
 }

@@ -31,7 +31,7 @@ pub(crate) fn header_of(octets: &[u8]) -> Result<(Header, &[u8]), PacketFault>
     match octets {
         [first, number, octet, rest @ ..] => {
             if has_wrong_format(*first, *octet) {
-                return Err(PacketFault::Wrong(Wrong::Format));
+                return Err(Wrong::Format.into());
             }
             match Kind::of(*octet) {
                 Some(kind) => {
@@ -44,10 +44,10 @@ pub(crate) fn header_of(octets: &[u8]) -> Result<(Header, &[u8]), PacketFault>
                     };
                     Ok((header, rest))
                 }
-                None => Err(PacketFault::Wrong(Wrong::Unknown)),
+                None => Err(Wrong::Unknown.into()),
             }
         }
-        _ => Err(PacketFault::Wrong(Wrong::Short)),
+        _ => Err(Wrong::Short.into()),
     }
 }
 

@@ -33,12 +33,9 @@ pub fn encode<A: Allocator>(
     ensures refused { IfErr result (λ fault. Refuses fault (unfit identifier packet.now)) }
 {
     if let Some(wrong) = first_unfit(identifier, packet) {
-        return Err(PacketFault::Wrong(wrong));
+        return Err(wrong.into());
     }
-    match written_of(alloc, identifier, packet) {
-        Ok(octets) => Ok(octets),
-        Err(_) => Err(PacketFault::Memory),
-    }
+    Ok(written_of(alloc, identifier, packet)?)
 }
 
 fn written_of<A: Allocator>(
