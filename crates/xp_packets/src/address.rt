@@ -59,9 +59,9 @@ fn half_octet(octets: &[u8], place: usize) -> u8
 {
     let octet = octets[place / 2];
     if place % 2 == 0 {
-        octet / 16
+        octet >> 4
     } else {
-        octet % 16
+        octet & 0x0f
     }
 }
 
@@ -80,7 +80,7 @@ pub(crate) fn push_addresses<A: Allocator>(
     for place in 0..(count + 1) / 2 {
         let high = digit_at(called, calling, 2 * place);
         let low = digit_at(called, calling, 2 * place + 1);
-        out.push(16 * high + low)?;
+        out.push((high << 4) | low)?;
     }
     Ok(())
 }

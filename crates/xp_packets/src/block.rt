@@ -44,8 +44,8 @@ pub(crate) fn block_of<A: Allocator + Copy>(
     match octets {
         [] => Err(Wrong::Short.into()),
         [lengths, rest @ ..] => {
-            let called = usize::from(*lengths % 16);
-            let calling = usize::from(*lengths / 16);
+            let called = usize::from(*lengths & 0x0f);
+            let calling = usize::from(*lengths >> 4);
             let (called, calling, rest) = addresses_of(called, calling, rest)?;
             let (facilities, user) = fields_of(rest)?;
             let facilities = octets_of(alloc, facilities)?;
@@ -70,10 +70,7 @@ pub(crate) fn optional_block_of<A: Allocator + Copy>(
 {
     match octets {
         [] => Ok(None),
-        [_, ..] => {
-            let block = block_of(alloc, octets)?;
-            Ok(Some(block))
-        }
+        [_, ..] => { Ok(Some(block_of(alloc, octets)?)) }
     }
 }
 
@@ -116,7 +113,7 @@ pub(crate) fn push_block<A: Allocator>(
     let called = block.called.len() as u8;
     let calling = block.calling.len() as u8;
     let size = block.facilities.len() as u8;
-    out.push(16 * calling + called)?;
+    out.push((calling << 4) | called)?;
     push_addresses(out, &block.called, &block.calling)?;
     out.push(size)?;
     out.extend_from_slice(block.facilities.as_slice())?;

@@ -5,7 +5,7 @@ ghost use Rattle.xp_packets.specs.declared.fault.PacketFault.TheVariants.{Memory
 use std::alloc::AllocError;
 use thiserror::Error;
 
-/// Why octets are no packet, in the order in which this is examined.
+/// Why octets are no packet, or why a packet has no octets, in the order in which this is examined.
 #[derive(Clone, Copy, Debug, PartialEq, Eq, Error)]
 pub enum Wrong {
     /// Fewer than three octets, or a cause, a block or interrupt data that has to stand there is missing; diagnostic 38.

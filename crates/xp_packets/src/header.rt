@@ -84,7 +84,7 @@ fn has_d(first: u8) -> bool
 fn has_wrong_flags(q: bool, d: bool, octet: u8) -> bool
     ensures { result ≡ wrong_flags q d octet }
 {
-    octet % 2 == 1
+    octet & 1 == 1
         && (q || (!(octet == Kind::Call.octet() || octet == Kind::Accepted.octet()) && d))
 }
 

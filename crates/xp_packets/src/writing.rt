@@ -22,7 +22,10 @@ use std::alloc::{AllocError, Allocator};
 /// # Errors
 ///
 /// `Wrong` with the first reason, in the order of examination, why `decode` could never give this
-/// packet; for such as it could give only `Memory`.
+/// packet: `Short` where an interrupt has no data or a clear a block without a diagnostic, `Format`
+/// where the identifier is over 4,095 or P(S) or P(R) over 7, `Facilities` where there are over 109
+/// octets of them, `Long` where there is more data than a packet of its kind carries. `Memory` only
+/// where none of these holds.
 pub fn encode<A: Allocator>(
     alloc: A,
     identifier: u16,
