@@ -1,3 +1,4 @@
+pub mod BitLemmas
 pub mod DigitLemmas
 pub mod HalfOctets
 pub mod Results

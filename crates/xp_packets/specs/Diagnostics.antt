@@ -1,4 +1,4 @@
--- The diagnostic codes of X.25 annex E for octets that are no packet.
+-- The diagnostic codes of X.25 Annex E for octets that are no packet.
 use Rattle.std.specs.Prelude.{ℕ}
 use Rattle.xp_packets.specs.declared.fault.Wrong.{Wrong}
 use Rattle.xp_packets.specs.declared.fault.Wrong.TheVariants.{Short, Format, Unknown, Address, Facilities, Long}

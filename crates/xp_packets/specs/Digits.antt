@@ -1,4 +1,4 @@
--- The digits of an address (X.25 clause 5.2.1.1.1).
+-- The digits of an address (X.25 clause 5.2.1).
 use Rattle.std.specs.Prelude.{◌≡◌, ℕ, ◌+◌, ◌/◌, ◌%◌, ◌<◌, ◌≤◌, ◌==◌, if◌then◌else◌, List, [], ◌∷◌, ◌++◌, length, map}
 
 -- each is 0 to 9

@@ -14,7 +14,7 @@ lacks_octet (Clear cause None (Some block)) = true
 lacks_octet (Interrupt octets) = length octets == 0
 lacks_octet _ = false
 
--- P(S) or P(R) is none of the modulus
+-- P(S) or P(R) is over 7
 abbrev pub has_wrong_number : {A : Type 0} → Packet A → Bool
 has_wrong_number (DataPacket q d more ps pr octets) = is_over ps || is_over pr
 has_wrong_number (Ready pr) = is_over pr

@@ -1,4 +1,4 @@
--- P(S), P(R) and the M bit in a type octet (X.25 clauses 5.3.1 and 5.4), modulo 8.
+-- P(S), P(R) and the M bit in a type octet (X.25 clauses 5.3.1, 5.4.1, 5.4.2 and 5.7.1), modulo 8.
 use Rattle.std.specs.Prelude.{ℕ, ◌+◌, ◌*◌, ◌/◌, ◌%◌, ◌==◌, nat_lt, Bool}
 use Rattle.xp_packets.specs.declared.kind.Kind.{Kind}
 use Rattle.xp_packets.specs.Heading.{bit}

@@ -9,7 +9,7 @@ use Rattle.xp_packets.specs.Heading.{Begins}
 use Rattle.xp_packets.specs.Kinds.{octet_of}
 use Rattle.xp_packets.specs.Numbers.{modulus, data_octet, flow_octet}
 
--- The octet of facility length, the facilities, and user data up to the packet's end (clause 5.2.1).
+-- The octet of facility length, the facilities, and user data up to the packet's end (clause 5.2.2).
 abbrev pub WritesFields : List ℕ → List ℕ → List ℕ → Type 0
 WritesFields [] facilities user = ⊥
 WritesFields (size ∷ rest) facilities user =
@@ -21,7 +21,7 @@ SpellsFields [] facilities user = (facilities ≡ []) × (user ≡ [])
 SpellsFields (size ∷ rest) facilities user = WritesFields (size ∷ rest) facilities user
 
 -- A block: one octet with the calling length in bits 8 to 5 and the called length in bits 4 to 1, the digits, and what
--- stands after them (clause 5.2.1).
+-- stands after them (clauses 5.2.1 and 5.2.2).
 pub record BlockBy (Fields : List ℕ → List ℕ → List ℕ → Type 0) (A : Type 0) (octets : List ℕ) (block : Block A) : Type 0 where
   pub digits : List ℕ
   pub rest : List ℕ

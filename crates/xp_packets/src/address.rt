@@ -24,13 +24,13 @@ pub(crate) fn addresses_of(
     let count = called + calling;
     let size = (count + 1) / 2;
     if octets.len() < size {
-        return Err(PacketFault::Wrong(Wrong::Address));
+        return Err(Wrong::Address.into());
     }
     let (run, rest) = octets.split_at(size);
     let to = digits_of(run, 0, called)?;
     let by = digits_of(run, called, calling)?;
     if count % 2 == 1 && half_octet(run, count) != 0 {
-        return Err(PacketFault::Wrong(Wrong::Address));
+        return Err(Wrong::Address.into());
     }
     Ok((to, by, rest))
 }
@@ -45,7 +45,7 @@ fn digits_of(octets: &[u8], from: usize, count: usize) -> Result<Digits, PacketF
     for place in 0..count {
         let digit = half_octet(octets, from + place);
         if digit >= 10 {
-            return Err(PacketFault::Wrong(Wrong::Address));
+            return Err(Wrong::Address.into());
         }
         digits.push(digit);
     }
@@ -59,9 +59,9 @@ fn half_octet(octets: &[u8], place: usize) -> u8
 {
     let octet = octets[place / 2];
     if place % 2 == 0 {
-        octet / 16
+        octet >> 4
     } else {
-        octet % 16
+        octet & 0x0f
     }
 }
 
@@ -80,7 +80,7 @@ pub(crate) fn push_addresses<A: Allocator>(
     for place in 0..(count + 1) / 2 {
         let high = digit_at(called, calling, 2 * place);
         let low = digit_at(called, calling, 2 * place + 1);
-        out.push(16 * high + low)?;
+        out.push((high << 4) | low)?;
     }
     Ok(())
 }

@@ -1,4 +1,4 @@
-//! The block of addresses, facilities and user data (X.25 clauses 5.2.1 to 5.2.4).
+//! The block of addresses, facilities and user data (X.25 clauses 5.2.1 to 5.2.5).
 
 ghost use Rattle.std.specs.Prelude.{◌≡◌, ◌≤◌, ◌++◌, false, length, IfOk, OnOk};
 ghost use Rattle.xp_packets.specs.Addresses.{AreAddresses, BlockHasAddresses};
@@ -13,14 +13,14 @@ use crate::octets::{Octets, octets_of};
 use std::alloc::{AllocError, Allocator, Global};
 
 /// The address block, facilities and user data of a call set-up or clearing packet
-/// (X.25 clauses 5.2.1 to 5.2.4).
-#[derive(Debug, Drop, PartialEq)]
+/// (X.25 clauses 5.2.1 to 5.2.5).
+#[derive(Clone, Debug, Drop, PartialEq)]
 pub struct Block<A: Allocator = Global> {
     pub called: Digits,
     pub calling: Digits,
     /// At most 109 octets.
     pub facilities: Octets<A>,
-    /// At most 128 octets.
+    /// User data, at most 128 octets; none in a clear confirmation.
     pub user: Octets<A>,
 }
 
@@ -29,14 +29,7 @@ impl<A: Allocator + Copy> Block<A> {
     pub fn copy(&self) -> Result<Block<A>, AllocError>
         ensures { IfOk result (λ copied. copied ≡ self.now) }
     {
-        let facilities = self.facilities.copy()?;
-        let user = self.user.copy()?;
-        Ok(Block {
-            called: self.called.copy(),
-            calling: self.calling.copy(),
-            facilities,
-            user,
-        })
+        self.clone()
     }
 }
 
@@ -49,10 +42,10 @@ pub(crate) fn block_of<A: Allocator + Copy>(
     ensures { Gives (λ x. x) result (block_at octets.now) }
 {
     match octets {
-        [] => Err(PacketFault::Wrong(Wrong::Short)),
+        [] => Err(Wrong::Short.into()),
         [lengths, rest @ ..] => {
-            let called = usize::from(*lengths % 16);
-            let calling = usize::from(*lengths / 16);
+            let called = usize::from(*lengths & 0x0f);
+            let calling = usize::from(*lengths >> 4);
             let (called, calling, rest) = addresses_of(called, calling, rest)?;
             let (facilities, user) = fields_of(rest)?;
             let facilities = octets_of(alloc, facilities)?;
@@ -77,10 +70,7 @@ pub(crate) fn optional_block_of<A: Allocator + Copy>(
 {
     match octets {
         [] => Ok(None),
-        [_, ..] => {
-            let block = block_of(alloc, octets)?;
-            Ok(Some(block))
-        }
+        [_, ..] => { Ok(Some(block_of(alloc, octets)?)) }
     }
 }
 
@@ -94,21 +84,21 @@ fn fields_of(octets: &[u8]) -> Result<(&[u8], &[u8]), PacketFault>
         [size, rest @ ..] => {
             let size = usize::from(*size);
             if size > MOST_FACILITIES || rest.len() < size {
-                return Err(PacketFault::Wrong(Wrong::Facilities));
+                return Err(Wrong::Facilities.into());
             }
             let (facilities, user) = rest.split_at(size);
             if user.len() > MOST_USER {
-                return Err(PacketFault::Wrong(Wrong::Long));
+                return Err(Wrong::Long.into());
             }
             Ok((facilities, user))
         }
     }
 }
 
-/// Octets of facilities (clause 5.2.1).
+/// Octets of facilities (clause 5.2.2).
 pub(crate) const MOST_FACILITIES: usize = 109;
 
-/// Octets of user data (clause 5.2.1).
+/// Octets of user data (clause 5.2.2).
 pub(crate) const MOST_USER: usize = 128;
 
 /// Writes a block, with both length octets.
@@ -123,7 +113,7 @@ pub(crate) fn push_block<A: Allocator>(
     let called = block.called.len() as u8;
     let calling = block.calling.len() as u8;
     let size = block.facilities.len() as u8;
-    out.push(16 * calling + called)?;
+    out.push((calling << 4) | called)?;
     push_addresses(out, &block.called, &block.calling)?;
     out.push(size)?;
     out.extend_from_slice(block.facilities.as_slice())?;

@@ -1,4 +1,4 @@
-//! Call set-up packets (X.25 clauses 5.2.1 and 5.2.2).
+//! Call set-up packets (X.25 clauses 5.2.2 and 5.2.3).
 
 ghost use Rattle.std.specs.Prelude.{◌≡◌};
 ghost use Rattle.xp_packets.specs.Reading.{Gives, accepted_at, call_at};

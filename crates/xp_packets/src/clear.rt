@@ -1,4 +1,4 @@
-//! Clearing packets (X.25 clauses 5.2.3 and 5.2.4).
+//! Clearing packets (X.25 clauses 5.2.4 and 5.2.5).
 
 ghost use Rattle.std.specs.Prelude.{◌≡◌, ◌++◌, OnOk};
 ghost use Rattle.xp_packets.specs.Reading.{Gives, clear_at, confirm_at};
@@ -15,7 +15,7 @@ pub(crate) fn clear_of<A: Allocator + Copy>(alloc: A, rest: &[u8]) -> Result<Pac
     ensures { Gives (λ x. x) result (clear_at rest.now) }
 {
     match rest {
-        [] => Err(PacketFault::Wrong(Wrong::Short)),
+        [] => Err(Wrong::Short.into()),
         [cause] => Ok(Packet::Clear {
             cause: *cause,
             diagnostic: None,
@@ -43,15 +43,15 @@ pub(crate) fn confirm_of<A: Allocator + Copy>(
     match optional_block_of(alloc, rest)? {
         None => Ok(Packet::ClearConfirm { block: None }),
         Some(block) => {
-            if block.user.len() > 0 {
-                return Err(PacketFault::Wrong(Wrong::Long));
+            if !block.user.is_empty() {
+                return Err(Wrong::Long.into());
             }
             Ok(Packet::ClearConfirm { block: Some(block) })
         }
     }
 }
 
-/// Writes the cause of a clear or a reset, and its diagnostic where it has one.
+/// Writes the cause of a clear or a reset, and its diagnostic where it has one (clauses 5.2.4 and 5.4.3).
 pub(crate) fn push_cause<A: Allocator>(
     out: &mut Vec<u8, A>,
     cause: u8,

@@ -23,7 +23,7 @@ pub(crate) fn data_of<A: Allocator>(
     ensures { Gives (λ x. x) result (data_at header.now.q header.now.d header.now.octet rest.now) }
 {
     if rest.len() > MOST_DATA {
-        return Err(PacketFault::Wrong(Wrong::Long));
+        return Err(Wrong::Long.into());
     }
     let octets = octets_of(alloc, rest)?;
     Ok(Packet::DataPacket {

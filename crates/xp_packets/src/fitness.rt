@@ -12,7 +12,7 @@ use crate::numbers::is_over;
 use crate::packet::Packet;
 use std::alloc::Allocator;
 
-/// The greatest logical channel identifier (X.25 clause 5.1).
+/// The greatest logical channel identifier (X.25 clauses 5.1.2 and 5.1.3).
 const MOST_IDENTIFIER: u16 = 4095;
 
 /// The first reason, in the order of examination, why no octets spell the packet.
@@ -44,12 +44,12 @@ fn lacks_octet<A: Allocator>(packet: &Packet<A>) -> bool
             block: Some(_),
             ..
         } => true,
-        Packet::Interrupt { octets } => octets.len() == 0,
+        Packet::Interrupt { octets } => octets.is_empty(),
         _ => false,
     }
 }
 
-/// P(S) or P(R) is none of the modulus.
+/// P(S) or P(R) is over 7.
 fn has_wrong_number<A: Allocator>(packet: &Packet<A>) -> bool
     ensures { result ≡ has_wrong_number packet.now }
 {

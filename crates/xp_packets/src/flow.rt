@@ -1,4 +1,4 @@
-//! Packets that end after their type: flow control and confirmations (X.25 clauses 5.3.3, 5.4 and 5.7.1).
+//! Packets that end after their type: flow control and confirmations (X.25 clauses 5.3.3, 5.4.1, 5.4.2, 5.4.4 and 5.7.1).
 
 ghost use Rattle.std.specs.Prelude.{◌≡◌};
 ghost use Rattle.xp_packets.specs.Reading.{Gives, alone_at};
@@ -14,6 +14,6 @@ pub(crate) fn alone<A: Allocator>(packet: Packet<A>, rest: &[u8]) -> Result<Pack
 {
     match rest {
         [] => Ok(packet),
-        [_, ..] => Err(PacketFault::Wrong(Wrong::Long)),
+        [_, ..] => Err(Wrong::Long.into()),
     }
 }

@@ -1,6 +1,6 @@
 //! The first three octets of every packet (X.25 clause 5.1).
 
-ghost use Rattle.std.specs.Prelude.{◌≡◌, ◌<◌, ◌++◌, OnOk};
+ghost use Rattle.std.specs.Prelude.{◌≡◌, ◌<◌, ◌/◌, ◌%◌, ◌==◌, nat_le, ◌++◌, OnOk};
 ghost use Rattle.xp_packets.specs.Heading.{bit, heading, wrong_flags, wrong_format};
 ghost use Rattle.xp_packets.specs.Reading.{Gives, header_at};
 
@@ -8,8 +8,17 @@ use crate::fault::{PacketFault, Wrong};
 use crate::kind::Kind;
 use std::alloc::{AllocError, Allocator};
 
-/// Bits 6 and 5 of octet 1 for modulo 8 (clause 5.1.1).
-const MODULUS_BITS: u8 = 1;
+/// The qualifier bit, bit 8 of octet 1 (clause 5.1.1).
+const Q_BIT: u8 = 0x80;
+
+/// The delivery confirmation bit, bit 7 of octet 1.
+const D_BIT: u8 = 0x40;
+
+/// Bits 6 and 5 of octet 1 for modulo 8.
+const MODULO_8: u8 = 1;
+
+/// Bits 4 to 1 of octet 1, the logical channel group number (clause 5.1.2).
+const GROUP_BITS: u8 = 0x0f;
 
 /// What the general format identifier, the logical channel identifier and the packet type
 /// identifier say.
@@ -31,23 +40,23 @@ pub(crate) fn header_of(octets: &[u8]) -> Result<(Header, &[u8]), PacketFault>
     match octets {
         [first, number, octet, rest @ ..] => {
             if has_wrong_format(*first, *octet) {
-                return Err(PacketFault::Wrong(Wrong::Format));
+                return Err(Wrong::Format.into());
             }
             match Kind::of(*octet) {
                 Some(kind) => {
                     let header = Header {
-                        identifier: u16::from(*first % 16) * 256 + u16::from(*number),
-                        q: *first >= 128,
-                        d: *first / 64 % 2 == 1,
+                        identifier: u16::from_be_bytes([*first & GROUP_BITS, *number]),
+                        q: has_q(*first),
+                        d: has_d(*first),
                         kind,
                         octet: *octet,
                     };
                     Ok((header, rest))
                 }
-                None => Err(PacketFault::Wrong(Wrong::Unknown)),
+                None => Err(Wrong::Unknown.into()),
             }
         }
-        _ => Err(PacketFault::Wrong(Wrong::Short)),
+        _ => Err(Wrong::Short.into()),
     }
 }
 
@@ -56,14 +65,26 @@ pub(crate) fn header_of(octets: &[u8]) -> Result<(Header, &[u8]), PacketFault>
 fn has_wrong_format(first: u8, octet: u8) -> bool
     ensures { result ≡ wrong_format first octet }
 {
-    first / 16 % 4 != MODULUS_BITS || has_wrong_flags(first >= 128, first / 64 % 2 == 1, octet)
+    (first >> 4) & 3 != MODULO_8 || has_wrong_flags(has_q(first), has_d(first), octet)
+}
+
+fn has_q(first: u8) -> bool
+    ensures { result ≡ nat_le 128 first }
+{
+    first & Q_BIT != 0
+}
+
+fn has_d(first: u8) -> bool
+    ensures { result ≡ (first / 64 % 2 == 1) }
+{
+    first & D_BIT != 0
 }
 
 /// Q is for data packets, D for data, call and accepted packets.
 fn has_wrong_flags(q: bool, d: bool, octet: u8) -> bool
     ensures { result ≡ wrong_flags q d octet }
 {
-    octet % 2 == 1
+    octet & 1 == 1
         && (q || (!(octet == Kind::Call.octet() || octet == Kind::Accepted.octet()) && d))
 }
 
@@ -78,17 +99,16 @@ pub(crate) fn push_heading<A: Allocator>(
     requires { identifier < 4096 }
     ensures { OnOk result (out.new.items ≡ out.old.items ++ heading q d identifier octet) }
 {
-    let group = (identifier / 256) as u8;
-    let number = (identifier % 256) as u8;
-    out.push(weighed(128, q) + weighed(64, d) + 16 * MODULUS_BITS + group)?;
+    let [group, number] = identifier.to_be_bytes();
+    out.push(flagged(Q_BIT, q) | flagged(D_BIT, d) | (MODULO_8 << 4) | group)?;
     out.push(number)?;
     out.push(octet)?;
     Ok(())
 }
 
-/// A bit's weight where it is set.
-pub(crate) fn weighed(weight: u8, set: bool) -> u8
-    ensures { result ≡ bit weight set }
+/// A bit where it is set.
+pub(crate) fn flagged(mask: u8, set: bool) -> u8
+    ensures { result ≡ bit mask set }
 {
-    if set { weight } else { 0 }
+    if set { mask } else { 0 }
 }

@@ -17,10 +17,10 @@ pub(crate) fn interrupt_of<A: Allocator>(alloc: A, rest: &[u8]) -> Result<Packet
     ensures { Gives (λ x. x) result (interrupt_at rest.now) }
 {
     match rest {
-        [] => Err(PacketFault::Wrong(Wrong::Short)),
+        [] => Err(Wrong::Short.into()),
         [_, ..] => {
             if rest.len() > MOST_INTERRUPT {
-                return Err(PacketFault::Wrong(Wrong::Long));
+                return Err(Wrong::Long.into());
             }
             let octets = octets_of(alloc, rest)?;
             Ok(Packet::Interrupt { octets })

@@ -27,10 +27,10 @@ impl Kind {
     pub(crate) fn of(octet: u8) -> Option<Kind>
         ensures { result ≡ kind_of octet }
     {
-        if octet % 2 == 0 {
+        if octet & 1 == 0 {
             return Some(Kind::Data);
         }
-        match octet % 32 {
+        match octet & 0x1f {
             0x01 => Some(Kind::Ready),
             0x05 => Some(Kind::NotReady),
             0x09 => Some(Kind::Reject),

@@ -1,11 +1,14 @@
-//! P(S), P(R) and the M bit in a type octet (X.25 clauses 5.3.1 and 5.4), modulo 8.
+//! P(S), P(R) and the M bit in a type octet (X.25 clauses 5.3.1, 5.4.1, 5.4.2 and 5.7.1), modulo 8.
 
 ghost use Rattle.std.specs.Prelude.{◌≡◌, ◌<◌};
 ghost use Rattle.xp_packets.specs.Kinds.{octet_of};
 ghost use Rattle.xp_packets.specs.Numbers.{data_octet, flow_octet, has_more, is_over, modulus, received_number, sent_number};
 
-use crate::header::weighed;
+use crate::header::flagged;
 use crate::kind::Kind;
+
+/// The M bit, bit 5 of a data packet's type octet.
+const MORE_BIT: u8 = 0x10;
 
 /// The greatest P(S) or P(R).
 const MOST_NUMBER: u8 = 7;
@@ -23,7 +26,7 @@ pub(crate) fn data_octet(ps: u8, pr: u8, more: bool) -> u8
     requires received { pr < modulus }
     ensures { result ≡ data_octet ps pr more }
 {
-    pr * 32 + weighed(16, more) + ps * 2
+    (pr << 5) | flagged(MORE_BIT, more) | (ps << 1)
 }
 
 /// The type octet of a flow control packet.
@@ -32,23 +35,23 @@ pub(crate) fn flow_octet(pr: u8, kind: Kind) -> u8
     requires flow { octet_of kind < 32 }
     ensures { result ≡ flow_octet pr kind }
 {
-    pr * 32 + kind.octet()
+    (pr << 5) | kind.octet()
 }
 
 pub(crate) fn sent_number(octet: u8) -> u8
     ensures { result ≡ sent_number octet }
 {
-    octet / 2 % 8
+    (octet >> 1) & 7
 }
 
 pub(crate) fn received_number(octet: u8) -> u8
     ensures { result ≡ received_number octet }
 {
-    octet / 32
+    octet >> 5
 }
 
 pub(crate) fn has_more(octet: u8) -> bool
     ensures { result ≡ has_more octet }
 {
-    octet / 16 % 2 == 1
+    octet & MORE_BIT != 0
 }

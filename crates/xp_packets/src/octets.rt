@@ -1,7 +1,5 @@
-ghost use Rattle.std.specs.Prelude.{◌≡◌, ◌↔◌, [], IfOk, IsTrue, length, MatchResult};
-ghost use Rattle.xp_packets.specs.declared.fault.PacketFault.TheVariants.{Memory};
+ghost use Rattle.std.specs.Prelude.{◌≡◌, ◌↔◌, [], IfOk, IsTrue, length};
 
-use crate::fault::PacketFault;
 use std::alloc::{AllocError, Allocator, Global};
 use std::marker::Model;
 
@@ -40,7 +38,8 @@ impl<A: Allocator> Octets<A> {
     pub fn into_vec(self) -> Vec<u8, A>
         ensures { result.items ≡ self }
     {
-        self.octets
+        let Self { octets } = self;
+        octets
     }
 
     /// The octets, in order.
@@ -70,8 +69,16 @@ impl<A: Allocator + Copy> Octets<A> {
     pub fn copy(&self) -> Result<Octets<A>, AllocError>
         ensures { IfOk result (λ copied. copied ≡ self.now) }
     {
-        let octets = Vec::from_slice(*self.octets.allocator(), self.as_slice())?;
-        Ok(Octets::from_vec(octets))
+        self.clone()
+    }
+}
+
+impl<A: Allocator + Clone> Clone for Octets<A> {
+    ghost is_clone = { λ octets cloned. cloned ≡ octets };
+
+    // One block of memory moves: the clone that the derive makes goes octet by octet.
+    fn clone(&self) -> Result<Octets<A>, AllocError> {
+        octets_of(self.octets.allocator().clone()?, self.as_slice())
     }
 }
 
@@ -91,11 +98,8 @@ impl<A: Allocator> PartialEq for Octets<A> {
 }
 
 /// An owned copy of octets.
-pub(crate) fn octets_of<A: Allocator>(alloc: A, octets: &[u8]) -> Result<Octets<A>, PacketFault>
-    ensures { MatchResult result (λ copied. copied ≡ octets.now) (λ fault. fault ≡ Memory) }
+pub(crate) fn octets_of<A: Allocator>(alloc: A, octets: &[u8]) -> Result<Octets<A>, AllocError>
+    ensures { IfOk result (λ copied. copied ≡ octets.now) }
 {
-    match Vec::from_slice(alloc, octets) {
-        Ok(copied) => Ok(Octets::from_vec(copied)),
-        Err(_) => Err(PacketFault::Memory),
-    }
+    Ok(Octets::from_vec(Vec::from_slice(alloc, octets)?))
 }

@@ -5,25 +5,27 @@ use crate::octets::Octets;
 use std::alloc::{AllocError, Allocator, Global};
 
 /// A packet between a DTE and the exchange (X.25 clause 5), without its logical channel identifier.
-#[derive(Debug, Drop, PartialEq)]
+#[derive(Clone, Debug, Drop, PartialEq)]
 pub enum Packet<A: Allocator = Global> {
-    /// Call request and incoming call (clause 5.2.1).
+    /// Call request and incoming call (clause 5.2.2).
     Call {
+        /// The D bit.
         d: bool,
         block: Block<A>,
     },
-    /// Call accepted and call connected (clause 5.2.2).
+    /// Call accepted and call connected (clause 5.2.3).
     Accepted {
+        /// The D bit.
         d: bool,
         block: Option<Block<A>>,
     },
-    /// Clear request and clear indication (clause 5.2.3).
+    /// Clear request and clear indication (clause 5.2.4). A block stands only behind a diagnostic.
     Clear {
         cause: u8,
         diagnostic: Option<u8>,
         block: Option<Block<A>>,
     },
-    /// Clear confirmation (clause 5.2.4).
+    /// Clear confirmation (clause 5.2.5), whose block has no user data.
     ClearConfirm {
         block: Option<Block<A>>,
     },
@@ -32,24 +34,31 @@ pub enum Packet<A: Allocator = Global> {
         q: bool,
         d: bool,
         more: bool,
+        /// P(S), 0 to 7.
         ps: u8,
+        /// P(R), 0 to 7.
         pr: u8,
+        /// 0 to 1,024 octets of user data.
         octets: Octets<A>,
     },
     /// Receive ready (clause 5.4.1).
     Ready {
+        /// P(R), 0 to 7.
         pr: u8,
     },
     /// Receive not ready (clause 5.4.2).
     NotReady {
+        /// P(R), 0 to 7.
         pr: u8,
     },
     /// Reject (clause 5.7.1).
     Reject {
+        /// P(R), 0 to 7.
         pr: u8,
     },
     /// Interrupt (clause 5.3.2).
     Interrupt {
+        /// 1 to 32 octets of user data.
         octets: Octets<A>,
     },
     /// Interrupt confirmation (clause 5.3.3).
@@ -68,73 +77,6 @@ impl<A: Allocator + Copy> Packet<A> {
     pub fn copy(&self) -> Result<Packet<A>, AllocError>
         ensures { IfOk result (λ copied. copied ≡ self.now) }
     {
-        match self {
-            Packet::Call { d, block } => {
-                let block = block.copy()?;
-                Ok(Packet::Call { d: *d, block })
-            }
-            Packet::Accepted { d, block } => {
-                let block = copy_option(block)?;
-                Ok(Packet::Accepted { d: *d, block })
-            }
-            Packet::Clear {
-                cause,
-                diagnostic,
-                block,
-            } => {
-                let block = copy_option(block)?;
-                Ok(Packet::Clear {
-                    cause: *cause,
-                    diagnostic: *diagnostic,
-                    block,
-                })
-            }
-            Packet::ClearConfirm { block } => {
-                let block = copy_option(block)?;
-                Ok(Packet::ClearConfirm { block })
-            }
-            Packet::DataPacket {
-                q,
-                d,
-                more,
-                ps,
-                pr,
-                octets,
-            } => {
-                let octets = octets.copy()?;
-                Ok(Packet::DataPacket {
-                    q: *q,
-                    d: *d,
-                    more: *more,
-                    ps: *ps,
-                    pr: *pr,
-                    octets,
-                })
-            }
-            Packet::Ready { pr } => Ok(Packet::Ready { pr: *pr }),
-            Packet::NotReady { pr } => Ok(Packet::NotReady { pr: *pr }),
-            Packet::Reject { pr } => Ok(Packet::Reject { pr: *pr }),
-            Packet::Interrupt { octets } => {
-                let octets = octets.copy()?;
-                Ok(Packet::Interrupt { octets })
-            }
-            Packet::InterruptConfirm => Ok(Packet::InterruptConfirm),
-            Packet::Reset { cause, diagnostic } => Ok(Packet::Reset {
-                cause: *cause,
-                diagnostic: *diagnostic,
-            }),
-            Packet::ResetConfirm => Ok(Packet::ResetConfirm),
-        }
-    }
-}
-
-fn copy_option<A: Allocator + Copy>(
-    block: &Option<Block<A>>,
-) -> Result<Option<Block<A>>, AllocError>
-    ensures { IfOk result (λ copied. copied ≡ block.now) }
-{
-    match block {
-        Some(block) => Ok(Some(block.copy()?)),
-        None => Ok(None),
+        self.clone()
     }
 }

@@ -13,7 +13,7 @@ pub(crate) fn reset_of<A: Allocator>(rest: &[u8]) -> Result<Packet<A>, PacketFau
     ensures { Gives (λ x. x) result (reset_at rest.now) }
 {
     match rest {
-        [] => Err(PacketFault::Wrong(Wrong::Short)),
+        [] => Err(Wrong::Short.into()),
         [cause] => Ok(Packet::Reset {
             cause: *cause,
             diagnostic: None,
@@ -22,6 +22,6 @@ pub(crate) fn reset_of<A: Allocator>(rest: &[u8]) -> Result<Packet<A>, PacketFau
             cause: *cause,
             diagnostic: Some(*diagnostic),
         }),
-        [_, _, _, ..] => Err(PacketFault::Wrong(Wrong::Long)),
+        [_, _, _, ..] => Err(Wrong::Long.into()),
     }
 }

@@ -485,12 +485,3 @@ fn requests_of_encode_refused(rt: HostRuntime) -> Result<(), Fail> {
     assert!(rt; refusals > 0);
     Ok(())
 }
-
-#[test]
-fn laws_hold(_rt: HostRuntime) {
-    either_spelled_or_wrong::<Global>();
-    one_written_spelling::<Global>();
-    written_is_read_back::<Global>();
-    spelled_is_fit::<Global>();
-    fit_is_written::<Global>();
-}

@@ -22,7 +22,10 @@ use std::alloc::{AllocError, Allocator};
 /// # Errors
 ///
 /// `Wrong` with the first reason, in the order of examination, why `decode` could never give this
-/// packet; for such as it could give only `Memory`.
+/// packet: `Short` where an interrupt has no data or a clear a block without a diagnostic, `Format`
+/// where the identifier is over 4,095 or P(S) or P(R) over 7, `Facilities` where there are over 109
+/// octets of them, `Long` where there is more data than a packet of its kind carries. `Memory` only
+/// where none of these holds.
 pub fn encode<A: Allocator>(
     alloc: A,
     identifier: u16,
@@ -33,12 +36,9 @@ pub fn encode<A: Allocator>(
     ensures refused { IfErr result (λ fault. Refuses fault (unfit identifier packet.now)) }
 {
     if let Some(wrong) = first_unfit(identifier, packet) {
-        return Err(PacketFault::Wrong(wrong));
+        return Err(wrong.into());
     }
-    match written_of(alloc, identifier, packet) {
-        Ok(octets) => Ok(octets),
-        Err(_) => Err(PacketFault::Memory),
-    }
+    Ok(written_of(alloc, identifier, packet)?)
 }
 
 fn written_of<A: Allocator>(

@@ -3,7 +3,7 @@ use Rattle.xp_packets.specs.Fitness.{unfit}
 use Rattle.xp_packets.proofs.FitnessLemmas.{written_fits}
 use Rattle.xp_packets.proofs.writing.encode.Goals as goal
 
-pub returns-in-Ok-clause-written : goal.returns-in-Ok-clause-written
-returns-in-Ok-clause-written g c =
+pub returns-clause-written : goal.returns-clause-written
+returns-clause-written g c =
     let fit : unfit c.args.identifier c.args.packet.now ≡ None = search rules in
-    (fit, rw c.in-Ok.ensures.written (written_fits _ c.args.identifier c.args.packet.now c.in-Ok.ensures.addressed fit))
+    (fit, rw c.in_ok-written_of.ensures.written (written_fits _ c.args.identifier c.args.packet.now c.in_ok-written_of.ensures.addressed fit))
