@@ -4,18 +4,26 @@ use Rattle.xp_groups.specs.declared.refusal.Refusal.{Refusal}
 use Rattle.xp_hunt.specs.declared.lines.LineState.{LineState}
 use Rattle.xp_packets.specs.declared.block.Block.{Block}
 use Rattle.xp_subs.specs.Tables.{Tables}
-use Rattle.xp_decide.specs.Asks.{Asks, wanted_of}
-use Rattle.xp_decide.specs.Decided.{Decided}
+use Rattle.xp_decide.specs.Asks.{Asks, Opens, wanted_of}
+use Rattle.xp_decide.specs.Decided.{Decided, PutsThrough}
 use Rattle.xp_decide.specs.Decided as decided
 use Rattle.xp_decide.specs.Rings.{ring_of}
 use Rattle.xp_decide.specs.Routes.{Reaches}
 use Rattle.xp_decide.specs.Seen.{seen_by}
 use Rattle.xp_decide.specs.declared.acceptance.Wanted.{Wanted}
+use Rattle.xp_decide.specs.declared.fault.CallFault.{CallFault}
+use Rattle.xp_decide.specs.declared.fault.CallFault.TheVariants as faults
 use Rattle.xp_decide.specs.declared.request.Request.{Request}
 use Rattle.xp_decide.specs.declared.route.Reached.{Reached}
 use Rattle.xp_decide.specs.declared.verdict.Ring.{Ring}
 use Rattle.xp_decide.specs.declared.verdict.Verdict.TheVariants.{Take, Refuse}
 use Rattle.std.proofs.Common.{refl}
+
+-- a request that is refused before any address is looked at
+pub stops : {A : Type 0} (tables : Tables) (states : ℕ → LineState) (from : ℕ) (block : Block A) (fault : CallFault)
+    → Opens tables from block (Err fault) → PutsThrough tables states from block (Err fault)
+stops tables states from block (faults.Refused refusal) may_not_ask = decided.not_asked refusal may_not_ask refl
+stops tables states from block faults.Memory _ = record {}
 
 module _ {A : Type 0} (tables : Tables) (states : ℕ → LineState) (from : ℕ) (block : Block A) (request : Request A) (wanted : Wanted)
     (same : wanted ≡ wanted_of request) (asked : Asks tables from block request) where

@@ -1,5 +1,5 @@
 -- What becomes of a call at a place that is known.
-use Rattle.std.proofs.Common.{◌≡◌, ℕ, List, Option, None, Some, refl, sym, ◌∙◌, ap, option_map, subst}
+use Rattle.std.proofs.Common.{◌≡◌, ℕ, List, None, Some, refl, sym, ◌∙◌, ap, option_map}
 use Rattle.xp_facilities.specs.declared.redirection.Reason.TheVariants.{Busy, OutOfOrder, Systematic}
 use Rattle.xp_groups.specs.declared.admission.Admission.{Admission}
 use Rattle.xp_groups.specs.declared.refusal.Refusal.{Refusal}
@@ -11,7 +11,7 @@ use Rattle.xp_subs.specs.declared.station.Station.{Station}
 use Rattle.xp_subs.specs.declared.target.Target.{Target}
 use Rattle.xp_decide.proofs.Last.{declining_keeps, idle_keeps, off_keeps, busy_keeps, is_last}
 use Rattle.xp_decide.specs.Accepts.{Accepts, Declines}
-use Rattle.xp_decide.specs.Routes.{Place, lines_of, place_of, place_at, alternate, left_if, left_or, Redirects, LeavesAt, Visits, RefusesAt}
+use Rattle.xp_decide.specs.Routes.{Place, lines_of, place_of, place_at, alternate, LeavesOr, Redirects, LeavesAt, Visits, RefusesAt}
 use Rattle.xp_decide.specs.Routes as routes
 use Rattle.xp_decide.specs.declared.acceptance.Wanted.{Wanted}
 use Rattle.xp_decide.specs.declared.visit.Visit.{Visit}
@@ -29,7 +29,7 @@ here tables address target station found same =
 
 module _ (tables : Tables) (states : ℕ → LineState) (wanted : Wanted) (address : List ℕ) (place : Place) (known : place_at tables address ≡ Some place) where
   pub leaves : (to : List ℕ) → alternate place.station Systematic ≡ Some to
-      → Visits tables states wanted address (visits.Left Systematic to)
+      → LeavesAt tables states wanted address Systematic to
   leaves to some = record { place = place; known = known; redirects = routes.systematic refl some }
 
   pub declines : (refusal : Refusal) → alternate place.station Systematic ≡ None → Declines wanted place.station refusal
@@ -47,36 +47,24 @@ module _ (tables : Tables) (states : ℕ → LineState) (wanted : Wanted) (addre
     record { place = place; known = known; accepts = accepts; idle = idle },
   )
 
-  off_by : (admission : Admission) → alternate place.station Systematic ≡ None
-      → Accepts wanted place.station admission → AreOff states place.lines
-      → (found : Option (List ℕ)) → alternate place.station OutOfOrder ≡ found
-      → Visits tables states wanted address (left_if OutOfOrder OUT_OF_ORDER found)
-  off_by admission none accepts off (Some to) some =
-      record { place = place; known = known; redirects = routes.out_of_order admission refl none accepts off some }
-  off_by admission none accepts off None no_alternate = (
-    is_last tables states wanted address place known (off_keeps states wanted place none off no_alternate),
-    routes.refused place known (routes.all_off admission accepts off refl),
-  )
-
   pub finds_off : (admission : Admission) (visit : Visit) → alternate place.station Systematic ≡ None
       → Accepts wanted place.station admission → AreOff states place.lines
-      → visit ≡ left_or place.station OutOfOrder OUT_OF_ORDER → Visits tables states wanted address visit
-  finds_off admission visit none accepts off is =
-      subst (Visits tables states wanted address) (sym is) (off_by admission none accepts off (alternate place.station OutOfOrder) refl)
-
-  busy_by : (admission : Admission) → alternate place.station Systematic ≡ None
-      → Accepts wanted place.station admission → HasNoneIdle states place.lines → HasBusy states place.lines
-      → (found : Option (List ℕ)) → alternate place.station Busy ≡ found
-      → Visits tables states wanted address (left_if Busy NUMBER_BUSY found)
-  busy_by admission none accepts none_idle has_busy (Some to) some =
-      record { place = place; known = known; redirects = routes.busy admission refl none accepts none_idle has_busy some }
-  busy_by admission none accepts none_idle has_busy None no_alternate = (
-    is_last tables states wanted address place known (busy_keeps states wanted place none has_busy no_alternate),
-    routes.refused place known (routes.none_idle admission accepts none_idle has_busy refl),
+      → LeavesOr place.station OutOfOrder OUT_OF_ORDER visit → Visits tables states wanted address visit
+  finds_off admission (visits.Left reason to) none accepts off (is, some) =
+      record { place = place; known = known; redirects = routes.out_of_order admission is none accepts off some }
+  finds_off admission (visits.Refused refusal) none accepts off (is, no_alternate) = (
+    is_last tables states wanted address place known (off_keeps states wanted place none off no_alternate),
+    routes.refused place known (routes.all_off admission accepts off is),
   )
+  finds_off admission (visits.Taken _ _) none accepts off never = absurd never
 
   pub finds_busy : (admission : Admission) (visit : Visit) → alternate place.station Systematic ≡ None
       → Accepts wanted place.station admission → HasNoneIdle states place.lines → HasBusy states place.lines
-      → visit ≡ left_or place.station Busy NUMBER_BUSY → Visits tables states wanted address visit
-  finds_busy admission visit none accepts none_idle has_busy is =
-      subst (Visits tables states wanted address) (sym is) (busy_by admission none accepts none_idle has_busy (alternate place.station Busy) refl)
+      → LeavesOr place.station Busy NUMBER_BUSY visit → Visits tables states wanted address visit
+  finds_busy admission (visits.Left reason to) none accepts none_idle has_busy (is, some) =
+      record { place = place; known = known; redirects = routes.busy admission is none accepts none_idle has_busy some }
+  finds_busy admission (visits.Refused refusal) none accepts none_idle has_busy (is, no_alternate) = (
+    is_last tables states wanted address place known (busy_keeps states wanted place none has_busy no_alternate),
+    routes.refused place known (routes.none_idle admission accepts none_idle has_busy is),
+  )
+  finds_busy admission (visits.Taken _ _) none accepts none_idle has_busy never = absurd never

@@ -1,10 +1,11 @@
--- What a call request asks, and whether its station may ask it (X.25 clauses 5.2.1, 6.6 and 6.14).
-use Rattle.std.specs.Prelude.{◌≡◌, ℕ, ◌<◌, ◌≤◌, length, Bool, true, false, Ok, Err, ◌⊎◌}
+-- What a call request asks, and whether its station may ask it (X.25 clauses 5.2.2, 6.6 and 6.14).
+use Rattle.std.specs.Prelude.{◌≡◌, ℕ, ◌<◌, ◌≤◌, length, Bool, true, false, Result, Ok, Err, ◌⊎◌}
 use Rattle.xp_facilities.specs.Asked.{Means, IsFaulty}
 use Rattle.xp_facilities.specs.declared.asked.Asked.{Asked}
 use Rattle.xp_facilities.specs.declared.fast_select.FastSelect.{FastSelect}
 use Rattle.xp_facilities.specs.declared.fast_select.FastSelect.TheVariants.{No, Unrestricted, Restricted}
-use Rattle.xp_facilities.specs.declared.fault.FacilityFault.TheVariants.{Length, Code, Param}
+use Rattle.xp_facilities.specs.declared.fault.FacilityFault.{FacilityFault}
+use Rattle.xp_facilities.specs.declared.fault.FacilityFault.TheVariants.{Length, Code, Param, Memory}
 use Rattle.xp_groups.specs.Intends.{Intends}
 use Rattle.xp_groups.specs.declared.refusal.Refusal.{Refusal}
 use Rattle.xp_groups.specs.declared.refusal.TheConstants.Refusal.{FACILITY_LENGTH, FACILITY_NOT_ALLOWED, FACILITY_PARAMETER, USER_DATA_TOO_LONG, ACCESS_BARRED}
@@ -13,8 +14,8 @@ use Rattle.xp_subs.specs.Tables.{Tables, station_at, station_of}
 use Rattle.xp_subs.specs.declared.station.Station.{Station}
 use Rattle.xp_decide.specs.declared.acceptance.Wanted.{Wanted}
 use Rattle.xp_decide.specs.declared.request.Request.{Request}
-use Rattle.xp_decide.specs.declared.request.Opening.{Opening}
-use Rattle.xp_decide.specs.declared.request.Opening.TheVariants as openings
+use Rattle.xp_decide.specs.declared.fault.CallFault.{CallFault}
+use Rattle.xp_decide.specs.declared.fault.CallFault.TheVariants as faults
 
 -- the station of a line
 abbrev pub station_of_line : Tables → ℕ → Station
@@ -25,6 +26,13 @@ abbrev pub is_fast : FastSelect → Bool
 is_fast No = false
 is_fast Unrestricted = true
 is_fast Restricted = true
+
+-- how a fault of the facilities is told
+abbrev pub fault_of : FacilityFault → CallFault
+fault_of Length = faults.Refused FACILITY_LENGTH
+fault_of Code = faults.Refused FACILITY_NOT_ALLOWED
+fault_of Param = faults.Refused FACILITY_PARAMETER
+fault_of Memory = faults.Memory
 
 module _ {A : Type 0} where
   -- what is asked of each station on the way
@@ -61,7 +69,7 @@ module _ {A : Type 0} where
         → (station_of_line tables from).outgoing_barred ≡ false
         → Intends (station_of_line tables from) asked.selection (Err refusal) → MayNotAsk tables from block refusal
 
-  abbrev pub Opens : Tables → ℕ → Block A → Opening A → Type 0
-  Opens tables from block (openings.Asks request) = Asks tables from block request
-  Opens tables from block (openings.Refused refusal) = MayNotAsk tables from block refusal
-  Opens tables from block openings.Memory = Unit {0}
+  abbrev pub Opens : Tables → ℕ → Block A → Result (Request A) CallFault → Type 0
+  Opens tables from block (Ok request) = Asks tables from block request
+  Opens tables from block (Err (faults.Refused refusal)) = MayNotAsk tables from block refusal
+  Opens tables from block (Err faults.Memory) = Unit {0}

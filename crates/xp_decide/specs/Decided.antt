@@ -1,5 +1,5 @@
 -- What becomes of a call request. Which idle line is taken is left open.
-use Rattle.std.specs.Prelude.{◌≡◌, ℕ, Ok, Err}
+use Rattle.std.specs.Prelude.{◌≡◌, ℕ, Result, Ok, Err}
 use Rattle.xp_groups.specs.declared.refusal.Refusal.{Refusal}
 use Rattle.xp_hunt.specs.declared.lines.LineState.{LineState}
 use Rattle.xp_packets.specs.declared.block.Block.{Block}
@@ -8,8 +8,11 @@ use Rattle.xp_decide.specs.Asks.{Asks, MayNotAsk, wanted_of}
 use Rattle.xp_decide.specs.Rings.{ring_of}
 use Rattle.xp_decide.specs.Routes.{Reaches}
 use Rattle.xp_decide.specs.Seen.{seen_by}
+use Rattle.xp_decide.specs.declared.fault.CallFault.{CallFault}
+use Rattle.xp_decide.specs.declared.fault.CallFault.TheVariants as faults
 use Rattle.xp_decide.specs.declared.request.Request.{Request}
 use Rattle.xp_decide.specs.declared.route.Reached.{Reached}
+use Rattle.xp_decide.specs.declared.verdict.Ring.{Ring}
 use Rattle.xp_decide.specs.declared.verdict.Verdict.{Verdict}
 use Rattle.xp_decide.specs.declared.verdict.Verdict.TheVariants.{Take, Refuse}
 
@@ -26,3 +29,9 @@ module _ {A : Type 0} where
     reached : (request : Request A) (end : Reached) → Asks tables from block request
         → Reaches tables (seen_by from states) (wanted_of request) block.called (Ok end)
         → verdict ≡ Take (ring_of request.asked end block.called) → Decided tables states from block verdict
+
+  -- the same, where a line that rings is no fault
+  abbrev pub PutsThrough : Tables → (ℕ → LineState) → ℕ → Block A → Result (Ring A) CallFault → Type 0
+  PutsThrough tables states from block (Ok ring) = Decided tables states from block (Take ring)
+  PutsThrough tables states from block (Err (faults.Refused refusal)) = Decided tables states from block (Refuse refusal)
+  PutsThrough tables states from block (Err faults.Memory) = Unit {0}

@@ -111,7 +111,7 @@ module _ (tables : Tables) (states : ℕ → LineState) (wanted : Wanted) where
 
   -- what becomes of the call at one address
   abbrev pub Visits : List ℕ → Visit → Type 0
-  Visits address (visits.Left reason to) = LeavesAt address reason to
+  Visits address (visits.Left reason to) = LeavesAt address reason to.now
   Visits address (visits.Refused refusal) = IsLast address × RefusesAt address refusal
   Visits address (visits.Taken line admission) = IsLast address × TakesAt address line admission
 
@@ -136,9 +136,7 @@ module _ (tables : Tables) (states : ℕ → LineState) (wanted : Wanted) where
         → result ≡ Err TOO_MANY_REDIRECTIONS → Reaches dialled result
 
 -- the redirection for this reason, else the refusal
-abbrev pub left_if : Reason → Refusal → Option (List ℕ) → Visit
-left_if reason refusal (Some to) = visits.Left reason to
-left_if reason refusal None = visits.Refused refusal
-
-abbrev pub left_or : Station → Reason → Refusal → Visit
-left_or station reason refusal = left_if reason refusal (alternate station reason)
+abbrev pub LeavesOr : Station → Reason → Refusal → Visit → Type 0
+LeavesOr station reason refusal (visits.Left why to) = (why ≡ reason) × (alternate station reason ≡ Some to.now)
+LeavesOr station reason refusal (visits.Refused why) = (why ≡ refusal) × (alternate station reason ≡ None)
+LeavesOr station reason refusal (visits.Taken line admission) = ⊥

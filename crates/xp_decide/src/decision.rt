@@ -1,12 +1,13 @@
 ghost use Rattle.std.specs.Prelude.{◌<◌, IfOk};
-ghost use Rattle.xp_decide.specs.Decided.{Decided};
+ghost use Rattle.xp_decide.specs.Decided.{Decided, PutsThrough};
 ghost use Rattle.xp_subs.specs.Tables.{line_count};
 
-use crate::request::{Opening, open};
+use crate::fault::CallFault;
+use crate::request::open;
 use crate::ring::incoming_call;
 use crate::route::reach;
 use crate::seen::Seen;
-use crate::verdict::Verdict;
+use crate::verdict::{Ring, Verdict};
 use std::alloc::{AllocError, Allocator};
 use xp_hunt::Lines;
 use xp_packets::Block;
@@ -24,17 +25,29 @@ pub fn decide<A: Allocator + Copy, L: Lines>(
     requires { from < line_count subs.now }
     ensures { IfOk result (Decided subs.now (L.states lines.now) from block.now) }
 {
-    let request = match open(alloc, subs, from, block) {
-        Opening::Asks(request) => request,
-        Opening::Refused(refusal) => return Ok(Verdict::Refuse(refusal)),
-        Opening::Memory => return Err(AllocError),
-    };
+    match put_through(alloc, subs, lines, from, block) {
+        Ok(ring) => Ok(Verdict::Take(ring)),
+        Err(CallFault::Refused(refusal)) => Ok(Verdict::Refuse(refusal)),
+        Err(CallFault::Memory) => Err(AllocError),
+    }
+}
+
+// The incoming call that a line gets, or why none does.
+fn put_through<A: Allocator + Copy, L: Lines>(
+    alloc: A,
+    subs: &Subs,
+    lines: &L,
+    from: LineNo,
+    block: &Block<A>,
+) -> Result<Ring<A>, CallFault>
+    requires { from < line_count subs.now }
+    ensures { PutsThrough subs.now (L.states lines.now) from block.now result }
+{
+    let request = open(alloc, subs, from, block)?;
     let seen = Seen {
         lines,
         caller: from,
     };
-    match reach(subs, &seen, &request.wanted(), &block.called) {
-        Ok(reached) => Ok(Verdict::Take(incoming_call(request.asked, &reached, &block.called)?)),
-        Err(refusal) => Ok(Verdict::Refuse(refusal)),
-    }
+    let reached = reach(subs, &seen, &request.wanted(), &block.called)?;
+    Ok(incoming_call(request.asked, &reached, &block.called)?)
 }

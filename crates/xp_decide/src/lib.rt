@@ -3,6 +3,7 @@
 
 mod acceptance;
 mod decision;
+mod fault;
 mod laws;
 mod request;
 mod ring;

@@ -3,28 +3,21 @@ ghost use Rattle.xp_decide.specs.Asks.{Opens, HasRoom, HasNoRoom, is_fast, wante
 ghost use Rattle.xp_subs.specs.Tables.{line_count};
 
 use crate::acceptance::Wanted;
+use crate::fault::CallFault;
 use std::alloc::{Allocator, Global};
-use xp_facilities::{Asked, FacilityFault, FastSelect, parse};
+use xp_facilities::{Asked, FastSelect, parse};
 use xp_groups::{Intent, Refusal, intent};
 use xp_packets::Block;
 use xp_subs::{LineNo, Subs};
 
-// The user data that a call without fast select carries at most (X.25 clause 5.2.1.7).
-const MOST_USER_DATA: usize = 16;
+// The octets of user data that a call without fast select carries at most (X.25 clause 5.2.2).
+const MAX_USER_DATA: usize = 16;
 
 // A call request that its station may make.
 #[derive(Drop)]
 pub struct Request<A: Allocator = Global> {
     pub asked: Asked<A>,
     pub intent: Intent,
-}
-
-// What a call request comes to before any address is looked at.
-#[derive(Drop)]
-pub enum Opening<A: Allocator = Global> {
-    Asks(Request<A>),
-    Refused(Refusal),
-    Memory,
 }
 
 impl<A: Allocator> Request<A> {
@@ -46,28 +39,20 @@ pub fn open<A: Allocator + Copy>(
     subs: &Subs,
     from: LineNo,
     block: &Block<A>,
-) -> Opening<A>
+) -> Result<Request<A>, CallFault>
     requires { from < line_count subs.now }
     ensures { Opens subs.now from block.now result }
 {
-    let asked = match parse(alloc, block.facilities.as_slice()) {
-        Ok(asked) => asked,
-        Err(FacilityFault::Length) => return Opening::Refused(Refusal::FACILITY_LENGTH),
-        Err(FacilityFault::Code) => return Opening::Refused(Refusal::FACILITY_NOT_ALLOWED),
-        Err(FacilityFault::Param) => return Opening::Refused(Refusal::FACILITY_PARAMETER),
-        Err(FacilityFault::Memory) => return Opening::Memory,
-    };
+    let asked = parse(alloc, block.facilities.as_slice())?;
     if !has_room(block, &asked) {
-        return Opening::Refused(Refusal::USER_DATA_TOO_LONG);
+        return Err(CallFault::Refused(Refusal::USER_DATA_TOO_LONG));
     }
     let caller = subs.station(subs.station_of(from));
     if caller.outgoing_barred {
-        return Opening::Refused(Refusal::ACCESS_BARRED);
+        return Err(CallFault::Refused(Refusal::ACCESS_BARRED));
     }
-    match intent(caller, asked.selection) {
-        Ok(intent) => Opening::Asks(Request { asked, intent }),
-        Err(refusal) => Opening::Refused(refusal),
-    }
+    let intent = intent(caller, asked.selection)?;
+    Ok(Request { asked, intent })
 }
 
 // Whether the call may carry its user data.
@@ -75,7 +60,7 @@ fn has_room<A: Allocator>(block: &Block<A>, asked: &Asked<A>) -> bool
     ensures room { IsTrue result → HasRoom block.now asked.now }
     ensures too_long { result ≡ false → HasNoRoom block.now asked.now }
 {
-    block.user.len() <= MOST_USER_DATA || is_fast_select(asked.fast)
+    block.user.len() <= MAX_USER_DATA || is_fast_select(asked.fast)
 }
 
 // Whether it is fast select of either kind.

@@ -31,10 +31,10 @@ pub fn reach<L: Lines>(
 ) -> Result<Reached, Refusal>
     ensures { Reaches subs.now (L.states lines.now) wanted.now dialled.now result }
 {
-    let mut address = dialled.copy();
+    let mut address = dialled;
     let mut reason = None;
     for _hops in 0..ADDRESSES {
-        match call_at(subs, lines, wanted, &address) {
+        match call_at(subs, lines, wanted, address) {
             Visit::Left(why, to) => {
                 reason = reason.or(Some(why));
                 address = to;

@@ -1,5 +1,5 @@
-ghost use Rattle.std.specs.Prelude.{◌≡◌, ◌<◌};
-ghost use Rattle.xp_decide.specs.Routes.{Visits, left_or, alternate, lines_of};
+ghost use Rattle.std.specs.Prelude.{◌≡◌, ◌<◌, option_copied};
+ghost use Rattle.xp_decide.specs.Routes.{Visits, LeavesOr, alternate, lines_of};
 ghost use Rattle.xp_hunt.specs.Picks.{Picks};
 ghost use Rattle.xp_subs.specs.Tables.{station_at, station_count};
 
@@ -10,19 +10,24 @@ use xp_hunt::{Lines, Picked, pick};
 use xp_packets::Digits;
 use xp_subs::{LineNo, Station, Subs, Target};
 
-// What becomes of a call at an address.
-#[derive(Drop)]
-pub enum Visit {
-    // It is redirected to this address.
-    Left(Reason, Digits),
-    // It is refused.
+/// What becomes of a call at an address.
+#[derive(Clone, Copy)]
+pub enum Visit<'a> {
+    /// It is redirected to this address.
+    Left(Reason, &'a Digits),
+    /// It is refused.
     Refused(Refusal),
-    // This idle line takes it.
+    /// This idle line takes it.
     Taken(LineNo, Admission),
 }
 
-// What becomes of the call at this address.
-pub fn call_at<L: Lines>(subs: &Subs, lines: &L, wanted: &Wanted, address: &Digits) -> Visit
+/// What becomes of the call at this address.
+pub fn call_at<'a, L: Lines>(
+    subs: &'a Subs,
+    lines: &L,
+    wanted: &Wanted,
+    address: &Digits,
+) -> Visit<'a>
     ensures { Visits subs.now (L.states lines.now) wanted.now address.now result }
 {
     let Some(target) = subs.find(address) else {
@@ -53,8 +58,8 @@ fn hunt<L: Lines>(station: &Station, target: Target, lines: &L) -> Picked
 }
 
 // The address to which the station redirects its calls for this reason, if it does (X.25 clause 6.25.1).
-fn alternate_for(station: &Station, reason: Reason) -> Option<Digits>
-    ensures { result ≡ alternate station.now reason }
+fn alternate_for(station: &Station, reason: Reason) -> Option<&Digits>
+    ensures { option_copied result ≡ alternate station.now reason }
 {
     let redirection = station.redirect.as_ref()?;
     let redirects = match reason {
@@ -63,16 +68,12 @@ fn alternate_for(station: &Station, reason: Reason) -> Option<Digits>
         Reason::Busy => redirection.busy,
         Reason::Distribution => false,
     };
-    if redirects {
-        Some(redirection.to.copy())
-    } else {
-        None
-    }
+    redirects.then_some(&redirection.to)
 }
 
 // The redirection for this reason, else the refusal.
-fn left_or_refused(station: &Station, reason: Reason, refusal: Refusal) -> Visit
-    ensures { result ≡ left_or station.now reason refusal }
+fn left_or_refused(station: &Station, reason: Reason, refusal: Refusal) -> Visit<'_>
+    ensures { LeavesOr station.now reason refusal result }
 {
     match alternate_for(station, reason) {
         Some(to) => Visit::Left(reason, to),

@@ -6,13 +6,13 @@ use Rattle.xp_decide.proofs.route.reach.Goals as goal
 pub returns-in-Refused : goal.returns-in-Refused
 returns-in-Refused g c =
     let way = c.loop-hops.invariant in
-    routes.refused way.hops c.loop-hops.address c.in-Refused.refusal way.follows (omega (arith, way.counted))
+    routes.refused way.hops c.loop-hops.address.now c.in-Refused.refusal way.follows (omega (arith, way.counted))
     c.in-Refused.ensures.0 c.in-Refused.ensures.1 refl
 
 pub returns-in-Taken : goal.returns-in-Taken
 returns-in-Taken g c =
     let way = c.loop-hops.invariant in
-    routes.taken way.hops c.loop-hops.address c.in-Taken.line c.in-Taken.admission way.follows (omega (arith, way.counted))
+    routes.taken way.hops c.loop-hops.address.now c.in-Taken.line c.in-Taken.admission way.follows (omega (arith, way.counted))
     c.in-Taken.ensures.0 c.in-Taken.ensures.1 (cc (way.first))
 
 pub loop-hops-preserved : goal.loop-hops-preserved
@@ -21,4 +21,4 @@ loop-hops-preserved g c = earlier_is _ _ _ _ _ _ _ _ _ _ c.or-reason.ensures c.l
 pub returns : goal.returns
 returns g c =
     let way = c.loop-hops.invariant in
-    routes.too_many way.hops c.loop-hops.address way.follows (omega (arith, way.counted)) refl
+    routes.too_many way.hops c.loop-hops.address.now way.follows (omega (arith, way.counted)) refl
