@@ -5,14 +5,14 @@ use xp_packets::{Packet, Wrong};
 use xp_subs::LineNo;
 
 /// What happened on one line.
-#[derive(Debug, Drop, PartialEq)]
+#[derive(Clone, Debug, Drop, PartialEq)]
 pub struct Event<A: Allocator = Global> {
     pub line: LineNo,
     pub what: What<A>,
 }
 
 /// What can happen on a line.
-#[derive(Debug, Drop, PartialEq)]
+#[derive(Clone, Debug, Drop, PartialEq)]
 pub enum What<A: Allocator = Global> {
     /// A connection came.
     Up,
@@ -33,32 +33,6 @@ impl<A: Allocator + Copy> Event<A> {
     pub fn copy(&self) -> Result<Event<A>, AllocError>
         ensures { IfOk result (λ copied. copied ≡ self.now) }
     {
-        let what = self.what.copy()?;
-        Ok(Event {
-            line: self.line,
-            what,
-        })
-    }
-}
-
-impl<A: Allocator + Copy> What<A> {
-    /// An equal copy, by the same allocator.
-    pub fn copy(&self) -> Result<What<A>, AllocError>
-        ensures { IfOk result (λ copied. copied ≡ self.now) }
-    {
-        match self {
-            What::Up => Ok(What::Up),
-            What::Down => Ok(What::Down),
-            What::Frame { identifier, packet } => {
-                let packet = packet.copy()?;
-                Ok(What::Frame {
-                    identifier: *identifier,
-                    packet,
-                })
-            }
-            What::WrongFrame(wrong) => Ok(What::WrongFrame(*wrong)),
-            What::Expire => Ok(What::Expire),
-            What::Stall => Ok(What::Stall),
-        }
+        self.clone()
     }
 }

@@ -6,7 +6,7 @@ use xp_packets::Packet;
 use xp_subs::LineNo;
 
 /// What is put out to a line: over its connection, or about it.
-#[derive(Debug, Drop, PartialEq)]
+#[derive(Clone, Debug, Drop, PartialEq)]
 pub enum Put<A: Allocator = Global> {
     /// A packet with its logical channel identifier.
     Send { identifier: u16, packet: Packet<A> },
@@ -15,14 +15,14 @@ pub enum Put<A: Allocator = Global> {
 }
 
 /// Something for the connection of this number of a line.
-#[derive(Debug, Drop, PartialEq)]
+#[derive(Clone, Debug, Drop, PartialEq)]
 pub struct Outgoing<A: Allocator = Global> {
     pub connection: u64,
     pub put: Put<A>,
 }
 
 /// Something put out to a line.
-#[derive(Debug, Drop, PartialEq)]
+#[derive(Clone, Debug, Drop, PartialEq)]
 pub struct Output<A: Allocator = Global> {
     pub line: LineNo,
     pub outgoing: Outgoing<A>,
@@ -33,23 +33,7 @@ impl<A: Allocator + Copy> Output<A> {
     pub fn copy(&self) -> Result<Output<A>, AllocError>
         ensures { IfOk result (λ copied. copied ≡ self.now) }
     {
-        let put = match &self.outgoing.put {
-            Put::Close => Put::Close,
-            Put::Send { identifier, packet } => {
-                let packet = packet.copy()?;
-                Put::Send {
-                    identifier: *identifier,
-                    packet,
-                }
-            }
-        };
-        Ok(Output {
-            line: self.line,
-            outgoing: Outgoing {
-                connection: self.outgoing.connection,
-                put,
-            },
-        })
+        self.clone()
     }
 }
 
