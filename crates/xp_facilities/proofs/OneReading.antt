@@ -155,6 +155,7 @@ IsFaulty-unique field Memory b f g = absurd f
 
 pub one_reading : {A : Type 0} (field : List ℕ) → HasOneReading A field
 one_reading {A} field = record {
+  items = IsField-unique field;
   some = some_reading field;
   meaning = Means-unique field;
   fault = IsFaulty-unique field;

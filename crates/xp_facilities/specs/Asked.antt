@@ -8,6 +8,7 @@ use Rattle.xp_facilities.specs.declared.fast_select.FastSelect.TheVariants.{No, 
 use Rattle.xp_facilities.specs.declared.fault.FacilityFault.{FacilityFault}
 use Rattle.xp_facilities.specs.declared.fault.FacilityFault.TheVariants.{Length, Code, Param, Memory}
 use Rattle.xp_facilities.specs.Limits.{largest_window}
+use Rattle.xp_facilities.specs.Octets.{is_within}
 use Rattle.xp_facilities.specs.declared.pair.Pair.{Pair}
 use Rattle.xp_facilities.specs.declared.selection.Selection.{Selection}
 use Rattle.xp_facilities.specs.declared.selection.Selection.TheVariants.{Nothing, Closed, AlsoOpen}
@@ -61,8 +62,8 @@ selection_of items = chosen (last_of (0x03 ∷ 0x47 ∷ []) (own items)) (last_o
 unfoldable pub sizes_within : ℕ → ℕ → Option (List ℕ) → Option (Option Pair)
 sizes_within least most None = Some None
 sizes_within least most (Some (called ∷ calling ∷ [])) =
-    if nat_le least called && nat_le called most && (nat_le least calling && nat_le calling most) then
-    Some (Some (record { from_called = called; from_calling = calling }))
+    if is_within least most (record { from_called = called; from_calling = calling })
+    then Some (Some (record { from_called = called; from_calling = calling }))
     else None
 sizes_within least most (Some parameters) = None
 
@@ -143,8 +144,9 @@ abbrev pub Allows : {X : Type 0} → Option X → Result X FacilityFault → Typ
 Allows value (Ok x) = value ≡ Some x
 Allows value (Err fault) = (value ≡ None) × (fault ≡ Param)
 
--- Every field means one thing or is faulty one way, never both.
+-- Every field is a list of items in at most one way, and means one thing or is faulty one way, never both.
 pub record HasOneReading (A : Type 0) (field : List ℕ) : Type 0 where
+  pub items : (items others : List Item) → IsField field items → IsField field others → items ≡ others
   pub some : ((asked : Asked A) × Means field asked) ⊎ ((fault : FacilityFault) × IsFaulty field fault)
   pub meaning : (asked other : Asked A) → Means field asked → Means field other → asked ≡ other
   pub fault : (fault other : FacilityFault) → IsFaulty field fault → IsFaulty field other → fault ≡ other

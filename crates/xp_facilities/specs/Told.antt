@@ -3,7 +3,7 @@ use Rattle.std.specs.Prelude.{ℕ, ◌≤◌, map, IfSome, ◌+◌, ◌*◌, ◌
 use Rattle.std.specs.List.{flat_map, list_any}
 use Rattle.xp_facilities.specs.Asked.{is_marker}
 use Rattle.xp_facilities.specs.Items.{Item, IsField, octets_of_all}
-use Rattle.xp_facilities.specs.Octets.{reason_octet}
+use Rattle.xp_facilities.specs.Octets.{reason_octet, is_within}
 use Rattle.xp_facilities.specs.declared.fast_select.FastSelect.{FastSelect}
 use Rattle.xp_facilities.specs.declared.fast_select.FastSelect.TheVariants.{No, Unrestricted, Restricted}
 use Rattle.xp_facilities.specs.declared.fault.FacilityFault.{FacilityFault}
@@ -126,8 +126,7 @@ index_fits (AlsoOpen index) = nat_le index 9_999
 
 unfoldable pub sizes_fit : ℕ → ℕ → Option Pair → Bool
 sizes_fit least most None = true
-sizes_fit least most (Some sizes) =
-    nat_le least sizes.from_called && nat_le sizes.from_called most && (nat_le least sizes.from_calling && nat_le sizes.from_calling most)
+sizes_fit least most (Some sizes) = is_within least most sizes
 
 unfoldable pub counts_fit : Option SegmentCounts → Bool
 counts_fit None = true

@@ -6,7 +6,7 @@ ghost use Rattle.xp_facilities.specs.declared.told.Told.{Told};
 
 use std::alloc::Allocator;
 
-/// Every facility field means one thing or is faulty one way, never both.
+/// Every facility field is a list of items in at most one way, and means one thing or is faulty one way, never both.
 pub fn every_field_has_one_reading<A: Allocator>()
     ensures { (field : List ℕ) → HasOneReading A field }
 {}

@@ -1,16 +1,16 @@
-/// The smallest packet size, as a power of two (X.25 clause 7.2.2.2).
+/// The smallest packet size, as a power of two (X.25 clause 7.2.2.1.1).
 pub const SMALLEST_SIZE: u8 = 4;
 
 /// The largest packet size, as a power of two.
 pub const LARGEST_SIZE: u8 = 12;
 
-/// The largest window size.
+/// The largest window size (X.25 clause 7.2.2.1.2).
 pub const LARGEST_WINDOW: u8 = 7;
 
 /// The largest index of a closed user group.
 pub const LARGEST_INDEX: u16 = 9_999;
 
-/// The largest segment count.
+/// The largest segment count: eight decimal digits.
 pub const LARGEST_COUNT: u32 = 99_999_999;
 
 /// How many octets of facilities between DTEs a field has at most, without markers.

@@ -1,3 +1,6 @@
+ghost use Rattle.std.specs.Prelude.{◌≡◌};
+ghost use Rattle.xp_facilities.specs.Octets.{is_within};
+
 /// Two packet sizes (as powers of two, 4 to 12) or two window sizes (1 to 7), one for each direction
 /// (X.25 clause 6.12).
 #[derive(Clone, Copy, Debug, Default, PartialEq, Eq)]
@@ -6,4 +9,16 @@ pub struct Pair {
     pub from_called: u8,
     /// For the direction from the calling DTE.
     pub from_calling: u8,
+}
+
+impl Pair {
+    /// Whether both are within these bounds.
+    pub(crate) fn is_within(self, least: u8, most: u8) -> bool
+        ensures { result ≡ is_within least most self }
+    {
+        least <= self.from_called
+            && self.from_called <= most
+            && least <= self.from_calling
+            && self.from_calling <= most
+    }
 }

@@ -16,10 +16,14 @@ use xp_packets::Octets;
 /// What a facility field asks for (X.25 clauses 6 and 7.2).
 ///
 /// The last item of a code before the first marker counts; an index of two digits and one of four
-/// are one code. `Length` where the field is no concatenation of items, else `Code` where an item
-/// before the first marker has a code that is not accepted there, else `Param` where a parameter
-/// that counts is not allowed, both kinds of selection stand, a marker has an unknown parameter or
-/// the facilities between DTEs have over 80 octets. `Memory` only where none of these holds.
+/// are one code.
+///
+/// # Errors
+///
+/// `Length` where the field is no concatenation of items, else `Code` where an item before the first
+/// marker has a code that is not accepted there, else `Param` where a parameter that counts is not
+/// allowed, both kinds of selection stand, a marker has an unknown parameter or the facilities
+/// between DTEs have over 80 octets. `Memory` only where none of these holds.
 #[tactic(auto, unfolding(crate::specs::Asked::packet_of, crate::specs::Asked::window_of))]
 pub fn parse<A: Allocator>(alloc: A, field: &[u8]) -> Result<Asked<A>, FacilityFault>
     ensures { Parses field.now result }
@@ -34,9 +38,7 @@ pub fn parse<A: Allocator>(alloc: A, field: &[u8]) -> Result<Asked<A>, FacilityF
     let packet = sizes(&items, codes::PACKET_SIZE, SMALLEST_SIZE, LARGEST_SIZE)?;
     let window = sizes(&items, codes::WINDOW_SIZE, 1, LARGEST_WINDOW)?;
     let kept = dte(&items)?;
-    let Ok(dte) = Vec::from_slice(alloc, kept.as_slice()) else {
-        return Err(FacilityFault::Memory);
-    };
+    let dte = Vec::from_slice(alloc, kept.as_slice())?;
     let options = octet(&items, codes::FAST_SELECT);
     Ok(Asked {
         selection,
@@ -98,7 +100,7 @@ fn octet(items: &Items<'_>, code: u8) -> Option<u8>
 fn fast_select(octet: Option<u8>) -> FastSelect
     ensures { result ≡ fast_of octet }
 {
-    match octet.map(|octet| octet / 64) {
+    match octet.map(|octet| octet >> 6) {
         Some(2) => FastSelect::Unrestricted,
         Some(3) => FastSelect::Restricted,
         _ => FastSelect::No,
@@ -110,10 +112,7 @@ fn fast_select(octet: Option<u8>) -> FastSelect
 fn first_bit(octet: Option<u8>) -> bool
     ensures { result ≡ first_bit octet }
 {
-    match octet {
-        Some(octet) => octet % 2 == 1,
-        None => false,
-    }
+    octet.is_some_and(|octet| octet & 1 == 1)
 }
 
 /// The closed user group selection, of one kind.
@@ -149,7 +148,7 @@ fn decimal(octet: u8) -> Result<u16, FacilityFault>
     ensures value { Allows (decimal octet) result }
     ensures small { IfOk result (λ number. number < 100) }
 {
-    let (tens, ones) = (u16::from(octet / 16), u16::from(octet % 16));
+    let (tens, ones) = (u16::from(octet >> 4), u16::from(octet & 0x0f));
     if tens < 10 && ones < 10 {
         Ok(10 * tens + ones)
     } else {
@@ -164,15 +163,15 @@ fn sizes(items: &Items<'_>, code: u8, least: u8, most: u8) -> Result<Option<Pair
 {
     match last(items, &[code]) {
         None => Ok(None),
-        Some(&[from_called, from_calling])
-            if least <= from_called
-                && from_called <= most
-                && least <= from_calling
-                && from_calling <= most => {
-            Ok(Some(Pair {
+        Some(&[from_called, from_calling]) => {
+            let sizes = Pair {
                 from_called,
                 from_calling,
-            }))
+            };
+            if !sizes.is_within(least, most) {
+                return Err(FacilityFault::Param);
+            }
+            Ok(Some(sizes))
         }
         Some(_) => Err(FacilityFault::Param),
     }

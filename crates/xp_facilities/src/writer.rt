@@ -24,6 +24,8 @@ use xp_packets::Octets;
 /// The facility field that tells these values (X.25 clauses 6 and 7.2): items in ascending order of
 /// their codes, then the facilities between DTEs behind their marker.
 ///
+/// # Errors
+///
 /// `Length` where the facilities between DTEs are no items or have a marker, else `Param` where a
 /// value is out of its range, else `Memory` only where memory is wanted.
 pub fn write<A: Allocator>(alloc: A, told: &Told<A>) -> Result<Octets<A>, FacilityFault>
@@ -43,10 +45,7 @@ pub fn write<A: Allocator>(alloc: A, told: &Told<A>) -> Result<Octets<A>, Facili
     if !is_in_range(told) {
         return Err(FacilityFault::Param);
     }
-    let Ok(field) = field(alloc, told) else {
-        return Err(FacilityFault::Memory);
-    };
-    Ok(Octets::from_vec(field))
+    Ok(Octets::from_vec(field(alloc, told)?))
 }
 
 fn has_marker(items: &Items<'_>) -> bool
@@ -86,25 +85,16 @@ fn index_fits(selection: Selection) -> bool
 fn sizes_fit(sizes: Option<Pair>, least: u8, most: u8) -> bool
     ensures { result ≡ sizes_fit least most sizes }
 {
-    match sizes {
-        None => true,
-        Some(sizes) => {
-            least <= sizes.from_called
-                && sizes.from_called <= most
-                && least <= sizes.from_calling
-                && sizes.from_calling <= most
-        }
-    }
+    sizes.is_none_or(|sizes| sizes.is_within(least, most))
 }
 
 #[tactic(auto, unfolding(crate::specs::Told::counts_fit))]
 fn counts_fit(segments: Option<SegmentCounts>) -> bool
     ensures { result ≡ counts_fit segments }
 {
-    match segments {
-        None => true,
-        Some(segments) => segments.sent <= LARGEST_COUNT && segments.received <= LARGEST_COUNT,
-    }
+    segments.is_none_or(|segments| {
+        segments.sent <= LARGEST_COUNT && segments.received <= LARGEST_COUNT
+    })
 }
 
 /// The octets of all items.

@@ -62,22 +62,17 @@ impl<A: Allocator + Copy> Deframer<A> {
         let alloc = *self.rest.allocator();
         let packets = self.waiting.len();
         let octets = self.rest.len();
-        if self.rest.extend_from_slice(piece).is_err() {
-            return Err(FrameFault::Memory);
-        }
+        self.rest.extend_from_slice(piece)?;
         match cut_frames(&self.rest, &mut self.waiting, alloc) {
             Ok(Cut { count, fault }) => {
                 drop_front(&mut self.rest, count);
                 self.failed = fault.is_some();
-                match fault {
-                    None => Ok(()),
-                    Some(fault) => Err(fault),
-                }
+                fault.map_or(Ok(()), Err)
             }
-            Err(_) => {
+            Err(refused) => {
                 self.waiting.truncate(packets);
                 self.rest.truncate(octets);
-                Err(FrameFault::Memory)
+                Err(refused.into())
             }
         }
     }

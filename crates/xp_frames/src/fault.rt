@@ -1,3 +1,7 @@
+ghost use Rattle.std.specs.Prelude.{◌≡◌};
+ghost use Rattle.xp_frames.specs.declared.fault.FrameFault.TheVariants.{Memory};
+
+use std::alloc::AllocError;
 use thiserror::Error;
 
 /// Why octets are no frames, or why a call changed nothing.
@@ -15,4 +19,12 @@ pub enum FrameFault {
     /// No memory was left.
     #[error("out of memory")]
     Memory,
+}
+
+impl From<AllocError> for FrameFault {
+    ghost from_gives = { λ _ fault. fault ≡ Memory };
+
+    fn from(_refused: AllocError) -> FrameFault {
+        FrameFault::Memory
+    }
 }

@@ -252,11 +252,3 @@ fn faults_are_told(rt: HostRuntime) -> Result<(), Fail> {
     }
     Ok(())
 }
-
-#[test]
-fn laws_hold() {
-    no_frame_begins_another();
-    one_reading();
-    any_pieces();
-    failed_ever_after();
-}

@@ -19,9 +19,7 @@ pub fn write_frame<A: Allocator>(packet: &[u8], out: &mut Vec<u8, A>) -> Result<
     if !is_packet_length(length) {
         return Err(FrameFault::Length(length));
     }
-    if out.reserve(HEAD + packet.len()).is_err() {
-        return Err(FrameFault::Memory);
-    }
+    out.reserve(HEAD + packet.len())?;
     let [zero, version] = VERSION.to_be_bytes();
     let [high, low] = length.to_be_bytes();
     out.extend_from_slice(&[zero, version, high, low]).unwrap();

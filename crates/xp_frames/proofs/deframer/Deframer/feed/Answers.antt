@@ -12,4 +12,4 @@ returns-in-Err g c =
     restored_waiting (λ p. p.items) c.self.inside.waiting.items c.cut_frames.new.waiting.items c.truncate.new.self.items c.len-packets.result packets c.in-Err.ensures c.truncate.ensures.items (length-map c.self.inside.waiting.items (λ p. p.items)) in
     let rest : c.truncate-in-Err.new.self.items ≡ c.self.inside.rest.items =
     restored_rest c.self.inside.rest.items c.args.piece.now c.extend_from_slice.new.self.items c.truncate-in-Err.new.self.items (is_ok c.extend_from_slice.result) c.len-octets.result c.extend_from_slice.ensures.items octets c.truncate-in-Err.ensures.items in
-    (ap (λ h. h.failed) (sym c.self.view_is) ∙ c.if-self.false, same_held _ _ _ _ c.self.inside.failed waiting rest ∙ c.self.view_is)
+    rw c.into.ensures (ap (λ h. h.failed) (sym c.self.view_is) ∙ c.if-self.false, same_held _ _ _ _ c.self.inside.failed waiting rest ∙ c.self.view_is)
