@@ -1,5 +1,6 @@
 -- What becomes of a call at a place that is known.
-use Rattle.std.proofs.Common.{◌≡◌, ℕ, List, None, Some, refl, sym, ◌∙◌, ap, option_map}
+use Rattle.std.proofs.Common.{◌≡◌, ℕ, List, Option, None, Some, Ok, Err, refl, sym, ◌∙◌, ap, option_map}
+use Rattle.std.specs.Option.{ok_or}
 use Rattle.xp_facilities.specs.declared.redirection.Reason.TheVariants.{Busy, OutOfOrder, Systematic}
 use Rattle.xp_groups.specs.declared.admission.Admission.{Admission}
 use Rattle.xp_groups.specs.declared.refusal.Refusal.{Refusal}
@@ -11,7 +12,7 @@ use Rattle.xp_subs.specs.declared.station.Station.{Station}
 use Rattle.xp_subs.specs.declared.target.Target.{Target}
 use Rattle.xp_decide.proofs.Last.{declining_keeps, idle_keeps, off_keeps, busy_keeps, is_last}
 use Rattle.xp_decide.specs.Accepts.{Accepts, Declines}
-use Rattle.xp_decide.specs.Routes.{Place, lines_of, place_of, place_at, alternate, LeavesOr, Redirects, LeavesAt, Visits, RefusesAt}
+use Rattle.xp_decide.specs.Routes.{Place, lines_of, place_of, place_at, alternate, IsRedirected, Redirects, LeavesAt, Visits, RefusesAt}
 use Rattle.xp_decide.specs.Routes as routes
 use Rattle.xp_decide.specs.declared.acceptance.Wanted.{Wanted}
 use Rattle.xp_decide.specs.declared.visit.Visit.{Visit}
@@ -21,19 +22,21 @@ use Rattle.xp_decide.specs.declared.visit.Visit.TheVariants as visits
 abbrev pub placed : Station → Target → Place
 placed station target = record { station = station; lines = lines_of station target.line }
 
-pub here : (tables : Tables) (address : List ℕ) (target : Target) (station : Station)
-    → Some target ≡ target_of tables address → station ≡ station_at tables target.station
+pub here : (tables : Tables) (address : List ℕ) (found : Option Target) (target : Target) (station : Station)
+    → found ≡ target_of tables address → found ≡ Some target → station ≡ station_at tables target.station
     → place_at tables address ≡ Some (placed station target)
-here tables address target station found same =
-    ap (option_map (place_of tables)) (sym found) ∙ ap (λ (s : Station). Some (placed s target)) (sym same)
+here tables address found target station found_is some same =
+    ap (option_map (place_of tables)) (sym found_is ∙ some) ∙ ap (λ (s : Station). Some (placed s target)) (sym same)
 
 module _ (tables : Tables) (states : ℕ → LineState) (wanted : Wanted) (address : List ℕ) (place : Place) (known : place_at tables address ≡ Some place) where
-  pub leaves : (to : List ℕ) → alternate place.station Systematic ≡ Some to
-      → LeavesAt tables states wanted address Systematic to
-  leaves to some = record { place = place; known = known; redirects = routes.systematic refl some }
+  pub leaves : (visit : Visit) → IsRedirected place.station Systematic (Some visit)
+      → Visits tables states wanted address (Ok visit)
+  leaves (visits.Left reason to) (is, some) =
+      record { place = place; known = known; redirects = routes.systematic is some }
+  leaves (visits.Taken _ _) never = absurd never
 
   pub declines : (refusal : Refusal) → alternate place.station Systematic ≡ None → Declines wanted place.station refusal
-      → Visits tables states wanted address (visits.Refused refusal)
+      → Visits tables states wanted address (Err refusal)
   declines refusal none declined = (
     is_last tables states wanted address place known (declining_keeps states wanted place refusal none declined),
     routes.refused place known (routes.declined declined),
@@ -41,30 +44,30 @@ module _ (tables : Tables) (states : ℕ → LineState) (wanted : Wanted) (addre
 
   pub takes : (line : ℕ) (admission : Admission) → alternate place.station Systematic ≡ None
       → Accepts wanted place.station admission → IsIdleIn states place.lines line
-      → Visits tables states wanted address (visits.Taken line admission)
+      → Visits tables states wanted address (Ok (visits.Taken line admission))
   takes line admission none accepts idle = (
     is_last tables states wanted address place known (idle_keeps states wanted place line none idle),
     record { place = place; known = known; accepts = accepts; idle = idle },
   )
 
-  pub finds_off : (admission : Admission) (visit : Visit) → alternate place.station Systematic ≡ None
+  pub finds_off : (admission : Admission) (left : Option Visit) → alternate place.station Systematic ≡ None
       → Accepts wanted place.station admission → AreOff states place.lines
-      → LeavesOr place.station OutOfOrder OUT_OF_ORDER visit → Visits tables states wanted address visit
-  finds_off admission (visits.Left reason to) none accepts off (is, some) =
+      → IsRedirected place.station OutOfOrder left → Visits tables states wanted address (ok_or left OUT_OF_ORDER)
+  finds_off admission (Some (visits.Left reason to)) none accepts off (is, some) =
       record { place = place; known = known; redirects = routes.out_of_order admission is none accepts off some }
-  finds_off admission (visits.Refused refusal) none accepts off (is, no_alternate) = (
+  finds_off admission (Some (visits.Taken _ _)) none accepts off never = absurd never
+  finds_off admission None none accepts off no_alternate = (
     is_last tables states wanted address place known (off_keeps states wanted place none off no_alternate),
-    routes.refused place known (routes.all_off admission accepts off is),
+    routes.refused place known (routes.all_off admission accepts off refl),
   )
-  finds_off admission (visits.Taken _ _) none accepts off never = absurd never
 
-  pub finds_busy : (admission : Admission) (visit : Visit) → alternate place.station Systematic ≡ None
+  pub finds_busy : (admission : Admission) (left : Option Visit) → alternate place.station Systematic ≡ None
       → Accepts wanted place.station admission → HasNoneIdle states place.lines → HasBusy states place.lines
-      → LeavesOr place.station Busy NUMBER_BUSY visit → Visits tables states wanted address visit
-  finds_busy admission (visits.Left reason to) none accepts none_idle has_busy (is, some) =
+      → IsRedirected place.station Busy left → Visits tables states wanted address (ok_or left NUMBER_BUSY)
+  finds_busy admission (Some (visits.Left reason to)) none accepts none_idle has_busy (is, some) =
       record { place = place; known = known; redirects = routes.busy admission is none accepts none_idle has_busy some }
-  finds_busy admission (visits.Refused refusal) none accepts none_idle has_busy (is, no_alternate) = (
+  finds_busy admission (Some (visits.Taken _ _)) none accepts none_idle has_busy never = absurd never
+  finds_busy admission None none accepts none_idle has_busy no_alternate = (
     is_last tables states wanted address place known (busy_keeps states wanted place none has_busy no_alternate),
-    routes.refused place known (routes.none_idle admission accepts none_idle has_busy is),
+    routes.refused place known (routes.none_idle admission accepts none_idle has_busy refl),
   )
-  finds_busy admission (visits.Taken _ _) none accepts none_idle has_busy never = absurd never

@@ -10,21 +10,21 @@ use Rattle.xp_decide.specs.declared.route.Reached.{Reached}
 use Rattle.xp_decide.specs.declared.verdict.Ring.{Ring}
 
 -- packets of 128 octets and windows of 2, where the call asks for nothing else
-abbrev pub usual_sizes : Pair
-usual_sizes = record { from_called = 7; from_calling = 7 }
+abbrev pub default_packet_sizes : Pair
+default_packet_sizes = record { from_called = 7; from_calling = 7 }
 
-abbrev pub usual_windows : Pair
-usual_windows = record { from_called = 2; from_calling = 2 }
+abbrev pub default_window_sizes : Pair
+default_window_sizes = record { from_called = 2; from_calling = 2 }
 
 -- packets of at most 1,024 octets
 abbrev pub at_most_1024 : Pair → Pair
 at_most_1024 sizes = record { from_called = min sizes.from_called 10; from_calling = min sizes.from_calling 10 }
 
 abbrev pub indicated_packet : Option Pair → Pair
-indicated_packet asked = at_most_1024 (unwrap_or asked usual_sizes)
+indicated_packet asked = at_most_1024 (unwrap_or asked default_packet_sizes)
 
 abbrev pub indicated_window : Option Pair → Pair
-indicated_window asked = unwrap_or asked usual_windows
+indicated_window asked = unwrap_or asked default_window_sizes
 
 -- the notification of a redirection: the first reason and the dialled address
 abbrev pub notified : Option Reason → List ℕ → Option Redirected

@@ -110,10 +110,10 @@ module _ (tables : Tables) (states : ℕ → LineState) (wanted : Wanted) where
     pub idle : IsIdleIn states place.lines line
 
   -- what becomes of the call at one address
-  abbrev pub Visits : List ℕ → Visit → Type 0
-  Visits address (visits.Left reason to) = LeavesAt address reason to.now
-  Visits address (visits.Refused refusal) = IsLast address × RefusesAt address refusal
-  Visits address (visits.Taken line admission) = IsLast address × TakesAt address line admission
+  abbrev pub Visits : List ℕ → Result Visit Refusal → Type 0
+  Visits address (Ok (visits.Left reason to)) = LeavesAt address reason to.now
+  Visits address (Ok (visits.Taken line admission)) = IsLast address × TakesAt address line admission
+  Visits address (Err refusal) = IsLast address × RefusesAt address refusal
 
   -- from an address along these hops to another
   abbrev pub Follows : List ℕ → List Hop → List ℕ → Type 0
@@ -135,8 +135,8 @@ module _ (tables : Tables) (states : ℕ → LineState) (wanted : Wanted) where
         → Follows dialled hops last → length hops ≡ 5
         → result ≡ Err TOO_MANY_REDIRECTIONS → Reaches dialled result
 
--- the redirection for this reason, else the refusal
-abbrev pub LeavesOr : Station → Reason → Refusal → Visit → Type 0
-LeavesOr station reason refusal (visits.Left why to) = (why ≡ reason) × (alternate station reason ≡ Some to.now)
-LeavesOr station reason refusal (visits.Refused why) = (why ≡ refusal) × (alternate station reason ≡ None)
-LeavesOr station reason refusal (visits.Taken line admission) = ⊥
+-- the redirection for this reason, if the station has one
+abbrev pub IsRedirected : Station → Reason → Option Visit → Type 0
+IsRedirected station reason None = alternate station reason ≡ None
+IsRedirected station reason (Some (visits.Left why to)) = (why ≡ reason) × (alternate station reason ≡ Some to.now)
+IsRedirected station reason (Some (visits.Taken line admission)) = ⊥

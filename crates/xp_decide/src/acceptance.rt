@@ -14,7 +14,12 @@ pub struct Wanted {
     pub fast: bool,
 }
 
-// Whether the station's subscription lets it take the call, or the first refusal.
+/// How the station takes the call, where its subscription lets it.
+///
+/// # Errors
+///
+/// The first refusal: the station takes no calls, closed user groups keep this one from it, or it does not accept reverse
+/// charging or fast select.
 pub fn accept(wanted: &Wanted, station: &Station) -> Result<Admission, Refusal>
     ensures { Examines wanted.now station.now result }
 {

@@ -13,8 +13,15 @@ use xp_hunt::Lines;
 use xp_packets::Block;
 use xp_subs::{LineNo, Subs};
 
-/// What becomes of the call request with this block that the line `from` makes. Which of several idle
-/// lines is taken is not promised. The error is want of memory.
+/// What becomes of the call request with this block that the line `from` makes. Which of several idle lines is taken is
+/// not promised.
+///
+/// The verdict is the first refusal: of the facilities, of the user data, of what the caller's station may ask, and then
+/// that of the address at which the call ends.
+///
+/// # Errors
+///
+/// Want of memory.
 pub fn decide<A: Allocator + Copy, L: Lines>(
     alloc: A,
     subs: &Subs,
@@ -32,7 +39,7 @@ pub fn decide<A: Allocator + Copy, L: Lines>(
     }
 }
 
-// The incoming call that a line gets, or why none does.
+/// The incoming call that a line gets.
 fn put_through<A: Allocator + Copy, L: Lines>(
     alloc: A,
     subs: &Subs,

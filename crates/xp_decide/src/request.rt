@@ -10,10 +10,10 @@ use xp_groups::{Intent, Refusal, intent};
 use xp_packets::Block;
 use xp_subs::{LineNo, Subs};
 
-// The octets of user data that a call without fast select carries at most (X.25 clause 5.2.2).
+/// The octets of user data that a call without fast select carries at most (X.25 clause 5.2.2).
 const MAX_USER_DATA: usize = 16;
 
-// A call request that its station may make.
+/// A call request that its station may make.
 #[derive(Drop)]
 pub struct Request<A: Allocator = Global> {
     pub asked: Asked<A>,
@@ -21,7 +21,7 @@ pub struct Request<A: Allocator = Global> {
 }
 
 impl<A: Allocator> Request<A> {
-    // What is asked of each station on the way.
+    /// What is asked of each station on the way.
     pub fn wanted(&self) -> Wanted
         ensures { result ≡ wanted_of self.now }
     {
@@ -33,7 +33,12 @@ impl<A: Allocator> Request<A> {
     }
 }
 
-// Reads what is asked, and whether the caller's station may ask it.
+/// Reads what is asked.
+///
+/// # Errors
+///
+/// Want of memory, or the first refusal: the facilities are faulty, there are too many user data, or the caller's station
+/// may not make the call.
 pub fn open<A: Allocator + Copy>(
     alloc: A,
     subs: &Subs,
@@ -55,7 +60,7 @@ pub fn open<A: Allocator + Copy>(
     Ok(Request { asked, intent })
 }
 
-// Whether the call may carry its user data.
+/// Whether the call may carry its user data.
 fn has_room<A: Allocator>(block: &Block<A>, asked: &Asked<A>) -> bool
     ensures room { IsTrue result → HasRoom block.now asked.now }
     ensures too_long { result ≡ false → HasNoRoom block.now asked.now }
@@ -63,7 +68,7 @@ fn has_room<A: Allocator>(block: &Block<A>, asked: &Asked<A>) -> bool
     block.user.len() <= MAX_USER_DATA || is_fast_select(asked.fast)
 }
 
-// Whether it is fast select of either kind.
+/// Whether it is fast select of either kind.
 fn is_fast_select(fast: FastSelect) -> bool
     ensures { result ≡ is_fast fast }
 {

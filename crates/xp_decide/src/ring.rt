@@ -8,21 +8,22 @@ use xp_facilities::{Asked, Pair, Reason, Redirected, Told};
 use xp_groups::Admission;
 use xp_packets::Digits;
 
-// The greatest packet size that an incoming call tells, as a power of two: 1,024 octets.
-const GREATEST_SIZE: u8 = 10;
+/// The greatest packet size that an incoming call tells, as a power of two: 1,024 octets.
+const MAX_PACKET_SIZE: u8 = 10;
 
-// The packet sizes and window sizes of a call that asks for none.
-const USUAL_SIZES: Pair = Pair {
+/// The packet sizes of a call that asks for none, as powers of two: 128 octets.
+const DEFAULT_PACKET_SIZES: Pair = Pair {
     from_called: 7,
     from_calling: 7,
 };
 
-const USUAL_WINDOWS: Pair = Pair {
+/// The window sizes of a call that asks for none.
+const DEFAULT_WINDOW_SIZES: Pair = Pair {
     from_called: 2,
     from_calling: 2,
 };
 
-// The incoming call that the line gets.
+/// The incoming call that the line gets.
 pub fn incoming_call<A: Allocator + Copy>(
     asked: Asked<A>,
     reached: &Reached,
@@ -39,7 +40,7 @@ pub fn incoming_call<A: Allocator + Copy>(
     })
 }
 
-// The facilities of the incoming call.
+/// The facilities of the incoming call.
 fn tell<A: Allocator + Copy>(
     asked: &Asked<A>,
     admission: Admission,
@@ -56,7 +57,7 @@ fn tell<A: Allocator + Copy>(
         throughput: asked.throughput,
         modified: None,
         packet: Some(indicate_packet(asked.packet)),
-        window: Some(asked.window.unwrap_or(USUAL_WINDOWS)),
+        window: Some(asked.window.unwrap_or(DEFAULT_WINDOW_SIZES)),
         redirected: reason.map(|reason| Redirected {
             reason,
             dialled: dialled.copy(),
@@ -66,13 +67,13 @@ fn tell<A: Allocator + Copy>(
     })
 }
 
-// The packet sizes that the incoming call tells (X.25 clause 6.12).
+/// The packet sizes that the incoming call tells (X.25 clause 6.12).
 fn indicate_packet(asked: Option<Pair>) -> Pair
     ensures { result ≡ indicated_packet asked }
 {
-    let sizes = asked.unwrap_or(USUAL_SIZES);
+    let sizes = asked.unwrap_or(DEFAULT_PACKET_SIZES);
     Pair {
-        from_called: sizes.from_called.min(GREATEST_SIZE),
-        from_calling: sizes.from_calling.min(GREATEST_SIZE),
+        from_called: sizes.from_called.min(MAX_PACKET_SIZE),
+        from_calling: sizes.from_calling.min(MAX_PACKET_SIZE),
     }
 }

@@ -8,21 +8,26 @@ use xp_hunt::Lines;
 use xp_packets::Digits;
 use xp_subs::{LineNo, Subs};
 
-// How many addresses a call may come to: the dialled one and four redirections.
-const ADDRESSES: u8 = 5;
+/// How many redirections of a call are followed.
+const MAX_REDIRECTIONS: u8 = 4;
 
-// Where a call ends.
+/// Where a call ends.
 #[derive(Clone, Copy)]
 pub struct Reached {
-    // An idle line of the last address.
+    /// An idle line of the last address.
     pub line: LineNo,
-    // How the last station takes it.
+    /// How the last station takes it.
     pub admission: Admission,
-    // Why it was first redirected, if it was.
+    /// Why it was first redirected, if it was.
     pub reason: Option<Reason>,
 }
 
-// Goes from the dialled address along the redirections to a line, or to a refusal.
+/// Goes from the dialled address along the redirections to a line that takes the call.
+///
+/// # Errors
+///
+/// The refusal at the last address; `TOO_MANY_REDIRECTIONS`, where that one redirects the call once more than is
+/// followed.
 pub fn reach<L: Lines>(
     subs: &Subs,
     lines: &L,
@@ -33,13 +38,12 @@ pub fn reach<L: Lines>(
 {
     let mut address = dialled;
     let mut reason = None;
-    for _hops in 0..ADDRESSES {
-        match call_at(subs, lines, wanted, address) {
+    for _hops in 0..=MAX_REDIRECTIONS {
+        match call_at(subs, lines, wanted, address)? {
             Visit::Left(why, to) => {
                 reason = reason.or(Some(why));
                 address = to;
             }
-            Visit::Refused(refusal) => return Err(refusal),
             Visit::Taken(line, admission) => {
                 return Ok(Reached {
                     line,

@@ -3,7 +3,7 @@ ghost use Rattle.std.specs.Prelude.{◌≡◌};
 use xp_hunt::{LineState, Lines};
 use xp_subs::LineNo;
 
-// The lines as a call from `caller` finds them: that line is busy with the call itself.
+/// The lines as a call from `caller` finds them: that line is busy with the call itself.
 #[derive(Clone, Copy)]
 pub struct Seen<'a, L> {
     pub lines: &'a L,

@@ -1,4 +1,4 @@
--- The causes and diagnostics of refusals (X.25 table 5-7 and Annex E).
+-- The causes and diagnostics of refusals (X.25 clause 5.2.4 and Annex E).
 use Rattle.std.specs.Prelude.{ℕ}
 use Rattle.xp_groups.specs.declared.refusal.Cause.{Cause}
 use Rattle.xp_groups.specs.declared.refusal.Cause.TheVariants.{DteOriginated, NumberBusy, InvalidFacilityRequest, NetworkCongestion, OutOfOrder, AccessBarred, NotObtainable, RemoteProcedureError, LocalProcedureError, ReverseChargingNotSubscribed, FastSelectNotSubscribed}

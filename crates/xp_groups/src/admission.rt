@@ -40,14 +40,14 @@ pub fn admit(intent: &Intent, station: &Station) -> Result<Admission, Refusal>
     }
 }
 
-// Whether an open call meets a station that takes such calls.
+/// Whether an open call meets a station that takes such calls.
 fn comes_from_outside(intent: &Intent, station: &Station) -> bool
     ensures { result ≡ from_outside intent.now station.now }
 {
     intent.outside && station.incoming_access
 }
 
-// What tells the called station its part in the group of the call, which may be open.
+/// What tells the called station its part in the group of the call, which may be open.
 fn index_told(held: Membership, outside: bool) -> Selection
     ensures also_open { IsTrue outside → result ≡ AlsoOpen held.index }
     ensures closed { outside ≡ false → result ≡ Closed held.index }
@@ -59,7 +59,7 @@ fn index_told(held: Membership, outside: bool) -> Selection
     }
 }
 
-// The station's part in this group.
+/// The station's part in this group.
 fn part(station: &Station, group: Option<GroupNo>) -> Option<Membership>
     ensures { result ≡ part_in station.now group }
 {

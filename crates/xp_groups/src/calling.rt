@@ -25,7 +25,7 @@ pub fn intent(station: &Station, selection: Selection) -> Result<Intent, Refusal
     }
 }
 
-// A call without a selection.
+/// A call without a selection.
 fn unselected(station: &Station) -> Result<Intent, Refusal>
     requires { HasGroups station.now }
     ensures { Intends station.now Nothing result }
@@ -37,7 +37,7 @@ fn unselected(station: &Station) -> Result<Intent, Refusal>
     }
 }
 
-// A call within the group of this index.
+/// A call within the group of this index.
 fn closed(station: &Station, index: u16) -> Result<Intent, Refusal>
     requires { HasGroups station.now }
     ensures { Intends station.now (Closed index) result }
@@ -49,7 +49,7 @@ fn closed(station: &Station, index: u16) -> Result<Intent, Refusal>
     }
 }
 
-// A call within the group of this index, or outside of it.
+/// A call within the group of this index, or outside of it.
 fn also_open(station: &Station, index: u16) -> Result<Intent, Refusal>
     requires { HasGroups station.now }
     ensures { Intends station.now (AlsoOpen index) result }
@@ -64,7 +64,7 @@ fn also_open(station: &Station, index: u16) -> Result<Intent, Refusal>
     }
 }
 
-// The group that the station selects by this index.
+/// The group that the station selects by this index.
 fn membership(station: &Station, index: u16) -> Option<Membership>
     ensures { result ≡ selected station.now index }
 {
@@ -75,14 +75,14 @@ fn membership(station: &Station, index: u16) -> Option<Membership>
         .copied()
 }
 
-// The station's preferential group.
+/// The station's preferential group.
 fn preferential(station: &Station) -> Option<Membership>
     ensures { result ≡ preferred station.now }
 {
     membership(station, station.preferential?)
 }
 
-// A call within this group, open or not.
+/// A call within this group, open or not.
 fn within(held: Membership, outside: bool) -> Intent
     ensures { result ≡ record { group = Some held.group; outside = outside } }
 {

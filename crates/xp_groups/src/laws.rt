@@ -15,7 +15,7 @@ pub fn joined_stations_may_join()
     ensures { JoinedMayJoin }
 {}
 
-/// Each refusal is told by its cause and diagnostic (X.25 table 5-7 and Annex E).
+/// Each refusal is told by its cause and diagnostic (X.25 clause 5.2.4 and Annex E).
 pub fn refusals_are_coded()
     ensures { RefusalsAreCoded }
 {}

@@ -1,7 +1,7 @@
 ghost use Rattle.std.specs.Prelude.{◌≡◌};
 ghost use Rattle.xp_groups.specs.Refusals.{octet_of};
 
-/// The clearing causes that an exchange gives (X.25 clause 5.2.3.1.1).
+/// The clearing causes that an exchange gives (X.25 clause 5.2.4).
 #[derive(Clone, Copy, Debug, PartialEq, Eq)]
 pub enum Cause {
     DteOriginated,
@@ -20,7 +20,7 @@ pub enum Cause {
 }
 
 impl Cause {
-    /// The cause octet of a clear indication (X.25 table 5-7).
+    /// The cause octet of a clear indication (X.25 clause 5.2.4).
     pub fn octet(self) -> u8
         ensures { result ≡ octet_of self }
     {
@@ -40,7 +40,7 @@ impl Cause {
     }
 }
 
-/// Why a call request is refused: what the clear indication tells (X.25 clause 5.2.3, Annex E).
+/// Why a call request is refused: what the clear indication tells (X.25 clause 5.2.4, Annex E).
 #[derive(Clone, Copy, Debug, PartialEq, Eq)]
 pub struct Refusal {
     pub cause: Cause,

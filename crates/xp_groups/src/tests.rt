@@ -6,20 +6,20 @@ use xp_facilities::Selection;
 use xp_packets::Digits;
 use xp_subs::{GroupNo, Membership, Station};
 
-// A station's part in a group: whether outgoing and incoming calls are barred.
+/// A station's part in a group: whether outgoing and incoming calls are barred.
 #[derive(Clone, Copy, Debug)]
 struct Part {
     outgoing_barred: bool,
     incoming_barred: bool,
 }
 
-// A station of at most the groups 0 and 1, as a person would note it.
+/// A station of at most the groups 0 and 1, as a person would note it.
 #[derive(Clone, Copy, Debug)]
 struct Plain {
     parts: [Option<Part>; 2],
     outgoing_access: bool,
     incoming_access: bool,
-    // A group, which need not be one of the station's.
+    /// A group, which need not be one of the station's.
     preferential: Option<GroupNo>,
 }
 
@@ -30,7 +30,7 @@ fn barring(outgoing_barred: bool, incoming_barred: bool) -> Option<Part> {
     })
 }
 
-// The ways to be in a group, or not.
+/// The ways to be in a group, or not.
 fn parts() -> [Option<Part>; 5] {
     [
         None,
@@ -41,7 +41,7 @@ fn parts() -> [Option<Part>; 5] {
     ]
 }
 
-// All stations of at most two groups: 5 * 5 * 4 * 3 of them.
+/// All stations of at most two groups: 5 * 5 * 4 * 3 of them.
 fn all_stations(alloc: Global) -> Result<Vec<Plain>, AllocError> {
     let mut all = Vec::new(alloc);
     for first in parts() {
@@ -66,7 +66,7 @@ fn all_stations(alloc: Global) -> Result<Vec<Plain>, AllocError> {
     Ok(all)
 }
 
-// The subscriptions of this station, which knows the groups 0 and 1 by these indexes.
+/// The subscriptions of this station, which knows the groups 0 and 1 by these indexes.
 fn station(plain: &Plain, indexes: [u16; 2]) -> Station {
     let mut memberships = ArrayVec::new();
     for (group, index, part) in [
@@ -111,8 +111,8 @@ fn has_groups(plain: &Plain) -> bool {
     plain.parts[0].is_some() || plain.parts[1].is_some()
 }
 
-// What the called station is told, or cause and diagnostic, where the caller knows the groups 0 and 1 by the
-// indexes 3 and 4, and the called station by 17 and 18.
+/// What the called station is told, or cause and diagnostic, where the caller knows the groups 0 and 1 by the
+/// indexes 3 and 4, and the called station by 17 and 18.
 fn expected(caller: &Plain, selection: Selection, called: &Plain) -> Result<Selection, (u8, u8)> {
     let group = match selection {
         Selection::Nothing => caller.preferential,
@@ -149,7 +149,7 @@ fn expected(caller: &Plain, selection: Selection, called: &Plain) -> Result<Sele
     }
 }
 
-// What the two functions answer.
+/// What the two functions answer.
 fn answered(
     caller: &Station,
     selection: Selection,
@@ -190,10 +190,6 @@ fn all_pairs_of_two_groups(rt: HostRuntime) -> Result<(), Fail> {
             }
         }
     }
-    intent_is_determined();
-    admission_is_determined();
-    joined_stations_may_join();
-    refusals_are_coded();
     Ok(())
 }
 

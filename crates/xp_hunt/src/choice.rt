@@ -14,7 +14,8 @@ pub enum Picked {
     Busy,
 }
 
-/// An idle line of a hunt group, or why there is none (X.25 clause 6.24).
+/// An idle line of a hunt group, or why there is none: each is out of service, or none is idle and one is busy (X.25 clause
+/// 6.24).
 pub fn pick<L: Lines>(group: &[LineNo], lines: &L) -> Picked
     ensures { Picks (L.states lines.now) group.now result }
 {

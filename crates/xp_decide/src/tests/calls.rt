@@ -72,7 +72,7 @@ pub struct Plain {
     pub dte: usize,
 }
 
-// The states of the lines.
+/// The states of the lines.
 #[derive(Clone, Copy)]
 struct Known<'a>(&'a [LineState]);
 
@@ -83,12 +83,7 @@ impl<'a> Lines for Known<'a> {
     ghost states = { λ known line. slice_index_or known.0.now line Off };
 
     fn state(&self, line: LineNo) -> LineState {
-        let at = usize::from(line);
-        if at < self.0.len() {
-            self.0[at]
-        } else {
-            LineState::Off
-        }
+        self.0.get(usize::from(line)).copied().unwrap_or_default()
     }
 }
 
@@ -147,12 +142,13 @@ pub fn verdict<A: Allocator + Copy>(
     call: &Call,
     block: &Block<A>,
 ) -> Result<Option<Verdict<A>>, AllocError> {
-    match subs.line_named(call.from) {
-        Some(from) => Ok(Some(decide(alloc, subs, &Known(call.lines), from, block)?)),
-        None => Ok(None),
-    }
+    let Some(from) = subs.line_named(call.from) else {
+        return Ok(None);
+    };
+    Ok(Some(decide(alloc, subs, &Known(call.lines), from, block)?))
 }
 
+/// The verdict in plain values.
 pub fn outcome_of<A: Allocator>(verdict: &Option<Verdict<A>>) -> Outcome {
     match verdict {
         Some(Verdict::Take(ring)) => Outcome::Rings(ring.line),
@@ -163,7 +159,7 @@ pub fn outcome_of<A: Allocator>(verdict: &Option<Verdict<A>>) -> Outcome {
     }
 }
 
-// What is told where a line rings.
+/// What is told where a line rings.
 fn told_of<A: Allocator>(verdict: &Option<Verdict<A>>) -> Option<Plain> {
     match verdict {
         Some(Verdict::Take(ring)) => Some(Plain {
@@ -173,10 +169,10 @@ fn told_of<A: Allocator>(verdict: &Option<Verdict<A>>) -> Option<Plain> {
             throughput: ring.told.throughput,
             packet: ring.told.packet,
             window: ring.told.window,
-            redirected: match &ring.told.redirected {
-                Some(redirected) => Some((redirected.reason, number(&redirected.dialled))),
-                None => None,
-            },
+            redirected: ring.told.redirected.as_ref().map(|redirected| (
+                redirected.reason,
+                number(&redirected.dialled),
+            )),
             reason: ring.reason,
             dte: ring.told.dte.len(),
         }),
@@ -184,7 +180,7 @@ fn told_of<A: Allocator>(verdict: &Option<Verdict<A>>) -> Option<Plain> {
     }
 }
 
-// The decision on this call, with ample memory.
+/// The decision on this call, with ample memory.
 fn answer(alloc: Global, call: &Call) -> Result<Option<Verdict>, Fail> {
     let subs = subscriptions(alloc, call)?;
     let block = block(alloc, call)?;

@@ -4,17 +4,15 @@ use std::alloc::Global;
 use std::test::Fail;
 use xp_facilities::Selection;
 
-// A in X as index 3, B in X as index 17.
+/// A station in X, as index 3.
 const IN_X: &str = "group = [{ name = 'X', index = 3 }]";
 
+/// Another in X, as index 17.
 const ALSO_IN_X: &str = "group = [{ name = 'X', index = 17 }]";
 
-// What the called station is told of the group.
+/// What the called station is told of the group.
 fn selection_told(alloc: Global, call: &Call) -> Result<Option<Selection>, Fail> {
-    match told(alloc, call)? {
-        Some(told) => Ok(Some(told.selection)),
-        None => Ok(None),
-    }
+    Ok(told(alloc, call)?.map(|told| told.selection))
 }
 
 #[test]

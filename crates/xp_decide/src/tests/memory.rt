@@ -1,21 +1,20 @@
 //! Want of memory in a decision.
 use super::calls::{B1, Call, Outcome, block, outcome_of, subscriptions, usual_call, verdict};
-use crate::laws;
 use std::alloc::{AllocError, Allocator, Global};
 use std::test::Fail;
 use xp_packets::Block;
 use xp_testing::Refusing;
 use xp_subs::Subs;
 
-// Requests for memory that the block takes: one for its facilities, one for its user data.
+/// Requests for memory that the block takes: one for its facilities, one for its user data.
 const BLOCK: u64 = 2;
 
-// What a decision and the same decision again come to; `None` stands for want of memory.
+/// What a decision and the same decision again come to; `None` stands for want of memory.
 #[derive(Clone, Copy, Debug, PartialEq, Eq)]
 struct TwoAnswers {
     first: Option<Outcome>,
     again: Option<Outcome>,
-    // Whether the refusal is still to come after the first.
+    /// Whether the refusal is still to come after the first.
     pending: bool,
 }
 
@@ -25,13 +24,11 @@ fn attempt<A: Allocator + Copy>(
     call: &Call,
     block: &Block<A>,
 ) -> Option<Outcome> {
-    match verdict(alloc, subs, call, block) {
-        Ok(verdict) => Some(outcome_of(&verdict)),
-        Err(_) => None,
-    }
+    let verdict = verdict(alloc, subs, call, block).ok()?;
+    Some(outcome_of(&verdict))
 }
 
-// The decision on a call, and the same again, where this request for memory is refused.
+/// The decision on a call, and the same again, where this request for memory is refused.
 fn attempts(
     alloc: Global,
     subs: &Subs,
@@ -50,7 +47,7 @@ fn attempts(
     })
 }
 
-// A call with facilities between DTEs, the decision on which is refused this request for memory.
+/// A call with facilities between DTEs, the decision on which is refused this request for memory.
 fn two_attempts(alloc: Global, number: u64) -> Result<TwoAnswers, Fail> {
     let call = Call {
         facilities: &[0x00, 0x0f, 0xc9, 0x01, 0x41],
@@ -79,12 +76,4 @@ fn no_further_request(rt: HostRuntime) -> Result<(), Fail> {
     assert!(rt; tried.pending);
     assert_eq!(rt; tried.first, Some(Outcome::Rings(B1)));
     Ok(())
-}
-
-#[test]
-fn laws_hold() {
-    laws::taken_stations_may_join::<Global>();
-    laws::refuses_without_idle_line_alone::<Global>();
-    laws::taken_line_is_free::<Global>();
-    laws::decision_is_determined_but_the_line::<Global>();
 }

@@ -9,7 +9,7 @@ const ON_BUSY: &str = "redirect = { to = '2080030', busy = true }";
 
 const OUT_OF_ORDER: &str = "redirect = { to = '2080030', out_of_order = true }";
 
-// Why the call was redirected and the dialled number, as the called station is told, and the reason that is kept.
+/// Why the call was redirected and the dialled number, as the called station is told, and the reason that is kept.
 fn redirected(alloc: Global, call: &Call) -> Result<(Option<(Reason, u32)>, Option<Reason>), Fail> {
     match told(alloc, call)? {
         Some(

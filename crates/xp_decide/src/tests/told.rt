@@ -10,7 +10,7 @@ fn pair(from_called: u8, from_calling: u8) -> Option<Pair> {
     })
 }
 
-// What is told of a call that asks nothing.
+/// What is told of a call that asks nothing.
 fn usual() -> Plain {
     Plain {
         selection: Selection::Nothing,
