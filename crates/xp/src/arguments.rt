@@ -1,10 +1,11 @@
 //! The words of the command line.
 
-ghost use Rattle.std.specs.Prelude.{◌≡◌, Some, IfSome, IfOk, codes, false, map, option_map, string_bytes};
-ghost use Rattle.clap.specs.Words.{app_of, first_of, rule_of, subcommand_name_of, subcommand_rows_of};
+ghost use Rattle.std.specs.Prelude.{◌≡◌, ℕ, List, IfSome, IfNone, IfOk, IfErr, false, map, string_bytes};
+ghost use Rattle.clap.specs.Words.{app_of, kind_of, rule_of, subcommand_rows_of};
+ghost use Rattle.clap.specs.declared.error.kind.ErrorKind.TheVariants.{OutOfMemory};
 ghost use Rattle.clap.specs.declared.builder.command.Command.TheViews.{out-Command as fields_of};
-ghost use Rattle.xp.specs.Commands.{Ask, command_of, file as file_rule, program};
-ghost use Rattle.xp.specs.Tasks.{word_of};
+ghost use Rattle.xp.specs.Commands.{AreRight, Ask, AsksFor, command_of, file as file_rule, program};
+ghost use Rattle.xp.specs.declared.task.Task.{Task};
 
 use crate::task::Task;
 use clap::error::ErrorKind;
@@ -58,9 +59,11 @@ pub struct Arguments<'a> {
 }
 
 impl<'a> Arguments<'a> {
-    /// Reads the words of a command line, of which the first is the program's own.
+    /// Reads the words of a command line, of which the first is the program's own. For right words only memory can be
+    /// wanting.
     pub fn read(alloc: Global, words: &'a [String]) -> Result<Arguments<'a>, Error>
-        ensures { IfOk result (λ arguments. Ask (map string_bytes words.now) arguments.task arguments.file.now) }
+        ensures asked { IfOk result (λ arguments. Ask (map string_bytes words.now) arguments.task arguments.file.now) }
+        ensures taken { IfErr result (λ error. AreRight (map string_bytes words.now) → kind_of error ≡ OutOfMemory) }
     {
         let matches = command(alloc)?.try_get_matches_from(words)?;
         match Arguments::named(&matches) {
@@ -71,8 +74,8 @@ impl<'a> Arguments<'a> {
 
     /// The command that was found among the words, with its file.
     fn named(matches: &ArgMatches<'a>) -> Option<Arguments<'a>>
-        ensures task { IfSome result (λ arguments. subcommand_name_of matches.now ≡ Some (word_of arguments.task)) }
-        ensures file { IfSome result (λ arguments. option_map (λ rows. first_of (codes "FILE") rows.1) (subcommand_rows_of matches.now) ≡ Some (Some arguments.file.now)) }
+        ensures found { IfSome result (λ arguments. AsksFor (subcommand_rows_of matches.now) arguments.task arguments.file.now) }
+        ensures none { IfNone result ((task : Task) (name : List ℕ) → AsksFor (subcommand_rows_of matches.now) task name → ⊥) }
     {
         let (word, matches) = matches.subcommand()?;
         let task = Task::named(word)?;

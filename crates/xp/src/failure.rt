@@ -17,7 +17,7 @@ pub enum Failure {
     /// The arguments ask for nothing that it can do, or for help.
     #[error("{0}")]
     Arguments(clap::Error),
-    /// The line of this number, from 1, is none of a script's.
+    /// The line of this number, from 1, is not a line of a script.
     #[error("xp: script line {0}")]
     Script(u64),
     /// The subscription file cannot be read, or is not UTF-8.

@@ -1,4 +1,4 @@
-ghost use Rattle.std.specs.Prelude.{◌≡◌, IfSome};
+ghost use Rattle.std.specs.Prelude.{◌≡◌, ◌↔◌, Some};
 ghost use Rattle.xp.specs.Tasks.{word_of};
 
 /// What the program can be asked for.
@@ -11,6 +11,8 @@ pub enum Task {
 }
 
 impl Task {
+    ghost use Rattle.xp.specs.declared.task.Task.{Task};
+
     /// The word that asks for it.
     pub fn word<'a>(self) -> &'a str
         ensures { result.now ≡ word_of self }
@@ -23,7 +25,7 @@ impl Task {
 
     /// The task that a word asks for.
     pub fn named(word: &str) -> Option<Task>
-        ensures { IfSome result (λ task. word.now ≡ word_of task) }
+        ensures { (task : Task) → (result ≡ Some task) ↔ (word.now ≡ word_of task) }
     {
         [Task::Check, Task::Replay]
             .into_iter()

@@ -4,9 +4,8 @@ mod files;
 
 use crate::arguments::Arguments;
 use crate::failure::Failure;
-use crate::set_up::SetUp;
 use crate::task::Task;
-use crate::work::replay_script;
+use crate::work::{replay_script, write_set_up};
 use std::alloc::{AllocError, Global};
 use std::io;
 use std::io::{ErrorKind, Write};
@@ -87,8 +86,12 @@ fn files_that_are_refused(rt: HostRuntime) -> Result<(), Fail> {
 #[test]
 fn check_output(rt: HostRuntime) -> Result<(), Fail> {
     let subs = Subs::read(rt.alloc(), ONE_STATION)?;
-    let told = SetUp { subs: &subs }.to_string(rt.alloc())?;
-    assert_eq!(rt; told.as_str(), "stations 1 lines 1 groups 1");
+    let mut told = Vec::new(rt.alloc());
+    write_set_up(&subs, &mut told)?;
+    assert_eq!(rt;
+        told.as_slice(),
+        b"stations 1 lines 1 groups 1\n".as_slice()
+    );
     Ok(())
 }
 

@@ -1,8 +1,10 @@
 //! What the program does with a subscription file.
 
-ghost use Rattle.std.specs.Prelude.{◌≡◌, ℕ, List, IfSome, Result};
+ghost use Rattle.std.specs.Prelude.{◌≡◌, ℕ, List, ◌++◌, IfErr, IfSome, OnOk, Result, codes};
 ghost use Rattle.std.specs.Io.KnownBytes.{Appends};
 ghost use Rattle.xp.specs.Failures.{Tells};
+ghost use Rattle.xp.specs.SetUp.{set_up_text};
+ghost use Rattle.xp.specs.declared.failure.Failure.TheVariants.{Output};
 ghost use Rattle.xp_exchange.specs.Serial.{Replays};
 ghost use Rattle.xp_exchange.specs.declared.fault.ReplayFault.{ReplayFault as Fault};
 
@@ -26,22 +28,25 @@ pub fn subscriptions<R: AllocGlobal + Files>(rt: &R, file: &str) -> Result<Subs,
 }
 
 /// Prints what the subscriptions set up.
-pub fn check(rt: &impl Print, subs: &Subs) -> Result<(), Failure> {
-    match rt.println(SetUp { subs }) {
-        Ok(()) => Ok(()),
-        Err(_) => Err(Failure::Output),
-    }
+pub fn check(rt: &impl Print, subs: &Subs) -> Result<(), Failure>
+    ensures { IfErr result (λ failure. failure ≡ Output) }
+{
+    write_set_up(subs, &mut io::writer(rt))
+}
+
+/// Writes what the subscriptions set up, as a line.
+pub fn write_set_up<W: Write>(subs: &Subs, writer: &mut W) -> Result<(), Failure>
+    ensures written { OnOk result (Appends (W.contents writer.old) (W.contents writer.new) (set_up_text subs.now ++ codes "\n")) }
+    ensures refused { IfErr result (λ failure. failure ≡ Output) }
+{
+    writeln!(writer, "{}", SetUp { subs }).map_err(|_| Failure::Output)
 }
 
 /// Replays the script from standard input, and prints what the exchange puts out and records.
 pub fn replay_input<R: AllocGlobal + Input + Print>(rt: &R, subs: Subs) -> Result<(), Failure> {
     let alloc = rt.alloc();
-    let Ok(reader) = BufReader::new(alloc, rt.reader()) else {
-        return Err(Failure::Memory);
-    };
-    let Ok(mut writer) = BufWriter::new(alloc, io::writer(rt)) else {
-        return Err(Failure::Memory);
-    };
+    let reader = BufReader::new(alloc, rt.reader()).map_err(|_| Failure::Memory)?;
+    let mut writer = BufWriter::new(alloc, io::writer(rt)).map_err(|_| Failure::Memory)?;
     replay_script(alloc, subs, reader, &mut writer)
 }
 
@@ -55,11 +60,6 @@ pub fn replay_script<R: Read + Drop, W: Write>(
     ensures { IfSome (R.remaining reader) (λ script. (text : List ℕ) × Appends (W.contents writer.old) (W.contents writer.new) text × (ended : Result (Unit {0}) Fault) × Replays Global subs script ended text × Tells ended result) }
 {
     let ended = replay(alloc, subs, reader, writer);
-    if writer.flush().is_err() {
-        return Err(Failure::Output);
-    }
-    match ended {
-        Ok(()) => Ok(()),
-        Err(fault) => Err(Failure::from(fault)),
-    }
+    writer.flush().map_err(|_| Failure::Output)?;
+    Ok(ended?)
 }

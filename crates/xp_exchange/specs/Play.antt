@@ -5,12 +5,10 @@ use Rattle.xp_core.specs.declared.entry.Entry.{Entry}
 use Rattle.xp_core.specs.declared.event.Event.{Event}
 use Rattle.xp_core.specs.declared.event.What.{What}
 use Rattle.xp_core.specs.declared.event.What.TheVariants.{Up, Down, Expire as TimerExpires}
-use Rattle.xp_core.specs.declared.view.Channel.{Channel}
-use Rattle.xp_core.specs.declared.view.Channel.TheVariants.{Off, P1, P2, P3, P4, P7}
+use Rattle.xp_core.specs.Decision.{is_off}
 use Rattle.xp_core.specs.Exchange.{Exchange}
 use Rattle.xp_core.specs.Run.{RunFrom}
-use Rattle.xp_core.specs.View.{view_of}
-use Rattle.xp_core.specs.World.{World, opening, line_at}
+use Rattle.xp_core.specs.World.{World, opening, state_at}
 use Rattle.xp_script.specs.declared.command.Command.{Command}
 use Rattle.xp_script.specs.declared.command.Command.TheVariants as commands
 use Rattle.xp_script.specs.Command.{said}
@@ -20,17 +18,9 @@ use Rattle.xp_exchange.specs.Heard.{Hears}
 abbrev pub unfinished_at : List (List ℕ) → ℕ → List ℕ
 unfinished_at unfinished line = slice_index_or unfinished line []
 
-abbrev pub is_off : Channel → Bool
-is_off Off = true
-is_off P1 = false
-is_off P2 = false
-is_off P3 = false
-is_off P4 = false
-is_off P7 = false
-
 -- the line is out of service
 abbrev pub is_off_at : World → ℕ → Bool
-is_off_at world line = is_off (view_of (line_at world line)).channel
+is_off_at world line = is_off (state_at world line)
 
 -- A connection begins with nothing. A line in service keeps its connection
 abbrev pub risen : Bool → ℕ → List (List ℕ) → List (List ℕ)

@@ -11,7 +11,6 @@ ghost use Rattle.xp_subs.specs.Tables.{line_count};
 use crate::fault::ReplayFault;
 use crate::writing::write_out;
 use std::alloc::Allocator;
-use std::collections::VecDeque;
 use std::io::Write;
 use xp_core::{Core, Entry, Event, StepFault};
 use xp_script::write_entry;
@@ -21,14 +20,14 @@ use xp_subs::Subs;
 pub fn act_on_all<A: Allocator + Copy, W: Write>(
     alloc: A,
     core: &mut Core<A>,
-    mut events: VecDeque<Event<A>, A>,
+    events: Vec<Event<A>, A>,
     writer: &mut W,
 ) -> Result<(), ReplayFault>
     requires { All (λ event. (event.line < line_count core.old.subs) × IsReadable event.what) events.items }
     ensures acted { (text : List ℕ) × Appends (W.contents writer.old) (W.contents writer.new) text × Acted core.old events.items result core.new text }
     ensures subs { core.new.subs ≡ core.old.subs }
 {
-    while let Some(event) = events.pop_front() {
+    for event in events {
         act_on(alloc, core, event, writer)?;
     }
     Ok(())

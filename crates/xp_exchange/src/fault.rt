@@ -7,7 +7,7 @@ use thiserror::Error;
 /// Why a script was not replayed to its end.
 #[derive(Clone, Copy, Debug, PartialEq, Eq, Error)]
 pub enum ReplayFault {
-    /// The line of this number, from 1, is none of a script's.
+    /// The line of this number, from 1, is not a line of a script.
     #[error("script line {0}")]
     Script(u64),
     /// Fewer than four places of the history were left.

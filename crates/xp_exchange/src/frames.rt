@@ -6,7 +6,6 @@ ghost use Rattle.xp_exchange.specs.Acting.{emptied, IsBetweenFrames, TakesWhole}
 ghost use Rattle.xp_exchange.specs.Heard.{Hears, IsReadAs, AreRead};
 
 use std::alloc::{AllocError, Allocator};
-use std::collections::VecDeque;
 use xp_core::{Event, What};
 use xp_frames::{Deframer, FrameFault};
 use xp_packets::{PacketFault, decode};
@@ -19,19 +18,19 @@ pub fn hear<A: Allocator + Copy>(
     line: LineNo,
     stream: &mut Deframer<A>,
     octets: &[u8],
-) -> Result<VecDeque<Event<A>, A>, AllocError>
+) -> Result<Vec<Event<A>, A>, AllocError>
     requires { IsBetweenFrames stream.old }
     ensures heard { IfOk result (λ events. Hears line stream.old.rest octets.now events.items stream.new.rest) }
     ensures between { OnOk result (IsBetweenFrames stream.new) }
     ensures fit { IfOk result (λ events. All (λ event. (event.line ≡ line) × IsReadable event.what) events.items) }
 {
-    if !fails_with(stream, octets)? {
-        return events_of(alloc, line, stream);
-    }
+    let fails = fails_with(stream, octets)?;
     let mut events = events_of(alloc, line, stream)?;
-    let what = What::Down;
-    events.push_back(Event { line, what })?;
-    *stream = Deframer::new(alloc);
+    if fails {
+        let what = What::Down;
+        events.push(Event { line, what })?;
+        *stream = Deframer::new(alloc);
+    }
     Ok(events)
 }
 
@@ -55,15 +54,15 @@ fn events_of<A: Allocator + Copy>(
     alloc: A,
     line: LineNo,
     stream: &mut Deframer<A>,
-) -> Result<VecDeque<Event<A>, A>, AllocError>
+) -> Result<Vec<Event<A>, A>, AllocError>
     ensures read { IfOk result (λ events. AreRead line stream.old.waiting events.items) }
     ensures fit { IfOk result (λ events. All (λ event. (event.line ≡ line) × IsReadable event.what) events.items) }
     ensures stream { OnOk result (stream.new ≡ emptied stream.old) }
 {
-    let mut events = VecDeque::new(alloc);
+    let mut events = Vec::new(alloc);
     while let Some(packet) = stream.next() {
         let event = event_of(alloc, line, &packet)?;
-        events.push_back(event)?;
+        events.push(event)?;
     }
     Ok(events)
 }

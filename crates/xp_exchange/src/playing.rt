@@ -12,7 +12,6 @@ use crate::acting::act_on_all;
 use crate::fault::ReplayFault;
 use crate::streams::Streams;
 use std::alloc::{AllocError, Allocator, Global};
-use std::collections::VecDeque;
 use std::io::Write;
 use std::marker::Model;
 use xp_core::{Channel, Core, Event, What};
@@ -80,7 +79,7 @@ fn events_of<A: Allocator + Copy>(
     core: &Core<A>,
     streams: &mut Streams<A>,
     command: Command<A>,
-) -> Result<VecDeque<Event<A>, A>, AllocError>
+) -> Result<Vec<Event<A>, A>, AllocError>
     requires line { HasLine (line_count core.now.subs) command }
     requires lines { length streams.old ≡ line_count core.now.subs }
     ensures plays { IfOk result (λ events. Plays core.now.world streams.old command events.items streams.new) }
@@ -88,7 +87,7 @@ fn events_of<A: Allocator + Copy>(
     ensures lines { length streams.new ≡ length streams.old }
 {
     match command {
-        Command::Nothing => Ok(VecDeque::new(alloc)),
+        Command::Nothing => Ok(Vec::new(alloc)),
         Command::Up(line) => {
             if is_off(core, line) {
                 streams.begin(line);
@@ -99,7 +98,7 @@ fn events_of<A: Allocator + Copy>(
         Command::Expire(line) => one(alloc, line, What::Expire),
         Command::In(line, octets) => {
             if is_off(core, line) {
-                return Ok(VecDeque::new(alloc));
+                return Ok(Vec::new(alloc));
             }
             streams.hear(line, octets.as_slice())
         }
@@ -114,14 +113,10 @@ fn is_off<A: Allocator>(core: &Core<A>, line: LineNo) -> bool
 }
 
 /// One event.
-fn one<A: Allocator>(
-    alloc: A,
-    line: LineNo,
-    what: What<A>,
-) -> Result<VecDeque<Event<A>, A>, AllocError>
+fn one<A: Allocator>(alloc: A, line: LineNo, what: What<A>) -> Result<Vec<Event<A>, A>, AllocError>
     ensures { IfOk result (λ events. events.items ≡ record { line = line; what = what } ∷ []) }
 {
-    let mut events = VecDeque::new(alloc);
-    events.push_back(Event { line, what })?;
+    let mut events = Vec::new(alloc);
+    events.push(Event { line, what })?;
     Ok(events)
 }

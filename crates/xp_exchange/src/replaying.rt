@@ -11,7 +11,7 @@ use crate::playing::Playing;
 use std::alloc::{AllocError, Allocator, Global};
 use std::io::{ErrorKind, Read, Write};
 use std::marker::Model;
-use xp_script::LONGEST;
+use xp_script::MAX_LINE_OCTETS;
 use xp_subs::Subs;
 
 /// How often a script is read from before it is given up.
@@ -27,10 +27,10 @@ const LINE_FEED: u8 = b'\n';
 ///
 /// # Errors
 ///
-/// `Script` with the number of the first line that is none, of which nothing is done; `Journal` where fewer than
-/// four places of the history are left for an event; `Memory`; `Read`, also after 1,000,000,000 reads. What was
-/// entered before is written, but for an entry whose own text finds no memory. `Write` where it cannot be
-/// written; then a front of it is.
+/// `Script` with the number of the first line that is not a line of a script, of which nothing is done; `Journal`
+/// where fewer than four places of the history are left for an event; `Memory`; `Read`, also after 1,000,000,000
+/// reads. What was entered before is written, but for an entry whose own text finds no memory. `Write` where it
+/// cannot be written; then a front of it is.
 pub fn replay<A: Allocator + Copy, R: Read + Drop, W: Write>(
     alloc: A,
     subs: Subs,
@@ -138,13 +138,10 @@ impl<A: Allocator + Copy> UnfinishedScript<A> {
         ensures refused { IfErr result (λ fault. Overflows self.old fault) }
         ensures line { HasNoFeed self.old.line }
     {
-        if self.line.len() >= LONGEST {
+        if self.line.len() >= MAX_LINE_OCTETS {
             return Err(ReplayFault::Script(self.number));
         }
-        match self.line.push(octet) {
-            Ok(()) => Ok(()),
-            Err(_) => Err(ReplayFault::Memory),
-        }
+        self.line.push(octet).map_err(|_| ReplayFault::Memory)
     }
 
     /// Plays the last line, which may lack its line feed.

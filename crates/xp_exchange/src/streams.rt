@@ -7,7 +7,6 @@ ghost use Rattle.xp_exchange.specs.Play.{unfinished_at};
 
 use crate::frames::hear;
 use std::alloc::{AllocError, Allocator, Global};
-use std::collections::VecDeque;
 use std::marker::Model;
 use std::mem;
 use xp_core::Event;
@@ -53,13 +52,14 @@ impl<A: Allocator + Copy> Streams<A> {
     }
 
     /// The events that octets of a line are: those of its frames, and that it goes down where a head is bad.
-    pub fn hear(&mut self, line: LineNo, octets: &[u8]) -> Result<VecDeque<Event<A>, A>, AllocError>
+    pub fn hear(&mut self, line: LineNo, octets: &[u8]) -> Result<Vec<Event<A>, A>, AllocError>
         requires { line < length self.old }
         ensures heard { IfOk result (λ events. Hears line (unfinished_at self.old line) octets.now events.items (unfinished_at self.new line)) }
         ensures kept { OnOk result (self.new ≡ slice_set self.old line (unfinished_at self.new line)) }
         ensures lines { length self.new ≡ length self.old }
         ensures fit { IfOk result (λ events. All (λ event. (event.line ≡ line) × IsReadable event.what) events.items) }
     {
+        // Out of its place, since want of memory may leave it with packets that wait.
         let place = &mut self.streams[usize::from(line)];
         let mut stream = mem::replace(place, Deframer::new(self.alloc));
         let events = hear(self.alloc, line, &mut stream, octets)?;

@@ -1,53 +1,59 @@
--- The first word of a text.
-use Rattle.std.proofs.Common.{◌≡◌, ℕ, ◌+◌, ◌-◌, ◌<◌, List, [], ◌∷◌, true, false, Option, None, Some, is_some, length, take, drop, refl, arith}
-use Rattle.std.specs.Borrow.{Bor}
-use Rattle.std.specs.Prelude.{position}
-use Rattle.std.specs.List.{after_first, before_first, position_or_len}
-use Rattle.std.proofs.lemmas.Grind.{common_steps}
-use Rattle.std.proofs.lemmas.List.Elements.{All-from_get_or}
-use Rattle.std.proofs.lemmas.List.Splits.{length-slice_split, slice_split_first, slice_split_none}
-use Rattle.std.proofs.lemmas.List.Sums.{fails_before_first}
-use Rattle.xp_script.specs.Command.{is_space, said_by, words}
-use Rattle.xp_script.specs.Words.{words_behind}
-use Rattle.xp_subs.specs.Tables.{Tables}
+-- The words of a text, as they are cut off one after the other.
+use Rattle.std.proofs.Common.{◌≡◌, ℕ, List, [], ◌∷◌, ◌++◌, Bool, true, false, MatchBool, length, length-append, refl, sym, ap, subst, ◌∙◌, arith, All}
+use Rattle.std.specs.List.{IsFirstMatchOrLen}
+use Rattle.std.proofs.Math.ListN.{get_or-append}
+use Rattle.std.proofs.Math.Seq.{get_or-append_seam}
+use Rattle.std.proofs.lemmas.List.Splits.{slice_split_at, slice_split_none}
+use Rattle.xp_script.specs.Command.{is_space, words}
 
--- the word ends at the first space
-words-at : (text : List ℕ) (at : ℕ) → position is_space text ≡ Some at → words text ≡ take at text ∷ words (drop (at + 1) text)
-words-at text at found =
-    let here : position_or_len is_space text ≡ at = grind (arith, common_steps) in
-    let within : position_or_len is_space text < length text = grind (arith, common_steps) in
-    let cut : words text ≡ before_first is_space text ∷ words (after_first is_space text) = slice_split_first is_space text 0 within in
-    rw here at cut
+-- the words that are left, where all were cut off or this text is left
+abbrev pub left : Bool → List ℕ → List (List ℕ)
+left true rest = []
+left false rest = words rest
 
--- the same, where what stands behind is cut to the end
-pub words-cut : (text : List ℕ) (at : ℕ) → position is_space text ≡ Some at
-    → words text ≡ take at text ∷ words (take (length text - (at + 1)) (drop (at + 1) text))
-words-cut text at found =
-    let whole : take (length text - (at + 1)) (drop (at + 1) text) ≡ drop (at + 1) text = grind (arith, common_steps) in
-    rw whole (words-at text at found)
+-- none is left
+pub left-none : (done : Bool) (rest : List ℕ) → done ≡ true → left done rest ≡ []
+left-none true rest is = refl
+left-none false rest is = absurd (cc)
 
--- with no space all of the text is one word
-pub words-none : (text : List ℕ) → position is_space text ≡ None → words text ≡ text ∷ []
-words-none text none =
-    slice_split_none is_space text (All-from_get_or (λ x. is_space x ≡ false) text 0 (λ i within.
-    let before : i < position_or_len is_space text = grind (arith, common_steps) in
-    fails_before_first is_space text i 0 before))
+last_word : (text : List ℕ) → IsFirstMatchOrLen is_space text (length text) → words text ≡ text ∷ []
+last_word text first = slice_split_none is_space text (λ k d within. first.0 k d (omega arith) within)
 
-some_words : (text : List ℕ) → 0 < length (words text)
-some_words text = let count : length (words text) ≡ _ = length-slice_split is_space text in omega arith
+next_word : (text word rest : List ℕ) (octet : ℕ) → text ≡ word ++ octet ∷ rest → IsFirstMatchOrLen is_space text (length word) → words text ≡ word ∷ words rest
+next_word text word rest octet split first =
+    let cut : IsFirstMatchOrLen is_space (word ++ octet ∷ rest) (length word) = subst (λ whole. IsFirstMatchOrLen is_space whole (length word)) split first in
+    let clear : All (λ x. is_space x ≡ false) word = λ k d within.
+    subst (λ x. is_space x ≡ false) (get_or-append word (octet ∷ rest) d k within) (cut.0 k d (omega arith) within) in
+    let space : is_space octet ≡ true = subst (λ x. is_space x ≡ true) (get_or-append_seam word octet rest 0) (cut.1 (omega (arith, length-append word (octet ∷ rest))) 0) in
+    subst (λ whole. words whole ≡ word ∷ words rest) (sym split) (slice_split_at is_space word octet rest clear space)
 
-module _ {A : Type 0} where
-  many : (tables : Tables) (verb name digits : List ℕ) (more : List (List ℕ)) → 0 < length more
-      → said_by {A = A} tables (verb ∷ name ∷ digits ∷ more) ≡ None
-  many tables verb name digits [] some = absurd (omega arith)
-  many tables verb name digits (word ∷ words) some = refl
+-- A text of which a word is cut off, and what is left of it.
+abbrev pub Cut : Bool → List ℕ → List ℕ → Bool → List ℕ → Type 0
+Cut done text word after rest =
+    (done ≡ false) × MatchBool after (text ≡ word) ((octet : ℕ) × (text ≡ word ++ octet ∷ rest)) × IsFirstMatchOrLen is_space text (length word)
 
-  -- four words and more say nothing
-  pub said_by-many : (tables : Tables) (text verb name digits : List ℕ) (behind_verb behind_name behind_digits : Option (Bor (List ℕ))) (one two : Bor (List ℕ))
-      → words text ≡ verb ∷ words_behind behind_verb → behind_verb ≡ Some one
-      → words one.now ≡ name ∷ words_behind behind_name → behind_name ≡ Some two
-      → words two.now ≡ digits ∷ words_behind behind_digits → is_some behind_digits ≡ true
-      → said_by {A = A} tables (words text) ≡ None
-  said_by-many tables text verb name digits behind_verb behind_name None one two first is_one second is_two third there = absurd (cc)
-  said_by-many tables text verb name digits behind_verb behind_name (Some three) one two first is_one second is_two third there =
-      rw (first, is_one, second, is_two, third) (many tables verb name digits (words three.now) (some_words three.now))
+-- one more is cut off
+pub left-some : (done after : Bool) (text word rest : List ℕ) → Cut done text word after rest → left done text ≡ word ∷ left after rest
+left-some true after text word rest cut = let no = cut.0 in absurd (cc)
+left-some false true text word rest cut =
+    subst (λ whole. words text ≡ whole ∷ []) cut.1 (last_word text (subst (λ whole. IsFirstMatchOrLen is_space text (length whole)) (sym cut.1) cut.2))
+left-some false false text word rest cut = next_word text word rest cut.1.0 cut.1.1 cut.2
+
+-- nothing was cut off yet
+pub words-uncut : (done : Bool) (text rest : List ℕ) → done ≡ false → rest ≡ text → words text ≡ left done rest
+words-uncut true text rest more same = absurd (cc)
+words-uncut false text rest more same = ap words (sym same)
+
+-- the first two
+pub words-two : (text : List ℕ) (done after last : Bool) (whole one rest other more : List ℕ) → whole ≡ text
+    → Cut done whole one after rest → Cut after rest other last more → words text ≡ one ∷ other ∷ left last more
+words-two text done after last whole one rest other more same first second =
+    words-uncut done text whole first.0 same ∙ left-some done after whole one rest first ∙ ap (λ words. one ∷ words) (left-some after last rest other more second)
+
+-- the first three
+pub words-three : (text : List ℕ) (done after later last : Bool) (whole one rest other more third left_over : List ℕ) → whole ≡ text
+    → Cut done whole one after rest → Cut after rest other later more → Cut later more third last left_over
+    → words text ≡ one ∷ other ∷ third ∷ left last left_over
+words-three text done after later last whole one rest other more third left_over same first second cut =
+    words-two text done after later whole one rest other more same first second
+    ∙ ap (λ words. one ∷ other ∷ words) (left-some later last more third left_over cut)

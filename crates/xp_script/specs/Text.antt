@@ -1,7 +1,8 @@
 -- The text of what the exchange puts out and records.
-use Rattle.std.specs.Prelude.{ℕ, codes, decimal, ◌+◌, List, [], ◌∷◌, ◌++◌, map, flat_map, Option, None, Some}
+use Rattle.std.specs.Prelude.{ℕ, codes, decimal, List, [], ◌∷◌, ◌++◌, flat_map, Option, None, Some}
 use Rattle.hex.specs.Hex.{encode_lower}
 use Rattle.xp_frames.specs.Frame.{frame}
+use Rattle.xp_packets.specs.Digits.{text_of as text_of_digits}
 use Rattle.xp_packets.specs.Writing.{written}
 use Rattle.xp_packets.specs.declared.end.End.{End}
 use Rattle.xp_packets.specs.declared.end.End.TheVariants.{Caller, Called}
@@ -27,7 +28,7 @@ called_text tables (Some line) = name_of tables line
 -- `-` where there are no digits
 abbrev pub digits_text : List ℕ → List ℕ
 digits_text [] = codes "-"
-digits_text (digit ∷ digits) = map (λ value. 48 + value) (digit ∷ digits)
+digits_text (digit ∷ digits) = text_of_digits (digit ∷ digits)
 
 abbrev pub payer_text : End → List ℕ
 payer_text Caller = codes "caller"

@@ -1,19 +1,18 @@
 //! What a line of a script says.
 
-ghost use Rattle.std.specs.Prelude.{◌≡◌, IfOk, IsTrue};
-ghost use Rattle.xp_script.specs.Command.{octets_of, Answers, brings_octets, brings_octets_by, HasLine, is_skipped, LacksMemory, Reads, said_by, said_of, words};
-ghost use Rattle.xp_subs.specs.Tables.{line_count};
+ghost use Rattle.std.specs.Prelude.{◌≡◌, ◌&&◌, IfOk, IsTrue, codes, is_some};
+ghost use Rattle.xp_script.specs.Command.{octets_of, Answers, brings_octets, brings_octets_by, HasLine, is_skipped, LacksMemory, Reads, said_by, said_of, said_with, words};
+ghost use Rattle.xp_subs.specs.Tables.{line_count, same};
 
 use crate::fault::LineFault;
 use crate::line::line_named;
-use crate::words::first_word;
 use hex::FromHexError;
 use std::alloc::{Allocator, Global};
 use xp_packets::Octets;
 use xp_subs::{LineNo, Subs};
 
 /// The most octets of a line, without its line feed.
-pub const LONGEST: usize = 8192;
+pub const MAX_LINE_OCTETS: usize = 8192;
 
 /// What a line of a script asks for.
 #[derive(Debug, Drop, PartialEq)]
@@ -42,7 +41,7 @@ impl<A: Allocator + Copy> Command<A> {
         ensures line { IfOk result (HasLine (line_count subs.now)) }
         ensures memory { LacksMemory result → IsTrue (brings_octets subs.now line.now) }
     {
-        if line.len() > LONGEST {
+        if line.len() > MAX_LINE_OCTETS {
             return Err(LineFault::Faulty);
         }
         if is_skipped(line) {
@@ -68,20 +67,14 @@ fn read_words<A: Allocator + Copy>(
     ensures line { IfOk result (HasLine (line_count subs.now)) }
     ensures memory { LacksMemory result → IsTrue (brings_octets_by subs.now (words text.now)) }
 {
-    let (verb, behind) = first_word(text);
-    let Some(behind) = behind else {
-        return Err(LineFault::Faulty);
-    };
-    let (name, behind) = first_word(behind);
-    let Some(behind) = behind else {
-        return about_line(verb, line_named(subs, name)).ok_or(LineFault::Faulty);
-    };
-    let (digits, behind) = first_word(behind);
-    if behind.is_some() {
-        return Err(LineFault::Faulty);
-    }
-    match line_named(subs, name) {
-        Some(line) if matches!(verb, b"in") => Ok(Command::In(line, octets_of(alloc, digits)?)),
+    let mut words = text.split(|octet| *octet == b' ');
+    match (words.next(), words.next(), words.next(), words.next()) {
+        (Some(verb), Some(name), None, None) => {
+            about_line(verb, line_named(subs, name)).ok_or(LineFault::Faulty)
+        }
+        (Some(verb), Some(name), Some(digits), None) => {
+            about_octets(alloc, verb, line_named(subs, name), digits)
+        }
         _ => Err(LineFault::Faulty),
     }
 }
@@ -96,6 +89,22 @@ fn about_line<A: Allocator + Copy>(verb: &[u8], line: Option<LineNo>) -> Option<
         b"down" => Some(Command::Down(line)),
         b"expire" => Some(Command::Expire(line)),
         _ => None,
+    }
+}
+
+/// `in` of a line, with the octets that come in.
+fn about_octets<A: Allocator + Copy>(
+    alloc: A,
+    verb: &[u8],
+    line: Option<LineNo>,
+    digits: &[u8],
+) -> Result<Command<A>, LineFault>
+    ensures said { Answers (said_with verb.now line (octets_of digits.now)) result }
+    ensures memory { LacksMemory result → IsTrue (same verb.now (codes "in") && is_some line) }
+{
+    match line {
+        Some(line) if matches!(verb, b"in") => Ok(Command::In(line, octets_of(alloc, digits)?)),
+        _ => Err(LineFault::Faulty),
     }
 }
 

@@ -8,9 +8,8 @@ mod line;
 mod output;
 mod record;
 mod text;
-mod words;
 
-pub use command::{Command, LONGEST};
+pub use command::{Command, MAX_LINE_OCTETS};
 pub use entry::write_entry;
 pub use fault::LineFault;
 

@@ -1,7 +1,6 @@
 //! The text of charging records.
 
-ghost use Rattle.std.specs.Prelude.{◌≡◌, ◌+◌, ◌++◌, map, OnOk};
-ghost use Rattle.xp_packets.specs.Digits.{AreDigits};
+ghost use Rattle.std.specs.Prelude.{◌≡◌, ◌++◌, OnOk};
 ghost use Rattle.xp_script.specs.Text.{called_text, digits_text, field, payer_text, record_text};
 
 use crate::line::name_of;
@@ -27,7 +26,7 @@ pub fn push_record<A: Allocator + Copy>(
     push_number(alloc, text, record.number)?;
     push_field(text, name_of(subs, record.caller).as_bytes())?;
     push_field(text, name_of_called(subs, record.called).as_bytes())?;
-    push_digits(text, &record.dialled)?;
+    push_digits(alloc, text, &record.dialled)?;
     push_field(text, name_of_payer(record.payer).as_bytes())?;
     push_number(alloc, text, u64::from(record.from_caller))?;
     push_number(alloc, text, u64::from(record.from_called))?;
@@ -56,22 +55,15 @@ fn name_of_payer(payer: End) -> &'static str
 }
 
 /// Adds a space and the digits of an address.
-fn push_digits<A: Allocator>(text: &mut Vec<u8, A>, digits: &Digits) -> Result<(), AllocError>
+fn push_digits<A: Allocator + Copy>(
+    alloc: A,
+    text: &mut Vec<u8, A>,
+    digits: &Digits,
+) -> Result<(), AllocError>
     ensures { OnOk result (text.new.items ≡ text.old.items ++ field (digits_text digits.now)) }
 {
     if digits.is_empty() {
         return push_field(text, NONE.as_bytes());
     }
-    text.push(b' ')?;
-    push_values(text, digits.as_slice())
-}
-
-fn push_values<A: Allocator>(text: &mut Vec<u8, A>, values: &[u8]) -> Result<(), AllocError>
-    requires { AreDigits values.now }
-    ensures { OnOk result (text.new.items ≡ text.old.items ++ map (λ value. 48 + value) values.now) }
-{
-    for value in values {
-        text.push(b'0' + value)?;
-    }
-    Ok(())
+    push_field(text, digits.to_string(alloc)?.as_bytes())
 }
