@@ -10,6 +10,8 @@ mod file;
 mod group_name;
 mod key;
 mod name;
+#[cfg(test)]
+mod tests;
 
 pub use entry::{Facilities, GroupColumns, LineColumns, Redirection, StationEntry};
 pub use fault::SubsFault;
