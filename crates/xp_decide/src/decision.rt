@@ -16,8 +16,8 @@ use xp_subs::{LineNo, Subs};
 /// What becomes of the call request with this block that the line `from` makes. Which of several idle lines is taken is
 /// not promised.
 ///
-/// The verdict is the first refusal: of the facilities, of the user data, of what the caller's station may ask, and then
-/// that of the address at which the call ends.
+/// A call is refused for the first fault: of the facilities, of the user data, of what the caller's station may ask, and
+/// then at the address where the call ends.
 ///
 /// # Errors
 ///
@@ -40,6 +40,10 @@ pub fn decide<A: Allocator + Copy, L: Lines>(
 }
 
 /// The incoming call that a line gets.
+///
+/// # Errors
+///
+/// The refusal of the call, or want of memory.
 fn put_through<A: Allocator + Copy, L: Lines>(
     alloc: A,
     subs: &Subs,

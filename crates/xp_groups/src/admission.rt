@@ -1,7 +1,7 @@
 ghost use Rattle.std.specs.Prelude.{◌≡◌, false, IsTrue};
 ghost use Rattle.xp_facilities.specs.declared.selection.Selection.TheVariants.{Closed, AlsoOpen};
 ghost use Rattle.xp_groups.specs.Admits.{Admits, from_outside};
-ghost use Rattle.xp_groups.specs.Groups.{part_in};
+ghost use Rattle.xp_groups.specs.Groups.{HasGroups, HasNoGroups, part_in};
 
 use crate::intention::Intent;
 use crate::refusal::Refusal;
@@ -15,19 +15,14 @@ pub struct Admission {
     pub told: Selection,
 }
 
-/// Whether `station` takes a call of this intent, and what the incoming call then tells.
+/// How `station` takes a call of this intent.
+///
+/// # Errors
+///
+/// `ACCESS_BARRED`, where the call may come in neither by its group nor from outside of it.
 pub fn admit(intent: &Intent, station: &Station) -> Result<Admission, Refusal>
     ensures { Admits intent.now station.now result }
 {
-    if station.memberships.is_empty() {
-        return if intent.outside {
-            Ok(Admission {
-                told: Selection::Nothing,
-            })
-        } else {
-            Err(Refusal::ACCESS_BARRED)
-        };
-    }
     let from_outside = comes_from_outside(intent, station);
     match part(station, intent.group) {
         Some(held) if !held.incoming_barred => Ok(Admission {
@@ -40,11 +35,12 @@ pub fn admit(intent: &Intent, station: &Station) -> Result<Admission, Refusal>
     }
 }
 
-/// Whether an open call meets a station that takes such calls.
+/// Whether an open call meets a station that takes such calls, as each one without groups does.
 fn comes_from_outside(intent: &Intent, station: &Station) -> bool
-    ensures { result ≡ from_outside intent.now station.now }
+    ensures no_groups { HasNoGroups station.now → result ≡ intent.now.outside }
+    ensures groups { HasGroups station.now → result ≡ from_outside intent.now station.now }
 {
-    intent.outside && station.incoming_access
+    intent.outside && (station.memberships.is_empty() || station.incoming_access)
 }
 
 /// What tells the called station its part in the group of the call, which may be open.

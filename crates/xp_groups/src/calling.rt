@@ -8,7 +8,14 @@ use crate::refusal::Refusal;
 use xp_facilities::Selection;
 use xp_subs::{Membership, Station};
 
-/// The group and the openness of a call that `station` makes with this selection, or why it may not.
+/// The group and the openness of a call that `station` makes with this selection.
+///
+/// # Errors
+///
+/// - `FACILITY_NOT_ALLOWED`, where the station has no groups to select, or selects outgoing access and has none.
+/// - `GROUP_NOT_KNOWN`, where the station has no group of the selected index.
+/// - `ACCESS_BARRED`, where outgoing calls are barred in the selected group, or where the station selects none and has
+///   neither a preferential group to call in nor outgoing access.
 pub fn intent(station: &Station, selection: Selection) -> Result<Intent, Refusal>
     ensures { Intends station.now selection result }
 {

@@ -1,7 +1,6 @@
 use super::*;
 use arrayvec::ArrayVec;
-use std::alloc::{AllocError, Global};
-use std::test::Fail;
+use std::process::Abort;
 use xp_facilities::Selection;
 use xp_packets::Digits;
 use xp_subs::{GroupNo, Membership, Station};
@@ -41,29 +40,20 @@ fn parts() -> [Option<Part>; 5] {
     ]
 }
 
-/// All stations of at most two groups: 5 * 5 * 4 * 3 of them.
-fn all_stations(alloc: Global) -> Result<Vec<Plain>, AllocError> {
-    let mut all = Vec::new(alloc);
-    for first in parts() {
-        for second in parts() {
-            for (outgoing_access, incoming_access) in [
-                (false, false),
-                (false, true),
-                (true, false),
-                (true, true),
-            ] {
-                for preferential in [None, Some(0), Some(1)] {
-                    all.push(Plain {
-                        parts: [first, second],
-                        outgoing_access,
-                        incoming_access,
-                        preferential,
-                    })?;
-                }
-            }
-        }
+const PREFERENCES: [Option<GroupNo>; 3] = [None, Some(0), Some(1)];
+
+/// How many stations of at most two groups there are.
+const STATIONS: usize = 300;
+
+/// One of them, by its number: 5 * 5 parts, 2 * 2 kinds of access and 3 preferences.
+fn numbered(number: usize) -> Plain {
+    let parts = parts();
+    Plain {
+        parts: [parts[number % 5], parts[number / 5 % 5]],
+        outgoing_access: number / 25 % 2 == 1,
+        incoming_access: number / 50 % 2 == 1,
+        preferential: PREFERENCES[number / 100 % 3],
     }
-    Ok(all)
 }
 
 /// The subscriptions of this station, which knows the groups 0 and 1 by these indexes.
@@ -164,33 +154,37 @@ fn answered(
     }
 }
 
+/// Each kind of selection, of the groups 0 and 1 and of an index that no station knows.
+const SELECTIONS: [Selection; 7] = [
+    Selection::Nothing,
+    Selection::Closed(3),
+    Selection::Closed(4),
+    Selection::Closed(9),
+    Selection::AlsoOpen(3),
+    Selection::AlsoOpen(4),
+    Selection::AlsoOpen(9),
+];
+
 // 300 callers, 300 called stations and 7 selections: 630,000 cases.
 #[test]
-fn all_pairs_of_two_groups(rt: HostRuntime) -> Result<(), Fail> {
-    let all = all_stations(rt.alloc())?;
-    assert_eq!(rt; all.len(), 300);
-    for calling in &all {
-        let caller = station(calling, [3, 4]);
-        for called in &all {
-            let other = station(called, [17, 18]);
-            for selection in [
-                Selection::Nothing,
-                Selection::Closed(3),
-                Selection::Closed(4),
-                Selection::Closed(9),
-                Selection::AlsoOpen(3),
-                Selection::AlsoOpen(4),
-                Selection::AlsoOpen(9),
-            ] {
-                assert_eq!(rt;
-                    answered(&caller, selection, &other),
-                    expected(calling, selection, called),
-                    "at {calling:?} {selection:?} {called:?}"
-                );
-            }
-        }
+fn all_pairs_of_two_groups(rt: HostRuntime) {
+    for number in 0..STATIONS * STATIONS {
+        let calling = numbered(number / STATIONS);
+        let called = numbered(number % STATIONS);
+        assert_each_selection(&rt, &calling, &called);
     }
-    Ok(())
+}
+
+fn assert_each_selection(rt: &impl Abort, calling: &Plain, called: &Plain) {
+    let caller = station(calling, [3, 4]);
+    let other = station(called, [17, 18]);
+    for selection in SELECTIONS {
+        assert_eq!(rt;
+            answered(&caller, selection, &other),
+            expected(calling, selection, called),
+            "at {calling:?} {selection:?} {called:?}"
+        );
+    }
 }
 
 fn member(group: GroupNo, outgoing_access: bool, incoming_access: bool) -> Plain {

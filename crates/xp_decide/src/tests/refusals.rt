@@ -108,31 +108,17 @@ fn accepted_calls(rt: HostRuntime) -> Result<(), Fail> {
 #[test]
 fn first_refusal_of_the_request(rt: HostRuntime) -> Result<(), Fail> {
     let barred = "outgoing_barred = true";
+    let not_whole = [0x42, 0x03, 0x07, 0x08, 0x07, 0x42].as_slice();
+    let not_offered = [0x42, 0x03, 0x07, 0x08, 0x07].as_slice();
+    let wrong_size = [0x42, 0x03, 0x07, 0x03, 0x09].as_slice();
+    let selection = [0x03, 0x09].as_slice();
     for (a, facilities, user, cause, diagnostic) in [
-        (
-            barred,
-            [0x42, 0x03, 0x07, 0x08, 0x07, 0x42].as_slice(),
-            17,
-            0x13,
-            69,
-        ),
-        (
-            barred,
-            [0x42, 0x03, 0x07, 0x08, 0x07].as_slice(),
-            17,
-            0x03,
-            65,
-        ),
-        (
-            barred,
-            [0x42, 0x03, 0x07, 0x03, 0x09].as_slice(),
-            17,
-            0x03,
-            66,
-        ),
-        (barred, [0x03, 0x09].as_slice(), 17, 0x13, 39),
-        (barred, [0x03, 0x09].as_slice(), 0, 0x0b, 0),
-        ("", [0x03, 0x09].as_slice(), 0, 0x03, 65),
+        (barred, not_whole, 17, 0x13, 69),
+        (barred, not_offered, 17, 0x03, 65),
+        (barred, wrong_size, 17, 0x03, 66),
+        (barred, selection, 17, 0x13, 39),
+        (barred, selection, 0, 0x0b, 0),
+        ("", selection, 0, 0x03, 65),
         ("", [].as_slice(), 0, 0x0d, 67),
     ] {
         let call = Call {
