@@ -12,8 +12,8 @@ use std::io;
 use std::io::{ErrorKind, Read, Write};
 use std::process::Abort;
 use std::test::Fail;
-use xp_testing::{Refusing, THREE_STATIONS};
 use xp_subs::{Subs, SubsFault};
+use xp_testing::{Refusing, THREE_STATIONS};
 
 /// All lines come into service.
 const ALL_UP: &str = "up a1\nup b1\nup h1\nup h2\nup h3\n";

@@ -17,8 +17,8 @@ use xp_core::{
     Core, Entry, Event, Outgoing, Output, Outputs, Put, Record, Records, StepFault, What,
 };
 use xp_packets::{Digits, End, Octets, PacketFault, decode};
-use xp_testing::{Refusing, THREE_STATIONS};
 use xp_subs::{LineNo, Subs, SubsFault};
+use xp_testing::{Refusing, THREE_STATIONS};
 
 const A1: LineNo = 0;
 

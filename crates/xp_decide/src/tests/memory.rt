@@ -3,8 +3,8 @@ use super::calls::{B1, Call, Outcome, block, outcome_of, subscriptions, usual_ca
 use std::alloc::{AllocError, Allocator, Global};
 use std::test::Fail;
 use xp_packets::Block;
-use xp_testing::Refusing;
 use xp_subs::Subs;
+use xp_testing::Refusing;
 
 /// Requests for memory that the block takes: one for its facilities, one for its user data.
 const BLOCK: u64 = 2;
