@@ -3,7 +3,7 @@ use Rattle.std.specs.Prelude.{ℕ, Option, Some, None}
 use Rattle.xp_core.specs.declared.channel.ChannelState.{ChannelState}
 use Rattle.xp_core.specs.declared.channel.ChannelState.TheVariants.{Off, Ready, Waiting, Ringing, Talking, Cleared}
 
--- the logical channel identifier of a line that has not asked for a call itself
+-- the logical channel identifier of a line that comes into service, and of one that a call is put to
 abbrev pub INITIAL_IDENTIFIER : ℕ
 INITIAL_IDENTIFIER = 1
 

@@ -44,7 +44,7 @@ pub struct LogicalChannel {
 }
 
 impl LogicalChannel {
-    /// The identifier of a line that has not asked for a call itself.
+    /// The identifier of a line that comes into service, and of one that a call is put to.
     pub const INITIAL_IDENTIFIER: u16 = 1;
 
     /// A line that never was in service.
