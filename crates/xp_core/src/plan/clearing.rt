@@ -1,6 +1,6 @@
 //! What ends a call: a clear request, or a line that goes out of service.
 
-ghost use Rattle.std.specs.Prelude.{◌≡◌, ◌+◌, ◌<◌, ◌≤◌, ◌^◌, [], ◌++◌, None};
+ghost use Rattle.std.specs.Prelude.{◌≡◌, ◌+◌, ◌<◌, ◌≤◌, ◌^◌, ◌++◌, IfOk, None};
 ghost use Rattle.arrayvec.specs.ArrayVec.{array_vec_len};
 ghost use Rattle.xp_core.specs.Clearing.{cause_told as told_cause, diagnostic_told as told_diagnostic, record_of as recorded};
 ghost use Rattle.xp_core.specs.Moves.{ending as ending_move, rises, falls, confirms, frees};
@@ -16,7 +16,7 @@ use crate::edit::Edit;
 use crate::machine::Machine;
 use crate::output::Buffer;
 use crate::record::Record;
-use std::alloc::Allocator;
+use std::alloc::{AllocError, Allocator};
 use xp_packets::{End, Packet};
 use xp_subs::LineNo;
 
@@ -49,59 +49,64 @@ fn ending<A: Allocator>(
 }
 
 /// A line comes into service.
-pub fn rise<A: Allocator>(machine: &Machine<A>, line: LineNo, outputs: Buffer<A>) -> Plan<A>
-    requires empty { outputs.outputs ≡ [] }
-    requires fits { (line_at machine.now line).connection + 1 < 2 ^ 64 }
-    ensures { IsPlan result None (rises machine.now line) }
+pub fn rise<A: Allocator>(
+    alloc: A,
+    machine: &Machine<A>,
+    line: LineNo,
+) -> Result<Plan<A>, AllocError>
+    requires { (line_at machine.now line).connection + 1 < 2 ^ 64 }
+    ensures { IfOk result (λ plan. IsPlan plan None (rises machine.now line)) }
 {
+    let outputs = Buffer::with_room(alloc, 0)?;
     let becomes = LogicalChannel {
         state: ChannelState::Ready,
         identifier: LogicalChannel::INITIAL_IDENTIFIER,
         connection: machine.line(line).connection + 1,
     };
-    Plan::of(outputs).with_edit(Edit::Line { line, becomes })
+    Ok(Plan::of(outputs).with_edit(Edit::Line { line, becomes }))
 }
 
 /// A line goes out of service: its call ends as out of order.
-pub fn fall<A: Allocator>(machine: &Machine<A>, line: LineNo, outputs: Buffer<A>) -> Plan<A>
-    requires empty { outputs.outputs ≡ [] }
-    requires room { 0 < outputs.room }
-    ensures { IsPlan result None (falls machine.now line) }
+pub fn fall<A: Allocator>(
+    alloc: A,
+    machine: &Machine<A>,
+    line: LineNo,
+) -> Result<Plan<A>, AllocError>
+    ensures { IfOk result (λ plan. IsPlan plan None (falls machine.now line)) }
 {
-    ending(
-        machine,
-        line,
-        OUT_OF_ORDER,
-        NO_ADDITIONAL_INFORMATION,
-        outputs,
-    )
-    .with_edit(moved(machine, line, ChannelState::Off))
+    let outputs = Buffer::with_room(alloc, 1)?;
+    let off = moved(machine, line, ChannelState::Off);
+    let (cause, diagnostic) = (OUT_OF_ORDER, NO_ADDITIONAL_INFORMATION);
+    Ok(ending(machine, line, cause, diagnostic, outputs).with_edit(off))
 }
 
 /// A clear request is confirmed at once (X.25 clause 4.1.7), and the line's call ends.
 pub fn confirm<A: Allocator>(
+    alloc: A,
     machine: &Machine<A>,
     line: LineNo,
     cause: u8,
     diagnostic: Option<u8>,
-    outputs: Buffer<A>,
-) -> Plan<A>
-    requires empty { outputs.outputs ≡ [] }
-    requires room { 1 < outputs.room }
-    ensures { IsPlan result None (confirms machine.now line cause diagnostic) }
+) -> Result<Plan<A>, AllocError>
+    ensures { IfOk result (λ plan. IsPlan plan None (confirms machine.now line cause diagnostic)) }
 {
     let confirmation = send(machine, line, Packet::ClearConfirm { block: None });
-    let (cause, diagnostic) = (cause_told(cause), diagnostic_told(diagnostic));
+    let outputs = Buffer::with_room(alloc, 2)?.with(confirmation);
     let ready = moved(machine, line, ChannelState::Ready);
-    ending(machine, line, cause, diagnostic, outputs.with(confirmation)).with_edit(ready)
+    let (cause, diagnostic) = (cause_told(cause), diagnostic_told(diagnostic));
+    Ok(ending(machine, line, cause, diagnostic, outputs).with_edit(ready))
 }
 
 /// A cleared line is free again.
-pub fn free<A: Allocator>(machine: &Machine<A>, line: LineNo, outputs: Buffer<A>) -> Plan<A>
-    requires { outputs.outputs ≡ [] }
-    ensures { IsPlan result None (frees machine.now line) }
+pub fn free<A: Allocator>(
+    alloc: A,
+    machine: &Machine<A>,
+    line: LineNo,
+) -> Result<Plan<A>, AllocError>
+    ensures { IfOk result (λ plan. IsPlan plan None (frees machine.now line)) }
 {
-    Plan::of(outputs).with_edit(moved(machine, line, ChannelState::Ready))
+    let outputs = Buffer::with_room(alloc, 0)?;
+    Ok(Plan::of(outputs).with_edit(moved(machine, line, ChannelState::Ready)))
 }
 
 /// The cause that the other end is told: that of a DTE (80 to FF) as it is, every other as 00.

@@ -10,7 +10,6 @@ ghost use Rattle.xp_core.specs.World.{line_at, state_at};
 use super::Plan;
 use super::answer::answer;
 use super::clearing::{confirm, fall, free, rise};
-use super::decision::decide;
 use super::request::{CallRequest, request};
 use crate::event::{Event, What};
 use crate::machine::Machine;
@@ -36,25 +35,21 @@ pub fn plan_of<A: Allocator + Copy>(
     let action = machine.line(line).state.action(Kind::of(&event.what));
     match (action, &event.what) {
         (Action::Nothing, _) => Ok(Plan::of(Buffer::with_room(alloc, 0)?)),
-        (Action::Rise, _) => Ok(rise(machine, line, Buffer::with_room(alloc, 0)?)),
-        (Action::Fall, _) => Ok(fall(machine, line, Buffer::with_room(alloc, 1)?)),
-        (Action::Free, _) => Ok(free(machine, line, Buffer::with_room(alloc, 0)?)),
+        (Action::Rise, _) => rise(alloc, machine, line),
+        (Action::Fall, _) => fall(alloc, machine, line),
+        (Action::Free, _) => free(alloc, machine, line),
         (
             Action::NewCall,
             What::Frame {
                 identifier,
                 packet: Packet::Call { d, block },
             },
-        ) => {
-            let call = CallRequest {
-                caller: line,
-                identifier: *identifier,
-                d: *d,
-                block,
-            };
-            let verdict = decide(subs, machine, line, block);
-            request(alloc, subs, machine, &call, verdict)
-        }
+        ) => request(
+            alloc,
+            subs,
+            machine,
+            &CallRequest::of(line, *identifier, *d, block),
+        ),
         (
             Action::Answer,
             What::Frame {
@@ -72,10 +67,7 @@ pub fn plan_of<A: Allocator + Copy>(
                 },
                 ..
             },
-        ) => {
-            let outputs = Buffer::with_room(alloc, 2)?;
-            Ok(confirm(machine, line, *cause, *diagnostic, outputs))
-        }
+        ) => confirm(alloc, machine, line, *cause, *diagnostic),
         // The table has these for their own packets alone.
         (Action::NewCall | Action::Answer | Action::Confirm, _) => unreachable!(),
     }

@@ -1,12 +1,16 @@
 //! A call request: it is put to a line as an incoming call, or cleared.
 
-ghost use Rattle.std.specs.Prelude.{◌≡◌, ◌<◌, [], Some, None, IfOk};
+ghost use Rattle.std.specs.Prelude.{◌≡◌, ◌<◌, [], Some, None, IfOk, length};
+ghost use Rattle.xp_packets.specs.declared.packet.Packet.TheVariants.{Call};
 ghost use Rattle.xp_subs.specs.Tables.{line_count};
-ghost use Rattle.xp_core.specs.Moves.{incoming as incoming_packet, requests, put_request, refused_request, standard_facilities as standard};
-ghost use Rattle.xp_core.specs.Plan.{IsPlan, IsWithin};
-ghost use Rattle.xp_core.specs.Step.{taken_by};
+ghost use Rattle.xp_core.specs.declared.event.What.TheVariants.{Frame};
+ghost use Rattle.xp_core.specs.declared.table.Action.TheVariants.{NewCall};
+ghost use Rattle.xp_core.specs.Moves.{incoming as incoming_packet, put_request, refused_request, standard_facilities as standard};
+ghost use Rattle.xp_core.specs.Plan.{IsPlan, move_of};
+ghost use Rattle.xp_core.specs.Step.{Acts};
 
 use super::Plan;
+use super::decision::decide;
 use super::send::{clear_indication, moved_as, send_as};
 use crate::call::LiveCall;
 use crate::cause::Refusal;
@@ -40,20 +44,36 @@ pub struct CallRequest<'a, A: Allocator> {
     pub block: &'a Block<A>,
 }
 
-/// What a call request does, by the verdict on it.
+impl<'a, A: Allocator> CallRequest<'a, A> {
+    /// The call request that a line makes by this packet.
+    pub fn of(caller: LineNo, identifier: u16, d: bool, block: &'a Block<A>) -> CallRequest<'a, A>
+        ensures caller { result.caller ≡ caller }
+        ensures identifier { result.identifier ≡ identifier }
+        ensures d { result.d ≡ d }
+        ensures block { result.block.now ≡ block.now }
+    {
+        CallRequest {
+            caller,
+            identifier,
+            d,
+            block,
+        }
+    }
+}
+
+/// Decides a call request: it is put to the line that is taken, or cleared.
 pub fn request<A: Allocator + Copy>(
     alloc: A,
     subs: &Subs,
     machine: &Machine<A>,
     request: &CallRequest<'_, A>,
-    verdict: Verdict,
 ) -> Result<Plan<A>, AllocError>
     requires caller { request.now.caller < line_count subs.now }
-    requires called { IsWithin verdict (line_count subs.now) }
-    ensures { IfOk result (λ plan. IsPlan plan (taken_by verdict) (requests subs.now machine.now request.now.caller request.now.identifier request.now.d request.now.block.now verdict)) }
+    requires lines { length machine.now.lines ≡ line_count subs.now }
+    ensures { IfOk result (λ plan. Acts subs.now machine.now request.now.caller (Frame request.now.identifier (Call request.now.d request.now.block.now)) NewCall plan.taken (move_of plan)) }
 {
     let outputs = Buffer::with_room(alloc, 1)?;
-    match verdict {
+    match decide(subs, machine, request.caller, request.block) {
         Verdict::Refuse(why) => Ok(refused(machine, request, why, outputs)),
         Verdict::Take(called) => {
             let packet = incoming(alloc, subs, request, called)?;
