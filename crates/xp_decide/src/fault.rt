@@ -11,6 +11,7 @@ use xp_groups::Refusal;
 pub enum CallFault {
     /// The caller gets a clear indication.
     Refused(Refusal),
+    /// Out of memory.
     Memory,
 }
 

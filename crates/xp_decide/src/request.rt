@@ -37,7 +37,7 @@ impl<A: Allocator> Request<A> {
 ///
 /// # Errors
 ///
-/// Want of memory, or the first refusal: the facilities are faulty, there are too many user data, or the caller's station
+/// Want of memory, or the first refusal: the facilities are faulty, there is too much user data, or the caller's station
 /// may not make the call.
 pub fn open<A: Allocator + Copy>(
     alloc: A,

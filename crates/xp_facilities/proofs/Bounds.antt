@@ -6,7 +6,8 @@ use Rattle.std.proofs.lemmas.Bool.{and_parts, leb-true}
 use Rattle.std.proofs.lemmas.List.{length-append, append-nil}
 use Rattle.std.proofs.lemmas.List.Concat.{flat_map-append}
 use Rattle.xp_facilities.specs.Items.{Item, IsItem, octets_of, octets_of_all}
-use Rattle.xp_facilities.specs.Told.{packed, options, closed_index, open_index, two_digits, four_digits, eight_digits, short, long, throughput, modified, pair, counts, redirection, row, table, marked, marked_octets, is_in_range, Tells, IsToldField, AscendFrom, most_octets}
+use Rattle.xp_packets.specs.Writing.{packed}
+use Rattle.xp_facilities.specs.Told.{options, closed_index, open_index, two_digits, four_digits, eight_digits, short, long, throughput, modified, pair, counts, redirection, row, table, marked, marked_octets, is_in_range, Tells, IsToldField, AscendFrom, most_octets}
 use Rattle.xp_facilities.specs.declared.fast_select.FastSelect.{FastSelect}
 use Rattle.xp_facilities.specs.declared.fast_select.FastSelect.TheVariants.{No, Unrestricted, Restricted}
 use Rattle.xp_facilities.specs.declared.pair.Pair.{Pair}
@@ -174,7 +175,6 @@ counts-length None = omega arith
 counts-length (Some segments) = omega arith
 
 pub packed-length : (digits : List ℕ) → 2 * length (packed digits) ≤ length digits + 1
-unfolding packed
 packed-length [] = omega arith
 packed-length (high ∷ []) = omega arith
 packed-length (high ∷ low ∷ digits) = omega (arith, packed-length digits)

@@ -7,7 +7,8 @@ use Rattle.std.proofs.lemmas.List.Concat.{flat_map-append}
 use Rattle.xp_packets.specs.Digits.{AreDigits}
 use Rattle.xp_facilities.specs.Items.{Item, IsField, octets_of, octets_of_all}
 use Rattle.xp_facilities.specs.Asked.{is_marker}
-use Rattle.xp_facilities.specs.Told.{packed, row, marked, marked_octets, IsCarried}
+use Rattle.xp_packets.specs.Writing.{packed}
+use Rattle.xp_facilities.specs.Told.{row, marked, marked_octets, IsCarried}
 use Rattle.xp_facilities.proofs.Reading.{IsField-unique}
 
 abbrev pub rows : List (ℕ × Option (List ℕ)) → List Item
@@ -40,19 +41,16 @@ IsCarried-marked dte items is marks carried also =
 -- digits, two at a time
 pub packed-two : (rest : List ℕ) → 2 ≤ length rest
     → packed rest ≡ (16 * get_or rest 0 0 + get_or rest 1 0) ∷ packed (take (length rest - 2) (drop 2 rest))
-unfolding packed
 packed-two [] some = absurd (omega arith)
 packed-two (x ∷ []) some = absurd (omega arith)
 packed-two (x ∷ y ∷ rest) some = ap (λ z. (16 * x + y) ∷ packed z) (sym (take_rest (x ∷ y ∷ rest) 2))
 
 pub packed-one : (rest : List ℕ) → length rest ≡ 1 → packed rest ≡ (16 * get_or rest 0 0) ∷ []
-unfolding packed
 packed-one [] some = absurd (omega arith)
 packed-one (x ∷ []) some = refl
 packed-one (x ∷ y ∷ rest) some = absurd (omega arith)
 
 pub packed-none : (rest : List ℕ) → length rest < 1 → packed rest ≡ []
-unfolding packed
 packed-none [] none = refl
 packed-none (x ∷ rest) none = absurd (omega arith)
 

@@ -1,6 +1,7 @@
 -- What a facility field tells (X.25 clauses 6 and 7.2).
 use Rattle.std.specs.Prelude.{ℕ, ◌≤◌, map, IfSome, ◌+◌, ◌*◌, ◌/◌, ◌%◌, ◌≡◌, Bool, true, false, nat_lt, nat_le, ◌&&◌, if◌then◌else◌, List, [], ◌∷◌, ◌++◌, length, Option, Some, None, Result, Ok, Err, option_map, is_some}
 use Rattle.std.specs.List.{flat_map, list_any}
+use Rattle.xp_packets.specs.Writing.{packed}
 use Rattle.xp_facilities.specs.Asked.{is_marker}
 use Rattle.xp_facilities.specs.Items.{Item, IsField, octets_of_all}
 use Rattle.xp_facilities.specs.Octets.{reason_octet, is_within}
@@ -31,12 +32,6 @@ four_digits number = decimal_octet (number / 100 % 100) ∷ decimal_octet (numbe
 unfoldable pub eight_digits : ℕ → List ℕ
 eight_digits number =
     decimal_octet (number / 1_000_000 % 100) ∷ decimal_octet (number / 10_000 % 100) ∷ decimal_octet (number / 100 % 100) ∷ decimal_octet (number % 100) ∷ []
-
--- an address in half-octets, the first digit in the high half, filled with zero
-unfoldable pub packed : List ℕ → List ℕ
-packed [] = []
-packed (high ∷ []) = (16 * high) ∷ []
-packed (high ∷ low ∷ digits) = (16 * high + low) ∷ packed digits
 
 -- bits 8 and 7
 unfoldable pub fast_bits : FastSelect → ℕ
@@ -158,7 +153,8 @@ Writes told (Err Param) = (carried : List Item) × IsCarried told.dte carried ×
 Writes told (Err Code) = ⊥
 Writes told (Err Memory) = (field : List ℕ) × Tells told field
 
--- how long a field is at most
+-- how long a field is at most: 2 octets each for options and throughput, 3 for a selection, 3 each for the sizes, and
+-- the 80 between DTEs behind their marker of 2; then what not every packet tells
 abbrev pub most_octets : {A : Type 0} → Told A → ℕ
 most_octets told =
     95 + (if is_some told.modified then 2 else 0) + (if is_some told.segments then 10 else 0) + (if is_some told.redirected then 12 else 0)

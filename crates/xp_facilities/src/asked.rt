@@ -9,7 +9,9 @@ use xp_packets::Octets;
 /// What the facility field of a call request or call accepted packet asks for (X.25 clause 7.2).
 #[derive(Debug, Drop, PartialEq)]
 pub struct Asked<A: Allocator = Global> {
+    /// The closed user group that is selected.
     pub selection: Selection,
+    /// Fast select.
     pub fast: FastSelect,
     /// Reverse charging.
     pub reverse: bool,

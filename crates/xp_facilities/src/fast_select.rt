@@ -1,6 +1,7 @@
 /// Fast select (X.25 clause 6.16).
 #[derive(Clone, Copy, Debug, Default, PartialEq, Eq)]
 pub enum FastSelect {
+    /// No fast select.
     #[default]
     No,
     /// The called DTE may accept or clear.

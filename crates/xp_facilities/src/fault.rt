@@ -1,5 +1,4 @@
 ghost use Rattle.std.specs.Prelude.{◌≡◌};
-ghost use Rattle.xp_facilities.specs.Octets.{fault_diagnostic};
 ghost use Rattle.xp_facilities.specs.declared.fault.FacilityFault.TheVariants.{Memory};
 
 use std::alloc::AllocError;
@@ -17,23 +16,9 @@ pub enum FacilityFault {
     /// A parameter is not allowed, or a value is out of its range; diagnostic 66.
     #[error("facility parameter not allowed")]
     Param,
-    /// No memory was left, which no diagnostic tells.
+    /// Out of memory, which no diagnostic tells.
     #[error("out of memory")]
     Memory,
-}
-
-impl FacilityFault {
-    /// The diagnostic that tells it (X.25 Annex E); 0, no information, for want of memory.
-    pub fn diagnostic(self) -> u8
-        ensures { result ≡ fault_diagnostic self }
-    {
-        match self {
-            FacilityFault::Length => 69,
-            FacilityFault::Code => 65,
-            FacilityFault::Param => 66,
-            FacilityFault::Memory => 0,
-        }
-    }
 }
 
 impl From<AllocError> for FacilityFault {

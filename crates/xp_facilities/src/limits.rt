@@ -1,16 +1,21 @@
+//! The ranges of the values of facilities (X.25 clause 7.2.2).
+
 /// The smallest packet size, as a power of two (X.25 clause 7.2.2.1.1).
 pub const SMALLEST_SIZE: u8 = 4;
 
-/// The largest packet size, as a power of two.
+/// The largest packet size, as a power of two (X.25 clause 7.2.2.1.1).
 pub const LARGEST_SIZE: u8 = 12;
+
+/// The smallest window size (X.25 clause 7.2.2.1.2).
+pub const SMALLEST_WINDOW: u8 = 1;
 
 /// The largest window size (X.25 clause 7.2.2.1.2).
 pub const LARGEST_WINDOW: u8 = 7;
 
-/// The largest index of a closed user group.
+/// The largest index of a closed user group: four decimal digits (X.25 clauses 7.2.2.3 and 7.2.2.4).
 pub const LARGEST_INDEX: u16 = 9_999;
 
-/// The largest segment count: eight decimal digits.
+/// The largest segment count: eight decimal digits (X.25 clause 6.22).
 pub const LARGEST_COUNT: u32 = 99_999_999;
 
 /// How many octets of facilities between DTEs a field has at most, without markers.

@@ -6,7 +6,9 @@ use crate::codes;
 use crate::fast_select::FastSelect;
 use crate::fault::FacilityFault;
 use crate::item::Items;
-use crate::limits::{LARGEST_SIZE, LARGEST_WINDOW, MOST_DTE_OCTETS, SMALLEST_SIZE};
+use crate::limits::{
+    LARGEST_SIZE, LARGEST_WINDOW, MOST_DTE_OCTETS, SMALLEST_SIZE, SMALLEST_WINDOW,
+};
 use crate::pair::Pair;
 use crate::selection::Selection;
 use arrayvec::ArrayVec;
@@ -36,7 +38,7 @@ pub fn parse<A: Allocator>(alloc: A, field: &[u8]) -> Result<Asked<A>, FacilityF
     }
     let selection = selection(&items)?;
     let packet = sizes(&items, codes::PACKET_SIZE, SMALLEST_SIZE, LARGEST_SIZE)?;
-    let window = sizes(&items, codes::WINDOW_SIZE, 1, LARGEST_WINDOW)?;
+    let window = sizes(&items, codes::WINDOW_SIZE, SMALLEST_WINDOW, LARGEST_WINDOW)?;
     let kept = dte(&items)?;
     let dte = Vec::from_slice(alloc, kept.as_slice())?;
     let options = octet(&items, codes::FAST_SELECT);
@@ -68,9 +70,9 @@ fn has_accepted_codes(items: &Items<'_>) -> bool
     true
 }
 
-/// The parameters of the last item before the first marker that has one of the codes.
-fn last<'a>(items: &Items<'a>, codes: &[u8]) -> Option<&'a [u8]>
-    ensures { option_copied result ≡ last_of codes.now (own items.now) }
+/// The parameters of the last item before the first marker that has a wanted code.
+fn last<'a>(items: &Items<'a>, wanted: &[u8]) -> Option<&'a [u8]>
+    ensures { option_copied result ≡ last_of wanted.now (own items.now) }
 {
     let mut left = items.again();
     let mut found = None;
@@ -78,7 +80,7 @@ fn last<'a>(items: &Items<'a>, codes: &[u8]) -> Option<&'a [u8]>
         if item.code() == codes::MARKER {
             break;
         }
-        if codes.contains(&item.code()) {
+        if wanted.contains(&item.code()) {
             found = Some(item.parameters());
         }
     }

@@ -6,9 +6,11 @@ use xp_packets::Digits;
 /// Why a call went to another line than the dialled one (X.25 clauses 6.25 and 6.26).
 #[derive(Clone, Copy, Debug, PartialEq, Eq)]
 pub enum Reason {
+    /// The dialled station was busy.
     Busy,
     /// Distribution in a hunt group.
     Distribution,
+    /// The dialled station was out of order.
     OutOfOrder,
     /// Systematic redirection.
     Systematic,

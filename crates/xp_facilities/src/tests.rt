@@ -204,9 +204,6 @@ fn faults_in_order(rt: HostRuntime) {
     refused(&rt, alloc, &[0x43, 0x02, 0x08], FacilityFault::Param);
     refused(&rt, alloc, &[0x00, 0x01], FacilityFault::Param);
     refused(&rt, alloc, &[0x00, 0xff, 0x00, 0x0e], FacilityFault::Param);
-    assert_eq!(rt; FacilityFault::Length.diagnostic(), 69);
-    assert_eq!(rt; FacilityFault::Code.diagnostic(), 65);
-    assert_eq!(rt; FacilityFault::Param.diagnostic(), 66);
 }
 
 #[test]

@@ -1,9 +1,10 @@
 ghost use Rattle.std.specs.Prelude.{◌≡◌, ◌+◌, ◌*◌, ◌/◌, ◌%◌, ◌<◌, ◌≤◌, ◌++◌, ◌∷◌, [], length, None, IfOk, IfSome, OnOk, ◌⊎◌};
 ghost use Rattle.std.specs.List.{list_any, flat_map};
+ghost use Rattle.xp_packets.specs.Writing.{packed};
 ghost use Rattle.xp_facilities.specs.Asked.{is_marker};
 ghost use Rattle.xp_facilities.specs.Items.{octets_of, octets_of_all};
 ghost use Rattle.xp_facilities.specs.Octets.{reason_octet};
-ghost use Rattle.xp_facilities.specs.Told.{Writes, decimal_octet, two_digits, four_digits, eight_digits, packed, options, closed_index, open_index, short, long, throughput, modified, pair, counts, redirection, row, table, index_fits, sizes_fit, counts_fit, is_in_range, marked_octets, most_octets};
+ghost use Rattle.xp_facilities.specs.Told.{Writes, decimal_octet, two_digits, four_digits, eight_digits, options, closed_index, open_index, short, long, throughput, modified, pair, counts, redirection, row, table, index_fits, sizes_fit, counts_fit, is_in_range, marked_octets, most_octets};
 
 use crate::codes;
 use crate::fast_select::FastSelect;
@@ -11,6 +12,7 @@ use crate::fault::FacilityFault;
 use crate::item::Items;
 use crate::limits::{
     LARGEST_COUNT, LARGEST_INDEX, LARGEST_SIZE, LARGEST_WINDOW, MOST_DTE_OCTETS, SMALLEST_SIZE,
+    SMALLEST_WINDOW,
 };
 use crate::pair::Pair;
 use crate::redirection::{Reason, Redirected};
@@ -66,7 +68,7 @@ fn is_in_range<A: Allocator>(told: &Told<A>) -> bool
 {
     index_fits(told.selection)
         && sizes_fit(told.packet, SMALLEST_SIZE, LARGEST_SIZE)
-        && sizes_fit(told.window, 1, LARGEST_WINDOW)
+        && sizes_fit(told.window, SMALLEST_WINDOW, LARGEST_WINDOW)
         && counts_fit(told.segments)
         && told.dte.len() <= MOST_DTE_OCTETS
 }

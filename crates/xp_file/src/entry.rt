@@ -50,7 +50,8 @@ pub struct Facilities {
     pub incoming_access: bool,
 }
 
-/// The lines of a station in order, at least one: a list for each key, all of one length.
+/// The lines of a station in order, at least one: a list for each key, all of one length, since each key is examined in
+/// all lines before the next.
 #[derive(Drop)]
 pub struct LineColumns {
     pub names: Vec<LineName>,
@@ -72,7 +73,7 @@ impl Model for LineColumns {
     } };
 }
 
-/// The closed user groups of a station in order: a list for each key, all of one length.
+/// The closed user groups of a station in order: a list for each key, all of one length, as of lines.
 #[derive(Drop)]
 pub struct GroupColumns {
     pub names: Vec<GroupName>,

@@ -25,6 +25,7 @@ pub enum SubsFault {
 }
 
 /// The words of a program's message: `toml`, `field KEY`, `twice KEY`, `index`, `limit KEY` or `memory`.
+// By hand, since its text is proved.
 impl fmt::Display for SubsFault {
     ghost use Rattle.std.specs.Prelude.{Some};
     ghost use Rattle.xp_file.specs.Fault.{fault_text};

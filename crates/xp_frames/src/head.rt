@@ -9,11 +9,13 @@ use crate::fault::FrameFault;
 /// How many octets a head has.
 pub(crate) const HEAD: usize = 4;
 
-/// The version that this crate knows, alone.
+/// The only version (RFC 1613).
 pub(crate) const VERSION: u16 = 0;
 
+/// The fewest octets of a packet: its header alone (X.25 clause 5.1).
 const LEAST_PACKET: u16 = 3;
 
+/// The most octets of a packet.
 const LARGEST_PACKET: u16 = 1028;
 
 /// What octets of a stream begin with.

@@ -195,6 +195,7 @@ fn feed_without_memory_changes_nothing(rt: HostRuntime) -> Result<(), Fail> {
 fn a_refused_feed_gives_no_packet(rt: HostRuntime) -> Result<(), Fail> {
     let mut piece = Vec::from_slice(rt.alloc(), &FRAMED_CALL)?;
     piece.extend_from_slice(&FRAMED_CALL)?;
+    let mut refusals = 0u32;
     for number in 1..100u64 {
         let alloc = Refusing::new(rt.alloc(), number);
         let mut frames = Deframer::new(&alloc);
@@ -203,6 +204,7 @@ fn a_refused_feed_gives_no_packet(rt: HostRuntime) -> Result<(), Fail> {
             assert_eq!(rt; first, Ok(()));
             break;
         }
+        refusals = refusals.saturating_add(1);
         assert_eq!(rt; first, Err(FrameFault::Memory), "at {number}");
         assert!(rt; frames.next().is_none(), "at {number}");
         frames.feed(&piece)?;
@@ -212,6 +214,7 @@ fn a_refused_feed_gives_no_packet(rt: HostRuntime) -> Result<(), Fail> {
         );
         assert!(rt; frames.next().is_none(), "at {number}");
     }
+    assert!(rt; 0 < refusals && refusals < 99);
     Ok(())
 }
 

@@ -16,6 +16,6 @@ abbrev pub BlockHasAddresses : {A : Type 0} → Option (Block A) → Type 0
 BlockHasAddresses None = Unit {0}
 BlockHasAddresses (Some block) = AreAddresses block.called block.calling
 
--- so it is for the addresses in the packet's block, by their type
+-- the addresses of the packet's block are such, by their type
 abbrev pub HasAddresses : {A : Type 0} → Packet A → Type 0
 HasAddresses packet = BlockHasAddresses (block_of packet)

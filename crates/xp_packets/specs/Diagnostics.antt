@@ -3,8 +3,8 @@ use Rattle.std.specs.Prelude.{ℕ}
 use Rattle.xp_packets.specs.declared.fault.Wrong.{Wrong}
 use Rattle.xp_packets.specs.declared.fault.Wrong.TheVariants.{Short, Format, Unknown, Address, Facilities, Long}
 
--- packet too short, invalid general format identifier, unidentifiable packet, invalid called address, invalid facility
--- length, packet too long
+-- packet too short, invalid general format identifier, unidentifiable packet, invalid called address (told of the
+-- calling one too), invalid facility length, packet too long
 abbrev pub diagnostic_of : Wrong → ℕ
 diagnostic_of Short = 38
 diagnostic_of Format = 40

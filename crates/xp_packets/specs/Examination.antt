@@ -76,7 +76,7 @@ most_octets (Some Reset) = 2
 most_octets (Some Data) = 1024
 most_octets _ = 0
 
--- that what is counted so
+-- the octets that are counted
 abbrev pub bounded_octets : Option Kind → List ℕ → List ℕ
 bounded_octets (Some Call) rest = after_facilities (after_digits rest)
 bounded_octets (Some Accepted) rest = after_facilities (after_digits rest)

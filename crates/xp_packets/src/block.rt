@@ -12,11 +12,19 @@ use crate::fault::{PacketFault, Wrong};
 use crate::octets::{Octets, octets_of};
 use std::alloc::{AllocError, Allocator, Global};
 
+/// Octets of facilities (clause 5.2.2).
+pub(crate) const MOST_FACILITIES: usize = 109;
+
+/// Octets of user data (clause 5.2.2).
+pub(crate) const MOST_USER: usize = 128;
+
 /// The address block, facilities and user data of a call set-up or clearing packet
 /// (X.25 clauses 5.2.1 to 5.2.5).
 #[derive(Clone, Debug, Drop, PartialEq)]
 pub struct Block<A: Allocator = Global> {
+    /// The called address, 0 to 15 digits.
     pub called: Digits,
+    /// The calling address, 0 to 15 digits.
     pub calling: Digits,
     /// At most 109 octets.
     pub facilities: Octets<A>,
@@ -70,7 +78,7 @@ pub(crate) fn optional_block_of<A: Allocator + Copy>(
 {
     match octets {
         [] => Ok(None),
-        [_, ..] => { Ok(Some(block_of(alloc, octets)?)) }
+        [_, ..] => Ok(Some(block_of(alloc, octets)?)),
     }
 }
 
@@ -94,12 +102,6 @@ fn fields_of(octets: &[u8]) -> Result<(&[u8], &[u8]), PacketFault>
         }
     }
 }
-
-/// Octets of facilities (clause 5.2.2).
-pub(crate) const MOST_FACILITIES: usize = 109;
-
-/// Octets of user data (clause 5.2.2).
-pub(crate) const MOST_USER: usize = 128;
 
 /// Writes a block, with both length octets.
 pub(crate) fn push_block<A: Allocator>(

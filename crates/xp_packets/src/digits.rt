@@ -75,6 +75,7 @@ impl Digits {
         ensures { result ≡ self.now }
     {
         let mut values = ArrayVec::new();
+        // There is room for as many digits as there are.
         let _ = values.try_extend_from_slice(self.as_slice());
         Digits { values }
     }

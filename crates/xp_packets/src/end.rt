@@ -1,7 +1,9 @@
 /// One of the two ends of a virtual call.
 #[derive(Clone, Copy, Debug, Default, PartialEq, Eq)]
 pub enum End {
+    /// The line that made the call request.
     #[default]
     Caller,
+    /// The line to which the call was put.
     Called,
 }

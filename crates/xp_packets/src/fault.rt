@@ -17,7 +17,8 @@ pub enum Wrong {
     /// No packet has such a type; diagnostic 33.
     #[error("unidentifiable packet")]
     Unknown,
-    /// The digits pass the end of the packet, one is above 9, or what fills their last octet is not zero; diagnostic 67.
+    /// The digits pass the end of the packet, one is above 9, or what fills their last octet is not zero; diagnostic 67, also for the calling
+    /// address.
     #[error("invalid address")]
     Address,
     /// The facility length is over 109 or passes the end of the packet; diagnostic 69.

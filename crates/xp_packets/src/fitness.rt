@@ -1,8 +1,7 @@
 //! Which packets have no spelling.
 
 ghost use Rattle.std.specs.Prelude.{◌≡◌};
-ghost use Rattle.xp_packets.specs.Fitness.{has_long_facilities, has_more_user_data, has_wrong_number, is_too_long, lacks_octet, unfit};
-ghost use Rattle.xp_packets.specs.Fitness.{block_of};
+ghost use Rattle.xp_packets.specs.Fitness.{block_of, has_long_facilities, has_more_user_data, has_wrong_number, is_too_long, lacks_octet, unfit};
 
 use crate::block::{Block, MOST_FACILITIES, MOST_USER};
 use crate::data::MOST_DATA;
@@ -76,10 +75,9 @@ fn carries_long_facilities<A: Allocator>(packet: &Packet<A>) -> bool
 fn has_long_facilities<A: Allocator>(block: &Option<Block<A>>) -> bool
     ensures { result ≡ has_long_facilities block.now }
 {
-    match block {
-        None => false,
-        Some(block) => block.facilities.len() > MOST_FACILITIES,
-    }
+    block
+        .as_ref()
+        .is_some_and(|block| block.facilities.len() > MOST_FACILITIES)
 }
 
 /// More user data, data or interrupt data than a packet of its kind carries.
@@ -101,8 +99,5 @@ fn is_too_long<A: Allocator>(packet: &Packet<A>) -> bool
 fn has_more_user_data<A: Allocator>(most: usize, block: &Option<Block<A>>) -> bool
     ensures { result ≡ has_more_user_data most block.now }
 {
-    match block {
-        None => false,
-        Some(block) => block.user.len() > most,
-    }
+    block.as_ref().is_some_and(|block| block.user.len() > most)
 }

@@ -34,14 +34,6 @@ impl<A: Allocator> Octets<A> {
         Octets { octets }
     }
 
-    /// The vector of these octets.
-    pub fn into_vec(self) -> Vec<u8, A>
-        ensures { result.items ≡ self }
-    {
-        let Self { octets } = self;
-        octets
-    }
-
     /// The octets, in order.
     pub fn as_slice(&self) -> &[u8]
         ensures { result.now ≡ self.now }

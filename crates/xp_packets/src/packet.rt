@@ -21,7 +21,9 @@ pub enum Packet<A: Allocator = Global> {
     },
     /// Clear request and clear indication (clause 5.2.4). A block stands only behind a diagnostic.
     Clear {
+        /// The clearing cause (clause 5.2.4).
         cause: u8,
+        /// The diagnostic code (Annex E).
         diagnostic: Option<u8>,
         block: Option<Block<A>>,
     },
@@ -31,8 +33,11 @@ pub enum Packet<A: Allocator = Global> {
     },
     /// Data, with the Q, D and M bits and the numbers P(S) and P(R) (clause 5.3.1).
     DataPacket {
+        /// The Q bit.
         q: bool,
+        /// The D bit.
         d: bool,
+        /// The M bit.
         more: bool,
         /// P(S), 0 to 7.
         ps: u8,
@@ -65,7 +70,9 @@ pub enum Packet<A: Allocator = Global> {
     InterruptConfirm,
     /// Reset request and reset indication (clause 5.4.3).
     Reset {
+        /// The resetting cause (clause 5.4.3).
         cause: u8,
+        /// The diagnostic code (Annex E).
         diagnostic: Option<u8>,
     },
     /// Reset confirmation (clause 5.4.4).

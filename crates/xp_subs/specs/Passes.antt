@@ -102,7 +102,7 @@ abbrev pub all_differ : {A : Type 0} → (A → A → Bool) → List A → Bool
 all_differ equal [] = true
 all_differ equal (x ∷ xs) = not (list_any (λ y. equal y x) xs) && all_differ equal xs
 
--- a station has no index and no group twice, and its preferential index
+-- a station has no index and no group twice, and its preferential index is one of its indexes
 abbrev pub has_own_indexes : StationEntry → Bool
 has_own_indexes station =
     (all_differ nat_eq station.groups.indexes && all_differ same station.groups.names) && has station.preferential where

@@ -59,7 +59,7 @@ holds address (Some held) = same address held
 abbrev pub has_address : List ℕ → Line → Bool
 has_address address line = holds address line.address
 
--- the lines of one name
+-- the first line of this name
 abbrev pub line_named_of : Tables → List ℕ → Option ℕ
 line_named_of tables name = position (λ line. same name line.name) tables.lines
 

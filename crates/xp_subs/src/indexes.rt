@@ -9,7 +9,7 @@ use xp_file::StationEntry;
 pub(crate) fn all_have_own_indexes(stations: &[StationEntry]) -> bool
     ensures { result ≡ list_all has_own_indexes stations.now }
 {
-    stations.iter().all(|station| has_own_indexes(station))
+    stations.iter().all(has_own_indexes)
 }
 
 fn has_own_indexes(station: &StationEntry) -> bool

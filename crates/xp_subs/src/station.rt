@@ -38,6 +38,8 @@ pub struct Station {
     pub incoming_access: bool,
     /// The index of the preferential group, one of the memberships'.
     pub preferential: Option<u16>,
+    /// Its closed user groups.
     pub memberships: ArrayVec<Membership, MAX_GROUPS_OF_STATION>,
+    /// Where its calls are redirected (X.25 clause 6.25.1), if they are.
     pub redirect: Option<Redirection>,
 }

@@ -57,7 +57,7 @@ impl Subs {
         requires { station < station_count self.now }
         ensures { result.now ≡ station_at self.now station }
     {
-        &self.stations[station as usize]
+        &self.stations[usize::from(station)]
     }
 
     /// A line.
@@ -66,7 +66,7 @@ impl Subs {
         ensures line { result.now ≡ line_at self.now line }
         ensures placed { station_of self.now line < station_count self.now }
     {
-        &self.lines[line as usize]
+        &self.lines[usize::from(line)]
     }
 
     /// The station of a line.
@@ -106,7 +106,7 @@ impl Subs {
         self.line(line).port
     }
 
-    /// How many stations, lines and groups there are. With it comes what holds of all subscriptions.
+    /// How many stations, lines and groups there are. The contract also says what holds of all subscriptions.
     pub fn counts(&self) -> Counts
         ensures stations { result.stations ≡ station_count self.now }
         ensures lines { result.lines ≡ line_count self.now }

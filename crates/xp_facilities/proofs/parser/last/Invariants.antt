@@ -5,7 +5,7 @@ use Rattle.xp_facilities.proofs.Asking.{later}
 use Rattle.xp_facilities.proofs.parser.last.Given as goal
 
 abbrev pub invariant-loop-item : goal.invariant-loop-item
-invariant-loop-item l = later (last_of l.codes (own l.left)) (option_copied l.found) ≡ last_of l.codes (own l.items)
+invariant-loop-item l = later (last_of l.wanted (own l.left)) (option_copied l.found) ≡ last_of l.wanted (own l.items)
 
 abbrev pub decreases-loop-item : goal.decreases-loop-item
 decreases-loop-item l = length l.left

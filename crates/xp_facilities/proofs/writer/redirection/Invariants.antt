@@ -1,7 +1,7 @@
 use Rattle.std.proofs.Common.{◌≡◌, ◌+◌, ◌*◌, ◌≤◌, ◌++◌, ◌∷◌, length}
 use Rattle.xp_packets.specs.Digits.{AreDigits}
 use Rattle.xp_facilities.specs.Octets.{reason_octet}
-use Rattle.xp_facilities.specs.Told.{packed}
+use Rattle.xp_packets.specs.Writing.{packed}
 use Rattle.xp_facilities.proofs.writer.redirection.Given as goal
 
 abbrev pub invariant-loop-rest : goal.invariant-loop-rest
