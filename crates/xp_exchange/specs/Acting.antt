@@ -13,12 +13,12 @@ use Rattle.xp_exchange.specs.declared.fault.ReplayFault.TheVariants.{Script, Jou
 use Rattle.xp_exchange.specs.Play.{ActsOn}
 use Rattle.xp_exchange.specs.Serial.{IsTold, IsToldInPart}
 
--- the text was written, or at a fault a front of it
+-- the text was written, or at a fault a prefix of it
 abbrev pub Puts : Option (List ℕ) → Option (List ℕ) → List ℕ → Result (Unit {0}) ReplayFault → Type 0
 Puts old new text (Ok done) = Appends old new text
 Puts old new text (Err fault) = (fault ≡ Write) × (count : ℕ) × Appends old new (take count text)
 
--- The text was written, or at a fault a front of it: nothing where memory was wanted.
+-- The text was written, or at a fault a prefix of it: nothing where memory was wanted.
 abbrev pub Tells : Option (List ℕ) → Option (List ℕ) → List ℕ → Result (Unit {0}) ReplayFault → Type 0
 Tells old new text (Ok done) = Appends old new text
 Tells old new text (Err Memory) = Appends old new []

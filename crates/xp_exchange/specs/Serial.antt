@@ -22,7 +22,7 @@ module _ {A : Type 0} where
     pub history : new.history ≡ old.history ++ entries
     pub text_is : text ≡ text_of old.subs entries
 
-  -- a front of it
+  -- a prefix of it
   pub record IsToldInPart (old new : Exchange A) (text : List ℕ) : Type 0 where
     pub whole : List ℕ
     pub told : IsTold old new whole

@@ -30,7 +30,7 @@ const LINE_FEED: u8 = b'\n';
 /// `Script` with the number of the first line that is not a line of a script, of which nothing is done; `Journal`
 /// where fewer than four places of the history are left for an event; `Memory`; `Read`, also after 1,000,000,000
 /// reads. What was entered before is written, but for an entry whose own text finds no memory. `Write` where it
-/// cannot be written; then a front of it is.
+/// cannot be written; then a prefix of it is.
 pub fn replay<A: Allocator + Copy, R: Read + Drop, W: Write>(
     alloc: A,
     subs: Subs,

@@ -5,8 +5,8 @@ ghost use Rattle.xp_exchange.specs.Acting.{Puts};
 use crate::fault::ReplayFault;
 use std::io::{ErrorKind, Write};
 
-/// Writes the whole text. At a fault a front of it is written: `write_all`, by its contract, may then have left
-/// anything.
+/// Writes the whole text; at a fault a prefix of it is written. Not by `write_all`, whose contract does not say what was
+/// written at a fault.
 pub fn write_out<W: Write>(writer: &mut W, text: &[u8]) -> Result<(), ReplayFault>
     ensures { Puts (W.contents writer.old) (W.contents writer.new) text.now result }
 {

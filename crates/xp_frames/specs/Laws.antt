@@ -5,7 +5,7 @@ use Rattle.xp_frames.specs.declared.fault.FrameFault.TheVariants.{Version, Lengt
 use Rattle.xp_frames.specs.Frame.{IsPacket, frame, Stream, BadHead}
 use Rattle.xp_frames.specs.Held.{Held, IsNew, Feeds, Gives}
 
--- No frame is a proper front of another: where two frames begin one stream, they are one.
+-- No frame is a proper prefix of another: where two frames begin one stream, they are one.
 abbrev pub NoFrameBeginsAnother : Type 0
 NoFrameBeginsAnother = (packet other more rest : List ℕ) → IsPacket packet → IsPacket other → frame packet ++ more ≡ frame other ++ rest → (packet ≡ other) × (more ≡ rest)
 

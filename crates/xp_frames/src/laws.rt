@@ -2,7 +2,7 @@
 
 ghost use Rattle.xp_frames.specs.Laws.{AnyPieces, FailedEverAfter, NoFrameBeginsAnother, OneReading};
 
-/// No frame is a proper front of another.
+/// No frame is a proper prefix of another.
 pub fn no_frame_begins_another()
     ensures { NoFrameBeginsAnother }
 {}

@@ -45,11 +45,7 @@ fn event_of<A: Allocator + Copy>(
         });
     }
     let (identifier, packet) = decode(alloc, packet)?;
-    let what = if identifier < 4096 {
-        What::Frame { identifier, packet }
-    } else {
-        What::Expire
-    };
+    let what = What::Frame { identifier, packet };
     Ok(Event { line, what })
 }
 

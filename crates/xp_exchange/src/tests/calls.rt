@@ -7,7 +7,8 @@ fn incoming_call(rt: HostRuntime) -> Result<(), Fail> {
     is_told(&rt, rt.alloc(), CALL, INCOMING)
 }
 
-/// b1 accepts the call, a1 clears it, and both are told; b1's confirmation tells nobody anything.
+/// b1 accepts the call, a1 clears it, and both are told. b1 sends a clear request at the same time (clear collision,
+/// X.25 clause 4.1.9), which is not answered.
 const CALL_TO_ITS_END: &str = "in a1 0000000d10010b07208002000001000000
 in b1 0000000310010f
 in a1 000000051001130000
@@ -23,6 +24,35 @@ out b1 000000051001130000
 record 1 a1 b1 2080020 caller 0 0 00 0
 ";
     is_told(&rt, rt.alloc(), CALL_TO_ITS_END, told)
+}
+
+/// After a1's clear request b1 confirms the clear indication, and can be called again.
+#[test]
+fn called_again_after_clear_confirmation(rt: HostRuntime) -> Result<(), Fail> {
+    let script = "in a1 0000000d10010b07208002000001000000
+in a1 000000051001130000
+in a1 0000000d10010b07208002000001000000
+in a1 00000003100117
+in b1 00000003100117
+in a1 0000000d10010b07208002000001000000
+";
+    let told = "out b1 0000001610010b77208002020800100642070743020201000000
+out a1 00000003100117
+out b1 000000051001130000
+record 1 a1 b1 2080020 caller 0 0 00 0
+out a1 000000051001130147
+record 2 a1 - 2080020 caller 0 0 01 71
+out b1 0000001610010b77208002020800100642070743020201000000
+";
+    is_told(&rt, rt.alloc(), script, told)
+}
+
+/// A call request without fast select has at most 16 octets of user data (X.25 clause 5.2.2).
+#[test]
+fn user_data_of_17_octets(rt: HostRuntime) -> Result<(), Fail> {
+    let script = "in a1 0000001a10010b0720800200000102030405060708090a0b0c0d0e0f1011\n";
+    let told = "out a1 000000051001131327\nrecord 1 a1 - 2080020 caller 0 0 13 39\n";
+    is_told(&rt, rt.alloc(), script, told)
 }
 
 /// The frame of the call.

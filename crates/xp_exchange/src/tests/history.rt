@@ -4,7 +4,7 @@ ghost use Rattle.xp_core.specs.Run.{Run};
 
 use super::*;
 use std::alloc::Allocator;
-use xp_core::{Core, Entry};
+use xp_core::{Core, Entry, Event, What};
 
 /// The entries of an exchange, which are a run of the machine to what it shows.
 fn entries<A: Allocator + Copy>(core: &Core<A>) -> &[Entry<A>]
@@ -14,8 +14,16 @@ fn entries<A: Allocator + Copy>(core: &Core<A>) -> &[Entry<A>]
 }
 
 #[test]
-fn history_leads_to_what_is_shown(rt: HostRuntime) -> Result<(), Fail> {
-    let core = Core::new(rt.alloc(), three_stations(rt.alloc())?)?;
-    assert!(&rt; entries(&core).is_empty());
+fn each_event_has_an_entry(rt: HostRuntime) -> Result<(), Fail> {
+    let mut core = Core::new(rt.alloc(), three_stations(rt.alloc())?)?;
+    assert!(rt; entries(&core).is_empty());
+    for count in 1..4usize {
+        let event = Event {
+            line: 0,
+            what: What::Expire,
+        };
+        core.step(event)?;
+        assert_eq!(rt; entries(&core).len(), count);
+    }
     Ok(())
 }

@@ -55,7 +55,7 @@ fn half_a_frame_forgotten_out_of_service(rt: HostRuntime) -> Result<(), Fail> {
     is_told(&rt, rt.alloc(), &script, INCOMING)
 }
 
-/// What a line out of service hears is nothing, and is no front of what it hears in service.
+/// What a line out of service hears is nothing, and is no part of what it hears in service.
 #[test]
 fn octets_out_of_service(rt: HostRuntime) -> Result<(), Fail> {
     let script = "down a1\nin a1 0000000910010b072080030000\nin a1 0000\nin a1 00010003\nup a1\n";
@@ -67,6 +67,21 @@ fn octets_out_of_service(rt: HostRuntime) -> Result<(), Fail> {
 #[test]
 fn expiry_of_a_ringing_line(rt: HostRuntime) -> Result<(), Fail> {
     let script = joined(rt.alloc(), CALL, "expire b1\nexpire h1\n")?;
+    is_told(&rt, rt.alloc(), &script, INCOMING)
+}
+
+/// Frames that are no packets make entries that do nothing: too short, of another modulus, of no known type, with a digit
+/// above nine, with facilities past their end, too long.
+#[test]
+fn frames_that_are_no_packets(rt: HostRuntime) -> Result<(), Fail> {
+    let script = "in a1 00000003100113
+in a1 0000000320010f
+in a1 000000031001fb
+in a1 0000000610010b02a000
+in a1 0000000510010b006e
+in a1 000000041001270000000003100113
+";
+    let script = joined(rt.alloc(), script, CALL)?;
     is_told(&rt, rt.alloc(), &script, INCOMING)
 }
 
@@ -115,7 +130,7 @@ fn longest_line(rt: HostRuntime) -> Result<(), Fail> {
 }
 
 /// The longest line that octets of a line have: 584 packets that do nothing while a1 owes a confirmation, and the
-/// front of that confirmation.
+/// first octets of that confirmation.
 fn longest_hearing(alloc: Global) -> Result<String, AllocError> {
     let mut script = joined(alloc, ALL_UP, "in a1 0000000910010b072080099000\nin a1 ")?;
     for _ in 0..584 {

@@ -174,6 +174,28 @@ fn reader_that_is_interrupted(rt: HostRuntime) -> Result<(), Fail> {
     Ok(())
 }
 
+/// A long comment before the call, an octet at a time: over 40,000 reads.
+#[test]
+fn reader_of_many_pieces(rt: HostRuntime) -> Result<(), Fail> {
+    let mut script = Vec::new(rt.alloc());
+    for _ in 0..5 {
+        script.extend_from_slice(&vec![in rt.alloc(); b'#'; 8000]?)?;
+        script.push(b'\n')?;
+    }
+    script.extend_from_slice(ALL_UP.as_bytes())?;
+    script.extend_from_slice(CALL.as_bytes())?;
+    let source = Source {
+        rest: &script,
+        before: 0,
+        failing: None,
+    };
+    let mut text = Vec::new(rt.alloc());
+    let ended = replay(rt.alloc(), three_stations(rt.alloc())?, source, &mut text);
+    assert_eq!(rt; ended, Ok(()));
+    assert_eq!(rt; text.as_slice(), INCOMING.as_bytes());
+    Ok(())
+}
+
 /// How a writer refuses.
 #[derive(Clone, Copy, Debug)]
 enum Refusal {
