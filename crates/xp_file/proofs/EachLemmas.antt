@@ -1,9 +1,8 @@
 -- Reading item by item.
 use Rattle.std.specs.List.{list_all}
 use Rattle.std.proofs.lemmas.List.Folds.{list_all-map}
-use Rattle.std.proofs.Common.{◌≡◌, Bool, true, cond, IsTrue, All, inl, inr, ℕ, ◌+◌, ◌<◌, List, [], ◌∷◌, ◌++◌, Option, None, Some, option_and_then, option_map, Result, Ok, Err, map, suc, take, drop, length, get_or, refl, sym, ap, subst, ◌∙◌, add-one}
-use Rattle.std.proofs.lemmas.List.{take_more, map-append}
-use Rattle.std.proofs.Math.Seq.{split_at}
+use Rattle.std.proofs.Common.{◌≡◌, Bool, true, cond, IsTrue, All, inl, inr, ℕ, ◌+◌, ◌<◌, List, [], ◌∷◌, ◌++◌, Option, None, Some, option_and_then, option_map, Result, Ok, Err, map, suc, take, drop, length, get_or, refl, sym, ap, subst, ◌∙◌}
+use Rattle.std.proofs.lemmas.List.{map-append}
 use Rattle.toml.specs.declared.value.Value.{Value}
 use Rattle.std.proofs.lemmas.Bool.{cases_Bool}
 use Rattle.std.proofs.lemmas.List.Elements.{All-nil, All-cons}
@@ -15,13 +14,8 @@ use Rattle.xp_file.specs.declared.fault.SubsFault.TheVariants as faults
 use Rattle.xp_file.specs.declared.key.Key.TheVariants as keys
 use Rattle.xp_file.specs.Keys.{key_text}
 use Rattle.xp_file.specs.Name.{is_line_name}
-
--- a list, cut at an index
-pub cut : {X : Type 0} (xs : List X) (i : ℕ) (x : X) → i < length xs → x ≡ get_or xs i x → xs ≡ take i xs ++ x ∷ drop (i + 1) xs
-cut xs i x within here = split_at xs i x within ∙ ap (λ y. take i xs ++ y ∷ drop (suc i) xs) (sym here) ∙ rw add-one refl
-
-pub front_more : {X : Type 0} (xs : List X) (i : ℕ) (x : X) → i < length xs → x ≡ get_or xs i x → take (i + 1) xs ≡ take i xs ++ x ∷ []
-front_more xs i x within here = take_more xs i x within ∙ ap (λ y. take i xs ++ y ∷ []) (sym here)
+use Rattle.xp_file.proofs.Choices.{none_is_some, err_is_ok}
+use Rattle.xp_file.proofs.Lists.{cut, front_more}
 
 module _ {A : Type 0} where
   push_step : (r : Result A SubsFault) (rs more : Result (List A) SubsFault) (xs : List A) (x : A)
@@ -119,12 +113,6 @@ module _ (values : List Value) (i : ℕ) (value : Value) where
 -- a test of each table, as it is shown
 pub list_all_shown : {X Y : Type 0} (p : Y → Bool) (shown : X → Y) (xs : List X) → list_all p (map shown xs) ≡ list_all (λ x. p (shown x)) xs
 list_all_shown p shown xs = list_all-map p shown xs
-
-err_is_ok : {X : Type 0} {fault : SubsFault} {x : X} → Err fault ≡ Ok x → ⊥
-err_is_ok e = cc
-
-none_is_some : {X : Type 0} {x : X} → None ≡ Some x → ⊥
-none_is_some e = cc
 
 length_step : {A : Type 0} (r : Result A SubsFault) (rs : Result (List A) SubsFault) (n : ℕ) (xs : List A)
     → (r >>= λ y. rs >>= λ ys. Ok (y ∷ ys)) ≡ Ok xs → ((ys : List A) → rs ≡ Ok ys → length ys ≡ n) → length xs ≡ suc n

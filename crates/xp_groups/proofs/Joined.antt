@@ -14,7 +14,7 @@ use Rattle.xp_groups.specs.Intends as intends
 use Rattle.xp_groups.specs.Admits.{Admits, Enters, from_outside}
 use Rattle.xp_groups.specs.Admits as admits
 use Rattle.xp_groups.specs.MayJoin.{MayJoin, ReachesOutside}
-use Rattle.xp_groups.proofs.Found.{found}
+use Rattle.xp_subs.proofs.Found.{found}
 
 -- a membership by which a call in this group goes out
 pub record GoesOut (caller : Station) (group : ℕ) : Type 0 where

@@ -1,4 +1,3 @@
-pub mod Found
 pub mod Joined
 pub mod Answered
 pub mod Determined

@@ -1,18 +1,18 @@
 -- The indexes agree with the lists of addresses and names that were entered.
-use Rattle.std.proofs.Common.{◌≡◌, ℕ, ◌<◌, ◌≤◌, List, [], ◌∷◌, ◌++◌, Bool, true, false, Option, None, Some, Ok, Err, ◌⊎◌, inl, inr, length, get_or, refl, sym, ap, subst, ◌∙◌, arith, length-append}
+use Rattle.std.proofs.Common.{◌≡◌, ℕ, ◌<◌, ◌≤◌, List, [], ◌∷◌, ◌++◌, Bool, true, false, Option, None, Some, Ok, ◌⊎◌, inl, inr, length, get_or, refl, sym, ap, subst, ◌∙◌, arith, length-append}
 use Rattle.std.specs.Prelude.{position, nat_eq}
 use Rattle.std.specs.List.{list_any}
 use Rattle.std.specs.Map.{lookup}
 use Rattle.std.proofs.lemmas.Bool.{cases_Bool, cases_lt}
 use Rattle.std.proofs.lemmas.List.{get_or_append_left}
 use Rattle.std.proofs.lemmas.List.Quantifiers.{position-Some}
-use Rattle.xp_file.specs.declared.fault.SubsFault.{SubsFault}
 use Rattle.xp_file.specs.Name.{same}
 use Rattle.xp_subs.specs.declared.target.Target.{Target}
 use Rattle.xp_subs.specs.Passes.{Used, with_address, with_name, with_port, with_own}
 use Rattle.xp_subs.specs.Tables.{holds}
 use Rattle.xp_subs.proofs.PositionLemmas.{or_last, lookup-push, position-push, get_or-last}
 use Rattle.xp_subs.proofs.TableLemmas.{same_is, same-itself}
+use Rattle.xp_file.proofs.Choices.{none_is_some, err_is_ok}
 
 -- a line's station and its own address
 abbrev pub Own : Type 0
@@ -37,12 +37,6 @@ pub record Agrees (stations names : List (List ℕ)) (lines : List Own) (used : 
   pub lines_once : (i : ℕ) (a : List ℕ) → i < length lines → (get_or lines i no_own).1 ≡ Some a
       → (position (same a) stations ≡ None) × (position (owns a) lines ≡ Some i)
   pub names_once : (i : ℕ) → i < length names → position (same (get_or names i [])) names ≡ Some i
-
-none_is_some : {X : Type 0} {x : X} → None ≡ Some x → ⊥
-none_is_some e = cc
-
-err_is_ok : {X : Type 0} {fault : SubsFault} {x : X} → Err fault ≡ Ok x → ⊥
-err_is_ok e = cc
 
 -- what was entered was not there
 address_is_new : (target : Target) (a : List ℕ) (used more : Used) → with_address target a used ≡ Ok more

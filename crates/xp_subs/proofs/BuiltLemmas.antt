@@ -24,6 +24,7 @@ use Rattle.xp_subs.proofs.AgreeLemmas.{Agrees, Own, owns, no_own, lead}
 use Rattle.xp_subs.proofs.EntersLemmas.{AllEven, own_list, station_addresses, all_names, all_owns, stations_agree}
 use Rattle.xp_subs.proofs.PositionLemmas.{position-map}
 use Rattle.xp_subs.proofs.TableLemmas.{same_is}
+use Rattle.xp_file.proofs.Choices.{none_is_some}
 
 pub even_from : (entries : List StationEntry) → All IsFitStation entries → AllEven entries
 unfolding AllEven
@@ -192,9 +193,6 @@ spelled_names [] each = All-nil (λ name. IsTrue (is_line_name name))
 spelled_names (entry ∷ entries) each =
     All-append (λ name. IsTrue (is_line_name name)) entry.lines.names (all_names entries) (All-head IsFitStation entry entries each).even_lines.spelled
     (spelled_names entries (All-tail IsFitStation entry entries each))
-
-none_is_some : {X : Type 0} {x : X} → None ≡ Some x → ⊥
-none_is_some e = cc
 
 get_or-shown : {X Y : Type 0} (f : X → Y) (xs : List X) (i : ℕ) (d : X) → get_or (map f xs) i (f d) ≡ f (get_or xs i d)
 get_or-shown f [] i d = refl

@@ -2,7 +2,6 @@
 use Rattle.std.proofs.Common.{◌≡◌, ℕ, zero, suc, ◌+◌, ◌<◌, ◌≤◌, List, [], ◌∷◌, ◌++◌, Bool, true, false, cond, Option, None, Some, All, Err, take, drop, length, get_or, refl, sym, ap, subst, ◌∙◌, arith, add-one}
 use Rattle.std.specs.Prelude.{nat_lt}
 use Rattle.std.proofs.lemmas.Bool.{ltb-false}
-use Rattle.std.proofs.lemmas.List.{drop_more}
 use Rattle.std.proofs.lemmas.List.Elements.{All-nil, All-cons, All-head, All-tail}
 use Rattle.std.proofs.lemmas.List.Sums.{sum_by_more_le}
 use Rattle.xp_file.specs.declared.entry.StationEntry.{StationEntry}
@@ -13,6 +12,8 @@ use Rattle.xp_file.specs.Entries.{IsEvenLines, IsEvenGroups}
 use Rattle.xp_subs.specs.Built.{numbers}
 use Rattle.xp_subs.specs.Fit.{IsFit, IsFitStation}
 use Rattle.xp_subs.specs.Passes.{Used, station_over, first_key, first_over, over_limit, line_total, with_station, with_stations}
+use Rattle.xp_file.proofs.Choices.{none_is_some}
+use Rattle.xp_file.proofs.Lists.{rest_at}
 
 pub fit_at : (stations : List StationEntry) (i : ℕ) (s : StationEntry) → IsFit stations → i < length stations → s ≡ get_or stations i s → IsFitStation s
 fit_at stations i s fit within here = subst IsFitStation (sym here) (fit.each i s within)
@@ -27,9 +28,6 @@ lines_at stations i s fit within here =
     omega arith
 
 -- the rest of a list, from an index on
-pub rest_at : {X : Type 0} (xs : List X) (i : ℕ) (x : X) → i < length xs → x ≡ get_or xs i x → drop i xs ≡ x ∷ drop (i + 1) xs
-rest_at xs i x within here = drop_more xs i x within ∙ ap (λ y. y ∷ drop (i + 1) xs) (sym here)
-
 pub stations_refused : (stations : List StationEntry) (i : ℕ) (s : StationEntry) (number line : ℕ) (used : Used) (fault : SubsFault)
     → i < length stations → s ≡ get_or stations i s → with_station number line s used ≡ Err fault
     → with_stations number line (drop i stations) used ≡ Err fault
@@ -45,9 +43,6 @@ numbers_more first count = rw add-one (by first count)
     by first (suc count) =
         let next : first + 1 + count ≡ first + suc count = omega arith in
         ap (λ more. first ∷ more) (by (first + 1) count) ∙ ap (λ n. (first ∷ numbers (first + 1) count) ++ n ∷ []) next
-
-none_is_some : {X : Type 0} {x : X} → None ≡ Some x → ⊥
-none_is_some e = cc
 
 chosen_none : {X : Type 0} (test : Bool) (x : X) (other : Option X) → cond test (Some x) other ≡ None → (test ≡ false) × (other ≡ None)
 chosen_none true x other e = absurd (none_is_some (sym e))

@@ -1,3 +1,4 @@
+pub mod Found
 pub mod TableLemmas
 pub mod UsedLemmas
 pub mod FitLemmas
