@@ -1,3 +1,4 @@
 pub mod Choices
 pub mod Lists
+pub mod Ranges
 pub mod EachLemmas

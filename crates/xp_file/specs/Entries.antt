@@ -1,5 +1,5 @@
 -- What the subscription file says, table by table.
-use Rattle.std.specs.Prelude.{◌≡◌, ℕ, ◌<◌, List, Bool, Option, All, IsTrue, length}
+use Rattle.std.specs.Prelude.{◌≡◌, ℕ, ◌<◌, ◌≤◌, List, Bool, Option, All, IsTrue, length}
 use Rattle.xp_file.specs.Name.{is_line_name}
 
 -- the lines of a station, a list for each key
@@ -22,8 +22,16 @@ pub record IsEvenLines (lines : LineData) : Type 0 where
   pub ports : length lines.ports ≡ length lines.names
   pub addresses : length lines.addresses ≡ length lines.names
 
--- each group has every key
+-- each group has every key, and an index of at most four digits
 pub record IsEvenGroups (groups : GroupData) : Type 0 where
+  pub four_digits : All (λ index. index ≤ 9_999) groups.indexes
   pub indexes : length groups.indexes ≡ length groups.names
   pub outgoing_barred : length groups.outgoing_barred ≡ length groups.names
   pub incoming_barred : length groups.incoming_barred ≡ length groups.names
+
+-- the limits that a file may set: to the segments of a call in one direction, and to the entries of the history
+pub record AreLimits (segment_limit journal : ℕ) : Type 0 where
+  pub some_segment : 1 ≤ segment_limit
+  pub eight_digits : segment_limit ≤ 99_999_999
+  pub least_entries : 4 ≤ journal
+  pub most_entries : journal ≤ 10_000_000

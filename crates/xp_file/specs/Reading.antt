@@ -17,11 +17,12 @@ Ok x >>= next = next x
 Err fault >>= next = Err fault
 
 -- a number in a range
+abbrev pub within : ℕ → ℕ → ℤ → Option ℕ
+within low high (pos n) = if nat_le low n && nat_le n high then Some n else None
+within low high _ = None
+
 abbrev pub number_in : ℕ → ℕ → Data → Option ℕ
-number_in low high value = option_and_then number (as_integer value) where
-  number : ℤ → Option ℕ
-  number (pos n) = if nat_le low n && nat_le n high then Some n else None
-  number _ = None
+number_in low high value = option_and_then (within low high) (as_integer value)
 
 -- a text of one form
 abbrev pub text_of : (List ℕ → Bool) → Data → Option (List ℕ)

@@ -56,7 +56,11 @@ pub(crate) fn number_or(
     high: u32,
     absent: u32,
 ) -> Result<u32, SubsFault>
-    ensures { result ≡ defaulted (number_in low high) absent key (table_view table.now) }
+    requires least { low ≤ absent }
+    requires most { absent ≤ high }
+    ensures number { result ≡ defaulted (number_in low high) absent key (table_view table.now) }
+    ensures least { IfOk result (λ number. low ≤ number) }
+    ensures most { IfOk result (λ number. number ≤ high) }
 {
     match value_at(table, key) {
         Some(value) => number(value, low, high).ok_or(SubsFault::Field(key)),
@@ -148,7 +152,8 @@ fn is_key(known: Key, text: &str) -> bool
 
 fn number(value: &Value, low: u32, high: u32) -> Option<u32>
     ensures number { result ≡ number_in low high (view value.now) }
-    ensures range { IfSome result (λ number. number ≤ high) }
+    ensures least { IfSome result (λ number. low ≤ number) }
+    ensures most { IfSome result (λ number. number ≤ high) }
 {
     let number = u32::try_from(value.as_integer()?).ok()?;
     (low..=high).contains(&number).then_some(number)

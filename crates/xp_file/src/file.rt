@@ -5,7 +5,7 @@ ghost use Rattle.toml.specs.Data.{as_str};
 ghost use Rattle.toml.specs.View.{table_view};
 ghost use Rattle.xp_file.specs.declared.fault.SubsFault.TheVariants.{Memory as OutOfMemory};
 ghost use Rattle.xp_file.specs.declared.key.Key.TheVariants as keys;
-ghost use Rattle.xp_file.specs.Entries.{IsEvenLines, IsEvenGroups};
+ghost use Rattle.xp_file.specs.Entries.{AreLimits, IsEvenLines, IsEvenGroups};
 ghost use Rattle.xp_file.specs.File.{facilities_of, lines_of, groups_of, redirection_of, are_listed, entry_of, file_of, file_in};
 ghost use Rattle.xp_file.specs.Reading.{each, has_only, defaulted};
 
@@ -233,6 +233,7 @@ fn read_table(alloc: Global, table: &Table) -> Result<File, SubsFault>
     ensures refused { IfErr result (λ fault. fault ≢ OutOfMemory → file_of (table_view table.now) ≡ Err fault) }
     ensures some { IfOk result (λ file. 0 < length file.stations) }
     ensures even { IfOk result (λ file. All (λ entry. IsEvenLines entry.lines × IsEvenGroups entry.groups) file.stations) }
+    ensures limits { IfOk result (λ file. AreLimits file.segment_limit file.journal) }
 {
     let segment_limit = number_or(
         table,
@@ -285,6 +286,7 @@ impl File {
         ensures refused { IfErr result (λ fault. fault ≢ OutOfMemory → file_in text.now ≡ Err fault) }
         ensures some { IfOk result (λ file. 0 < length file.stations) }
         ensures even { IfOk result (λ file. All (λ entry. IsEvenLines entry.lines × IsEvenGroups entry.groups) file.stations) }
+        ensures limits { IfOk result (λ file. AreLimits file.segment_limit file.journal) }
     {
         match toml::table_from_str(alloc, text) {
             Ok(table) => read_table(alloc, &table),

@@ -1,18 +1,20 @@
 -- The stations and lines that are built: which line is whose, and what the indexes say of them.
-use Rattle.std.proofs.Common.{◌≡◌, ℕ, zero, suc, ◌+◌, ◌-◌, ◌<◌, ◌≤◌, List, [], ◌∷◌, ◌++◌, true, Option, None, Some, ◌⊎◌, inl, inr, Contains, All, IsTrue, Ok, length, map, get_or, refl, sym, ap, subst, ◌∙◌, arith, length-append}
+use Rattle.std.proofs.Common.{◌≡◌, ℕ, zero, suc, ◌+◌, ◌-◌, ◌<◌, ◌≤◌, List, [], ◌∷◌, ◌++◌, Bool, true, Option, None, Some, ◌⊎◌, inl, inr, Contains, All, IsTrue, Ok, length, map, get_or, refl, sym, ap, subst, ◌∙◌, arith, length-append}
 use Rattle.std.specs.Prelude.{position}
 use Rattle.std.specs.Map.{lookup}
 use Rattle.std.proofs.lemmas.Bool.{cases_lt}
 use Rattle.std.proofs.lemmas.List.{get_or_append_left, get_or-append_right, length-map, map-append}
-use Rattle.std.proofs.lemmas.List.Elements.{All-head, All-tail, All-append, All-nil}
+use Rattle.std.proofs.lemmas.List.Elements.{All-head, All-tail, All-append, All-nil, All-cons}
 use Rattle.std.proofs.lemmas.List.Quantifiers.{position-Some}
 use Rattle.std.proofs.lemmas.List.Sums.{sum_by-cons}
 use Rattle.xp_file.specs.declared.entry.StationEntry.{StationEntry}
+use Rattle.xp_file.specs.Entries.{AreLimits}
 use Rattle.xp_file.specs.Name.{same, is_line_name}
 use Rattle.xp_subs.specs.declared.line.Line.{Line}
+use Rattle.xp_subs.specs.declared.station.Membership.{Membership}
 use Rattle.xp_subs.specs.declared.station.Station.{Station}
 use Rattle.xp_subs.specs.declared.target.Target.{Target}
-use Rattle.xp_subs.specs.Built.{numbers, line_list, lines_of, lines_from, stations_from, mentions, tables_of}
+use Rattle.xp_subs.specs.Built.{numbers, line_list, lines_of, lines_from, membership_list, station_from, stations_from, mentions, tables_of}
 use Rattle.xp_file.specs.File.{FileData}
 use Rattle.xp_subs.specs.declared.subs.Subs.TheInside.{Inside}
 use Rattle.xp_subs.specs.Kept.{tables, Keeps}
@@ -194,6 +196,29 @@ spelled_names (entry ∷ entries) each =
     All-append (λ name. IsTrue (is_line_name name)) entry.lines.names (all_names entries) (All-head IsFitStation entry entries each).even_lines.spelled
     (spelled_names entries (All-tail IsFitStation entry entries each))
 
+-- each index has at most four digits
+HasShortIndexes : Station → Type 0
+HasShortIndexes station = All (λ (membership : Membership). membership.index ≤ 9_999) station.memberships.items
+
+short_indexes : (known names : List (List ℕ)) (indexes : List ℕ) (outgoing incoming : List Bool) → All (λ index. index ≤ 9_999) indexes
+    → All (λ (membership : Membership). membership.index ≤ 9_999) (membership_list known names indexes outgoing incoming)
+short_indexes known [] indexes outgoing incoming all = All-nil (λ (membership : Membership). membership.index ≤ 9_999)
+short_indexes known (name ∷ names) [] outgoing incoming all = All-nil (λ (membership : Membership). membership.index ≤ 9_999)
+short_indexes known (name ∷ names) (index ∷ indexes) [] incoming all = All-nil (λ (membership : Membership). membership.index ≤ 9_999)
+short_indexes known (name ∷ names) (index ∷ indexes) (out ∷ outgoing) [] all = All-nil (λ (membership : Membership). membership.index ≤ 9_999)
+short_indexes known (name ∷ names) (index ∷ indexes) (out ∷ outgoing) (into ∷ incoming) all =
+    All-cons (λ (membership : Membership). membership.index ≤ 9_999) _ (membership_list known names indexes outgoing incoming)
+    (All-head (λ n. n ≤ 9_999) index indexes all) (short_indexes known names indexes outgoing incoming (All-tail (λ n. n ≤ 9_999) index indexes all))
+
+all_short : (known : List (List ℕ)) (line : ℕ) (entries : List StationEntry) → All IsFitStation entries → All HasShortIndexes (stations_from known line entries)
+unfolding HasShortIndexes
+all_short known line [] each = All-nil HasShortIndexes
+all_short known line (entry ∷ entries) each =
+    All-cons HasShortIndexes (station_from known line entry) (stations_from known (line + length entry.lines.names) entries)
+    (short_indexes known entry.groups.names entry.groups.indexes entry.groups.outgoing_barred entry.groups.incoming_barred
+    (All-head IsFitStation entry entries each).even_groups.four_digits)
+    (all_short known (line + length entry.lines.names) entries (All-tail IsFitStation entry entries each))
+
 get_or-shown : {X Y : Type 0} (f : X → Y) (xs : List X) (i : ℕ) (d : X) → get_or (map f xs) i (f d) ≡ f (get_or xs i d)
 get_or-shown f [] i d = refl
 get_or-shown f (x ∷ xs) zero d = refl
@@ -299,7 +324,7 @@ name_held tables n line found =
 
 -- the facts of a file that is built
 module _ (file : FileData) (used : Used) (fit : IsFit file.stations) (some : 0 < length file.stations)
-    (once : with_stations 0 0 file.stations nothing_used ≡ Ok used) where
+    (limits : AreLimits file.segment_limit file.journal) (once : with_stations 0 0 file.stations nothing_used ≡ Ok used) where
   entries : List StationEntry
   entries = file.stations
 
@@ -363,8 +388,12 @@ module _ (file : FileData) (used : Used) (fit : IsFit file.stations) (some : 0 <
       let all : All (λ name. IsTrue (is_line_name name)) names = rw (lines_from-names 0 file.stations even) (spelled_names file.stations fit.each) in
       rw (get_or-shown (λ (l : Line). l.name) (lines_from 0 file.stations) line no_line) at (all line [] inside)
 
-  pub built_sound : IsSound (tables_of file)
+  built_indexes : (station : ℕ) → station < station_count (tables_of file) → HasShortIndexes (station_at (tables_of file) station)
   unfolding tables_of
+  built_indexes station within = all_short (mentions [] file.stations) 0 file.stations fit.each station no_station within
+
+  pub built_sound : IsSound (tables_of file)
+  unfolding tables_of HasShortIndexes
   built_sound = record {
     some_line = omega (arith, lines_from-length 0 file.stations even, at_least_one file.stations some even);
     few_lines = omega (arith, lines_from-length 0 file.stations even, fit.lines);
@@ -378,18 +407,20 @@ module _ (file : FileData) (used : Used) (fit : IsFit file.stations) (some : 0 <
     target = leads_in (tables_of file) used all_agree (λ line within. (built_placed line within).0);
     address_held = leads_held (tables_of file);
     name_held = name_held (tables_of file);
+    indexes = built_indexes;
+    limits = limits;
     spelled = built_spelled;
   }
 
 -- what a `Subs` of such a file keeps
 pub built_keeps : (inside : Inside) (file : FileData) (used : Used) → IsFit file.stations → 0 < length file.stations
-    → with_stations 0 0 file.stations nothing_used ≡ Ok used → tables inside ≡ tables_of file
+    → AreLimits file.segment_limit file.journal → with_stations 0 0 file.stations nothing_used ≡ Ok used → tables inside ≡ tables_of file
     → inside.targets.entries ≡ used.targets → inside.names.entries ≡ used.names
     → inside.groups ≡ group_count (tables inside) → Keeps inside
-built_keeps inside file used fit some once is targets names groups = record {
-  sound = subst IsSound (sym is) (built_sound file used fit some once);
-  targets = λ a. ap (lookup (same a)) targets ∙ built_targets file used fit some once a ∙ ap (λ t. target_of t a) (sym is);
-  names = λ n. ap (lookup (same n)) names ∙ built_names file used fit some once n ∙ ap (λ t. line_named_of t n) (sym is);
+built_keeps inside file used fit some limits once is targets names groups = record {
+  sound = subst IsSound (sym is) (built_sound file used fit some limits once);
+  targets = λ a. ap (lookup (same a)) targets ∙ built_targets file used fit some limits once a ∙ ap (λ t. target_of t a) (sym is);
+  names = λ n. ap (lookup (same n)) names ∙ built_names file used fit some limits once n ∙ ap (λ t. line_named_of t n) (sym is);
   groups = groups;
 }
 

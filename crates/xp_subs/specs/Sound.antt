@@ -1,5 +1,7 @@
 -- What holds of all subscription tables.
-use Rattle.std.specs.Prelude.{◌≡◌, ℕ, ◌<◌, ◌≤◌, List, Option, None, Some, Contains, IsTrue}
+use Rattle.std.specs.Prelude.{◌≡◌, ℕ, ◌<◌, ◌≤◌, List, Option, None, Some, Contains, All, IsTrue}
+use Rattle.xp_file.specs.Entries.{AreLimits}
+use Rattle.xp_subs.specs.declared.station.Membership.{Membership}
 use Rattle.xp_subs.specs.declared.target.Target.{Target}
 use Rattle.xp_file.specs.Name.{is_line_name}
 use Rattle.xp_subs.specs.Tables.{Tables, station_count, line_count, station_at, line_at, station_of, target_of, line_named_of}
@@ -45,5 +47,10 @@ pub record IsSound (tables : Tables) : Type 0 where
   pub address_held : (address : List ℕ) (target : Target) → target_of tables address ≡ Some target → HasAddress tables target address
   pub name_held : (name : List ℕ) (line : ℕ) → line_named_of tables name ≡ Some line
       → (line < line_count tables) × ((line_at tables line).name ≡ name)
+  -- a station selects each of its groups by a number of at most four digits
+  pub indexes : (station : ℕ) → station < station_count tables
+      → All (λ (membership : Membership). membership.index ≤ 9_999) (station_at tables station).memberships.items
+  -- the limits to segments and entries are in their ranges
+  pub limits : AreLimits tables.segment_limit tables.journal
   -- each name is one that a line may have
   pub spelled : (line : ℕ) → line < line_count tables → IsTrue (is_line_name (line_at tables line).name)

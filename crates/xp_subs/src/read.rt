@@ -2,6 +2,7 @@
 ghost use Rattle.std.specs.Prelude.{◌≡◌, ◌≢◌, ◌<◌, length, Ok, Err, IfOk, IfErr};
 ghost use Rattle.xp_file.specs.declared.fault.SubsFault.TheVariants.{Memory as OutOfMemory};
 ghost use Rattle.std.specs.Set.{distinct_count};
+ghost use Rattle.xp_file.specs.Entries.{AreLimits};
 ghost use Rattle.xp_file.specs.File.{file_in};
 ghost use Rattle.xp_subs.specs.Built.{tables_in, tables_of, named_groups};
 ghost use Rattle.xp_subs.specs.Fit.{IsFit};
@@ -47,6 +48,7 @@ impl Subs {
 fn from_file(alloc: Global, file: File, uses: Uses) -> Result<Subs, AllocError>
     requires fit { IsFit file.stations }
     requires some { 0 < length file.stations }
+    requires limits { AreLimits file.segment_limit file.journal }
     requires once { with_stations 0 0 file.stations nothing_used ≡ Ok uses }
     ensures { IfOk result (λ subs. subs ≡ tables_of file) }
 {

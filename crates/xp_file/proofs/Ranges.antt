@@ -1,0 +1,34 @@
+-- A number that is read of a key lies in its range.
+use Rattle.std.proofs.Common.{◌≡◌, ℕ, ◌≤◌, ℤ, pos, ◌&&◌, inl, inr, Option, None, Some, Ok, Err, option_and_then}
+use Rattle.std.proofs.lemmas.Bool.{and_parts, cases_Bool, leb-true}
+use Rattle.std.specs.Prelude.{nat_le}
+use Rattle.toml.specs.Data.{Data, Members, as_integer, get_member}
+use Rattle.xp_file.specs.declared.fault.SubsFault.TheVariants as faults
+use Rattle.xp_file.specs.declared.key.Key.{Key}
+use Rattle.xp_file.specs.Keys.{key_text}
+use Rattle.xp_file.specs.Reading.{within, number_in, ok_at, required}
+use Rattle.xp_file.proofs.Choices.{none_is_some, err_is_ok}
+
+in_range : (low high : ℕ) (number : Option ℤ) (x : ℕ) → option_and_then (within low high) number ≡ Some x → (low ≤ x) × (x ≤ high)
+in_range low high None x e = let never : None ≡ Some x = e in absurd (none_is_some never)
+in_range low high (Some (pos n)) x e =
+    elim (cases_Bool (nat_le low n && nat_le n high)) [
+      | inl passed ↦
+          let is : Some n ≡ Some x = rw passed at e in
+          let this : n ≡ x = cc in
+          let both = and_parts (nat_le low n) (nat_le n high) passed in
+          rw (← this) (leb-true low n both.0, leb-true n high both.1)
+      | inr failed ↦ let never : None ≡ Some x = rw failed at e in absurd (none_is_some never)
+    ]
+in_range low high (Some number) x e = let never : None ≡ Some x = e in absurd (none_is_some never)
+
+found : (low high : ℕ) (key : Key) (value : Option Data) (x : ℕ) → ok_at key (option_and_then (number_in low high) value) ≡ Ok x → (low ≤ x) × (x ≤ high)
+found low high key None x e = let never : Err (faults.Field key) ≡ Ok x = e in absurd (err_is_ok never)
+found low high key (Some value) x e = in_range low high (as_integer value) x (some_of key (number_in low high value) x e)
+  where
+    some_of : (key : Key) (o : Option ℕ) (x : ℕ) → ok_at key o ≡ Ok x → o ≡ Some x
+    some_of key None x e = let never : Err (faults.Field key) ≡ Ok x = e in absurd (err_is_ok never)
+    some_of key (Some y) x e = let made : Ok y ≡ Ok x = e in cc
+
+pub required_range : (low high : ℕ) (key : Key) (table : Members) (x : ℕ) → required (number_in low high) key table ≡ Ok x → (low ≤ x) × (x ≤ high)
+required_range low high key table x e = found low high key (get_member (key_text key) table) x e
