@@ -1,7 +1,7 @@
 -- Blocks: what is read is spelled so, what is spelled so is read, and what is wrong is the first of the conditions.
 use Rattle.std.proofs.Common.{◌≡◌, ℕ, ◌+◌, ◌*◌, ◌/◌, ◌%◌, ◌<◌, ◌≤◌, Bool, true, false, not, cond, eqb, ltb, ◌&&◌, ◌||◌, List, [], ◌∷◌, ◌++◌, length, get_or, take, drop, Option, Some, None, Result, Ok, Err, refl, sym, ap, subst, ◌∙◌, append_assoc, arith, inl, inr}
 use Rattle.std.specs.List.{list_all}
-use Rattle.std.proofs.lemmas.Bool.{eqb-true, cases_Bool, and_parts, and_from, not-false, or_parts, or_from, ltb-false, le-ltb, cond-true}
+use Rattle.std.proofs.lemmas.Bool.{eqb-true, cases_Bool, and_parts, and_from, not-false, or_parts, or_from, ltb-false, le-ltb, cond-true, cond-false}
 use Rattle.std.proofs.lemmas.List.{take-append-drop, length-append, length-take-le, length-drop, take_at, drop_at}
 use Rattle.std.proofs.lemmas.List.Folds.{list_all-append}
 use Rattle.std.proofs.Math.Seq.{take-add}
@@ -131,30 +131,34 @@ addresses_again digits called calling rest spelled =
 
 -- ---- facilities and user data
 
-fields_takes : (octets : List ℕ) (x : List ℕ × List ℕ) → fields_at octets ≡ Ok x → SpellsFields octets x.0 x.1
+-- fields with so much user data at most
+abbrev TakesFields : ℕ → List ℕ → List ℕ × List ℕ → Type 0
+TakesFields most octets x = SpellsFields octets x.0 x.1 × (length x.1 ≤ most)
+
+fields_takes : (most : ℕ) (octets : List ℕ) (x : List ℕ × List ℕ) → most ≤ 128 → fields_at most octets ≡ Ok x → TakesFields most octets x
 unfolding fields_at
-fields_takes [] x e =
+fields_takes most [] x below e =
     let made : List ℕ × List ℕ = ([], []) in
-    subst (λ (y : List ℕ × List ℕ). SpellsFields [] y.0 y.1) (ok_is made x e) (refl, refl)
-fields_takes (size ∷ rest) x e =
+    subst (TakesFields most []) (ok_is made x e) ((refl, refl), omega arith)
+fields_takes most (size ∷ rest) x below e =
     let sized = guard_ok (ltb 109 size || ltb (length rest) size) Facilities _ x e in
-    let short = guard_ok (ltb 128 (length (drop size rest))) Long _ x sized.1 in
+    let short = guard_ok (ltb most (length (drop size rest))) Long _ x sized.1 in
     let bounds = or_parts (ltb 109 size) (ltb (length rest) size) sized.0 in
-    let most : size ≤ 109 = ltb-false _ _ bounds.0 in
+    let size_most : size ≤ 109 = ltb-false _ _ bounds.0 in
     let within : size ≤ length rest = ltb-false _ _ bounds.1 in
-    let user_most : length (drop size rest) ≤ 128 = ltb-false _ _ short.0 in
+    let user_most : length (drop size rest) ≤ most = ltb-false _ _ short.0 in
     let len : length (take size rest) ≡ size = length-take-le size rest within in
     let made : List ℕ × List ℕ = (take size rest, drop size rest) in
-    subst (λ (y : List ℕ × List ℕ). SpellsFields (size ∷ rest) y.0 y.1) (ok_is made x short.1) (sym len, sym (take-append-drop size rest), omega arith, user_most)
+    subst (TakesFields most (size ∷ rest)) (ok_is made x short.1) ((sym len, sym (take-append-drop size rest), omega arith, omega arith), user_most)
 
-fields_again : (octets facilities user : List ℕ) → SpellsFields octets facilities user → fields_at octets ≡ Ok (facilities, user)
+fields_again : (most : ℕ) (octets facilities user : List ℕ) → SpellsFields octets facilities user → length user ≤ most → fields_at most octets ≡ Ok (facilities, user)
 unfolding fields_at
-fields_again [] facilities user spelled = rw (spelled.0, spelled.1) refl
-fields_again (size ∷ rest) facilities user spelled =
+fields_again most [] facilities user spelled within = rw (spelled.0, spelled.1) refl
+fields_again most (size ∷ rest) facilities user spelled within =
     let front : take size rest ≡ facilities = rw (spelled.1) (take_at facilities user size (sym spelled.0)) in
     let back : drop size rest ≡ user = rw (spelled.1) (drop_at facilities user size (sym spelled.0)) in
     let sized : (ltb 109 size || ltb (length rest) size) ≡ false = or_from (ltb 109 size) (ltb (length rest) size) (le-ltb 109 size (omega (arith, spelled.0, spelled.2))) (le-ltb (length rest) size (omega (arith, spelled.0, ap length spelled.1, length-append facilities user))) in
-    let short : ltb 128 (length user) ≡ false = le-ltb _ _ spelled.3 in
+    let short : ltb most (length user) ≡ false = le-ltb _ _ within in
     rw (sized, back, short, front) refl
 
 -- ---- whole blocks
@@ -169,55 +173,65 @@ block_with addresses fields = record { called = addresses.0; calling = addresses
 abbrev pub ok_block : {A : Type 0} → Block A → Result (Block A) Wrong
 ok_block block = Ok block
 
-pub block_takes : (A : Type 0) (octets : List ℕ) (block : Block A) → AreOctets octets → block_at octets ≡ Ok block → BlockBy SpellsFields A octets block
+-- a block with so much user data at most
+abbrev pub TakesBlock : (A : Type 0) → ℕ → List ℕ → Block A → Type 0
+TakesBlock A most octets block = BlockBy SpellsFields A octets block × (length block.user ≤ most)
+
+pub block_takes : (A : Type 0) (most : ℕ) (octets : List ℕ) (block : Block A) → most ≤ 128 → AreOctets octets → block_at most octets ≡ Ok block → TakesBlock A most octets block
 unfolding block_at
-block_takes A [] block are e = absurd cc
-block_takes A (lengths ∷ rest) block are e =
-    let a = bind_ok (addresses_at (lengths % 16) (lengths / 16) rest) (λ (x : List ℕ × List ℕ × List ℕ). fields_at x.2 >>= λ (y : List ℕ × List ℕ). ok_block (block_with x y)) block e in
-    let b = bind_ok (fields_at a.0.2) (λ (y : List ℕ × List ℕ). ok_block (block_with a.0 y)) block a.2 in
+block_takes A most [] block below are e = absurd cc
+block_takes A most (lengths ∷ rest) block below are e =
+    let a = bind_ok (addresses_at (lengths % 16) (lengths / 16) rest) (λ (x : List ℕ × List ℕ × List ℕ). fields_at most x.2 >>= λ (y : List ℕ × List ℕ). ok_block (block_with x y)) block e in
+    let b = bind_ok (fields_at most a.0.2) (λ (y : List ℕ × List ℕ). ok_block (block_with a.0 y)) block a.2 in
     let first : lengths < 256 = are 0 in
     let t = addresses_takes (lengths % 16) (lengths / 16) rest a.0 (omega arith) (omega arith) a.1 in
-    let f = fields_takes a.0.2 b.0 b.1 in
+    let f = fields_takes most a.0.2 b.0 below b.1 in
     let lengths_is : 16 * length a.0.1 + length a.0.0 ≡ lengths = omega (arith, t.3, t.4) in
-    subst (λ (y : Block A). BlockBy SpellsFields A (lengths ∷ rest) y) (ok_is (block_with a.0 b.0) block b.2) record {
-      digits = t.0;
-      rest = a.0.2;
-      whole = rw (lengths_is, ← t.1) refl;
-      addresses = t.2;
-      fields = f;
-    }
+    subst (TakesBlock A most (lengths ∷ rest)) (ok_is (block_with a.0 b.0) block b.2) (
+      record {
+        digits = t.0;
+        rest = a.0.2;
+        whole = rw (lengths_is, ← t.1) refl;
+        addresses = t.2;
+        fields = f.0;
+      },
+      f.1,
+    )
 
-pub block_again : (A : Type 0) (octets : List ℕ) (block : Block A) → BlockBy SpellsFields A octets block → block_at octets ≡ Ok block
+pub block_again : (A : Type 0) (most : ℕ) (octets : List ℕ) (block : Block A) → BlockBy SpellsFields A octets block → length block.user ≤ most → block_at most octets ≡ Ok block
 unfolding block_at
-block_again A octets block spelled =
+block_again A most octets block spelled within =
     let low : (16 * length block.calling + length block.called) % 16 ≡ length block.called = omega (arith, spelled.addresses.called_most) in
     let high : (16 * length block.calling + length block.called) / 16 ≡ length block.calling = omega (arith, spelled.addresses.called_most) in
-    rw (spelled.whole, low, high, addresses_again spelled.digits block.called block.calling spelled.rest spelled.addresses, fields_again spelled.rest block.facilities block.user spelled.fields) refl
+    rw (spelled.whole, low, high, addresses_again spelled.digits block.called block.calling spelled.rest spelled.addresses, fields_again most spelled.rest block.facilities block.user spelled.fields within) refl
 
 -- what is no block, or one
-abbrev pub SpellsOption : (A : Type 0) → List ℕ → Option (Block A) → Type 0
-SpellsOption A octets None = octets ≡ []
-SpellsOption A octets (Some block) = BlockBy SpellsFields A octets block
+abbrev pub TakesOption : (A : Type 0) → ℕ → List ℕ → Option (Block A) → Type 0
+TakesOption A most octets None = octets ≡ []
+TakesOption A most octets (Some block) = TakesBlock A most octets block
 
 abbrev ok_option : {A : Type 0} → Option (Block A) → Result (Option (Block A)) Wrong
 ok_option block = Ok block
 
-pub option_takes : (A : Type 0) (octets : List ℕ) (block : Option (Block A)) → AreOctets octets → optional_block_at octets ≡ Ok block → SpellsOption A octets block
+pub option_takes : (A : Type 0) (most : ℕ) (octets : List ℕ) (block : Option (Block A)) → most ≤ 128 → AreOctets octets → optional_block_at most octets ≡ Ok block → TakesOption A most octets block
 unfolding optional_block_at
-option_takes A [] block are e = subst (SpellsOption A []) (ok_is None block e) refl
-option_takes A (octet ∷ rest) block are e =
-    let a = bind_ok (block_at (octet ∷ rest)) (λ (y : Block A). ok_option (Some y)) block e in
-    subst (SpellsOption A (octet ∷ rest)) (ok_is (Some a.0) block a.2) (block_takes A (octet ∷ rest) a.0 are a.1)
+option_takes A most [] block below are e = subst (TakesOption A most []) (ok_is None block e) refl
+option_takes A most (octet ∷ rest) block below are e =
+    let a = bind_ok (block_at most (octet ∷ rest)) (λ (y : Block A). ok_option (Some y)) block e in
+    subst (TakesOption A most (octet ∷ rest)) (ok_is (Some a.0) block a.2) (block_takes A most (octet ∷ rest) a.0 below are a.1)
 
-some_again : (A : Type 0) (octets : List ℕ) (block : Block A) → BlockBy SpellsFields A octets block → optional_block_at octets ≡ Ok (Some block)
+pub some_again : (A : Type 0) (most : ℕ) (octets : List ℕ) (block : Block A) → BlockBy SpellsFields A octets block → length block.user ≤ most → optional_block_at most octets ≡ Ok (Some block)
 unfolding optional_block_at
-some_again A [] block spelled = absurd (let e = spelled.whole in cc)
-some_again A (octet ∷ rest) block spelled = rw (block_again A (octet ∷ rest) block spelled) refl
+some_again A most [] block spelled within = absurd (let e = spelled.whole in cc)
+some_again A most (octet ∷ rest) block spelled within = rw (block_again A most (octet ∷ rest) block spelled within) refl
 
-pub option_again : (A : Type 0) (octets : List ℕ) (block : Option (Block A)) → SpellsOption A octets block → optional_block_at octets ≡ Ok block
-unfolding optional_block_at
-option_again A octets None spelled = rw spelled refl
-option_again A octets (Some block) spelled = some_again A octets block spelled
+-- the user data of a block is never more
+pub user_most : (A : Type 0) (octets : List ℕ) (block : Block A) → BlockBy SpellsFields A octets block → length block.user ≤ 128
+user_most A octets block spelled = within spelled.rest spelled.fields
+  where
+    within : (rest : List ℕ) → SpellsFields rest block.facilities block.user → length block.user ≤ 128
+    within [] fields = omega (arith, ap length fields.1)
+    within (size ∷ rest) fields = fields.3
 
 -- ---- what is wrong with a block
 
@@ -237,34 +251,30 @@ facilities_of [] = []
 facilities_of (size ∷ rest) = take size rest
 
 -- the fields in one choice
-fields_are : {Y : Type 0} (octets : List ℕ) (f : List ℕ × List ℕ → Result Y Wrong) → (fields_at octets >>= f) ≡ cond (has_wrong_size octets) (Err Facilities) (cond (ltb 128 (length (after_facilities octets))) (Err Long) (f (facilities_of octets, after_facilities octets)))
+fields_are : {Y : Type 0} (most : ℕ) (octets : List ℕ) (f : List ℕ × List ℕ → Result Y Wrong) → (fields_at most octets >>= f) ≡ cond (has_wrong_size octets) (Err Facilities) (cond (ltb most (length (after_facilities octets))) (Err Long) (f (facilities_of octets, after_facilities octets)))
 unfolding fields_at facilities_of
-fields_are [] f = refl
-fields_are (size ∷ rest) f = moved_in (ltb 109 size || ltb (length rest) size) Facilities _ f ∙ ap (λ r. cond (ltb 109 size || ltb (length rest) size) (Err Facilities) r) (moved_in (ltb 128 (length (drop size rest))) Long _ f)
+fields_are most [] f = sym (cond-false _ (Err Long) (f ([], [])) (le-ltb most 0 (omega arith)))
+fields_are most (size ∷ rest) f = moved_in (ltb 109 size || ltb (length rest) size) Facilities _ f ∙ ap (λ r. cond (ltb 109 size || ltb (length rest) size) (Err Facilities) r) (moved_in (ltb most (length (drop size rest))) Long _ f)
 
 -- the block where nothing is wrong
-pub plain_block : {A : Type 0} → ℕ → List ℕ → Block A
+plain_block : {A : Type 0} → ℕ → List ℕ → Block A
 plain_block lengths rest =
     let all : List ℕ = halves (digit_octets (lengths ∷ rest)) in
     record { called = take (lengths % 16) all; calling = take (lengths / 16) (drop (lengths % 16) all); facilities = facilities_of (after_digits (lengths ∷ rest)); user = after_facilities (after_digits (lengths ∷ rest)) }
 
-pub user_is : (A : Type 0) (lengths : ℕ) (rest : List ℕ) → (plain_block {A = A} lengths rest).user ≡ after_facilities (after_digits (lengths ∷ rest))
-unfolding plain_block
-user_is A lengths rest = refl
-
 -- the block in one choice
-pub block_is : (A : Type 0) (lengths : ℕ) (rest : List ℕ) → block_at (lengths ∷ rest) ≡ cond (has_wrong_address (lengths ∷ rest)) (Err Address) (cond (has_wrong_size (after_digits (lengths ∷ rest))) (Err Facilities) (cond (ltb 128 (length (after_facilities (after_digits (lengths ∷ rest))))) (Err Long) (ok_block (plain_block {A = A} lengths rest))))
+block_is : (A : Type 0) (most lengths : ℕ) (rest : List ℕ) → block_at most (lengths ∷ rest) ≡ cond (has_wrong_address (lengths ∷ rest)) (Err Address) (cond (has_wrong_size (after_digits (lengths ∷ rest))) (Err Facilities) (cond (ltb most (length (after_facilities (after_digits (lengths ∷ rest))))) (Err Long) (ok_block (plain_block {A = A} lengths rest))))
 unfolding block_at plain_block
-block_is A lengths rest =
+block_is A most lengths rest =
     let n : ℕ = octets_for (lengths % 16 + lengths / 16) in
     let all : List ℕ = halves (take n rest) in
     let x : List ℕ × List ℕ × List ℕ = (take (lengths % 16) all, take (lengths / 16) (drop (lengths % 16) all), drop n rest) in
-    let g = λ (z : List ℕ × List ℕ × List ℕ). fields_at z.2 >>= λ (y : List ℕ × List ℕ). ok_block (block_with {A = A} z y) in
-    rw (addresses_are (lengths % 16) (lengths / 16) rest, merged {Y = Block A} (ltb (length rest) n) (wrong_run (lengths % 16 + lengths / 16) all) x g, fields_are (drop n rest) (λ (y : List ℕ × List ℕ). ok_block (block_with {A = A} x y))) refl
+    let g = λ (z : List ℕ × List ℕ × List ℕ). fields_at most z.2 >>= λ (y : List ℕ × List ℕ). ok_block (block_with {A = A} z y) in
+    rw (addresses_are (lengths % 16) (lengths / 16) rest, merged {Y = Block A} (ltb (length rest) n) (wrong_run (lengths % 16 + lengths / 16) all) x g, fields_are most (drop n rest) (λ (y : List ℕ × List ℕ). ok_block (block_with {A = A} x y))) refl
 
 abbrev pub block_conditions : ℕ → List ℕ → List (Bool × Wrong)
 block_conditions most octets = (has_wrong_address octets, Address) ∷ (has_wrong_size (after_digits octets), Facilities) ∷ (ltb most (length (after_facilities (after_digits octets))), Long) ∷ []
 
-pub block_error : (A : Type 0) (lengths : ℕ) (rest : List ℕ) → error_of (block_at {A = A} (lengths ∷ rest)) ≡ first_of (block_conditions 128 (lengths ∷ rest))
-block_error A lengths rest =
-    ap (λ (r : Result (Block A) Wrong). error_of r) (block_is A lengths rest) ∙ error_guard (has_wrong_address (lengths ∷ rest)) Address _ _ (error_guard (has_wrong_size (after_digits (lengths ∷ rest))) Facilities _ _ (error_guard (ltb 128 (length (after_facilities (after_digits (lengths ∷ rest))))) Long _ None refl))
+pub block_error : (A : Type 0) (most lengths : ℕ) (rest : List ℕ) → error_of (block_at {A = A} most (lengths ∷ rest)) ≡ first_of (block_conditions most (lengths ∷ rest))
+block_error A most lengths rest =
+    ap (λ (r : Result (Block A) Wrong). error_of r) (block_is A most lengths rest) ∙ error_guard (has_wrong_address (lengths ∷ rest)) Address _ _ (error_guard (has_wrong_size (after_digits (lengths ∷ rest))) Facilities _ _ (error_guard (ltb most (length (after_facilities (after_digits (lengths ∷ rest))))) Long _ None refl))

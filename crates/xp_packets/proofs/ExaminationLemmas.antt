@@ -1,8 +1,7 @@
 -- What reading a packet fails for is the first condition, in the order of examination, that holds.
 use Rattle.std.proofs.Common.{◌≡◌, ℕ, Bool, true, false, cond, eqb, ltb, ◌&&◌, List, [], ◌∷◌, length, Option, Some, None, Result, Ok, Err, refl, ◌∙◌, arith}
 use Rattle.std.specs.Prelude.{is_none}
-use Rattle.std.proofs.lemmas.Bool.{ne_eqb, lt-ltb, le-ltb, ltb-true, cases_Bool}
-use Rattle.std.proofs.Common.{inl, inr}
+use Rattle.std.proofs.lemmas.Bool.{ne_eqb, lt-ltb, le-ltb}
 use Rattle.xp_packets.specs.declared.fault.Wrong.{Wrong}
 use Rattle.xp_packets.specs.declared.fault.Wrong.TheVariants.{Short, Format, Unknown, Address, Facilities, Long}
 use Rattle.xp_packets.specs.declared.header.Header.{Header}
@@ -10,12 +9,12 @@ use Rattle.xp_packets.specs.declared.kind.Kind.{Kind}
 use Rattle.xp_packets.specs.declared.kind.Kind.TheVariants as kinds
 use Rattle.xp_packets.specs.declared.block.Block.{Block}
 use Rattle.xp_packets.specs.declared.packet.Packet.{Packet}
-use Rattle.xp_packets.specs.declared.packet.Packet.TheVariants.{Call, Accepted, Clear, Ready, NotReady, Reject, InterruptConfirm, ResetConfirm}
+use Rattle.xp_packets.specs.declared.packet.Packet.TheVariants.{Call, Accepted, Clear, ClearConfirm, Ready, NotReady, Reject, InterruptConfirm, ResetConfirm}
 use Rattle.xp_packets.specs.Kinds.{kind_of}
 use Rattle.xp_packets.specs.Heading.{wrong_format}
-use Rattle.xp_packets.specs.Examination.{first_of, after_digits, has_wrong_address, has_wrong_size, after_facilities, block_octets, needs_octet, most_octets, bounded_octets, conditions}
-use Rattle.xp_packets.specs.Reading.{◌>>=◌, known_header, header_at, block_at, optional_block_at, call_at, accepted_at, clear_at, confirmed, confirm_at, data_at, interrupt_at, reset_at, alone_at, body_by, packet_at}
-use Rattle.xp_packets.proofs.BlockLemmas.{plain_block, user_is, block_is, block_conditions, block_error}
+use Rattle.xp_packets.specs.Examination.{first_of, after_digits, has_wrong_address, has_wrong_size, block_octets, needs_octet, most_octets, bounded_octets, conditions}
+use Rattle.xp_packets.specs.Reading.{◌>>=◌, known_header, header_at, block_at, optional_block_at, call_at, accepted_at, clear_at, confirm_at, data_at, interrupt_at, reset_at, alone_at, body_by, packet_at}
+use Rattle.xp_packets.proofs.BlockLemmas.{block_conditions, block_error}
 use Rattle.xp_packets.proofs.Results.{error_of, error_guard, error_bind}
 
 -- the conditions on what stands after the type
@@ -25,44 +24,31 @@ rest_conditions kind rest = (is_none kind, Unknown) ∷ (needs_octet kind && eqb
 some_left : (octet : ℕ) (rest : List ℕ) → eqb (length (octet ∷ rest)) 0 ≡ false
 some_left octet rest = ne_eqb _ _ (λ e. absurd (omega arith))
 
-option_error : (A : Type 0) (lengths : ℕ) (rest : List ℕ) → error_of (optional_block_at {A = A} (lengths ∷ rest)) ≡ first_of (block_conditions 128 (lengths ∷ rest))
+option_error : (A : Type 0) (most lengths : ℕ) (rest : List ℕ) → error_of (optional_block_at {A = A} most (lengths ∷ rest)) ≡ first_of (block_conditions most (lengths ∷ rest))
 unfolding optional_block_at
-option_error A lengths rest = error_bind (block_at (lengths ∷ rest)) (λ (block : Block A). Some block) ∙ block_error A lengths rest
+option_error A most lengths rest = error_bind (block_at most (lengths ∷ rest)) (λ (block : Block A). Some block) ∙ block_error A most lengths rest
 
 call_error : (A : Type 0) (d : Bool) (rest : List ℕ) → error_of (call_at {A = A} d rest) ≡ first_of (rest_conditions (Some kinds.Call) rest)
 unfolding call_at block_at
 call_error A d [] = refl
-call_error A d (lengths ∷ rest) = rw (some_left lengths rest) (error_bind (block_at (lengths ∷ rest)) (λ (block : Block A). Call d block) ∙ block_error A lengths rest)
+call_error A d (lengths ∷ rest) = rw (some_left lengths rest) (error_bind (block_at 128 (lengths ∷ rest)) (λ (block : Block A). Call d block) ∙ block_error A 128 lengths rest)
 
 accepted_error : (A : Type 0) (d : Bool) (rest : List ℕ) → error_of (accepted_at {A = A} d rest) ≡ first_of (rest_conditions (Some kinds.Accepted) rest)
 unfolding accepted_at optional_block_at
 accepted_error A d [] = refl
-accepted_error A d (lengths ∷ rest) = error_bind (optional_block_at (lengths ∷ rest)) (λ (block : Option (Block A)). Accepted d block) ∙ option_error A lengths rest
+accepted_error A d (lengths ∷ rest) = error_bind (optional_block_at 128 (lengths ∷ rest)) (λ (block : Option (Block A)). Accepted d block) ∙ option_error A 128 lengths rest
 
 clear_error : (A : Type 0) (rest : List ℕ) → error_of (clear_at {A = A} rest) ≡ first_of (rest_conditions (Some kinds.Clear) rest)
 unfolding clear_at optional_block_at
 clear_error A [] = refl
 clear_error A (cause ∷ []) = refl
 clear_error A (cause ∷ diagnostic ∷ []) = refl
-clear_error A (cause ∷ diagnostic ∷ lengths ∷ rest) = rw (some_left cause (diagnostic ∷ lengths ∷ rest)) (error_bind (optional_block_at (lengths ∷ rest)) (λ (block : Option (Block A)). Clear cause (Some diagnostic) block) ∙ option_error A lengths rest)
-
--- no user data, where at most 128 octets were read
-none_read : (A : Type 0) (a s : Bool) (block : Block A) (user : List ℕ) → block.user ≡ user
-    → error_of (((cond a (Err Address) (cond s (Err Facilities) (cond (ltb 128 (length user)) (Err Long) (Ok block)))) >>= λ (one : Block A). Ok (Some one)) >>= λ (one : Option (Block A)). confirmed one) ≡ first_of ((a, Address) ∷ (s, Facilities) ∷ (ltb 0 (length user), Long) ∷ [])
-none_read A true s block user is = refl
-none_read A false true block user is = refl
-none_read A false false block user is =
-    elim (cases_Bool (ltb 128 (length user))) [
-      | inl long ↦
-          let some : ltb 0 (length user) ≡ true = lt-ltb 0 (length user) (let most = ltb-true 128 (length user) long in omega arith) in
-          rw (long, some) refl
-      | inr short ↦ rw (short, is) (error_guard (ltb 0 (length user)) Long _ None refl)
-    ]
+clear_error A (cause ∷ diagnostic ∷ lengths ∷ rest) = rw (some_left cause (diagnostic ∷ lengths ∷ rest)) (error_bind (optional_block_at 128 (lengths ∷ rest)) (λ (block : Option (Block A)). Clear cause (Some diagnostic) block) ∙ option_error A 128 lengths rest)
 
 confirm_error : (A : Type 0) (rest : List ℕ) → error_of (confirm_at {A = A} rest) ≡ first_of (rest_conditions (Some kinds.ClearConfirm) rest)
 unfolding confirm_at optional_block_at
 confirm_error A [] = refl
-confirm_error A (lengths ∷ rest) = rw (block_is A lengths rest) (none_read A (has_wrong_address (lengths ∷ rest)) (has_wrong_size (after_digits (lengths ∷ rest))) (plain_block lengths rest) (after_facilities (after_digits (lengths ∷ rest))) (user_is A lengths rest))
+confirm_error A (lengths ∷ rest) = error_bind (optional_block_at 0 (lengths ∷ rest)) (λ (block : Option (Block A)). ClearConfirm block) ∙ option_error A 0 lengths rest
 
 data_error : (A : Type 0) (q d : Bool) (octet : ℕ) (rest : List ℕ) → error_of (data_at {A = A} q d octet rest) ≡ first_of (rest_conditions (Some kinds.Data) rest)
 unfolding data_at

@@ -26,7 +26,7 @@ wrong_is A octets wrong read = sym (packet_error A octets) ∙ ap (λ (r : Resul
 pub decodes : (A : Type 0) (octets : List ℕ) (answer : Result (ℕ × Packet A) PacketFault) → AreOctets octets → Gives (λ (x : ℕ × Packet A). x) answer (packet_at octets) → Decodes octets answer
 decodes A octets (Ok read) are given = packet_takes A octets read are given
 decodes A octets (Err (faults.Wrong wrong)) are given = wrong_is A octets wrong given
-decodes A octets (Err faults.Memory) are given = tt
+decodes A octets (Err faults.Memory) are given = (given.0.0, given.0.1, packet_takes A octets given.0 are given.1)
 
 pub decodes_fit : (A : Type 0) (octets : List ℕ) (answer : Result (ℕ × Packet A) PacketFault) → AreOctets octets → Gives (λ (x : ℕ × Packet A). x) answer (packet_at octets) → IfOk answer (λ read. unfit read.0 read.1 ≡ None)
 decodes_fit A octets (Ok read) are given = spelled_fits A octets read.0 read.1 (packet_takes A octets read are given)

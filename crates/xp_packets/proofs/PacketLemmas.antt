@@ -13,8 +13,8 @@ use Rattle.xp_packets.specs.declared.packet.Packet.TheVariants.{Call, Accepted, 
 use Rattle.xp_packets.specs.Kinds.{kind_of, whole_kind_of}
 use Rattle.xp_packets.specs.Heading.{bit, heading, Begins, wrong_flags}
 use Rattle.xp_packets.specs.Spelling.{SpellsFields, BlockBy, Spells}
-use Rattle.xp_packets.specs.Reading.{◌>>=◌, header_at, block_at, optional_block_at, call_at, accepted_at, clear_at, confirmed, confirm_at, data_at, interrupt_at, reset_at, alone_at, body_by, packet_at}
-use Rattle.xp_packets.proofs.BlockLemmas.{AreOctets, SpellsOption, block_takes, block_again, option_takes, option_again}
+use Rattle.xp_packets.specs.Reading.{◌>>=◌, header_at, block_at, optional_block_at, call_at, accepted_at, clear_at, confirm_at, data_at, interrupt_at, reset_at, alone_at, body_by, packet_at}
+use Rattle.xp_packets.proofs.BlockLemmas.{AreOctets, TakesOption, block_takes, block_again, option_takes, some_again, user_most}
 use Rattle.xp_packets.proofs.HeadingLemmas.{IsKind, header_takes, header_again, data_kind, ready_kind, not_ready_kind, reject_kind}
 use Rattle.xp_packets.proofs.Results.{bind_ok, guard_ok, ok_is}
 
@@ -26,23 +26,23 @@ ok_packet packet = Ok packet
 call_takes : (A : Type 0) (octets : List ℕ) (d : Bool) (identifier : ℕ) (rest : List ℕ) (packet : Packet A) → AreOctets rest → Begins octets false d identifier 11 rest → call_at d rest ≡ Ok packet → Spells octets identifier packet
 unfolding call_at
 call_takes A octets d identifier rest packet are begins e =
-    let a = bind_ok (block_at rest) (λ (block : Block A). ok_packet (Call d block)) packet e in
-    subst (λ (p : Packet A). Spells octets identifier p) (ok_is (Call d a.0) packet a.2) (rest, begins, block_takes A rest a.0 are a.1)
+    let a = bind_ok (block_at 128 rest) (λ (block : Block A). ok_packet (Call d block)) packet e in
+    subst (λ (p : Packet A). Spells octets identifier p) (ok_is (Call d a.0) packet a.2) (rest, begins, (block_takes A 128 rest a.0 (omega arith) are a.1).0)
 
 -- an accepted call with or without a block
-accepted_spelled : (A : Type 0) (octets : List ℕ) (d : Bool) (identifier : ℕ) (rest : List ℕ) (block : Option (Block A)) → SpellsOption A rest block → Begins octets false d identifier 15 rest → Spells octets identifier (Accepted d block)
+accepted_spelled : (A : Type 0) (octets : List ℕ) (d : Bool) (identifier : ℕ) (rest : List ℕ) (block : Option (Block A)) → TakesOption A 128 rest block → Begins octets false d identifier 15 rest → Spells octets identifier (Accepted d block)
 accepted_spelled A octets d identifier rest None spelled begins = rw spelled at begins
-accepted_spelled A octets d identifier rest (Some block) spelled begins = (rest, begins, spelled)
+accepted_spelled A octets d identifier rest (Some block) spelled begins = (rest, begins, spelled.0)
 
 accepted_takes : (A : Type 0) (octets : List ℕ) (d : Bool) (identifier : ℕ) (rest : List ℕ) (packet : Packet A) → AreOctets rest → Begins octets false d identifier 15 rest → accepted_at d rest ≡ Ok packet → Spells octets identifier packet
 unfolding accepted_at
 accepted_takes A octets d identifier rest packet are begins e =
-    let a = bind_ok (optional_block_at rest) (λ (block : Option (Block A)). ok_packet (Accepted d block)) packet e in
-    subst (λ (p : Packet A). Spells octets identifier p) (ok_is (Accepted d a.0) packet a.2) (accepted_spelled A octets d identifier rest a.0 (option_takes A rest a.0 are a.1) begins)
+    let a = bind_ok (optional_block_at 128 rest) (λ (block : Option (Block A)). ok_packet (Accepted d block)) packet e in
+    subst (λ (p : Packet A). Spells octets identifier p) (ok_is (Accepted d a.0) packet a.2) (accepted_spelled A octets d identifier rest a.0 (option_takes A 128 rest a.0 (omega arith) are a.1) begins)
 
-clear_spelled : (A : Type 0) (octets : List ℕ) (identifier cause diagnostic : ℕ) (rest : List ℕ) (block : Option (Block A)) → SpellsOption A rest block → Begins octets false false identifier 19 (cause ∷ diagnostic ∷ rest) → Spells octets identifier (Clear cause (Some diagnostic) block)
+clear_spelled : (A : Type 0) (octets : List ℕ) (identifier cause diagnostic : ℕ) (rest : List ℕ) (block : Option (Block A)) → TakesOption A 128 rest block → Begins octets false false identifier 19 (cause ∷ diagnostic ∷ rest) → Spells octets identifier (Clear cause (Some diagnostic) block)
 clear_spelled A octets identifier cause diagnostic rest None spelled begins = rw spelled at begins
-clear_spelled A octets identifier cause diagnostic rest (Some block) spelled begins = (rest, begins, spelled)
+clear_spelled A octets identifier cause diagnostic rest (Some block) spelled begins = (rest, begins, spelled.0)
 
 clear_takes : (A : Type 0) (octets : List ℕ) (identifier : ℕ) (rest : List ℕ) (packet : Packet A) → AreOctets rest → Begins octets false false identifier 19 rest → clear_at rest ≡ Ok packet → Spells octets identifier packet
 unfolding clear_at
@@ -50,22 +50,18 @@ clear_takes A octets identifier [] packet are begins e = absurd cc
 clear_takes A octets identifier (cause ∷ []) packet are begins e =
     subst (λ (p : Packet A). Spells octets identifier p) (ok_is (Clear cause None None) packet e) begins
 clear_takes A octets identifier (cause ∷ diagnostic ∷ rest) packet are begins e =
-    let a = bind_ok (optional_block_at rest) (λ (block : Option (Block A)). ok_packet (Clear cause (Some diagnostic) block)) packet e in
-    subst (λ (p : Packet A). Spells octets identifier p) (ok_is (Clear cause (Some diagnostic) a.0) packet a.2) (clear_spelled A octets identifier cause diagnostic rest a.0 (option_takes A rest a.0 (λ i. are (suc (suc i))) a.1) begins)
+    let a = bind_ok (optional_block_at 128 rest) (λ (block : Option (Block A)). ok_packet (Clear cause (Some diagnostic) block)) packet e in
+    subst (λ (p : Packet A). Spells octets identifier p) (ok_is (Clear cause (Some diagnostic) a.0) packet a.2) (clear_spelled A octets identifier cause diagnostic rest a.0 (option_takes A 128 rest a.0 (omega arith) (λ i. are (suc (suc i))) a.1) begins)
 
-confirm_spelled : (A : Type 0) (octets : List ℕ) (identifier : ℕ) (rest : List ℕ) (block : Option (Block A)) (packet : Packet A) → SpellsOption A rest block → Begins octets false false identifier 23 rest → confirmed block ≡ Ok packet → Spells octets identifier packet
-confirm_spelled A octets identifier rest None packet spelled begins e =
-    subst (λ (p : Packet A). Spells octets identifier p) (ok_is (ClearConfirm None) packet e) (rw spelled at begins)
-confirm_spelled A octets identifier rest (Some block) packet spelled begins e =
-    let g = guard_ok (ltb 0 (length block.user)) Long (ok_packet (ClearConfirm (Some block))) packet e in
-    let none : block.user ≡ [] = nil_from_length block.user (omega (arith, ltb-false 0 (length block.user) g.0)) in
-    subst (λ (p : Packet A). Spells octets identifier p) (ok_is (ClearConfirm (Some block)) packet g.1) (rest, begins, spelled, none)
+confirm_spelled : (A : Type 0) (octets : List ℕ) (identifier : ℕ) (rest : List ℕ) (block : Option (Block A)) → TakesOption A 0 rest block → Begins octets false false identifier 23 rest → Spells octets identifier (ClearConfirm block)
+confirm_spelled A octets identifier rest None spelled begins = rw spelled at begins
+confirm_spelled A octets identifier rest (Some block) spelled begins = (rest, begins, spelled.0, nil_from_length block.user (omega (arith, spelled.1)))
 
 confirm_takes : (A : Type 0) (octets : List ℕ) (identifier : ℕ) (rest : List ℕ) (packet : Packet A) → AreOctets rest → Begins octets false false identifier 23 rest → confirm_at rest ≡ Ok packet → Spells octets identifier packet
 unfolding confirm_at
 confirm_takes A octets identifier rest packet are begins e =
-    let a = bind_ok (optional_block_at rest) (λ (block : Option (Block A)). confirmed block) packet e in
-    confirm_spelled A octets identifier rest a.0 packet (option_takes A rest a.0 are a.1) begins a.2
+    let a = bind_ok (optional_block_at 0 rest) (λ (block : Option (Block A)). ok_packet (ClearConfirm block)) packet e in
+    subst (λ (p : Packet A). Spells octets identifier p) (ok_is (ClearConfirm a.0) packet a.2) (confirm_spelled A octets identifier rest a.0 (option_takes A 0 rest a.0 (omega arith) are a.1) begins)
 
 number_octet : (octet : ℕ) → octet % 2 ≡ 0 → 32 * (octet / 32) + bit 16 (eqb (octet / 16 % 2) 1) + 2 * (octet / 2 % 8) ≡ octet
 number_octet octet even =
@@ -214,21 +210,20 @@ interrupt_again A (octet ∷ rest) some most =
 confirm_again : (A : Type 0) (rest : List ℕ) (block : Block A) → BlockBy SpellsFields A rest block → block.user ≡ [] → confirm_at rest ≡ Ok (ClearConfirm (Some block))
 unfolding confirm_at
 confirm_again A rest block spelled none =
-    let short : ltb 0 (length block.user) ≡ false = ap (λ (user : List ℕ). ltb 0 (length user)) none in
-    rw (option_again A rest (Some block) spelled, short) refl
+    rw (some_again A 0 rest block spelled (omega (arith, ap length none))) refl
 
 pub packet_again : (A : Type 0) (octets : List ℕ) (identifier : ℕ) (packet : Packet A) → Spells octets identifier packet → packet_at octets ≡ Ok (identifier, packet)
 unfolding kind_of whole_kind_of call_at accepted_at clear_at confirm_at optional_block_at reset_at alone_at
 packet_again A octets identifier (Call d block) spelled =
-    whole_again A octets false d identifier 11 kinds.Call spelled.0 (Call d block) spelled.1 refl refl (rw (block_again A spelled.0 block spelled.2) refl)
+    whole_again A octets false d identifier 11 kinds.Call spelled.0 (Call d block) spelled.1 refl refl (rw (block_again A 128 spelled.0 block spelled.2 (user_most A spelled.0 block spelled.2)) refl)
 packet_again A octets identifier (Accepted d None) spelled = whole_again A octets false d identifier 15 kinds.Accepted [] (Accepted d None) spelled refl refl refl
 packet_again A octets identifier (Accepted d (Some block)) spelled =
-    whole_again A octets false d identifier 15 kinds.Accepted spelled.0 (Accepted d (Some block)) spelled.1 refl refl (rw (option_again A spelled.0 (Some block) spelled.2) refl)
+    whole_again A octets false d identifier 15 kinds.Accepted spelled.0 (Accepted d (Some block)) spelled.1 refl refl (rw (some_again A 128 spelled.0 block spelled.2 (user_most A spelled.0 block spelled.2)) refl)
 packet_again A octets identifier (Clear cause None None) spelled = whole_again A octets false false identifier 19 kinds.Clear (cause ∷ []) (Clear cause None None) spelled refl refl refl
 packet_again A octets identifier (Clear cause None (Some block)) spelled = absurd spelled
 packet_again A octets identifier (Clear cause (Some diagnostic) None) spelled = whole_again A octets false false identifier 19 kinds.Clear (cause ∷ diagnostic ∷ []) (Clear cause (Some diagnostic) None) spelled refl refl refl
 packet_again A octets identifier (Clear cause (Some diagnostic) (Some block)) spelled =
-    whole_again A octets false false identifier 19 kinds.Clear (cause ∷ diagnostic ∷ spelled.0) (Clear cause (Some diagnostic) (Some block)) spelled.1 refl refl (rw (option_again A spelled.0 (Some block) spelled.2) refl)
+    whole_again A octets false false identifier 19 kinds.Clear (cause ∷ diagnostic ∷ spelled.0) (Clear cause (Some diagnostic) (Some block)) spelled.1 refl refl (rw (some_again A 128 spelled.0 block spelled.2 (user_most A spelled.0 block spelled.2)) refl)
 packet_again A octets identifier (ClearConfirm None) spelled = whole_again A octets false false identifier 23 kinds.ClearConfirm [] (ClearConfirm None) spelled refl refl refl
 packet_again A octets identifier (ClearConfirm (Some block)) spelled =
     whole_again A octets false false identifier 23 kinds.ClearConfirm spelled.0 (ClearConfirm (Some block)) spelled.1 refl refl (confirm_again A spelled.0 block spelled.2 spelled.3)

@@ -6,8 +6,8 @@ use Rattle.xp_packets.specs.declared.packet.Packet.{Packet}
 use Rattle.xp_packets.specs.Examination.{IsWrong}
 use Rattle.xp_packets.specs.Spelling.{Spells}
 
--- the pair that the octets spell, or what is wrong with them, unless memory ran out
+-- The pair that the octets spell, or what is wrong with them. Memory is wanted only where they spell one.
 abbrev pub Decodes : {A : Type 0} → List ℕ → Result (ℕ × Packet A) PacketFault → Type 0
 Decodes octets (Ok read) = Spells octets read.0 read.1
 Decodes octets (Err (faults.Wrong wrong)) = IsWrong octets wrong
-Decodes octets (Err faults.Memory) = Unit {0}
+Decodes {A} octets (Err faults.Memory) = (identifier : ℕ) × (packet : Packet A) × Spells octets identifier packet

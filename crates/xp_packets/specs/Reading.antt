@@ -21,9 +21,14 @@ abbrev pub ◌>>=◌ : {X Y : Type 0} → Result X Wrong → (X → Result Y Wro
 (Ok x) >>= f = f x
 (Err e) >>= f = Err e
 
--- What a function returned, seen by view, is what reading gives, unless memory ran out.
+-- What a function that takes no memory returned, seen by view, is what reading gives.
+abbrev pub Finds : {X Y : Type 0} → (X → Y) → Result X Wrong → Result Y Wrong → Type 0
+Finds view (Ok x) read = read ≡ Ok (view x)
+Finds view (Err wrong) read = read ≡ Err wrong
+
+-- The same of a function that takes memory, which is wanted only where reading gives something.
 abbrev pub Fails : {Y : Type 0} → PacketFault → Result Y Wrong → Type 0
-Fails faults.Memory read = Unit {0}
+Fails {Y} faults.Memory read = (y : Y) × (read ≡ Ok y)
 Fails (faults.Wrong wrong) read = read ≡ Err wrong
 
 abbrev pub Gives : {X Y : Type 0} → (X → Y) → Result X PacketFault → Result Y Wrong → Type 0
@@ -62,53 +67,49 @@ addresses_at called calling octets = if nat_lt (length octets) (octets_for (call
   by ← digits_at (take (octets_for (called + calling)) octets) called calling
   if ((called + calling) % 2 == 1) && not (slice_index (halves (take (octets_for (called + calling)) octets)) (called + calling) == 0) then Err Address else Ok (to, by, drop (octets_for (called + calling)) octets))
 
--- facilities and user data
-unfoldable pub fields_at : List ℕ → Result (List ℕ × List ℕ) Wrong
-fields_at [] = Ok ([], [])
-fields_at (size ∷ rest) =
+-- facilities and user data, so much of it at most
+unfoldable pub fields_at : ℕ → List ℕ → Result (List ℕ × List ℕ) Wrong
+fields_at most [] = Ok ([], [])
+fields_at most (size ∷ rest) =
     if nat_lt 109 size || nat_lt (length rest) size then Err Facilities else
-    (if nat_lt 128 (length (drop size rest)) then Err Long else Ok (take size rest, drop size rest))
+    (if nat_lt most (length (drop size rest)) then Err Long else Ok (take size rest, drop size rest))
 
-unfoldable pub block_at : {A : Type 0} → List ℕ → Result (Block A) Wrong
-block_at [] = Err Short
-block_at (lengths ∷ rest) = do
+unfoldable pub block_at : {A : Type 0} → ℕ → List ℕ → Result (Block A) Wrong
+block_at most [] = Err Short
+block_at most (lengths ∷ rest) = do
   addresses ← addresses_at (lengths % 16) (lengths / 16) rest
-  fields ← fields_at addresses.2
+  fields ← fields_at most addresses.2
   Ok (record { called = addresses.0; calling = addresses.1; facilities = fields.0; user = fields.1 })
 
-unfoldable pub optional_block_at : {A : Type 0} → List ℕ → Result (Option (Block A)) Wrong
-optional_block_at [] = Ok None
-optional_block_at (octet ∷ rest) = do
-  block ← block_at (octet ∷ rest)
+unfoldable pub optional_block_at : {A : Type 0} → ℕ → List ℕ → Result (Option (Block A)) Wrong
+optional_block_at most [] = Ok None
+optional_block_at most (octet ∷ rest) = do
+  block ← block_at most (octet ∷ rest)
   Ok (Some block)
 
 -- ---- each kind, from what stands after its type
 
 unfoldable pub call_at : {A : Type 0} → Bool → List ℕ → Result (Packet A) Wrong
 call_at d rest = do
-  block ← block_at rest
+  block ← block_at 128 rest
   Ok (Call d block)
 
 unfoldable pub accepted_at : {A : Type 0} → Bool → List ℕ → Result (Packet A) Wrong
 accepted_at d rest = do
-  block ← optional_block_at rest
+  block ← optional_block_at 128 rest
   Ok (Accepted d block)
 
 unfoldable pub clear_at : {A : Type 0} → List ℕ → Result (Packet A) Wrong
 clear_at [] = Err Short
 clear_at (cause ∷ []) = Ok (Clear cause None None)
 clear_at (cause ∷ diagnostic ∷ rest) = do
-  block ← optional_block_at rest
+  block ← optional_block_at 128 rest
   Ok (Clear cause (Some diagnostic) block)
-
-abbrev pub confirmed : {A : Type 0} → Option (Block A) → Result (Packet A) Wrong
-confirmed None = Ok (ClearConfirm None)
-confirmed (Some block) = if nat_lt 0 (length block.user) then Err Long else Ok (ClearConfirm (Some block))
 
 unfoldable pub confirm_at : {A : Type 0} → List ℕ → Result (Packet A) Wrong
 confirm_at rest = do
-  block ← optional_block_at rest
-  confirmed block
+  block ← optional_block_at 0 rest
+  Ok (ClearConfirm block)
 
 unfoldable pub data_at : {A : Type 0} → Bool → Bool → ℕ → List ℕ → Result (Packet A) Wrong
 data_at q d octet rest =

@@ -3,11 +3,11 @@
 ghost use Rattle.std.specs.Prelude.{◌≡◌, ◌+◌, ◌*◌, ◌<◌, ◌≤◌, ◌++◌, length, slice_index, OnOk};
 ghost use Rattle.xp_packets.specs.Addresses.{AreAddresses};
 ghost use Rattle.xp_packets.specs.Digits.{AreDigits, halves};
-ghost use Rattle.xp_packets.specs.Reading.{Gives, addresses_at, digits_at};
+ghost use Rattle.xp_packets.specs.Reading.{Finds, addresses_at, digits_at};
 ghost use Rattle.xp_packets.specs.Writing.{packed};
 
 use crate::digits::Digits;
-use crate::fault::{PacketFault, Wrong};
+use crate::fault::Wrong;
 use std::alloc::{AllocError, Allocator};
 
 /// Reads the called and the calling address, of so many digits each; the octets after them are the rest.
@@ -16,36 +16,36 @@ pub(crate) fn addresses_of(
     called: usize,
     calling: usize,
     octets: &[u8],
-) -> Result<(Digits, Digits, &[u8]), PacketFault>
+) -> Result<(Digits, Digits, &[u8]), Wrong>
     requires called_most { called ≤ 15 }
     requires calling_most { calling ≤ 15 }
-    ensures { Gives (λ x. (x.0, x.1, x.2.now)) result (addresses_at called calling octets.now) }
+    ensures { Finds (λ x. (x.0, x.1, x.2.now)) result (addresses_at called calling octets.now) }
 {
     let count = called + calling;
     let size = (count + 1) / 2;
     if octets.len() < size {
-        return Err(Wrong::Address.into());
+        return Err(Wrong::Address);
     }
     let (run, rest) = octets.split_at(size);
     let to = digits_of(run, 0, called)?;
     let by = digits_of(run, called, calling)?;
     if count % 2 == 1 && half_octet(run, count) != 0 {
-        return Err(Wrong::Address.into());
+        return Err(Wrong::Address);
     }
     Ok((to, by, rest))
 }
 
 /// So many half-octets from a place on, as digits.
-fn digits_of(octets: &[u8], from: usize, count: usize) -> Result<Digits, PacketFault>
+fn digits_of(octets: &[u8], from: usize, count: usize) -> Result<Digits, Wrong>
     requires within { from + count ≤ 2 * length octets.now }
     requires most { count ≤ 15 }
-    ensures { Gives (λ x. x) result (digits_at octets.now from count) }
+    ensures { Finds (λ x. x) result (digits_at octets.now from count) }
 {
     let mut digits = Digits::new();
     for place in 0..count {
         let digit = half_octet(octets, from + place);
         if digit >= 10 {
-            return Err(Wrong::Address.into());
+            return Err(Wrong::Address);
         }
         digits.push(digit);
     }

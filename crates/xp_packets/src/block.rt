@@ -1,9 +1,9 @@
 //! The block of addresses, facilities and user data (X.25 clauses 5.2.1 to 5.2.5).
 
-ghost use Rattle.std.specs.Prelude.{◌≡◌, ◌≤◌, ◌++◌, false, length, IfOk, OnOk};
+ghost use Rattle.std.specs.Prelude.{◌≡◌, ◌≤◌, ◌++◌, false, length, OnOk};
 ghost use Rattle.xp_packets.specs.Addresses.{AreAddresses, BlockHasAddresses};
 ghost use Rattle.xp_packets.specs.Fitness.{has_long_facilities};
-ghost use Rattle.xp_packets.specs.Reading.{Gives, block_at, fields_at, optional_block_at};
+ghost use Rattle.xp_packets.specs.Reading.{Finds, Gives, block_at, fields_at, optional_block_at};
 ghost use Rattle.xp_packets.specs.Writing.{written_block, written_option};
 
 use crate::address::{addresses_of, push_addresses};
@@ -17,6 +17,9 @@ pub(crate) const MOST_FACILITIES: usize = 109;
 
 /// Octets of user data (clause 5.2.2).
 pub(crate) const MOST_USER: usize = 128;
+
+/// Octets of user data in a clear confirmation (clause 5.2.5).
+pub(crate) const NO_USER: usize = 0;
 
 /// The address block, facilities and user data of a call set-up or clearing packet
 /// (X.25 clauses 5.2.1 to 5.2.5).
@@ -32,22 +35,14 @@ pub struct Block<A: Allocator = Global> {
     pub user: Octets<A>,
 }
 
-impl<A: Allocator + Copy> Block<A> {
-    /// An equal copy, by the same allocator.
-    pub fn copy(&self) -> Result<Block<A>, AllocError>
-        ensures { IfOk result (λ copied. copied ≡ self.now) }
-    {
-        self.clone()
-    }
-}
-
-/// Reads a block, which takes all the octets.
+/// Reads a block with so much user data at most, which takes all the octets.
 #[tactic(auto, unfolding(crate::specs::Reading::block_at))]
 pub(crate) fn block_of<A: Allocator + Copy>(
     alloc: A,
     octets: &[u8],
+    most: usize,
 ) -> Result<Block<A>, PacketFault>
-    ensures { Gives (λ x. x) result (block_at octets.now) }
+    ensures { Gives (λ x. x) result (block_at most octets.now) }
 {
     match octets {
         [] => Err(Wrong::Short.into()),
@@ -55,7 +50,7 @@ pub(crate) fn block_of<A: Allocator + Copy>(
             let called = usize::from(*lengths & 0x0f);
             let calling = usize::from(*lengths >> 4);
             let (called, calling, rest) = addresses_of(called, calling, rest)?;
-            let (facilities, user) = fields_of(rest)?;
+            let (facilities, user) = fields_of(rest, most)?;
             let facilities = octets_of(alloc, facilities)?;
             let user = octets_of(alloc, user)?;
             Ok(Block {
@@ -68,35 +63,36 @@ pub(crate) fn block_of<A: Allocator + Copy>(
     }
 }
 
-/// Reads a block where there are octets.
+/// Reads a block, with so much user data at most, where there are octets.
 #[tactic(auto, unfolding(crate::specs::Reading::optional_block_at))]
 pub(crate) fn optional_block_of<A: Allocator + Copy>(
     alloc: A,
     octets: &[u8],
+    most: usize,
 ) -> Result<Option<Block<A>>, PacketFault>
-    ensures { Gives (λ x. x) result (optional_block_at octets.now) }
+    ensures { Gives (λ x. x) result (optional_block_at most octets.now) }
 {
     match octets {
         [] => Ok(None),
-        [_, ..] => Ok(Some(block_of(alloc, octets)?)),
+        [_, ..] => Ok(Some(block_of(alloc, octets, most)?)),
     }
 }
 
-/// The facilities and the user data behind the addresses.
+/// The facilities and the user data, so much of it at most, behind the addresses.
 #[tactic(auto, unfolding(crate::specs::Reading::fields_at))]
-fn fields_of(octets: &[u8]) -> Result<(&[u8], &[u8]), PacketFault>
-    ensures { Gives (λ x. (x.0.now, x.1.now)) result (fields_at octets.now) }
+fn fields_of(octets: &[u8], most: usize) -> Result<(&[u8], &[u8]), Wrong>
+    ensures { Finds (λ x. (x.0.now, x.1.now)) result (fields_at most octets.now) }
 {
     match octets {
         [] => Ok((octets, octets)),
         [size, rest @ ..] => {
             let size = usize::from(*size);
             if size > MOST_FACILITIES || rest.len() < size {
-                return Err(Wrong::Facilities.into());
+                return Err(Wrong::Facilities);
             }
             let (facilities, user) = rest.split_at(size);
-            if user.len() > MOST_USER {
-                return Err(Wrong::Long.into());
+            if user.len() > most {
+                return Err(Wrong::Long);
             }
             Ok((facilities, user))
         }

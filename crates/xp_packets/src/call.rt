@@ -3,7 +3,7 @@
 ghost use Rattle.std.specs.Prelude.{◌≡◌};
 ghost use Rattle.xp_packets.specs.Reading.{Gives, accepted_at, call_at};
 
-use crate::block::{block_of, optional_block_of};
+use crate::block::{MOST_USER, block_of, optional_block_of};
 use crate::fault::PacketFault;
 use crate::packet::Packet;
 use std::alloc::Allocator;
@@ -17,7 +17,7 @@ pub(crate) fn call_of<A: Allocator + Copy>(
 ) -> Result<Packet<A>, PacketFault>
     ensures { Gives (λ x. x) result (call_at d rest.now) }
 {
-    let block = block_of(alloc, rest)?;
+    let block = block_of(alloc, rest, MOST_USER)?;
     Ok(Packet::Call { d, block })
 }
 
@@ -30,6 +30,6 @@ pub(crate) fn accepted_of<A: Allocator + Copy>(
 ) -> Result<Packet<A>, PacketFault>
     ensures { Gives (λ x. x) result (accepted_at d rest.now) }
 {
-    let block = optional_block_of(alloc, rest)?;
+    let block = optional_block_of(alloc, rest, MOST_USER)?;
     Ok(Packet::Accepted { d, block })
 }

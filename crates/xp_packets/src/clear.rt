@@ -4,7 +4,7 @@ ghost use Rattle.std.specs.Prelude.{◌≡◌, ◌++◌, OnOk};
 ghost use Rattle.xp_packets.specs.Reading.{Gives, clear_at, confirm_at};
 ghost use Rattle.xp_packets.specs.Writing.{written_cause};
 
-use crate::block::optional_block_of;
+use crate::block::{MOST_USER, NO_USER, optional_block_of};
 use crate::fault::{PacketFault, Wrong};
 use crate::packet::Packet;
 use std::alloc::{AllocError, Allocator};
@@ -22,7 +22,7 @@ pub(crate) fn clear_of<A: Allocator + Copy>(alloc: A, rest: &[u8]) -> Result<Pac
             block: None,
         }),
         [cause, diagnostic, rest @ ..] => {
-            let block = optional_block_of(alloc, rest)?;
+            let block = optional_block_of(alloc, rest, MOST_USER)?;
             Ok(Packet::Clear {
                 cause: *cause,
                 diagnostic: Some(*diagnostic),
@@ -40,15 +40,8 @@ pub(crate) fn confirm_of<A: Allocator + Copy>(
 ) -> Result<Packet<A>, PacketFault>
     ensures { Gives (λ x. x) result (confirm_at rest.now) }
 {
-    match optional_block_of(alloc, rest)? {
-        None => Ok(Packet::ClearConfirm { block: None }),
-        Some(block) => {
-            if !block.user.is_empty() {
-                return Err(Wrong::Long.into());
-            }
-            Ok(Packet::ClearConfirm { block: Some(block) })
-        }
-    }
+    let block = optional_block_of(alloc, rest, NO_USER)?;
+    Ok(Packet::ClearConfirm { block })
 }
 
 /// Writes the cause of a clear or a reset, and its diagnostic where it has one (clauses 5.2.4 and 5.4.3).

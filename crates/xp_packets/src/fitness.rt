@@ -3,7 +3,7 @@
 ghost use Rattle.std.specs.Prelude.{◌≡◌};
 ghost use Rattle.xp_packets.specs.Fitness.{block_of, has_long_facilities, has_more_user_data, has_wrong_number, is_too_long, lacks_octet, unfit};
 
-use crate::block::{Block, MOST_FACILITIES, MOST_USER};
+use crate::block::{Block, MOST_FACILITIES, MOST_USER, NO_USER};
 use crate::data::MOST_DATA;
 use crate::fault::Wrong;
 use crate::interrupt::MOST_INTERRUPT;
@@ -89,7 +89,7 @@ fn is_too_long<A: Allocator>(packet: &Packet<A>) -> bool
         Packet::Accepted { block, .. } | Packet::Clear { block, .. } => {
             has_more_user_data(MOST_USER, block)
         }
-        Packet::ClearConfirm { block } => has_more_user_data(0, block),
+        Packet::ClearConfirm { block } => has_more_user_data(NO_USER, block),
         Packet::DataPacket { octets, .. } => octets.len() > MOST_DATA,
         Packet::Interrupt { octets } => octets.len() > MOST_INTERRUPT,
         _ => false,

@@ -2,9 +2,9 @@
 
 ghost use Rattle.std.specs.Prelude.{◌≡◌, ◌<◌, ◌/◌, ◌%◌, ◌==◌, nat_le, ◌++◌, OnOk};
 ghost use Rattle.xp_packets.specs.Heading.{bit, heading, wrong_flags, wrong_format};
-ghost use Rattle.xp_packets.specs.Reading.{Gives, header_at};
+ghost use Rattle.xp_packets.specs.Reading.{Finds, header_at};
 
-use crate::fault::{PacketFault, Wrong};
+use crate::fault::Wrong;
 use crate::kind::Kind;
 use std::alloc::{AllocError, Allocator};
 
@@ -34,13 +34,13 @@ pub(crate) struct Header {
 
 /// Reads the header; the octets after it are the rest.
 #[tactic(auto, unfolding(crate::specs::Reading::header_at))]
-pub(crate) fn header_of(octets: &[u8]) -> Result<(Header, &[u8]), PacketFault>
-    ensures { Gives (λ x. (x.0, x.1.now)) result (header_at octets.now) }
+pub(crate) fn header_of(octets: &[u8]) -> Result<(Header, &[u8]), Wrong>
+    ensures { Finds (λ x. (x.0, x.1.now)) result (header_at octets.now) }
 {
     match octets {
         [first, number, octet, rest @ ..] => {
             if has_wrong_format(*first, *octet) {
-                return Err(Wrong::Format.into());
+                return Err(Wrong::Format);
             }
             match Kind::of(*octet) {
                 Some(kind) => {
@@ -53,10 +53,10 @@ pub(crate) fn header_of(octets: &[u8]) -> Result<(Header, &[u8]), PacketFault>
                     };
                     Ok((header, rest))
                 }
-                None => Err(Wrong::Unknown.into()),
+                None => Err(Wrong::Unknown),
             }
         }
-        _ => Err(Wrong::Short.into()),
+        _ => Err(Wrong::Short),
     }
 }
 

@@ -22,7 +22,7 @@ use std::alloc::Allocator;
 ///
 /// # Errors
 ///
-/// `Wrong` with the first fault in the order of examination, or `Memory`.
+/// `Wrong` with the first fault in the order of examination; `Memory` only where the octets are a packet.
 pub fn decode<A: Allocator + Copy>(alloc: A, octets: &[u8]) -> Result<(u16, Packet<A>), PacketFault>
     ensures decoded { Decodes octets.now result }
     ensures fit { IfOk result (λ read. unfit read.0 read.1 ≡ None) }
@@ -46,33 +46,33 @@ fn body_of<A: Allocator + Copy>(
 ) -> Result<Packet<A>, PacketFault>
     ensures { Gives (λ x. x) result (body_by header.now.kind header.now rest.now) }
 {
-    match header.kind {
-        Kind::Call => call_of(alloc, header.d, rest),
-        Kind::Accepted => accepted_of(alloc, header.d, rest),
-        Kind::Clear => clear_of(alloc, rest),
-        Kind::ClearConfirm => confirm_of(alloc, rest),
-        Kind::Interrupt => interrupt_of(alloc, rest),
-        Kind::InterruptConfirm => alone(Packet::InterruptConfirm, rest),
-        Kind::Reset => reset_of(rest),
-        Kind::ResetConfirm => alone(Packet::ResetConfirm, rest),
-        Kind::Data => data_of(alloc, header, rest),
+    Ok(match header.kind {
+        Kind::Call => call_of(alloc, header.d, rest)?,
+        Kind::Accepted => accepted_of(alloc, header.d, rest)?,
+        Kind::Clear => clear_of(alloc, rest)?,
+        Kind::ClearConfirm => confirm_of(alloc, rest)?,
+        Kind::Interrupt => interrupt_of(alloc, rest)?,
+        Kind::InterruptConfirm => alone(Packet::InterruptConfirm, rest)?,
+        Kind::Reset => reset_of(rest)?,
+        Kind::ResetConfirm => alone(Packet::ResetConfirm, rest)?,
+        Kind::Data => data_of(alloc, header, rest)?,
         Kind::Ready => alone(
             Packet::Ready {
                 pr: received_number(header.octet),
             },
             rest,
-        ),
+        )?,
         Kind::NotReady => alone(
             Packet::NotReady {
                 pr: received_number(header.octet),
             },
             rest,
-        ),
+        )?,
         Kind::Reject => alone(
             Packet::Reject {
                 pr: received_number(header.octet),
             },
             rest,
-        ),
-    }
+        )?,
+    })
 }

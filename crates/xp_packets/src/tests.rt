@@ -258,12 +258,15 @@ fn shorter_spelling_is_read(rt: HostRuntime) -> Result<(), Fail> {
     Ok(())
 }
 
+// The fault is told though the first request for memory is to be refused, since none is made.
 fn is_wrong(rt: &impl Abort, alloc: Global, text: &[u8], wrong: Wrong) {
+    let alloc = Refusing::new(alloc, 1);
     assert_eq!(rt;
-        decode(alloc, text).err(),
+        decode(&alloc, text).err(),
         Some(PacketFault::Wrong(wrong)),
         "{text:?}"
     );
+    assert!(rt; alloc.is_pending(), "{text:?}");
 }
 
 #[test]
@@ -331,7 +334,47 @@ fn wrong_blocks(rt: HostRuntime) {
     is_wrong(
         &rt,
         rt.alloc(),
-        &[0x10, 0x01, 0x17, 0x00, 0x00, 0x01],
+        &[0x10, 0x01, 0x0f, 0x00, 0x02, 0x04],
+        Wrong::Facilities,
+    );
+}
+
+#[test]
+fn wrong_blocks_of_clearing_packets(rt: HostRuntime) {
+    is_wrong(
+        &rt,
+        rt.alloc(),
+        &[0x10, 0x01, 0x13, 0x00, 0x07, 0x01, 0xa0, 0x01, 0x04, 0x41],
+        Wrong::Address,
+    );
+    is_wrong(
+        &rt,
+        rt.alloc(),
+        &[0x10, 0x01, 0x13, 0x00, 0x07, 0x00, 0x03, 0x04, 0x41],
+        Wrong::Facilities,
+    );
+    is_wrong(
+        &rt,
+        rt.alloc(),
+        &[0x10, 0x01, 0x17, 0x01, 0xa0, 0x01, 0x04, 0x41],
+        Wrong::Address,
+    );
+    is_wrong(
+        &rt,
+        rt.alloc(),
+        &[0x10, 0x01, 0x17, 0x00, 0x03, 0x04, 0x41],
+        Wrong::Facilities,
+    );
+    is_wrong(
+        &rt,
+        rt.alloc(),
+        &[0x10, 0x01, 0x17, 0x00, 0x00, 0x41],
+        Wrong::Long,
+    );
+    is_wrong(
+        &rt,
+        rt.alloc(),
+        &[0x10, 0x01, 0x17, 0x00, 0x02, 0x04, 0x01, 0x41],
         Wrong::Long,
     );
 }
@@ -366,7 +409,10 @@ fn takes_at_most(rt: &impl Abort, alloc: Global, front: &[u8], most: usize) -> R
 fn longest_packets(rt: HostRuntime) -> Result<(), Fail> {
     takes_at_most(&rt, rt.alloc(), &[0x10, 0x01, 0x00], 1024)?;
     takes_at_most(&rt, rt.alloc(), &[0x10, 0x01, 0x23], 32)?;
-    takes_at_most(&rt, rt.alloc(), &[0x10, 0x01, 0x0b, 0x00, 0x00], 128)
+    takes_at_most(&rt, rt.alloc(), &[0x10, 0x01, 0x0b, 0x00, 0x00], 128)?;
+    takes_at_most(&rt, rt.alloc(), &[0x10, 0x01, 0x0f, 0x00, 0x00], 128)?;
+    let clear = [0x10, 0x01, 0x13, 0x00, 0x07, 0x00, 0x01, 0x04];
+    takes_at_most(&rt, rt.alloc(), &clear, 128)
 }
 
 fn refused(rt: &impl Abort, alloc: Global, identifier: u16, packet: Packet, wrong: Wrong) {

@@ -11,7 +11,7 @@ unfolding digits_at
 returns-then-digit-ge10 c =
     let all = halves c.args.octets.now in
     let within : c.args.from + c.args.count ≤ length all = omega (arith, length-halves c.args.octets.now) in
-    rw c.into.ensures (cond-false _ _ _ (none_at all c.args.from c.args.count c.loop-place.place _ within (omega arith) c.half_octet-digit.ensures c.if-digit-ge10.true))
+    cond-false _ _ _ (none_at all c.args.from c.args.count c.loop-place.place _ within (omega arith) c.half_octet-digit.ensures c.if-digit-ge10.true)
 
 pub loop-place-preserved : goal.loop-place-preserved
 loop-place-preserved c =
