@@ -21,6 +21,10 @@ use xp_exchange::replay;
 use xp_subs::Subs;
 
 /// The subscriptions that the text of a file sets up.
+///
+/// # Errors
+///
+/// `File` where the file gave no text, `Subscriptions` with the first refusal of its text, `Memory`.
 pub fn subscriptions(alloc: Global, text: io::Result<String>) -> Result<Subs, Failure>
     ensures { SetsUp (result_map_both string_bytes error_kind text) result }
 {
@@ -32,6 +36,10 @@ pub fn subscriptions(alloc: Global, text: io::Result<String>) -> Result<Subs, Fa
 }
 
 /// Does what was asked with these subscriptions, and hands on all that is written, before a fault too.
+///
+/// # Errors
+///
+/// `Replay` with what broke the script off, `Output` where the writer fails.
 pub fn perform<R: Read + Drop, W: Write>(
     alloc: Global,
     task: Task,
