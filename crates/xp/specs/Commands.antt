@@ -1,6 +1,6 @@
 -- The command lines that the program takes, as `clap` reads them.
-use Rattle.std.specs.Prelude.{◌≡◌, ℕ, List, Option, Some, true, codes, option_map}
-use Rattle.clap.specs.Words.{App, Row, Rule, Text, first_of, new_app, new_rule, subcommand_of, takes, with_rule, with_subcommand}
+use Rattle.std.specs.Prelude.{◌≡◌, ℕ, List, [], Option, Some, true, codes, option_map}
+use Rattle.clap.specs.Words.{App, Row, Rule, Text, fault_of, first_of, new_app, new_rule, subcommand_of, with_rule, with_subcommand}
 use Rattle.xp.specs.declared.task.Task.{Task}
 use Rattle.xp.specs.declared.task.Task.TheVariants.{Check, Replay}
 use Rattle.xp.specs.Tasks.{word_of}
@@ -28,10 +28,11 @@ pub record AsksFor (found : Option (Text × List Row)) (task : Task) (name : Lis
   pub word : option_map (λ command. command.0) found ≡ Some (word_of task)
   pub named : option_map (λ command. first_of (codes "FILE") command.1) found ≡ Some (Some name)
 
--- the words, of which the first is the program's own, ask for this task with this file
-abbrev pub Ask : List Text → Task → List ℕ → Type 0
-Ask words task name = AsksFor (subcommand_of program words) task name
+-- The words, of which the first is the program's own, are without fault, and ask for this task with this file.
+pub record Ask (words : List Text) (task : Task) (name : List ℕ) : Type 0 where
+  pub faultless : fault_of program words ≡ []
+  pub asked : AsksFor (subcommand_of program words) task name
 
--- words that are taken, and that ask for a task with a file
+-- words that ask for a task with a file
 abbrev pub AreRight : List Text → Type 0
-AreRight words = (takes program words ≡ true) × (task : Task) × (name : List ℕ) × Ask words task name
+AreRight words = (task : Task) × (name : List ℕ) × Ask words task name

@@ -8,33 +8,31 @@ use Rattle.xp_exchange.specs.declared.fault.ReplayFault.TheVariants as replays
 use Rattle.xp_file.specs.declared.fault.SubsFault.{SubsFault}
 use Rattle.xp_file.specs.declared.fault.SubsFault.TheVariants as files
 use Rattle.xp.specs.declared.failure.Failure.{Failure}
-use Rattle.xp.specs.declared.failure.Failure.TheVariants.{Arguments, Script, File, Subscriptions, Journal, Memory, Input, Output}
+use Rattle.xp.specs.declared.failure.Failure.TheVariants.{Arguments, File, Subscriptions, Replay, Memory, Output}
 
--- 2 for what was asked, 3 for the subscription file, 4 for want of room, 5 for input and output
+-- 2 for what was asked, 4 for want of room, 5 for input and output
+abbrev pub replay_status : ReplayFault → ℕ
+replay_status (replays.Script line) = 2
+replay_status replays.Journal = 4
+replay_status replays.Memory = 4
+replay_status replays.Read = 5
+replay_status replays.Write = 5
+
+-- likewise, and 3 for the subscription file
 abbrev pub status_of : Failure → ℕ
 status_of (Arguments told) = 2
-status_of (Script line) = 2
 status_of File = 3
 status_of (Subscriptions fault) = 3
-status_of Journal = 4
+status_of (Replay fault) = replay_status fault
 status_of Memory = 4
-status_of Input = 5
 status_of Output = 5
-
--- a script that is not replayed to its end
-abbrev pub of_replay : ReplayFault → Failure
-of_replay (replays.Script line) = Script line
-of_replay replays.Journal = Journal
-of_replay replays.Memory = Memory
-of_replay replays.Read = Input
-of_replay replays.Write = Output
 
 -- what is told of a replay: what it answers, or that what it put out could not all be handed on
 abbrev pub Tells : Result (Unit {0}) ReplayFault → Result (Unit {0}) Failure → Type 0
 Tells (Ok done) (Ok told) = Unit {0}
 Tells (Ok done) (Err failure) = failure ≡ Output
 Tells (Err fault) (Ok told) = ⊥
-Tells (Err fault) (Err failure) = (failure ≡ of_replay fault) ⊎ (failure ≡ Output)
+Tells (Err fault) (Err failure) = (failure ≡ Replay fault) ⊎ (failure ≡ Output)
 
 -- subscriptions that are refused
 abbrev pub of_file : SubsFault → Failure

@@ -14,7 +14,7 @@ use std::alloc::{AllocError, Global};
 
 const ABOUT: &str = "The call-control exchange of an X.25 packet network.";
 
-const EXAMPLES: &str = "\
+const PROGRAM_DETAILS: &str = "\
 Examples:
   xp check examples/three-stations.toml
   xp replay examples/three-stations.toml < examples/call.script
@@ -23,18 +23,18 @@ The exit status is 0 when all was done, 2 for wrong arguments or a faulty line
 of a script, 3 for a subscription file that cannot be read or is refused, 4 for
 a full journal or want of memory, and 5 for input or output that fails.";
 
-const CHECK: &str = "Checks a subscription file, and counts what it sets up";
+const CHECK_ABOUT: &str = "Checks a subscription file, and counts what it sets up";
 
-const CHECKED: &str = "\
+const CHECK_DETAILS: &str = "\
 Prints one line, as: stations 3 lines 5 groups 0
 A group that several stations share counts once.
 
 Example:
   xp check examples/three-stations.toml";
 
-const REPLAY: &str = "Replays a script from standard input, and prints what comes of it";
+const REPLAY_ABOUT: &str = "Replays a script from standard input, and prints what comes of it";
 
-const REPLAYED: &str = "\
+const REPLAY_DETAILS: &str = "\
 A line of a script is one of these, where NAME is a line of the FILE:
   up NAME         a connection of the line comes
   down NAME       the connection goes
@@ -93,11 +93,11 @@ pub fn refused(alloc: Global, reason: &str) -> Result<Error, Error> {
 fn command<'a>(alloc: Global) -> Result<Command<'a>, AllocError>
     ensures { IfOk result (λ command. app_of command ≡ program) }
 {
-    let check = command_for(alloc, Task::Check, CHECK, CHECKED)?;
-    let replay = command_for(alloc, Task::Replay, REPLAY, REPLAYED)?;
+    let check = command_for(alloc, Task::Check, CHECK_ABOUT, CHECK_DETAILS)?;
+    let replay = command_for(alloc, Task::Replay, REPLAY_ABOUT, REPLAY_DETAILS)?;
     Command::new(alloc, "xp")
         .about(ABOUT)
-        .after_help(EXAMPLES)
+        .after_help(PROGRAM_DETAILS)
         .subcommand_required(true)
         .arg_required_else_help(true)
         .subcommand(check)?
@@ -105,19 +105,19 @@ fn command<'a>(alloc: Global) -> Result<Command<'a>, AllocError>
         .bin_name("xp")
 }
 
-/// The command that asks for a task, with what its help says before and after the arguments.
+/// The command that asks for a task, with what its help says before the arguments and after them.
 fn command_for<'a>(
     alloc: Global,
     task: Task,
-    before: &'a str,
-    after: &'a str,
+    about: &'a str,
+    details: &'a str,
 ) -> Result<Command<'a>, AllocError>
     ensures shape { IfOk result (λ command. app_of command ≡ command_of task) }
     ensures local { IfOk result (λ command. (fields_of command).has_globals ≡ false) }
 {
     Command::new(alloc, task.word())
-        .about(before)
-        .after_help(after)
+        .about(about)
+        .after_help(details)
         .arg(file(alloc))
 }
 

@@ -1,8 +1,8 @@
 //! Why the program did not do what it was asked for.
 
 ghost use Rattle.std.specs.Prelude.{◌≡◌};
-ghost use Rattle.xp.specs.Failures.{status_of, of_replay, of_file, IsOfArguments};
-ghost use Rattle.xp.specs.declared.failure.Failure.TheVariants.{Memory as OutOfMemory};
+ghost use Rattle.xp.specs.Failures.{status_of, of_file, IsOfArguments};
+ghost use Rattle.xp.specs.declared.failure.Failure.TheVariants.{Memory as OutOfMemory, Replay as NotReplayed};
 
 use clap::error::ErrorKind;
 use std::alloc::AllocError;
@@ -17,23 +17,17 @@ pub enum Failure {
     /// The arguments ask for nothing that it can do, or for help.
     #[error("{0}")]
     Arguments(clap::Error),
-    /// The line of this number, from 1, is not a line of a script.
-    #[error("xp: script line {0}")]
-    Script(u64),
     /// The subscription file cannot be read, or is not UTF-8.
     #[error("xp: file")]
     File,
     /// The subscription file is refused.
     #[error("xp: subscriptions: {0}")]
     Subscriptions(SubsFault),
-    /// The history has no room for a further event.
-    #[error("xp: journal full")]
-    Journal,
+    /// The script is not replayed to its end.
+    #[error("xp: {0}")]
+    Replay(ReplayFault),
     #[error("xp: memory")]
     Memory,
-    /// Standard input cannot be read on.
-    #[error("xp: input")]
-    Input,
     /// Standard output cannot be written on.
     #[error("xp: output")]
     Output,
@@ -45,10 +39,10 @@ impl Failure {
         ensures { result ≡ status_of self.now }
     {
         match self {
-            Failure::Arguments(_) | Failure::Script(_) => 2,
+            Failure::Arguments(_) | Failure::Replay(ReplayFault::Script(_)) => 2,
             Failure::File | Failure::Subscriptions(_) => 3,
-            Failure::Journal | Failure::Memory => 4,
-            Failure::Input | Failure::Output => 5,
+            Failure::Memory | Failure::Replay(ReplayFault::Journal | ReplayFault::Memory) => 4,
+            Failure::Output | Failure::Replay(ReplayFault::Read | ReplayFault::Write) => 5,
         }
     }
 
@@ -71,16 +65,10 @@ impl From<AllocError> for Failure {
 }
 
 impl From<ReplayFault> for Failure {
-    ghost from_gives = { λ fault failure. failure ≡ of_replay fault };
+    ghost from_gives = { λ fault failure. failure ≡ NotReplayed fault };
 
     fn from(fault: ReplayFault) -> Failure {
-        match fault {
-            ReplayFault::Script(line) => Failure::Script(line),
-            ReplayFault::Journal => Failure::Journal,
-            ReplayFault::Memory => Failure::Memory,
-            ReplayFault::Read => Failure::Input,
-            ReplayFault::Write => Failure::Output,
-        }
+        Failure::Replay(fault)
     }
 }
 

@@ -3,6 +3,7 @@
 
 mod arguments;
 mod failure;
+mod laws;
 mod set_up;
 mod task;
 #[cfg(test)]
@@ -11,11 +12,10 @@ mod work;
 
 use crate::arguments::Arguments;
 use crate::failure::Failure;
-use std::env;
-use std::io::ErrorKind;
+use std::io::{BufReader, BufWriter, ErrorKind};
 use std::process::ExitCode;
 use std::rt::{Env, Files};
-use task::Task;
+use std::{env, fs, io};
 
 fn main(rt: HostRuntime) -> ExitCode {
     match run(&rt) {
@@ -28,15 +28,15 @@ fn main(rt: HostRuntime) -> ExitCode {
     }
 }
 
-/// Does what the arguments ask for.
+/// Does what the arguments ask for, over the file that they name and the standard streams.
 fn run<R: AllocGlobal + Env + Files + Input + Print>(rt: &R) -> Result<(), Failure> {
+    let alloc = rt.alloc();
     let words = words(rt)?;
-    let arguments = Arguments::read(rt.alloc(), &words)?;
-    let subs = work::subscriptions(rt, arguments.file)?;
-    match arguments.task {
-        Task::Check => work::check(rt, &subs),
-        Task::Replay => work::replay_input(rt, subs),
-    }
+    let arguments = Arguments::read(alloc, &words)?;
+    let subs = work::subscriptions(alloc, fs::read_to_string(rt, arguments.file))?;
+    let reader = BufReader::new(alloc, rt.reader()).map_err(|_| Failure::Memory)?;
+    let mut writer = BufWriter::new(alloc, io::writer(rt)).map_err(|_| Failure::Memory)?;
+    work::perform(alloc, arguments.task, subs, reader, &mut writer)
 }
 
 /// The words of the command line.

@@ -1,7 +1,7 @@
 ghost use Rattle.xp.specs.SetUp.{set_up_text};
 
 use std::fmt;
-use xp_subs::Subs;
+use xp_subs::{Counts, Subs};
 
 /// What subscriptions set up, as it is told.
 #[derive(Clone, Copy)]
@@ -15,8 +15,11 @@ impl fmt::Display for SetUp<'_> {
     ghost output = { λ set_up. Some (set_up_text set_up.subs.now) };
 
     fn fmt<W: fmt::Write>(&self, f: &mut fmt::Formatter<W>) -> fmt::Result {
-        let counts = self.subs.counts();
-        let (stations, lines, groups) = (counts.stations, counts.lines, counts.groups);
+        let Counts {
+            stations,
+            lines,
+            groups,
+        } = self.subs.counts();
         write!(f, "stations {stations} lines {lines} groups {groups}")
     }
 }

@@ -5,7 +5,7 @@ mod files;
 use crate::arguments::Arguments;
 use crate::failure::Failure;
 use crate::task::Task;
-use crate::work::{replay_script, write_set_up};
+use crate::work::perform;
 use std::alloc::{AllocError, Global};
 use std::io;
 use std::io::{ErrorKind, Write};
@@ -87,7 +87,7 @@ fn files_that_are_refused(rt: HostRuntime) -> Result<(), Fail> {
 fn check_output(rt: HostRuntime) -> Result<(), Fail> {
     let subs = Subs::read(rt.alloc(), ONE_STATION)?;
     let mut told = Vec::new(rt.alloc());
-    write_set_up(&subs, &mut told)?;
+    perform(rt.alloc(), Task::Check, subs, io::empty(), &mut told)?;
     assert_eq!(rt;
         told.as_slice(),
         b"stations 1 lines 1 groups 1\n".as_slice()
@@ -155,16 +155,21 @@ impl Write for Stuck {
     }
 }
 
-/// The status of a script's end, on a writer that hands all on and on one that does not.
+/// The status of a task's end, on a writer that hands all on and on one that does not.
 #[test]
-fn scripts_and_their_output(rt: HostRuntime) -> Result<(), Fail> {
-    let rows: [(&[u8], u8); 2] = [(b"up a1\n", 0), (b"up a1\nup a2\n", 2)];
-    for (script, status) in rows {
-        let subs = Subs::read(rt.alloc(), ONE_STATION)?;
-        let ended = replay_script(rt.alloc(), subs, script, &mut Vec::new(rt.alloc()));
+fn tasks_and_their_output(rt: HostRuntime) -> Result<(), Fail> {
+    let rows: [(Task, &[u8], u8); 3] = [
+        (Task::Check, b"", 0),
+        (Task::Replay, b"up a1\n", 0),
+        (Task::Replay, b"up a1\nup a2\n", 2),
+    ];
+    let alloc = rt.alloc();
+    for (task, script, status) in rows {
+        let subs = Subs::read(alloc, ONE_STATION)?;
+        let ended = perform(alloc, task, subs, script, &mut Vec::new(alloc));
         assert_eq!(rt; ended.err().map_or(0, |failure| failure.status()), status);
-        let subs = Subs::read(rt.alloc(), ONE_STATION)?;
-        let ended = replay_script(rt.alloc(), subs, script, &mut Stuck);
+        let subs = Subs::read(alloc, ONE_STATION)?;
+        let ended = perform(alloc, task, subs, script, &mut Stuck);
         assert_eq!(rt; ended.err().map_or(0, |failure| failure.status()), 5);
     }
     Ok(())

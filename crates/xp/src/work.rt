@@ -1,57 +1,73 @@
-//! What the program does with a subscription file.
+//! What the program does, over the text of a subscription file, a reader and a writer.
 
-ghost use Rattle.std.specs.Prelude.{◌≡◌, ℕ, List, ◌++◌, IfErr, IfSome, OnOk, Result, codes};
-ghost use Rattle.std.specs.Io.KnownBytes.{Appends};
+ghost use Rattle.std.specs.Prelude.{◌≡◌, ℕ, List, ◌++◌, IfErr, IfSome, OnOk, Result, codes, string_bytes};
+ghost use Rattle.std.specs.IoError.{error_kind};
+ghost use Rattle.std.specs.Io.KnownBytes.{Appends, Keeps};
+ghost use Rattle.std.specs.Result.{result_map_both};
 ghost use Rattle.xp.specs.Failures.{Tells};
-ghost use Rattle.xp.specs.SetUp.{set_up_text};
+ghost use Rattle.xp.specs.SetUp.{SetsUp, set_up_text};
 ghost use Rattle.xp.specs.declared.failure.Failure.TheVariants.{Output};
+ghost use Rattle.xp.specs.declared.task.Task.TheVariants.{Check, Replay};
 ghost use Rattle.xp_exchange.specs.Serial.{Replays};
 ghost use Rattle.xp_exchange.specs.declared.fault.ReplayFault.{ReplayFault as Fault};
 
 use crate::failure::Failure;
 use crate::set_up::SetUp;
+use crate::task::Task;
 use std::alloc::Global;
-use std::io::{BufReader, BufWriter, ErrorKind, Read, Write};
-use std::rt::Files;
-use std::{fs, io};
+use std::io;
+use std::io::{ErrorKind, Read, Write};
 use xp_exchange::replay;
 use xp_subs::Subs;
 
-/// The subscriptions of a file.
-pub fn subscriptions<R: AllocGlobal + Files>(rt: &R, file: &str) -> Result<Subs, Failure> {
-    let text = match fs::read_to_string(rt, file) {
-        Ok(text) => text,
-        Err(error) if error.kind() == ErrorKind::OutOfMemory => return Err(Failure::Memory),
-        Err(_) => return Err(Failure::File),
-    };
-    Ok(Subs::read(rt.alloc(), &text)?)
+/// The subscriptions that the text of a file sets up.
+///
+/// # Errors
+///
+/// `File` where the file gave no text, `Subscriptions` with the first refusal of its text, `Memory`.
+pub fn subscriptions(alloc: Global, text: io::Result<String>) -> Result<Subs, Failure>
+    ensures { SetsUp (result_map_both string_bytes error_kind text) result }
+{
+    match text {
+        Ok(text) => Ok(Subs::read(alloc, &text)?),
+        Err(error) if error.kind() == ErrorKind::OutOfMemory => Err(Failure::Memory),
+        Err(_) => Err(Failure::File),
+    }
 }
 
-/// Prints what the subscriptions set up.
-pub fn check(rt: &impl Print, subs: &Subs) -> Result<(), Failure>
-    ensures { IfErr result (λ failure. failure ≡ Output) }
+/// Does what was asked with these subscriptions, and hands on all that is written, before a fault too.
+///
+/// # Errors
+///
+/// `Replay` with what broke the script off, `Output` where the writer fails.
+pub fn perform<R: Read + Drop, W: Write>(
+    alloc: Global,
+    task: Task,
+    subs: Subs,
+    reader: R,
+    writer: &mut W,
+) -> Result<(), Failure>
+    ensures checked { task ≡ Check → OnOk result (Appends (W.contents writer.old) (W.contents writer.new) (set_up_text subs ++ codes "\n")) }
+    ensures refused { task ≡ Check → IfErr result (λ failure. failure ≡ Output) }
+    ensures replayed { task ≡ Replay → IfSome (R.remaining reader) (λ script. (text : List ℕ) × Appends (W.contents writer.old) (W.contents writer.new) text × (ended : Result (Unit {0}) Fault) × Replays Global subs script ended text × Tells ended result) }
 {
-    write_set_up(subs, &mut io::writer(rt))
+    match task {
+        Task::Check => check(&subs, writer),
+        Task::Replay => replay_script(alloc, subs, reader, writer),
+    }
 }
 
 /// Writes what the subscriptions set up, as a line.
-pub fn write_set_up<W: Write>(subs: &Subs, writer: &mut W) -> Result<(), Failure>
+fn check<W: Write>(subs: &Subs, writer: &mut W) -> Result<(), Failure>
     ensures written { OnOk result (Appends (W.contents writer.old) (W.contents writer.new) (set_up_text subs.now ++ codes "\n")) }
     ensures refused { IfErr result (λ failure. failure ≡ Output) }
 {
-    writeln!(writer, "{}", SetUp { subs }).map_err(|_| Failure::Output)
+    writeln!(writer, "{}", SetUp { subs }).map_err(|_| Failure::Output)?;
+    hand_on(writer)
 }
 
-/// Replays the script from standard input, and prints what the exchange puts out and records.
-pub fn replay_input<R: AllocGlobal + Input + Print>(rt: &R, subs: Subs) -> Result<(), Failure> {
-    let alloc = rt.alloc();
-    let reader = BufReader::new(alloc, rt.reader()).map_err(|_| Failure::Memory)?;
-    let mut writer = BufWriter::new(alloc, io::writer(rt)).map_err(|_| Failure::Memory)?;
-    replay_script(alloc, subs, reader, &mut writer)
-}
-
-/// Replays a script, and hands on what is put out and recorded, before a fault too.
-pub fn replay_script<R: Read + Drop, W: Write>(
+/// Replays a script, and writes what the exchange puts out and records.
+fn replay_script<R: Read + Drop, W: Write>(
     alloc: Global,
     subs: Subs,
     reader: R,
@@ -60,6 +76,14 @@ pub fn replay_script<R: Read + Drop, W: Write>(
     ensures { IfSome (R.remaining reader) (λ script. (text : List ℕ) × Appends (W.contents writer.old) (W.contents writer.new) text × (ended : Result (Unit {0}) Fault) × Replays Global subs script ended text × Tells ended result) }
 {
     let ended = replay(alloc, subs, reader, writer);
-    writer.flush().map_err(|_| Failure::Output)?;
+    hand_on(writer)?;
     Ok(ended?)
+}
+
+/// Hands on what is written.
+fn hand_on<W: Write>(writer: &mut W) -> Result<(), Failure>
+    ensures same { Keeps (W.contents writer.old) (W.contents writer.new) }
+    ensures refused { IfErr result (λ failure. failure ≡ Output) }
+{
+    writer.flush().map_err(|_| Failure::Output)
 }

@@ -9,7 +9,7 @@ use std::{env, fs};
 
 /// That a file of this name is told as none that can be read, with status 3.
 fn is_no_file<R: AllocGlobal + Files + Abort>(rt: &R, name: &str) {
-    match subscriptions(rt, name) {
+    match subscriptions(rt.alloc(), fs::read_to_string(rt, name)) {
         Ok(_) => panic!(rt; "a file was read"),
         Err(failure) => {
             assert!(rt; matches!(failure, Failure::File));
