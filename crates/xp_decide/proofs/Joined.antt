@@ -52,7 +52,7 @@ pub record IsPlaced (tables : Tables) (place : Place) (line : ℕ) : Type 0 wher
   pub known : line < line_count tables
   pub station : place.station ≡ station_of_line tables line
 
-is_placed : (tables : Tables) (address : List ℕ) (place : Place) (line : ℕ) → IsSound tables
+pub is_placed : (tables : Tables) (address : List ℕ) (place : Place) (line : ℕ) → IsSound tables
     → place_at tables address ≡ Some place → Contains place.lines line → IsPlaced tables place line
 is_placed tables address place line sound known contains =
     let p = led tables (target_of tables address) place known in

@@ -9,3 +9,4 @@ pub mod Joined
 pub mod Refused
 pub mod Determined
 pub mod Once
+pub mod Written

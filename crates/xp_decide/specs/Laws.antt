@@ -1,5 +1,5 @@
 -- What follows from the decision of a call request.
-use Rattle.std.specs.Prelude.{◌≡◌, ◌≢◌, ℕ, ◌<◌, List, Some, ◌⊎◌}
+use Rattle.std.specs.Prelude.{◌≡◌, ◌≢◌, ℕ, ◌<◌, ◌≤◌, List, length, Some, ◌⊎◌}
 use Rattle.xp_groups.specs.MayJoin.{MayJoin}
 use Rattle.xp_groups.specs.declared.refusal.Refusal.{Refusal}
 use Rattle.xp_groups.specs.declared.refusal.TheConstants.Refusal.{OUT_OF_ORDER, NUMBER_BUSY}
@@ -13,6 +13,7 @@ use Rattle.xp_decide.specs.Asks.{station_of_line, Asks, wanted_of}
 use Rattle.xp_decide.specs.Decided.{Decided}
 use Rattle.xp_decide.specs.Routes.{Place, place_at, Hop, Follows}
 use Rattle.xp_decide.specs.Seen.{seen_by}
+use Rattle.xp_decide.specs.Written.{CanBeWritten}
 use Rattle.xp_decide.specs.declared.request.Request.{Request}
 use Rattle.xp_decide.specs.declared.verdict.Ring.{Ring}
 use Rattle.xp_decide.specs.declared.verdict.Verdict.{Verdict}
@@ -36,6 +37,13 @@ TakenIsFree A =
     (tables : Tables) (states : ℕ → LineState) (from : ℕ) (block : Block A) (ring : Ring A)
     → IsSound tables → Decided tables states from block (Take ring)
     → IsFree tables states from ring.line
+
+-- what the line that rings is told can be written; that no more than 15 digits are dialled is a fact of their type
+abbrev pub ToldCanBeWritten : Type 0 → Type 0
+ToldCanBeWritten A =
+    (tables : Tables) (states : ℕ → LineState) (from : ℕ) (block : Block A) (ring : Ring A)
+    → IsSound tables → length block.called ≤ 15 → Decided tables states from block (Take ring)
+    → CanBeWritten ring.told
 
 -- the refusals for want of a line
 abbrev pub IsWantOfLine : Refusal → Type 0

@@ -4,4 +4,5 @@ pub mod Routes
 pub mod Asks
 pub mod Rings
 pub mod Decided
+pub mod Written
 pub mod Laws

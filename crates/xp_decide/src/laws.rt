@@ -1,4 +1,4 @@
-ghost use Rattle.xp_decide.specs.Laws.{TakenMayJoin, TakenIsFree, RefusesWithoutIdleLine, IsDeterminedButLine};
+ghost use Rattle.xp_decide.specs.Laws.{TakenMayJoin, TakenIsFree, ToldCanBeWritten, RefusesWithoutIdleLine, IsDeterminedButLine};
 
 use std::alloc::Allocator;
 
@@ -15,6 +15,11 @@ pub fn refuses_without_idle_line_alone<A: Allocator>()
 /// The line that rings was idle, and is not the caller's.
 pub fn taken_line_is_free<A: Allocator>()
     ensures { TakenIsFree A }
+{}
+
+/// What the line that rings is told can be written: a facility field of at most 107 octets tells it.
+pub fn told_can_be_written<A: Allocator>()
+    ensures { ToldCanBeWritten A }
 {}
 
 /// A call request has one answer, but for which idle line rings.

@@ -1,5 +1,6 @@
 pub mod Asking
 pub mod Bounds
+pub mod Meant
 pub mod OneReading
 pub mod Reading
 pub mod Telling

@@ -75,7 +75,7 @@ shows caller selection intent (intends.outgoing_access _ _ _ access e) = shows_o
 shows caller selection intent (intends.no_way_out _ _ _ _ e) = cc
 
 -- the station's part in a group is a membership of that group
-part_held : (station : Station) (group : Option ℕ) (held : Membership) → part_in station group ≡ Some held
+pub part_held : (station : Station) (group : Option ℕ) (held : Membership) → part_in station group ≡ Some held
     → Contains station.memberships.items held × (group ≡ Some held.group)
 part_held station None held e = cc
 part_held station (Some group) held e =
