@@ -24,7 +24,7 @@ use Rattle.xp_groups.specs.declared.admission.Admission.{Admission}
 use Rattle.xp_groups.specs.declared.intention.Intent.{Intent}
 use Rattle.xp_hunt.specs.declared.lines.LineState.{LineState}
 use Rattle.xp_packets.specs.declared.block.Block.{Block}
-use Rattle.xp_subs.specs.Sound.{IsSound}
+use Rattle.xp_subs.specs.Sound.{IsSound, HasShortIndexes}
 use Rattle.xp_subs.specs.Tables.{Tables, station_of}
 use Rattle.xp_subs.specs.declared.station.Membership.{Membership}
 use Rattle.xp_subs.specs.declared.station.Station.{Station}
@@ -42,10 +42,6 @@ use Rattle.xp_decide.specs.declared.request.Request.{Request}
 use Rattle.xp_decide.specs.declared.route.Reached.{Reached}
 use Rattle.xp_decide.specs.declared.verdict.Ring.{Ring}
 use Rattle.xp_decide.specs.declared.verdict.Verdict.TheVariants.{Take}
-
--- a station that selects its groups by at most four digits
-abbrev HasShortIndexes : Station → Type 0
-HasShortIndexes station = All (λ (held : Membership). held.index ≤ 9_999) station.memberships.items
 
 part_short : (station : Station) (group : Option ℕ) (held : Membership) → HasShortIndexes station
     → part_in station group ≡ Some held → held.index ≤ 9_999

@@ -20,7 +20,7 @@ use Rattle.xp_subs.specs.declared.subs.Subs.TheInside.{Inside}
 use Rattle.xp_subs.specs.Kept.{tables, Keeps}
 use Rattle.xp_subs.specs.Fit.{IsFit, IsFitStation}
 use Rattle.xp_subs.specs.Passes.{Used, nothing_used, line_total, with_stations}
-use Rattle.xp_subs.specs.Sound.{IsSound, IsTarget, HasAddress, Lists}
+use Rattle.xp_subs.specs.Sound.{IsSound, IsTarget, HasAddress, HasShortIndexes, Lists}
 use Rattle.xp_subs.specs.Tables.{Tables, holds, no_line, no_station, station_at, line_at, station_of, target_of, line_named_of, has_address, whole_station, one_line, first_target, station_count, line_count, group_count}
 use Rattle.xp_subs.proofs.AgreeLemmas.{Agrees, Own, owns, no_own, lead}
 use Rattle.xp_subs.proofs.EntersLemmas.{AllEven, own_list, station_addresses, all_names, all_owns, stations_agree}
@@ -196,10 +196,6 @@ spelled_names (entry ∷ entries) each =
     All-append (λ name. IsTrue (is_line_name name)) entry.lines.names (all_names entries) (All-head IsFitStation entry entries each).even_lines.spelled
     (spelled_names entries (All-tail IsFitStation entry entries each))
 
--- each index has at most four digits
-HasShortIndexes : Station → Type 0
-HasShortIndexes station = All (λ (membership : Membership). membership.index ≤ 9_999) station.memberships.items
-
 short_indexes : (known names : List (List ℕ)) (indexes : List ℕ) (outgoing incoming : List Bool) → All (λ index. index ≤ 9_999) indexes
     → All (λ (membership : Membership). membership.index ≤ 9_999) (membership_list known names indexes outgoing incoming)
 short_indexes known [] indexes outgoing incoming all = All-nil (λ (membership : Membership). membership.index ≤ 9_999)
@@ -211,7 +207,6 @@ short_indexes known (name ∷ names) (index ∷ indexes) (out ∷ outgoing) (int
     (All-head (λ n. n ≤ 9_999) index indexes all) (short_indexes known names indexes outgoing incoming (All-tail (λ n. n ≤ 9_999) index indexes all))
 
 all_short : (known : List (List ℕ)) (line : ℕ) (entries : List StationEntry) → All IsFitStation entries → All HasShortIndexes (stations_from known line entries)
-unfolding HasShortIndexes
 all_short known line [] each = All-nil HasShortIndexes
 all_short known line (entry ∷ entries) each =
     All-cons HasShortIndexes (station_from known line entry) (stations_from known (line + length entry.lines.names) entries)
@@ -393,7 +388,7 @@ module _ (file : FileData) (used : Used) (fit : IsFit file.stations) (some : 0 <
   built_indexes station within = all_short (mentions [] file.stations) 0 file.stations fit.each station no_station within
 
   pub built_sound : IsSound (tables_of file)
-  unfolding tables_of HasShortIndexes
+  unfolding tables_of
   built_sound = record {
     some_line = omega (arith, lines_from-length 0 file.stations even, at_least_one file.stations some even);
     few_lines = omega (arith, lines_from-length 0 file.stations even, fit.lines);

@@ -2,6 +2,7 @@
 use Rattle.std.specs.Prelude.{◌≡◌, ℕ, ◌<◌, ◌≤◌, List, Option, None, Some, Contains, All, IsTrue}
 use Rattle.xp_file.specs.Entries.{AreLimits}
 use Rattle.xp_subs.specs.declared.station.Membership.{Membership}
+use Rattle.xp_subs.specs.declared.station.Station.{Station}
 use Rattle.xp_subs.specs.declared.target.Target.{Target}
 use Rattle.xp_file.specs.Name.{is_line_name}
 use Rattle.xp_subs.specs.Tables.{Tables, station_count, line_count, station_at, line_at, station_of, target_of, line_named_of}
@@ -23,6 +24,10 @@ HasAddress tables target address = one target.line where
   one : Option ℕ → Type 0
   one None = (station_at tables target.station).address ≡ address
   one (Some line) = (line_at tables line).address ≡ Some address
+
+-- a station selects each of its groups by a number of at most four digits
+abbrev pub HasShortIndexes : Station → Type 0
+HasShortIndexes station = All (λ (membership : Membership). membership.index ≤ 9_999) station.memberships.items
 
 pub record IsSound (tables : Tables) : Type 0 where
   -- at least one line, at most 512, in at most 256 stations
@@ -47,9 +52,7 @@ pub record IsSound (tables : Tables) : Type 0 where
   pub address_held : (address : List ℕ) (target : Target) → target_of tables address ≡ Some target → HasAddress tables target address
   pub name_held : (name : List ℕ) (line : ℕ) → line_named_of tables name ≡ Some line
       → (line < line_count tables) × ((line_at tables line).name ≡ name)
-  -- a station selects each of its groups by a number of at most four digits
-  pub indexes : (station : ℕ) → station < station_count tables
-      → All (λ (membership : Membership). membership.index ≤ 9_999) (station_at tables station).memberships.items
+  pub indexes : (station : ℕ) → station < station_count tables → HasShortIndexes (station_at tables station)
   -- the limits to segments and entries are in their ranges
   pub limits : AreLimits tables.segment_limit tables.journal
   -- each name is one that a line may have
