@@ -67,13 +67,14 @@ addresses_at called calling octets = if nat_lt (length octets) (octets_for (call
   by ← digits_at (take (octets_for (called + calling)) octets) called calling
   if ((called + calling) % 2 == 1) && not (slice_index (halves (take (octets_for (called + calling)) octets)) (called + calling) == 0) then Err Address else Ok (to, by, drop (octets_for (called + calling)) octets))
 
--- facilities and user data, so much of it at most
+-- facilities, and user data of at most so many octets
 unfoldable pub fields_at : ℕ → List ℕ → Result (List ℕ × List ℕ) Wrong
 fields_at most [] = Ok ([], [])
 fields_at most (size ∷ rest) =
     if nat_lt 109 size || nat_lt (length rest) size then Err Facilities else
     (if nat_lt most (length (drop size rest)) then Err Long else Ok (take size rest, drop size rest))
 
+-- a block whose user data has at most so many octets
 unfoldable pub block_at : {A : Type 0} → ℕ → List ℕ → Result (Block A) Wrong
 block_at most [] = Err Short
 block_at most (lengths ∷ rest) = do

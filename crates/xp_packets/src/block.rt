@@ -35,7 +35,7 @@ pub struct Block<A: Allocator = Global> {
     pub user: Octets<A>,
 }
 
-/// Reads a block with so much user data at most, which takes all the octets.
+/// Reads a block, which takes all the octets; its user data has at most so many. No copy is made before all is found right.
 #[tactic(auto, unfolding(crate::specs::Reading::block_at))]
 pub(crate) fn block_of<A: Allocator + Copy>(
     alloc: A,
@@ -63,7 +63,7 @@ pub(crate) fn block_of<A: Allocator + Copy>(
     }
 }
 
-/// Reads a block, with so much user data at most, where there are octets.
+/// Reads such a block where there are octets.
 #[tactic(auto, unfolding(crate::specs::Reading::optional_block_at))]
 pub(crate) fn optional_block_of<A: Allocator + Copy>(
     alloc: A,
@@ -78,7 +78,7 @@ pub(crate) fn optional_block_of<A: Allocator + Copy>(
     }
 }
 
-/// The facilities and the user data, so much of it at most, behind the addresses.
+/// The facilities and the user data behind the addresses; the user data has at most so many octets.
 #[tactic(auto, unfolding(crate::specs::Reading::fields_at))]
 fn fields_of(octets: &[u8], most: usize) -> Result<(&[u8], &[u8]), Wrong>
     ensures { Finds (λ x. (x.0.now, x.1.now)) result (fields_at most octets.now) }
