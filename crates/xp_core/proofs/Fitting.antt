@@ -131,10 +131,16 @@ module _ {A : Type 0} where
     All-nil (λ entry. AreWritable entry.outputs),
   )
 
+  run_keeps_fit : (tables : Tables) (history : List (Entry A)) (world : World) → Run tables history world → Fits history world
+  run_keeps_fit tables history world run =
+      run_keeps Fits tables (step_fits tables) [] (opening (line_count tables)) history world (opening_fits tables) run
+
   pub run_fits : (tables : Tables) (history : List (Entry A)) (world : World) → Run tables history world → AreReadable history
       → All (λ entry. AreWritable entry.outputs) history
-  run_fits tables history world run readable =
-      (run_keeps Fits tables (step_fits tables) [] (opening (line_count tables)) history world (opening_fits tables) run readable).1
+  run_fits tables history world run readable = (run_keeps_fit tables history world run readable).1
+
+  pub run_narrow : (tables : Tables) (history : List (Entry A)) (world : World) → Run tables history world → AreReadable history → IsNarrow world
+  run_narrow tables history world run readable = (run_keeps_fit tables history world run readable).0
 
   -- no history leads to the opening world
   pub opening_leads : (tables : Tables) (history : List (Entry A)) (world : World) → history ≡ [] → world ≡ opening (line_count tables) → LeadsTo tables history world

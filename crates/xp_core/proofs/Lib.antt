@@ -10,6 +10,7 @@ pub mod Fitting
 pub mod Idle
 pub mod InCall
 pub mod Ledger
+pub mod Outcomes
 pub mod Requests
 pub mod RunLemmas
 pub mod Searches

@@ -4,6 +4,7 @@ pub mod Channel
 pub mod Clearing
 pub mod Coupling
 pub mod Decision
+pub mod Determined
 pub mod Exchange
 pub mod Moves
 pub mod Plan

@@ -107,5 +107,5 @@ pub record OneRecordEach {A : Type 0} (tables : Tables) (history : List (Entry A
   pub kept : (number : ℕ) → 1 ≤ number → number < world.next → holders world number ≡ 1
   -- none from the next on has any, so no number is given twice
   pub fresh : (number : ℕ) → world.next ≤ number → holders world number ≡ 0
-  -- an entry has at most two
+  -- an entry has at most one so far; there is room for call collision (clause 4.1.6), which has no effect yet
   pub few : (moment : Moment tables history) → length moment.entry.records.items ≤ 2

@@ -15,6 +15,3 @@ module _ {A : Type 0} where
   -- the history leads from the opening world to this one
   abbrev pub Run : Tables → List (Entry A) → World → Type 0
   Run tables history world = RunFrom tables [] (opening (line_count tables)) history world
-
-  abbrev pub IsLegal : Tables → List (Entry A) → Type 0
-  IsLegal tables history = (world : World) × Run tables history world

@@ -43,9 +43,8 @@ pub fn advance<A: Allocator + Copy>(
     ensures machine { OnErr result (machine.new ≡ machine.old) }
     ensures history { OnErr result (history.new.items ≡ history.old.items) }
 {
-    let work = match work_out(alloc, subs, machine, history, &event) {
-        Ok(work) => work,
-        Err(_) => return Err(StepFault::Memory(event)),
+    let Ok(work) = work_out(alloc, subs, machine, history, &event) else {
+        return Err(StepFault::Memory(event));
     };
     let Work {
         taken,

@@ -10,7 +10,7 @@ pub const OUT_OF_ORDER: u8 = 0x09;
 pub const NOT_OBTAINABLE: u8 = 0x0d;
 /// Clearing cause: local procedure error.
 pub const LOCAL_PROCEDURE_ERROR: u8 = 0x13;
-/// Clearing causes from here on are those of a DTE, below it only 00 is.
+/// The first of the causes 80 to FF that a DTE gives itself; below it only 00 is a DTE's (X.25 clause 5.2.4).
 pub const DTE_CAUSES: u8 = 0x80;
 
 /// Diagnostic: no additional information.

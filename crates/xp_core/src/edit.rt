@@ -20,5 +20,9 @@ pub enum Edit {
     End(u64),
 }
 
-/// The changes that one event brings, in order. There is room for a call that ends and one that begins.
-pub type Edits = ArrayVec<Edit, 8>;
+/// How many changes there is room for. An event brings at most four so far; the bound leaves room for call collision
+/// (X.25 clause 4.1.6), which has no effect yet.
+pub const MOST_EDITS: usize = 8;
+
+/// The changes that one event brings, in order.
+pub type Edits = ArrayVec<Edit, MOST_EDITS>;

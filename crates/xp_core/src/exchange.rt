@@ -59,7 +59,8 @@ impl<A: Allocator + Copy> Core<A> {
         })
     }
 
-    /// Acts on one event: one entry of the history.
+    /// Acts on one event: one entry of the history. The line is one of the subscriptions', and a frame's identifier
+    /// is at most 4,095.
     ///
     /// # Errors
     ///
@@ -97,6 +98,7 @@ impl<A: Allocator> Core<A> {
     /// that there is not shows as out of service.
     pub fn line(&self, line: LineNo) -> LineView
         ensures view { result ≡ view_of (line_at self.now.world line) }
+        ensures identifier { result.identifier < 4096 }
         ensures coupled { AreCoupled self.now.subs self.now.world }
     {
         self.machine.line(line).view()

@@ -56,10 +56,10 @@ impl<A: Allocator> Machine<A> {
     pub fn line(&self, line: LineNo) -> LogicalChannel
         ensures { result ≡ line_at self.now line }
     {
-        match self.lines.get(usize::from(line)) {
-            Some(channel) => *channel,
-            None => LogicalChannel::OFF,
-        }
+        self.lines
+            .get(usize::from(line))
+            .copied()
+            .unwrap_or(LogicalChannel::OFF)
     }
 
     /// The number of the next call.

@@ -8,23 +8,27 @@ use xp_subs::LineNo;
 /// What is put out to a line: over its connection, or about it.
 #[derive(Clone, Debug, Drop, PartialEq)]
 pub enum Put<A: Allocator = Global> {
-    /// A packet with its logical channel identifier.
+    /// A packet, under this logical channel identifier, 0 to 4,095 (X.25 clauses 5.1.2 and 5.1.3).
     Send { identifier: u16, packet: Packet<A> },
-    /// The connection is to be closed.
+    /// The connection is to be closed. This is not put out yet.
     Close,
 }
 
 /// Something for the connection of this number of a line.
 #[derive(Clone, Debug, Drop, PartialEq)]
 pub struct Outgoing<A: Allocator = Global> {
+    /// How often the line has come into service: 1 for its first connection.
     pub connection: u64,
+    /// What is put out.
     pub put: Put<A>,
 }
 
 /// Something put out to a line.
 #[derive(Clone, Debug, Drop, PartialEq)]
 pub struct Output<A: Allocator = Global> {
+    /// The line, one of the subscriptions'.
     pub line: LineNo,
+    /// What is put out to it, and for which connection.
     pub outgoing: Outgoing<A>,
 }
 

@@ -9,6 +9,8 @@ mod send;
 
 ghost use Rattle.std.specs.Prelude.{◌≡◌, ◌+◌, ◌<◌, [], ◌∷◌, ◌++◌, None, Some};
 ghost use Rattle.arrayvec.specs.ArrayVec.{array_vec_len};
+ghost use Rattle.xp_core.specs.declared.edit.TheConstants.{MOST_EDITS};
+ghost use Rattle.xp_core.specs.declared.record.TheConstants.{MOST_RECORDS};
 
 use crate::edit::{Edit, Edits};
 use crate::output::Buffer;
@@ -57,7 +59,7 @@ impl<A: Allocator> Plan<A> {
 
     /// The plan with one more change, after the others.
     pub fn with_edit(mut self, edit: Edit) -> Plan<A>
-        requires { array_vec_len self.edits < 8 }
+        requires { array_vec_len self.edits < MOST_EDITS }
         ensures takes { result.taken ≡ self.taken }
         ensures outputs { result.outputs ≡ self.outputs }
         ensures edits { result.edits.items ≡ self.edits.items ++ edit ∷ [] }
@@ -70,7 +72,7 @@ impl<A: Allocator> Plan<A> {
 
     /// The plan with one more record, after the others.
     pub fn with_record(mut self, charged: Record) -> Plan<A>
-        requires { array_vec_len self.records < 2 }
+        requires { array_vec_len self.records < MOST_RECORDS }
         ensures takes { result.taken ≡ self.taken }
         ensures outputs { result.outputs ≡ self.outputs }
         ensures edits { result.edits ≡ self.edits }

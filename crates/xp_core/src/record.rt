@@ -9,15 +9,17 @@ use xp_subs::LineNo;
 pub struct Record {
     /// The call's number, from 1.
     pub number: u64,
+    /// The line that asked for the call.
     pub caller: LineNo,
-    /// None where the call was refused.
+    /// The line that the call was put to; None where it was refused.
     pub called: Option<LineNo>,
     /// The called address as the caller gave it.
     pub dialled: Digits,
+    /// Who pays: always the caller so far.
     pub payer: End,
-    /// Segments of 64 octets from the caller.
+    /// Segments of 64 octets from the caller, 0 to 99,999,999; 0 until data is relayed.
     pub from_caller: u32,
-    /// Segments of 64 octets from the called line.
+    /// Segments of 64 octets from the called line, 0 to 99,999,999; 0 until data is relayed.
     pub from_called: u32,
     /// The clearing cause that the other end was told, or the caller where the call was refused.
     pub cause: u8,
@@ -25,8 +27,12 @@ pub struct Record {
     pub diagnostic: u8,
 }
 
-/// The records of one entry, at most two: a collision can end the old call and refuse the new one.
-pub type Records = ArrayVec<Record, 2>;
+/// How many records an entry has room for. It has at most one so far; the bound leaves room for call collision (X.25
+/// clause 4.1.6), which has no effect yet.
+pub const MOST_RECORDS: usize = 2;
+
+/// The records of one entry.
+pub type Records = ArrayVec<Record, MOST_RECORDS>;
 
 impl Record {
     /// An equal copy.

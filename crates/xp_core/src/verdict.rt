@@ -6,5 +6,6 @@ use xp_subs::LineNo;
 pub enum Verdict {
     /// The call is put to this line.
     Take(LineNo),
+    /// The call is cleared at once, and its caller told this.
     Refuse(Refusal),
 }

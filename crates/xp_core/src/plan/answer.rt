@@ -27,17 +27,15 @@ pub fn answer<A: Allocator + Copy>(
     ensures { IfOk result (λ plan. IsPlan plan None (answers subs.now machine.now line d)) }
 {
     let outputs = Buffer::with_room(alloc, 1)?;
-    match machine.call_on(line) {
-        None => Ok(Plan::of(outputs)),
-        Some(call) => {
-            let packet = connected(alloc, subs, line, &call.dialled, d)?;
-            let talking = ChannelState::Talking(call.number);
-            let plan = Plan::of(outputs.with(send(machine, call.caller, packet)))
-                .with_edit(moved(machine, line, talking))
-                .with_edit(moved(machine, call.caller, talking));
-            Ok(plan)
-        }
-    }
+    let Some(call) = machine.call_on(line) else {
+        return Ok(Plan::of(outputs));
+    };
+    let packet = connected(alloc, subs, line, &call.dialled, d)?;
+    let talking = ChannelState::Talking(call.number);
+    let plan = Plan::of(outputs.with(send(machine, call.caller, packet)))
+        .with_edit(moved(machine, line, talking))
+        .with_edit(moved(machine, call.caller, talking));
+    Ok(plan)
 }
 
 /// The call connected packet (X.25 clause 5.2.3).

@@ -30,22 +30,22 @@ pub fn decide<A: Allocator>(
     ensures decided { Decided subs.now machine.now caller block.now result }
     ensures within { IsWithin result (length machine.now.lines) }
 {
-    if block.facilities.len() > 0 {
+    if !block.facilities.is_empty() {
         return refuse(INVALID_FACILITY_REQUEST, FACILITY_CODE_NOT_ALLOWED);
     }
     if block.user.len() > MOST_USER_DATA {
         return refuse(LOCAL_PROCEDURE_ERROR, PACKET_TOO_LONG);
     }
-    match subs.find(&block.called) {
-        None => refuse(NOT_OBTAINABLE, INVALID_CALLED_ADDRESS),
-        Some(target) => match target.line {
-            Some(line) => choose(machine, caller, &[line]),
-            None => choose(
-                machine,
-                caller,
-                subs.station(target.station).lines.as_slice(),
-            ),
-        },
+    let Some(target) = subs.find(&block.called) else {
+        return refuse(NOT_OBTAINABLE, INVALID_CALLED_ADDRESS);
+    };
+    match target.line {
+        Some(line) => choose(machine, caller, &[line]),
+        None => choose(
+            machine,
+            caller,
+            subs.station(target.station).lines.as_slice(),
+        ),
     }
 }
 
