@@ -26,7 +26,7 @@ use Rattle.xp_core.specs.Records.{clears_to}
 use Rattle.xp_core.specs.Step.{Acts, Step, taken_by}
 use Rattle.xp_core.specs.Table.{cell, kind_of}
 use Rattle.xp_core.specs.World.{World, call_numbered, call_on, calls_without, state_at}
-use Rattle.xp_core.proofs.Searches.{find_some}
+use Rattle.xp_subs.proofs.Found.{find_some}
 
 -- the record of a call request that was refused
 abbrev pub refused_record : ℕ → ℕ → List ℕ → Refusal → Record

@@ -26,7 +26,7 @@ use Rattle.xp_core.proofs.Endings.{not_live}
 use Rattle.xp_core.proofs.Ledger.{run_booked}
 use Rattle.xp_core.proofs.Requests.{requests_coupled}
 use Rattle.xp_core.proofs.RunLemmas.{run_keeps, run_push}
-use Rattle.xp_core.proofs.Searches.{find_some}
+use Rattle.xp_subs.proofs.Found.{find_some}
 use Rattle.xp_core.proofs.Sounds.{line_at-opening, run_sound}
 
 -- all lines are off, and there is no call

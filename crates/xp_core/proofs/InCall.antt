@@ -9,7 +9,7 @@ use Rattle.xp_core.specs.Channel.{call_of}
 use Rattle.xp_core.specs.Clearing.{far_end}
 use Rattle.xp_core.specs.Coupling.{AreCoupled, IsEnd, IsHeld}
 use Rattle.xp_core.specs.World.{World, call_numbered, call_on, state_at}
-use Rattle.xp_core.proofs.Searches.{find_some}
+use Rattle.xp_subs.proofs.Found.{find_some}
 
 -- a line shows this live call, and is one of its ends
 pub record IsIn (tables : Tables) (world : World) (line : ℕ) (call : LiveCall) : Type 0 where

@@ -14,7 +14,7 @@ use Rattle.xp_groups.specs.Intends as intends
 use Rattle.xp_groups.specs.Admits.{Admits, Enters, from_outside}
 use Rattle.xp_groups.specs.Admits as admits
 use Rattle.xp_groups.specs.MayJoin.{MayJoin, ReachesOutside}
-use Rattle.xp_subs.proofs.Found.{found}
+use Rattle.xp_subs.proofs.Found.{find_some}
 
 -- a membership by which a call in this group goes out
 pub record GoesOut (caller : Station) (group : ℕ) : Type 0 where
@@ -30,7 +30,7 @@ pub record Shows (caller : Station) (intent : Intent) : Type 0 where
 
 preferred_held : (station : Station) (index : Option ℕ) (held : Membership) → selected_if_any station index ≡ Some held → Contains station.memberships.items held
 preferred_held station None held e = cc
-preferred_held station (Some index) held e = (found _ _ held e).0
+preferred_held station (Some index) held e = (find_some _ _ held e).0
 
 shows_outside : (caller : Station) (intent : Intent) → ReachesOutside caller → ◌≡◌ {A = Result Intent Refusal} (Ok intent) (Ok outside_only) → Shows caller intent
 shows_outside caller intent reaches e =
@@ -59,14 +59,14 @@ pub shows : (caller : Station) (selection : Selection) (intent : Intent) → Int
 shows caller selection intent (intends.no_groups none _ e) = shows_outside caller intent (inl none) e
 shows caller selection intent (intends.no_groups_to_select _ _ e) = cc
 shows caller selection intent (intends.closed index held _ _ is not_barred e) =
-    shows_within caller intent held false (found _ _ held is).0 not_barred (λ h. cc) e
+    shows_within caller intent held false (find_some _ _ held is).0 not_barred (λ h. cc) e
 shows caller selection intent (intends.closed_barred _ _ _ _ _ _ e) = cc
 shows caller selection intent (intends.closed_not_known _ _ _ _ e) = cc
 shows caller selection intent (intends.no_outgoing_access _ _ _ _ e) = cc
 shows caller selection intent (intends.also_open_not_known _ _ _ _ _ e) = cc
 shows caller selection intent (intends.also_open_barred _ _ _ _ access _ _ e) = shows_outside caller intent (inr access) e
 shows caller selection intent (intends.also_open _ held _ _ access is not_barred e) =
-    shows_within caller intent held true (found _ _ held is).0 not_barred (λ _. inr access) e
+    shows_within caller intent held true (find_some _ _ held is).0 not_barred (λ _. inr access) e
 shows caller selection intent (intends.preferential held _ _ (is, not_barred) _ e) =
     shows_within caller intent held false (preferred_held caller _ held is) not_barred (λ h. cc) e
 shows caller selection intent (intends.preferential_open held _ _ (is, not_barred) access e) =
@@ -79,7 +79,7 @@ pub part_held : (station : Station) (group : Option ℕ) (held : Membership) →
     → Contains station.memberships.items held × (group ≡ Some held.group)
 part_held station None held e = cc
 part_held station (Some group) held e =
-    let f = found (λ (m : Membership). nat_eq m.group group) station.memberships.items held e in
+    let f = find_some (λ (m : Membership). nat_eq m.group group) station.memberships.items held e in
     (f.0, ap Some (sym (eqb-true _ _ f.1)))
 
 -- a call that comes in by a group that is its intent's

@@ -1,6 +1,7 @@
 use Rattle.std.proofs.Common.{sym}
 use Rattle.xp_core.proofs.Idle.{idle_within}
-use Rattle.xp_core.proofs.Searches.{find_some, find_none}
+use Rattle.xp_core.proofs.Searches.{find_none}
+use Rattle.xp_subs.proofs.Found.{find_some}
 use Rattle.xp_core.specs.Decision.{is_idle}
 use Rattle.xp_core.proofs.plan.decision.choose.Goals as goal
 
