@@ -1,5 +1,5 @@
 -- What the decision tells a line can be written.
-use Rattle.std.proofs.Common.{◌≡◌, ℕ, ◌≤◌, ◌&&◌, min, true, leb, length, List, Option, None, Some, Ok, Err, inr, refl, sym, ◌∙◌, ap, subst, arith}
+use Rattle.std.proofs.Common.{◌≡◌, ℕ, ◌≤◌, ◌&&◌, min, true, leb, length, List, Option, None, Some, Ok, inr, refl, sym, ◌∙◌, ap, subst, arith}
 use Rattle.std.proofs.Math.Nat.{le-min, min-le_right}
 use Rattle.std.proofs.lemmas.Bool.{and_parts, and_from, leb-true, le-leb}
 use Rattle.std.proofs.lemmas.List.Elements.{All-contains}
@@ -15,7 +15,6 @@ use Rattle.xp_facilities.specs.declared.asked.Asked.{Asked}
 use Rattle.xp_facilities.specs.declared.pair.Pair.{Pair}
 use Rattle.xp_facilities.specs.declared.redirection.Reason.{Reason}
 use Rattle.xp_facilities.specs.declared.selection.Selection.TheVariants.{Nothing, Closed, AlsoOpen}
-use Rattle.xp_facilities.specs.declared.told.Told.{Told}
 use Rattle.xp_groups.proofs.Joined.{part_held}
 use Rattle.xp_groups.specs.Admits.{Admits}
 use Rattle.xp_groups.specs.Admits as admits
@@ -32,7 +31,7 @@ use Rattle.xp_decide.proofs.Joined.{is_placed}
 use Rattle.xp_decide.specs.Asks.{Asks, wanted_of}
 use Rattle.xp_decide.specs.Decided.{Decided}
 use Rattle.xp_decide.specs.Decided as decided
-use Rattle.xp_decide.specs.Rings.{at_most_1024, indicated_packet, indicated_window, notified, told_of, ring_of}
+use Rattle.xp_decide.specs.Rings.{indicated_packet, indicated_window, notified, told_of, ring_of}
 use Rattle.xp_decide.specs.Routes.{first_reason, Reaches, TakesAt}
 use Rattle.xp_decide.specs.Routes as routes
 use Rattle.xp_decide.specs.Seen.{seen_by}

@@ -1,5 +1,5 @@
 -- What a field asks is in the ranges of what a field can tell.
-use Rattle.std.proofs.Common.{◌≡◌, ℕ, ◌≤◌, Bool, true, false, cond, leb, eqb, eqb-true, List, [], ◌∷◌, length, Option, Some, None, refl, sym, ap, ◌∙◌, subst}
+use Rattle.std.proofs.Common.{◌≡◌, ℕ, ◌≤◌, Bool, true, false, cond, leb, eqb-true, List, [], ◌∷◌, length, Option, Some, None, refl, sym, ap, ◌∙◌, subst}
 use Rattle.std.specs.Prelude.{option_map}
 use Rattle.std.specs.List.{AllByRecursion, list_any}
 use Rattle.std.proofs.lemmas.Bool.{leb-true, or_from}
@@ -18,7 +18,7 @@ record AreUnmarked (kept : List Item) : Type 0 where
   each : AllByRecursion IsItem kept
   unmarked : list_any is_marker kept ≡ false
 
--- so are those behind the first item, where more of them are kept
+-- whatever is carried among these items is so
 abbrev Keeps : List Item → Type 0
 Keeps items = (inside : Bool) (kept : List Item) → carried inside items ≡ Some kept → AreUnmarked kept
 
