@@ -1,38 +1,29 @@
-ghost use Rattle.std.specs.Prelude.{◌≡◌, IfOk};
-
-use std::alloc::{AllocError, Allocator, Global};
+use std::alloc::{Allocator, Global};
 use xp_packets::{Packet, Wrong};
 use xp_subs::LineNo;
 
 /// What happened on one line.
-#[derive(Clone, Debug, Drop, PartialEq)]
+#[derive(Debug, Drop, PartialEq)]
 pub struct Event<A: Allocator = Global> {
+    /// The line, one of the subscriptions'.
     pub line: LineNo,
+    /// What happened on it.
     pub what: What<A>,
 }
 
 /// What can happen on a line.
-#[derive(Clone, Debug, Drop, PartialEq)]
+#[derive(Debug, Drop, PartialEq)]
 pub enum What<A: Allocator = Global> {
     /// A connection came.
     Up,
     /// The connection went, or broke the framing.
     Down,
-    /// A packet came.
+    /// A packet came, under this logical channel identifier, 0 to 4,095 (X.25 clauses 5.1.2 and 5.1.3).
     Frame { identifier: u16, packet: Packet<A> },
     /// A frame came that is no packet.
     WrongFrame(Wrong),
     /// The line did not answer an incoming call in time (T11, X.25 Annex D).
     Expire,
-    /// The line takes its packets too slowly.
+    /// The line takes its packets too slowly. This is not raised yet.
     Stall,
-}
-
-impl<A: Allocator + Copy> Event<A> {
-    /// An equal copy, by the same allocator.
-    pub fn copy(&self) -> Result<Event<A>, AllocError>
-        ensures { IfOk result (λ copied. copied ≡ self.now) }
-    {
-        self.clone()
-    }
 }
