@@ -44,12 +44,10 @@ pub fn plan_of<A: Allocator + Copy>(
                 identifier,
                 packet: Packet::Call { d, block },
             },
-        ) => request(
-            alloc,
-            subs,
-            machine,
-            &CallRequest::of(line, *identifier, *d, block),
-        ),
+        ) => {
+            let call = CallRequest::of(line, *identifier, *d, block);
+            request(alloc, subs, machine, &call)
+        }
         (
             Action::Answer,
             What::Frame {
