@@ -14,16 +14,15 @@ fn entries<A: Allocator + Copy>(core: &Core<A>) -> &[Entry<A>]
 }
 
 #[test]
-fn each_event_has_an_entry(rt: HostRuntime) -> Result<(), Fail> {
+fn event_makes_an_entry(rt: HostRuntime) -> Result<(), Fail> {
     let mut core = Core::new(rt.alloc(), three_stations(rt.alloc())?)?;
     assert!(rt; entries(&core).is_empty());
-    for count in 1..4usize {
-        let event = Event {
-            line: 0,
-            what: What::Expire,
-        };
-        core.step(event)?;
-        assert_eq!(rt; entries(&core).len(), count);
-    }
+    assert!(rt; 0 < core.subs().counts().lines);
+    let event = Event {
+        line: 0,
+        what: What::Expire,
+    };
+    core.step(event)?;
+    assert_eq!(rt; entries(&core).len(), 1);
     Ok(())
 }
