@@ -1,5 +1,5 @@
 -- What a search of a list tells.
-use Rattle.std.proofs.Common.{◌≡◌, ℕ, ◌+◌, ◌<◌, Bool, ◌||◌, true, false, cond, Some, None, List, [], ◌∷◌, ◌++◌, length, filter, find, take, get_or, Contains, refl, ap, sym, ◌∙◌, arith, add-one}
+use Rattle.std.proofs.Common.{◌≡◌, ℕ, ◌+◌, ◌<◌, Bool, ◌||◌, true, false, cond, Some, None, List, [], ◌∷◌, ◌++◌, length, filter, find, take, get_or, refl, ap, sym, ◌∙◌}
 use Rattle.std.specs.List.{list_any}
 use Rattle.std.specs.Option.{option_or}
 use Rattle.std.proofs.lemmas.Bool.{both_ways, false_from_ne_true}

@@ -3,7 +3,6 @@ use Rattle.std.proofs.Common.{◌≡◌, ℕ, ◌≤◌, ◌&&◌, min, true, le
 use Rattle.std.proofs.Math.Nat.{le-min, min-le_right}
 use Rattle.std.proofs.lemmas.Bool.{and_parts, and_from, leb-true, le-leb}
 use Rattle.std.proofs.lemmas.List.Elements.{All-contains}
-use Rattle.std.specs.List.{All}
 use Rattle.std.specs.Prelude.{IfSome}
 use Rattle.xp_facilities.proofs.Bounds.{told-length, told-exchange}
 use Rattle.xp_facilities.proofs.Meant.{AsksInRange, asks_in_range}
