@@ -82,7 +82,7 @@ fn events_of<A: Allocator + Copy>(
 ) -> Result<Vec<Event<A>, A>, AllocError>
     requires line { HasLine (line_count core.now.subs) command }
     requires lines { length streams.old ≡ line_count core.now.subs }
-    ensures plays { IfOk result (λ events. Plays core.now.world streams.old command events.items streams.new) }
+    ensures plays { IfOk result (λ events. Plays (world_of core.now) streams.old command events.items streams.new) }
     ensures fit { IfOk result (λ events. All (λ event. (event.line < line_count core.now.subs) × IsReadable event.what) events.items) }
     ensures lines { length streams.new ≡ length streams.old }
 {
@@ -107,7 +107,7 @@ fn events_of<A: Allocator + Copy>(
 
 /// Whether a line is out of service.
 fn is_off<A: Allocator>(core: &Core<A>, line: LineNo) -> bool
-    ensures { result ≡ is_off_at core.now.world line }
+    ensures { result ≡ is_off_at (world_of core.now) line }
 {
     matches!(core.line(line).channel, Channel::Off)
 }

@@ -1,5 +1,6 @@
 use Rattle.std.proofs.Common.{All, subst}
-use Rattle.xp_core.specs.Exchange.{Exchange}
+use Rattle.xp_core.specs.Exchange.{Exchange, world_of}
+use Rattle.xp_core.specs.Run.{Run, world_after}
 use Rattle.xp_core.specs.Writable.{AreWritable}
 use Rattle.xp_core.proofs.Fitting.{run_fits}
 use Rattle.xp_core.proofs.exchange.Core.history.Goals as goal
@@ -7,4 +8,4 @@ use Rattle.xp_core.proofs.exchange.Core.history.Goals as goal
 pub returns-clause-writable : goal.returns-clause-writable
 returns-clause-writable g c =
     let P : Exchange _ → Type 0 = λ core. All (λ entry. AreWritable entry.outputs) core.history in
-    subst P c.self.view_is (run_fits c.self.inside.subs c.self.inside.history.items c.self.inside.machine c.self.invariant.run c.self.invariant.readable)
+    subst P c.self.view_is (run_fits c.self.inside.subs c.self.inside.history.items (world_after c.self.inside.subs c.self.inside.history.items) c.self.invariant.run c.self.invariant.readable)
