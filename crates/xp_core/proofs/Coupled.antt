@@ -186,8 +186,8 @@ module _ (tables : Tables) (world : World) (coupled : AreCoupled tables world) (
         | never not_caller not_called now ↦
             let found = coupled.shown line number (sym (ap (λ k. call_of k.state) now) ∙ shows) in
             let other : number ≢ world.next = λ same.
-                let P : ℕ → Type 0 = λ n. call_numbered world n ≡ Some found.0 in
-                let here : call_numbered world world.next ≡ Some found.0 = subst P same found.1 in absurd (cc) in
+            let P : ℕ → Type 0 = λ n. call_numbered world n ≡ Some found.0 in
+            let here : call_numbered world world.next ≡ Some found.0 = subst P same found.1 in absurd (cc) in
             (found.0, get_other world.calls world.next call number other ∙ found.1, found.2)
       ];
     }

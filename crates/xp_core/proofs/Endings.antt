@@ -133,8 +133,9 @@ module _ {A : Type 0} where
     few_recorded = elim (step_shape tables moment.before moment.world moment.entry moment.next right.coupled moment.step) [
       | none is old ↦ omega (arith, ap length (moment.step.records ∙ ap (recorded_by moment.world) is))
       | one change is can from ↦ omega (
-        arith, few_of change,
-        ap length (moment.step.records ∙ ap (recorded_by moment.world) is ∙ append-nil (recorded moment.world change))
+        arith,
+        few_of change,
+        ap length (moment.step.records ∙ ap (recorded_by moment.world) is ∙ append-nil (recorded moment.world change)),
       )
     ]
 

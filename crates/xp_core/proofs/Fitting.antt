@@ -32,7 +32,7 @@ use Rattle.xp_core.proofs.Sounds.{run_right}
 abbrev IsNarrow : World → Type 0
 IsNarrow world = (line : ℕ) → (line_at world line).identifier < 4096
 
-passed : {X : Type 0} (b : Bool) (x : X) (rest : Option X) → cond b (Some x) rest ≡ None → (b ≡ false) × (rest ≡ None)
+pub passed : {X : Type 0} (b : Bool) (x : X) (rest : Option X) → cond b (Some x) rest ≡ None → (b ≡ false) × (rest ≡ None)
 passed true x rest is = absurd (cc)
 passed false x rest is = (refl, is)
 
@@ -164,10 +164,13 @@ module _ {A : Type 0} where
 
   run_keeps_fit : (tables : Tables) (history : List (Entry A)) (world : World) → Run tables history world → Fits tables history world
   run_keeps_fit tables history world run =
-      run_keeps (Fits tables) tables (step_fits tables) [] (opening (line_count tables)) history world (refl, λ readable. (
-        λ line. omega (arith, ap (λ l. l.identifier) (line_at-opening (line_count tables) line)),
-        All-nil (λ entry. AreWritable entry.outputs),
-      )) run
+      run_keeps (Fits tables) tables (step_fits tables) [] (opening (line_count tables)) history world (
+        refl,
+        λ readable. (
+          λ line. omega (arith, ap (λ l. l.identifier) (line_at-opening (line_count tables) line)),
+          All-nil (λ entry. AreWritable entry.outputs),
+        ),
+      ) run
 
   pub run_fits : (tables : Tables) (history : List (Entry A)) (world : World) → Run tables history world → AreReadable history
       → All (λ entry. AreWritable entry.outputs) history

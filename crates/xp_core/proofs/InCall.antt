@@ -23,11 +23,11 @@ pub shown_on : (world : World) (line : ℕ) (found : ℕ × Call) → call_on wo
     → (call_of (state_at world line) ≡ Some found.0) × (call_numbered world found.0 ≡ Some found.1)
 shown_on world line found is = elim (call_of (state_at world line)) as (λ shown. call_of (state_at world line) ≡ shown → numbered world shown ≡ Some found
     → (call_of (state_at world line) ≡ Some found.0) × (call_numbered world found.0 ≡ Some found.1)) [
-  | None ↦ λ shows none. absurd (cc)
-  | Some number ↦ λ shows here.
-      let parts = numbered_some world number found (call_numbered world number) refl here in
-      (shows ∙ ap (λ n. Some n) parts.0, ap (call_numbered world) (sym parts.0) ∙ parts.1)
-] refl is
+      | None ↦ λ shows none. absurd (cc)
+      | Some number ↦ λ shows here.
+          let parts = numbered_some world number found (call_numbered world number) refl here in
+          (shows ∙ ap (λ n. Some n) parts.0, ap (call_numbered world) (sym parts.0) ∙ parts.1)
+    ] refl is
 
 module _ (tables : Tables) (world : World) (coupled : AreCoupled tables world) where
   -- a line on which no call is found is in none

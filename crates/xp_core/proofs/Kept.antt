@@ -27,8 +27,8 @@ found_in [] number = refl
 found_in (first ∷ calls) number =
     ap (λ b. option_map (λ call. (number, call)) (cond b (Some (call_of_kept first)) (entries.find nat_cmp number (map entry_of calls)))) (tie number first.number)
     ∙ elim (eqb first.number number) as (λ b. eqb first.number number ≡ b
-        → option_map (λ call. (number, call)) (cond b (Some (call_of_kept first)) (entries.find nat_cmp number (map entry_of calls)))
-        ≡ option_map entry_of (cond b (Some first) (lists number calls))) [
+    → option_map (λ call. (number, call)) (cond b (Some (call_of_kept first)) (entries.find nat_cmp number (map entry_of calls)))
+    ≡ option_map entry_of (cond b (Some first) (lists number calls))) [
       | true ↦ λ is. ap (λ n. Some (n, call_of_kept first)) (sym (eqb-true first.number number is))
       | false ↦ λ is. found_in calls number
     ] refl
@@ -60,15 +60,15 @@ pub add_kept : (lines : List LogicalChannel) (calls after : List LiveCall) (next
     → world_kept lines after (next + 1) ≡ record world { calls = insert world.calls world.next (call_of_kept call); next = world.next + 1 }
 add_kept lines calls after next world call shown fresh number is =
     let P : World → Type 0 = λ w. call_numbered w w.next ≡ None
-        → world_kept lines after (next + 1) ≡ record w { calls = insert w.calls w.next (call_of_kept call); next = w.next + 1 } in
+    → world_kept lines after (next + 1) ≡ record w { calls = insert w.calls w.next (call_of_kept call); next = w.next + 1 } in
     subst P shown (λ none.
-        let missing : entries.find nat_cmp call.number (map entry_of calls) ≡ None =
-        sym (get-from_entries nat_cmp_total (map entry_of calls) call.number) ∙ ap (get (calls_of calls)) number ∙ none in
-        ap (λ cs. world_kept lines cs (next + 1)) is
-        ∙ ap (λ es. record (world_kept lines calls (next + 1)) { calls = from_entries es }) (map-append entry_of calls (call ∷ []))
-        ∙ ap (λ m. record (world_kept lines calls (next + 1)) { calls = m })
-            (from_entries_push nat_cmp_total nat_cmp-IsAntisymmetric (map entry_of calls) call.number (call_of_kept call) missing
-            ∙ ap (λ n. insert (calls_of calls) n (call_of_kept call)) number)) fresh
+    let missing : entries.find nat_cmp call.number (map entry_of calls) ≡ None =
+    sym (get-from_entries nat_cmp_total (map entry_of calls) call.number) ∙ ap (get (calls_of calls)) number ∙ none in
+    ap (λ cs. world_kept lines cs (next + 1)) is
+    ∙ ap (λ es. record (world_kept lines calls (next + 1)) { calls = from_entries es }) (map-append entry_of calls (call ∷ []))
+    ∙ ap (λ m. record (world_kept lines calls (next + 1)) { calls = m })
+    (from_entries_push nat_cmp_total nat_cmp-IsAntisymmetric (map entry_of calls) call.number (call_of_kept call) missing
+    ∙ ap (λ n. insert (calls_of calls) n (call_of_kept call)) number)) fresh
 
 left_in : (calls : List LiveCall) (number q : ℕ) → q ≢ number
     → entries.find nat_cmp q (map entry_of (filter (λ call. not (eqb call.number number)) calls)) ≡ entries.find nat_cmp q (map entry_of calls)
@@ -76,12 +76,12 @@ left_in [] number q other = refl
 left_in (first ∷ calls) number q other = elim (eqb first.number number) as (λ b. eqb first.number number ≡ b
     → entries.find nat_cmp q (map entry_of (cond (not b) (first ∷ filter (λ call. not (eqb call.number number)) calls) (filter (λ call. not (eqb call.number number)) calls)))
     ≡ entries.find nat_cmp q (map entry_of (first ∷ calls))) [
-  | true ↦ λ is.
-      let no : eq_by_cmp nat_cmp q first.number ≡ false =
-      tie q first.number ∙ ne_eqb first.number q (λ same. other (sym same ∙ eqb-true first.number number is)) in
-      left_in calls number q other ∙ sym (ap (λ b. cond b (Some (call_of_kept first)) (entries.find nat_cmp q (map entry_of calls))) no)
-  | false ↦ λ is. ap (cond (eq_by_cmp nat_cmp q first.number) (Some (call_of_kept first))) (left_in calls number q other)
-] refl
+      | true ↦ λ is.
+          let no : eq_by_cmp nat_cmp q first.number ≡ false =
+          tie q first.number ∙ ne_eqb first.number q (λ same. other (sym same ∙ eqb-true first.number number is)) in
+          left_in calls number q other ∙ sym (ap (λ b. cond b (Some (call_of_kept first)) (entries.find nat_cmp q (map entry_of calls))) no)
+      | false ↦ λ is. ap (cond (eq_by_cmp nat_cmp q first.number) (Some (call_of_kept first))) (left_in calls number q other)
+    ] refl
 
 gone_in : (calls : List LiveCall) (number : ℕ)
     → entries.find nat_cmp number (map entry_of (filter (λ call. not (eqb call.number number)) calls)) ≡ None
@@ -89,11 +89,11 @@ gone_in [] number = refl
 gone_in (first ∷ calls) number = elim (eqb first.number number) as (λ b. eqb first.number number ≡ b
     → entries.find nat_cmp number (map entry_of (cond (not b) (first ∷ filter (λ call. not (eqb call.number number)) calls) (filter (λ call. not (eqb call.number number)) calls)))
     ≡ None) [
-  | true ↦ λ is. gone_in calls number
-  | false ↦ λ is.
-      ap (λ b. cond b (Some (call_of_kept first)) (entries.find nat_cmp number (map entry_of (filter (λ call. not (eqb call.number number)) calls))))
-      (tie number first.number ∙ is) ∙ gone_in calls number
-] refl
+      | true ↦ λ is. gone_in calls number
+      | false ↦ λ is.
+          ap (λ b. cond b (Some (call_of_kept first)) (entries.find nat_cmp number (map entry_of (filter (λ call. not (eqb call.number number)) calls))))
+          (tie number first.number ∙ is) ∙ gone_in calls number
+    ] refl
 
 pub remove_kept : (lines : List LogicalChannel) (calls after : List LiveCall) (next : ℕ) (world : World) (number : ℕ)
     → world_kept lines calls next ≡ world → after ≡ filter (λ call. not (eqb call.number number)) calls

@@ -117,13 +117,13 @@ module _ {A : Type 0} where
       let P : World → List Record → Type 0 = λ w records. Tallies world w records in
       let Q : World → Type 0 = λ w. P w entry.records.items in
       subst Q (sym step.leads) (subst (P (all_changed step.changes world)) (sym step.records) (
-          let R : List (Change A) → Type 0 = λ changes. P (all_changed changes world) (recorded_by world changes) in
-          elim (step_shape tables before world entry next right.coupled step) [
-            | none is old ↦ subst R (sym is) (tallies_same world world refl (λ number. refl))
-            | one change is can from ↦
-                let tallies = changed_tallies world change right.sound.fresh can in
-                subst R (sym is) (subst (P (changed change world)) (sym (append-nil (recorded world change))) tallies)
-          ]))
+      let R : List (Change A) → Type 0 = λ changes. P (all_changed changes world) (recorded_by world changes) in
+      elim (step_shape tables before world entry next right.coupled step) [
+        | none is old ↦ subst R (sym is) (tallies_same world world refl (λ number. refl))
+        | one change is can from ↦
+            let tallies = changed_tallies world change right.sound.fresh can in
+            subst R (sym is) (subst (P (changed change world)) (sym (append-nil (recorded world change))) tallies)
+      ]))
 
   -- this live call was begun at a moment of the history
   pub record IsBegun (tables : Tables) (history : List (Entry A)) (number : ℕ) (call : Call) : Type 0 where

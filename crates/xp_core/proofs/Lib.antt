@@ -2,6 +2,7 @@ pub mod Cells
 pub mod Counts
 pub mod Coupled
 pub mod Endings
+pub mod Existence
 pub mod Fitting
 pub mod Idle
 pub mod InCall
@@ -9,6 +10,7 @@ pub mod Kept
 pub mod Ledger
 pub mod Lines
 pub mod Maps
+pub mod Names
 pub mod Outcomes
 pub mod RunLemmas
 pub mod Searches

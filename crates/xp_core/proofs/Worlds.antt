@@ -38,8 +38,8 @@ module _ {A : Type 0} where
       → next ≡ world_next tables before world entry
   step_next tables before world entry next step =
       step.leads ∙ ap (λ changes. all_changed changes world) (step.acts
-          ∙ does_same (setting tables before world entry.event.line) entry.event.what (action_at world entry.event) step.choice entry.taken entry.records.items
-              step.chosen step.taken (step.records ∙ ap (recorded_by world) step.acts))
+      ∙ does_same (setting tables before world entry.event.line) entry.event.what (action_at world entry.event) step.choice entry.taken entry.records.items
+      step.chosen step.taken (step.records ∙ ap (recorded_by world) step.acts))
 
   pub run_from_world : (tables : Tables) (before : List (Entry A)) (world : World) (entries : List (Entry A)) (last : World)
       → RunFrom tables before world entries last → last ≡ world_from tables before world entries

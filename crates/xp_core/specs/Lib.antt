@@ -7,7 +7,9 @@ pub mod Coupling
 pub mod Decision
 pub mod Determined
 pub mod Exchange
+pub mod Existence
 pub mod Kept
+pub mod Named
 pub mod Packets
 pub mod Plan
 pub mod Records

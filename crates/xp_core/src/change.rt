@@ -16,9 +16,14 @@ pub enum Way {
 #[derive(Debug, Drop, PartialEq)]
 pub enum Change {
     /// A line comes into service.
-    Rise { line: LineNo },
+    Rise {
+        line: LineNo,
+    },
     /// A line in no call comes to another state of no call.
-    Leave { line: LineNo, way: Way },
+    Leave {
+        line: LineNo,
+        way: Way,
+    },
     /// A call begins, under the identifier of its request.
     Begin {
         caller: LineNo,
@@ -27,7 +32,10 @@ pub enum Change {
         dialled: Digits,
     },
     /// A call is refused: it uses its number, and its line is cleared.
-    Refuse { line: LineNo, identifier: u16 },
+    Refuse {
+        line: LineNo,
+        identifier: u16,
+    },
     /// A call is accepted.
     Connect {
         number: u64,

@@ -242,13 +242,14 @@ impl<A: Allocator> Machine<A> {
         ensures ok { OnOk result (self.new ≡ record self.old { calls = finite.insert self.old.calls self.old.next (record { caller = caller; called = called; dialled = dialled }); next = self.old.next + 1 }) }
         ensures err { OnErr result (self.new ≡ self.old) }
     {
+        let number = self.next;
         self.calls.push(LiveCall {
-            number: self.next,
+            number,
             caller,
             called,
             dialled,
         })?;
-        self.next += 1;
+        self.next = number + 1;
         Ok(())
     }
 
@@ -267,11 +268,7 @@ fn numbered(calls: &[LiveCall], number: u64) -> Option<&LiveCall>
     calls.iter().find(|call| call.number == number)
 }
 
-fn set_line<A: Allocator>(
-    lines: &mut Vec<LogicalChannel, A>,
-    line: LineNo,
-    becomes: LogicalChannel,
-)
+fn set_line<A: Allocator>(lines: &mut Vec<LogicalChannel, A>, line: LineNo, becomes: LogicalChannel)
     ensures { lines.new.items ≡ slice_set lines.old.items line becomes }
 {
     if let Some(channel) = lines.get_mut(usize::from(line)) {

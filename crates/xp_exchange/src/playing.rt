@@ -2,7 +2,7 @@
 
 ghost use Rattle.std.specs.Prelude.{◌≡◌, ◌+◌, ◌<◌, ◌^◌, ℕ, List, [], ◌∷◌, All, IfOk, OnOk, length};
 ghost use Rattle.std.specs.Io.KnownBytes.{Appends};
-ghost use Rattle.xp_core.specs.Exchange.{IsReadable};
+ghost use Rattle.xp_core.specs.Exchange.{IsReadable, world_of};
 ghost use Rattle.xp_exchange.specs.Play.{Plays, is_off_at};
 ghost use Rattle.xp_exchange.specs.Playing.{Played};
 ghost use Rattle.xp_script.specs.Command.{HasLine};

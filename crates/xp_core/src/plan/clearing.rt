@@ -35,9 +35,7 @@ fn leave<A: Allocator>(
     let outputs = tell(machine, line, way, Buffer::with_room(alloc, 2)?);
     match machine.call_on(line) {
         None => Ok(Plan::of(outputs).changing(Change::Leave { line, way })),
-        Some(call) => Ok(end_call(
-            machine, call, line, way, cause, diagnostic, outputs,
-        )),
+        Some(call) => Ok(end_call(machine, call, line, way, cause, diagnostic, outputs)),
     }
 }
 
@@ -68,12 +66,7 @@ fn end_call<A: Allocator>(
 }
 
 /// What the line itself is told as it leaves its call.
-fn tell<A: Allocator>(
-    machine: &Machine<A>,
-    line: LineNo,
-    way: Way,
-    outputs: Buffer<A>,
-) -> Buffer<A>
+fn tell<A: Allocator>(machine: &Machine<A>, line: LineNo, way: Way, outputs: Buffer<A>) -> Buffer<A>
     requires { 1 < outputs.room }
     ensures outputs { result.outputs ≡ outputs.outputs ++ told_on_way machine.now line (way_of way) }
     ensures room { 0 < result.room }

@@ -104,10 +104,11 @@ fn clear_in<A: Allocator>(what: &What<A>) -> Option<(u8, Option<u8>)>
 {
     match what {
         What::Frame {
-            packet:
-                Packet::Clear {
-                    cause, diagnostic, ..
-                },
+            packet: Packet::Clear {
+                cause,
+                diagnostic,
+                ..
+            },
             ..
         } => Some((*cause, *diagnostic)),
         _ => None,
