@@ -130,8 +130,8 @@ pub fn block<A: Allocator + Copy>(alloc: A, call: &Call) -> Result<Block<A>, All
     Ok(Block {
         called: digits(call.to),
         calling: Digits::new(),
-        facilities: Octets::from_vec(facilities),
-        user: Octets::from_vec(user),
+        facilities: Octets::from_vec(facilities)?,
+        user: Octets::from_vec(user)?,
     })
 }
 
