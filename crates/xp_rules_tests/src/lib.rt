@@ -2,7 +2,13 @@
 #![tactic(auto)]
 
 #[cfg(test)]
+mod decide;
+#[cfg(test)]
 mod file;
+#[cfg(test)]
+mod groups;
+#[cfg(test)]
+mod hunt;
 #[cfg(test)]
 mod subs;
 #[cfg(test)]
