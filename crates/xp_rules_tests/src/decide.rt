@@ -54,17 +54,6 @@ pub const USUAL: Call = Call {
     wanted: Ok((B1, USUALLY_TOLD, None)),
 };
 
-/// An address as a person writes it.
-fn digits(text: &str) -> Digits {
-    let mut digits = Digits::new();
-    for octet in text.as_bytes() {
-        if octet.is_ascii_digit() && digits.len() < Digits::MOST {
-            digits.push(*octet - b'0');
-        }
-    }
-    digits
-}
-
 /// Asserts that the table tells what becomes of the call; an error is want of memory.
 fn assert_decided<A: Allocator + Copy>(
     rt: &impl Abort,
@@ -75,10 +64,10 @@ fn assert_decided<A: Allocator + Copy>(
     let mut user = Vec::new(alloc);
     user.resize(call.user, 0x41)?;
     let block = Block {
-        called: digits(call.to),
+        called: Digits::from_text(call.to).unwrap_or_default(),
         calling: Digits::new(),
-        facilities: Octets::from_vec(Vec::from_slice(alloc, call.facilities)?),
-        user: Octets::from_vec(user),
+        facilities: Octets::from_slice(alloc, call.facilities)?,
+        user: Octets::from_vec(user)?,
     };
     assert!(rt; usize::from(call.from) < subs.counts().lines);
     match decide(alloc, subs, &Known(call.states), call.from, &block)? {

@@ -121,7 +121,8 @@ fn answered(caller: &Station, selection: Selection, called: &Station) -> Told {
 
 #[test]
 fn calls_between_stations(rt: HostRuntime) -> Result<(), Fail> {
-    for (calling, selection, called, told) in &CALLS {
+    for call in &CALLS {
+        let (calling, selection, called, told) = *call;
         let text = format!(in rt.alloc();
             "[[station]]\naddress = '1'\nline = [{{ name = 'a', port = 1 }}]\n{}\n{}\n\
              [[station]]\naddress = '2'\nline = [{{ name = 'b', port = 2 }}]\n{}\n{}\n",

@@ -36,7 +36,8 @@ static HUNTS: [([LineState; 3], &[LineNo], Picked); 10] = [
 
 #[test]
 fn hunting(rt: HostRuntime) {
-    for (states, group, found) in &HUNTS {
+    for hunt in &HUNTS {
+        let (states, group, found) = *hunt;
         assert_eq!(rt; pick(group, &Known(&states)), found, "{states:?} {group:?}");
     }
 }
