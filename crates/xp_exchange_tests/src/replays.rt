@@ -81,7 +81,11 @@ fn from_source(
     let replayed = replayed(alloc, &mut source, &mut text)?;
     assert_eq!(rt; replayed.ended, expected.0, "at {before}");
     assert_eq!(rt; entries(&replayed.core).len(), expected.1, "at {before}");
-    let told = if expected.1 == 3 { INCOMING } else { b"".as_slice() };
+    let told = if expected.1 == 3 {
+        INCOMING
+    } else {
+        b"".as_slice()
+    };
     assert_eq!(rt; text.as_slice(), told, "at {before}");
     Ok(())
 }

@@ -73,38 +73,34 @@ fn shown<A: Allocator + Copy>(core: &Core<A>) -> (LineView, LineView, usize, usi
     )
 }
 
-/// Hands an event in. Where that is refused for memory nothing has changed, and the event that comes back is taken.
+/// Hands an event in. Where that is refused for memory nothing has changed, and it is handed in again.
 fn offer_again<A: Allocator + Copy>(
     rt: &impl Abort,
     core: &mut Core<A>,
-    event: Event<A>,
-) -> Option<Stepped<A>>
-    requires { IsReadable event.what }
-{
+    ample: A,
+    line: LineNo,
+    packet: &[u8],
+) -> Result<Option<Stepped<A>>, PacketFault> {
     let before = shown(core);
+    let event = event_of(ample, line, packet)?;
     match offer(rt, core, event) {
-        Ok(told) => Some(told),
-        Err(StepFault::JournalFull(_)) => None,
-        Err(StepFault::Memory(event)) => {
+        Ok(told) => Ok(Some(told)),
+        Err(StepFault::JournalFull(_)) => Ok(None),
+        Err(StepFault::Memory(_)) => {
             assert_eq!(rt; shown(core), before);
-            offer(rt, core, event).ok()
+            let event = event_of(ample, line, packet)?;
+            Ok(offer(rt, core, event).ok())
         }
     }
 }
 
 /// Plays the call with scarce memory.
-fn play<A: Allocator + Copy>(
-    rt: &impl Abort,
-    subs: Subs,
-    ample: A,
-    scarce: A,
-) -> Result<(), Fail> {
+fn play<A: Allocator + Copy>(rt: &impl Abort, subs: Subs, ample: A, scarce: A) -> Result<(), Fail> {
     let Ok(mut core) = Core::new(scarce, subs) else {
         return Ok(());
     };
     for (at, (line, packet, outputs)) in CALL.iter().enumerate() {
-        let event = event_of(ample, *line, packet)?;
-        let told = offer_again(rt, &mut core, event).ok_or("a second refusal")?;
+        let told = offer_again(rt, &mut core, ample, *line, packet)?.ok_or("a second refusal")?;
         assert_eq!(rt; told.entry, at as u64 + 1);
         assert_eq!(rt; told.outputs.as_slice().len(), *outputs, "entry {at}");
     }

@@ -1,7 +1,7 @@
 //! One run of a row.
 
 use crate::row::Row;
-use std::alloc::{AllocError, Allocator};
+use std::alloc::Allocator;
 use std::fs;
 use std::rt::Files;
 use xp_exchange::ReplayFault;
@@ -33,11 +33,7 @@ impl Outcome {
 }
 
 /// Does what the row asks for, with memory for the exchange from this allocator.
-pub fn run<R: AllocGlobal + Files, A: Allocator + Copy>(
-    rt: &R,
-    row: &Row,
-    memory: A,
-) -> Outcome {
+pub fn run<R: AllocGlobal + Files, A: Allocator + Copy>(rt: &R, row: &Row, memory: A) -> Outcome {
     let mut text = Vec::new(rt.alloc());
     let ended = match subscriptions(rt.alloc(), fs::read_to_string(rt, row.file.as_str())) {
         Ok(subs) => perform(memory, row.task, subs, row.script.as_slice(), &mut text),

@@ -8,7 +8,7 @@ ghost use Rattle.xp_tasks.specs.Failures.{Tells};
 ghost use Rattle.xp_tasks.specs.SetUp.{SetsUp, set_up_text};
 ghost use Rattle.xp_tasks.specs.declared.failure.TaskFailure.TheVariants.{Output};
 ghost use Rattle.xp_tasks.specs.declared.task.Task.TheVariants.{Check, Replay};
-ghost use Rattle.xp_exchange.specs.Serial.{Replays};
+ghost use Rattle.xp_exchange.specs.Serial.{ReplaysAlone};
 ghost use Rattle.xp_exchange.specs.declared.fault.ReplayFault.{ReplayFault as Fault};
 
 use crate::failure::TaskFailure;
@@ -49,7 +49,7 @@ pub fn perform<A: Allocator + Copy, R: Read + Drop, W: Write>(
 ) -> Result<(), TaskFailure>
     ensures checked { task ≡ Check → OnOk result (Appends (W.contents writer.old) (W.contents writer.new) (set_up_text subs ++ codes "\n")) }
     ensures refused { task ≡ Check → IfErr result (λ failure. failure ≡ Output) }
-    ensures replayed { task ≡ Replay → IfSome (R.remaining reader) (λ script. (text : List ℕ) × Appends (W.contents writer.old) (W.contents writer.new) text × (ended : Result (Unit {0}) Fault) × Replays A subs script ended text × Tells ended result) }
+    ensures replayed { task ≡ Replay → IfSome (R.remaining reader) (λ script. (text : List ℕ) × Appends (W.contents writer.old) (W.contents writer.new) text × (ended : Result (Unit {0}) Fault) × ReplaysAlone A subs script ended text × Tells ended result) }
 {
     match task {
         Task::Check => check(&subs, writer),
@@ -73,7 +73,7 @@ fn replay_script<A: Allocator + Copy, R: Read + Drop, W: Write>(
     reader: R,
     writer: &mut W,
 ) -> Result<(), TaskFailure>
-    ensures { IfSome (R.remaining reader) (λ script. (text : List ℕ) × Appends (W.contents writer.old) (W.contents writer.new) text × (ended : Result (Unit {0}) Fault) × Replays A subs script ended text × Tells ended result) }
+    ensures { IfSome (R.remaining reader) (λ script. (text : List ℕ) × Appends (W.contents writer.old) (W.contents writer.new) text × (ended : Result (Unit {0}) Fault) × ReplaysAlone A subs script ended text × Tells ended result) }
 {
     let ended = replay(alloc, subs, reader, writer);
     hand_on(writer)?;
