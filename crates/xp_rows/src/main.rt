@@ -28,9 +28,10 @@ fn main(rt: HostRuntime) -> ExitCode {
 /// Tries all rows, in the order of their names.
 fn try_all<R: AllocGlobal + Files + Clone + Drop + Print>(rt: &R) -> io::Result<()> {
     for name in row_names(rt)? {
-        let row = Row::read(rt, &name)?;
-        let verdict = verdict_on(rt, &row)?;
-        println!(rt; "{name}: {verdict}")?;
+        match Row::read(rt, &name) {
+            Ok(row) => println!(rt; "{name}: {}", verdict_on(rt, &row)?)?,
+            Err(error) => println!(rt; "{name}: {error}")?,
+        }
     }
     Ok(())
 }

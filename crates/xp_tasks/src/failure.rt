@@ -36,7 +36,8 @@ impl TaskFailure {
         match self {
             TaskFailure::Replay(ReplayFault::Script(_)) => 2,
             TaskFailure::File | TaskFailure::Subscriptions(_) => 3,
-            TaskFailure::Memory | TaskFailure::Replay(ReplayFault::Journal | ReplayFault::Memory) => 4,
+            TaskFailure::Memory | TaskFailure::Replay(ReplayFault::Journal | ReplayFault::Memory) =>
+                4,
             TaskFailure::Output | TaskFailure::Replay(ReplayFault::Read | ReplayFault::Write) => 5,
         }
     }
