@@ -1,0 +1,5 @@
+//! Tests of the crates that hold the rules.
+#![tactic(auto)]
+
+#[cfg(test)]
+mod channel;
