@@ -3,3 +3,5 @@
 
 #[cfg(test)]
 mod channel;
+#[cfg(test)]
+mod charge;
