@@ -4,6 +4,7 @@ ghost use Rattle.xp_channel.specs.declared.kind.Kind.TheVariants.{Clear, Wrong};
 
 use crate::action::Action;
 use crate::kind::Kind;
+use xp_causes::diagnostic::{INVALID_IN_P1, INVALID_IN_P2, INVALID_IN_P3, INVALID_IN_P4};
 
 /// The state of a line's logical channel (X.25 Annex B).
 #[derive(Clone, Copy, Debug, Default, PartialEq, Eq)]
@@ -94,16 +95,16 @@ impl Channel {
         }
     }
 
-    // A packet that the state does not allow: packet type invalid for state p1 to p4 (X.25 Annex E).
+    // A packet that the state does not allow.
     fn out_of_place(self) -> Action
         ensures { result ≡ invalid self }
     {
         match self {
             Channel::Off | Channel::P7 => Action::Nothing,
-            Channel::P1 => Action::Error(20),
-            Channel::P2 => Action::Error(21),
-            Channel::P3 => Action::Error(22),
-            Channel::P4 => Action::Error(23),
+            Channel::P1 => Action::Error(INVALID_IN_P1),
+            Channel::P2 => Action::Error(INVALID_IN_P2),
+            Channel::P3 => Action::Error(INVALID_IN_P3),
+            Channel::P4 => Action::Error(INVALID_IN_P4),
         }
     }
 
