@@ -2,6 +2,10 @@
 #![tactic(auto)]
 
 #[cfg(test)]
+mod channel;
+#[cfg(test)]
+mod charge;
+#[cfg(test)]
 mod decide;
 #[cfg(test)]
 mod file;
