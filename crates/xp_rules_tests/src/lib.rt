@@ -2,8 +2,6 @@
 #![tactic(auto)]
 
 #[cfg(test)]
-mod channel;
-#[cfg(test)]
 mod charge;
 #[cfg(test)]
 mod decide;
