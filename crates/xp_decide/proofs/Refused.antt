@@ -1,10 +1,9 @@
 -- A refusal for want of a line comes from an address without an idle line.
 use Rattle.std.proofs.Common.{◌≡◌, ℕ, Err, inl, inr, sym, ◌∙◌, ap, subst}
 use Rattle.xp_groups.proofs.Causes.{IsGroupCause, intent_cause, admission_cause}
-use Rattle.xp_groups.specs.declared.refusal.Cause.{Cause}
-use Rattle.xp_groups.specs.declared.refusal.Cause.TheVariants as causes
-use Rattle.xp_groups.specs.declared.refusal.Refusal.{Refusal}
-use Rattle.xp_groups.specs.declared.refusal.TheConstants.Refusal.{TOO_MANY_REDIRECTIONS}
+use Rattle.xp_causes.specs.declared.clearing_cause.TheConstants as causes
+use Rattle.xp_causes.specs.declared.refusal.Refusal.{Refusal}
+use Rattle.xp_causes.specs.declared.refusal.TheConstants.Refusal.{TOO_MANY_REDIRECTIONS}
 use Rattle.xp_hunt.specs.Picks.{HasNoneIdle}
 use Rattle.xp_hunt.specs.declared.lines.LineState.{LineState}
 use Rattle.xp_packets.specs.declared.block.Block.{Block}
@@ -26,9 +25,9 @@ use Rattle.xp_decide.specs.declared.request.Request.{Request}
 use Rattle.xp_decide.specs.declared.verdict.Verdict.TheVariants.{Refuse}
 
 -- a cause of another kind
-pub record IsOther (cause : Cause) : Type 0 where
-  pub not_off : cause ≡ causes.OutOfOrder → ⊥
-  pub not_busy : cause ≡ causes.NumberBusy → ⊥
+pub record IsOther (cause : ℕ) : Type 0 where
+  pub not_off : cause ≡ causes.OUT_OF_ORDER → ⊥
+  pub not_busy : cause ≡ causes.NUMBER_BUSY → ⊥
 
 other : (refusal : Refusal) → IsWantOfLine refusal → IsOther refusal.cause → ⊥
 other refusal (inl is) others = others.not_off (ap (λ (r : Refusal). r.cause) is)
@@ -39,7 +38,7 @@ cause_is refusal named is others =
     let same = ap (λ (r : Refusal). r.cause) is in
     record { not_off = λ h. others.not_off (sym same ∙ h); not_busy = λ h. others.not_busy (sym same ∙ h) }
 
-group_other : (cause : Cause) → IsGroupCause cause → IsOther cause
+group_other : (cause : ℕ) → IsGroupCause cause → IsOther cause
 group_other cause (inl is) = record { not_off = λ h. cc; not_busy = λ h. cc }
 group_other cause (inr is) = record { not_off = λ h. cc; not_busy = λ h. cc }
 

@@ -1,8 +1,8 @@
 -- What follows from the decision of a call request.
 use Rattle.std.specs.Prelude.{◌≡◌, ◌≢◌, ℕ, ◌<◌, ◌≤◌, List, length, Some, ◌⊎◌}
 use Rattle.xp_groups.specs.MayJoin.{MayJoin}
-use Rattle.xp_groups.specs.declared.refusal.Refusal.{Refusal}
-use Rattle.xp_groups.specs.declared.refusal.TheConstants.Refusal.{OUT_OF_ORDER, NUMBER_BUSY}
+use Rattle.xp_causes.specs.declared.refusal.Refusal.{Refusal}
+use Rattle.xp_causes.specs.declared.refusal.TheConstants.Refusal.{OUT_OF_ORDER, NUMBER_BUSY}
 use Rattle.xp_hunt.specs.Picks.{HasNoneIdle}
 use Rattle.xp_hunt.specs.declared.lines.LineState.{LineState}
 use Rattle.xp_hunt.specs.declared.lines.LineState.TheVariants.{Idle}

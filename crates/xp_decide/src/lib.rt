@@ -18,6 +18,3 @@ pub use laws::{
     taken_stations_may_join,
 };
 pub use verdict::{Ring, Verdict};
-
-#[cfg(test)]
-mod tests;

@@ -31,8 +31,8 @@ fn nothing<A: Allocator>(alloc: A) -> Told<A> {
     }
 }
 
-fn octets<A: Allocator>(alloc: A, octets: &[u8]) -> Result<Octets<A>, AllocError> {
-    Ok(Octets::from_vec(Vec::from_slice(alloc, octets)?))
+fn octets<A: Allocator + Copy>(alloc: A, octets: &[u8]) -> Result<Octets<A>, AllocError> {
+    Octets::from_slice(alloc, octets)
 }
 
 fn pair(from_called: u8, from_calling: u8) -> Option<Pair> {
@@ -367,7 +367,7 @@ fn values_out_of_range(rt: HostRuntime) -> Result<(), Fail> {
     let mut long = Vec::from_slice(alloc, &[0xc9, 79])?;
     long.extend_from_slice(&[0x41; 79])?;
     let mut values = nothing(alloc);
-    values.dte = Octets::from_vec(long);
+    values.dte = Octets::from_vec(long)?;
     untold(&rt, alloc, &values, FacilityFault::Param);
     Ok(())
 }

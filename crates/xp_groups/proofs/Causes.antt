@@ -1,20 +1,19 @@
 -- Which refusals groups give.
-use Rattle.std.proofs.Common.{◌≡◌, Result, Err, ◌⊎◌, inl, inr, ap}
+use Rattle.std.proofs.Common.{◌≡◌, ℕ, Result, Err, ◌⊎◌, inl, inr, ap}
 use Rattle.xp_facilities.specs.declared.selection.Selection.{Selection}
 use Rattle.xp_subs.specs.declared.station.Station.{Station}
 use Rattle.xp_groups.specs.declared.intention.Intent.{Intent}
-use Rattle.xp_groups.specs.declared.refusal.Cause.{Cause}
-use Rattle.xp_groups.specs.declared.refusal.Cause.TheVariants.{AccessBarred, InvalidFacilityRequest}
-use Rattle.xp_groups.specs.declared.refusal.Refusal.{Refusal}
-use Rattle.xp_groups.specs.declared.refusal.TheConstants.Refusal.{ACCESS_BARRED, GROUP_NOT_KNOWN, FACILITY_NOT_ALLOWED}
+use Rattle.xp_causes.specs.declared.clearing_cause.TheConstants as clearing
+use Rattle.xp_causes.specs.declared.refusal.Refusal.{Refusal}
+use Rattle.xp_causes.specs.declared.refusal.TheConstants.Refusal.{ACCESS_BARRED, GROUP_NOT_KNOWN, FACILITY_NOT_ALLOWED}
 use Rattle.xp_groups.specs.Intends.{Intends}
 use Rattle.xp_groups.specs.Intends as intends
 use Rattle.xp_groups.specs.Admits.{Admits}
 use Rattle.xp_groups.specs.Admits as admits
 
 -- access barred, or a facility not allowed
-abbrev pub IsGroupCause : Cause → Type 0
-IsGroupCause cause = (cause ≡ AccessBarred) ⊎ (cause ≡ InvalidFacilityRequest)
+abbrev pub IsGroupCause : ℕ → Type 0
+IsGroupCause cause = (cause ≡ clearing.ACCESS_BARRED) ⊎ (cause ≡ clearing.INVALID_FACILITY_REQUEST)
 
 same : {X : Type 0} (one other : Refusal) → ◌≡◌ {A = Result X Refusal} (Err one) (Err other) → one.cause ≡ other.cause
 same one other e = let is : one ≡ other = cc in ap (λ (r : Refusal). r.cause) is

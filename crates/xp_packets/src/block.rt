@@ -9,7 +9,7 @@ ghost use Rattle.xp_packets.specs.Writing.{written_block, written_option};
 use crate::address::{addresses_of, push_addresses};
 use crate::digits::Digits;
 use crate::fault::{PacketFault, Wrong};
-use crate::octets::{Octets, octets_of};
+use crate::octets::Octets;
 use std::alloc::{AllocError, Allocator, Global};
 
 /// Octets of facilities (clause 5.2.2).
@@ -51,8 +51,8 @@ pub(crate) fn block_of<A: Allocator + Copy>(
             let calling = usize::from(*lengths >> 4);
             let (called, calling, rest) = addresses_of(called, calling, rest)?;
             let (facilities, user) = fields_of(rest, most)?;
-            let facilities = octets_of(alloc, facilities)?;
-            let user = octets_of(alloc, user)?;
+            let facilities = Octets::from_slice(alloc, facilities)?;
+            let user = Octets::from_slice(alloc, user)?;
             Ok(Block {
                 called,
                 calling,

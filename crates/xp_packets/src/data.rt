@@ -6,7 +6,7 @@ ghost use Rattle.xp_packets.specs.Reading.{Gives, data_at};
 use crate::fault::{PacketFault, Wrong};
 use crate::header::Header;
 use crate::numbers::{has_more, received_number, sent_number};
-use crate::octets::octets_of;
+use crate::octets::Octets;
 use crate::packet::Packet;
 use std::alloc::Allocator;
 
@@ -15,7 +15,7 @@ pub(crate) const MOST_DATA: usize = 1024;
 
 /// Reads what stands after the type of a data packet; the type octet has the numbers.
 #[tactic(auto, unfolding(crate::specs::Reading::data_at))]
-pub(crate) fn data_of<A: Allocator>(
+pub(crate) fn data_of<A: Allocator + Copy>(
     alloc: A,
     header: &Header,
     rest: &[u8],
@@ -25,7 +25,7 @@ pub(crate) fn data_of<A: Allocator>(
     if rest.len() > MOST_DATA {
         return Err(Wrong::Long.into());
     }
-    let octets = octets_of(alloc, rest)?;
+    let octets = Octets::from_slice(alloc, rest)?;
     Ok(Packet::DataPacket {
         q: header.q,
         d: header.d,

@@ -4,7 +4,7 @@ ghost use Rattle.std.specs.Prelude.{◌≡◌};
 ghost use Rattle.xp_packets.specs.Reading.{Gives, interrupt_at};
 
 use crate::fault::{PacketFault, Wrong};
-use crate::octets::octets_of;
+use crate::octets::Octets;
 use crate::packet::Packet;
 use std::alloc::Allocator;
 
@@ -13,7 +13,10 @@ pub(crate) const MOST_INTERRUPT: usize = 32;
 
 /// Reads what stands after the type of an interrupt.
 #[tactic(auto, unfolding(crate::specs::Reading::interrupt_at))]
-pub(crate) fn interrupt_of<A: Allocator>(alloc: A, rest: &[u8]) -> Result<Packet<A>, PacketFault>
+pub(crate) fn interrupt_of<A: Allocator + Copy>(
+    alloc: A,
+    rest: &[u8],
+) -> Result<Packet<A>, PacketFault>
     ensures { Gives (λ x. x) result (interrupt_at rest.now) }
 {
     match rest {
@@ -22,7 +25,7 @@ pub(crate) fn interrupt_of<A: Allocator>(alloc: A, rest: &[u8]) -> Result<Packet
             if rest.len() > MOST_INTERRUPT {
                 return Err(Wrong::Long.into());
             }
-            let octets = octets_of(alloc, rest)?;
+            let octets = Octets::from_slice(alloc, rest)?;
             Ok(Packet::Interrupt { octets })
         }
     }

@@ -80,8 +80,8 @@ pub fn call_request<A: Allocator + Copy>(
     let block = Block {
         called: digits(asked.to),
         calling: Digits::new(),
-        facilities: Octets::from_vec(Vec::from_slice(alloc, asked.facilities)?),
-        user: Octets::from_vec(vec![in alloc; 0u8; asked.user]?),
+        facilities: Octets::from_slice(alloc, asked.facilities)?,
+        user: Octets::from_vec(vec![in alloc; 0u8; asked.user]?)?,
     };
     Ok(frame(Packet::Call { d: false, block }))
 }

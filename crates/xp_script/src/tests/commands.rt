@@ -17,7 +17,7 @@ fn is_faulty(alloc: Global, line: &[u8]) -> Result<bool, Fail> {
 /// Octets that come in on a line.
 fn octets_in(alloc: Global, line: LineNo, octets: &[u8]) -> Result<Command, AllocError> {
     let octets = Vec::from_slice(alloc, octets)?;
-    Ok(Command::In(line, Octets::from_vec(octets)))
+    Ok(Command::In(line, Octets::from_vec(octets)?))
 }
 
 /// A line of so many octets: these, and then the last again and again.
