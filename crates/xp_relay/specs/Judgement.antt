@@ -3,7 +3,7 @@ use Rattle.std.specs.Prelude.{ℕ, ◌^◌, ◌==◌, nat_lt, Bool, not, ◌&&�
 use Rattle.xp_relay.specs.declared.judged.Judged.{Judged}
 use Rattle.xp_relay.specs.declared.judged.Judged.TheVariants.{Accept, Discard, Reset}
 use Rattle.xp_relay.specs.declared.terms.Way.{Way}
-use Rattle.xp_relay.specs.Causes.{INVALID_SENT_NUMBER, INVALID_RECEIVED_NUMBER, PACKET_TOO_LONG}
+use Rattle.xp_causes.specs.declared.diagnostic.TheConstants.{INVALID_SEND_NUMBER, INVALID_RECEIVE_NUMBER, PACKET_TOO_LONG}
 use Rattle.xp_relay.specs.Direction.{Direction, next_number, has_room, told}
 
 -- the packet size, in octets (X.25 clause 4.3.2)
@@ -19,7 +19,7 @@ is_awaited ps sent = ps == next_number sent && has_room sent
 abbrev pub judgement : {A : Type 0} → ℕ → ℕ → ℕ → Direction A → Direction A → Judged
 judgement ps pr octets sent received =
     if received.owes then Discard
-    else (if not (is_awaited ps sent) then Reset INVALID_SENT_NUMBER
-    else (if is_none (told pr received) then Reset INVALID_RECEIVED_NUMBER
+    else (if not (is_awaited ps sent) then Reset INVALID_SEND_NUMBER
+    else (if is_none (told pr received) then Reset INVALID_RECEIVE_NUMBER
     else (if nat_lt (most_octets sent.terms) octets then Reset PACKET_TOO_LONG
     else Accept)))

@@ -1,4 +1,3 @@
-pub mod Causes
 pub mod Terms
 pub mod Direction
 pub mod Judgement

@@ -1,5 +1,5 @@
 -- What each packet of one end does to the two directions of its call, and what is put out.
-use Rattle.std.specs.Prelude.{ℕ, ◌==◌, nat_le, Bool, true, false, not, ◌&&◌, ◌||◌, if◌then◌else◌, List, [], ◌∷◌, ◌++◌, length, Option, Some, None, unwrap_or}
+use Rattle.std.specs.Prelude.{ℕ, ◌==◌, nat_le, Bool, true, false, not, ◌&&◌, ◌||◌, if◌then◌else◌, List, [], ◌∷◌, ◌++◌, length, Option, Some, None}
 use Rattle.xp_packets.specs.declared.end.End.{End}
 use Rattle.xp_packets.specs.declared.packet.Packet.{Packet}
 use Rattle.xp_packets.specs.declared.packet.Packet.TheVariants.{Ready, NotReady, Interrupt, InterruptConfirm, Reset, ResetConfirm}
@@ -9,7 +9,9 @@ use Rattle.xp_relay.specs.declared.data.Interruption.TheVariants.{Idle, Held, Pu
 use Rattle.xp_relay.specs.declared.judged.Judged.{Judged}
 use Rattle.xp_relay.specs.declared.judged.Judged.TheVariants.{Accept, Discard, Reset as ResetWith}
 use Rattle.xp_relay.specs.declared.moves.Move.{Move}
-use Rattle.xp_relay.specs.Causes.{DTE_ORIGINATED, REMOTE_PROCEDURE_ERROR, LOCAL_PROCEDURE_ERROR, DTE_CAUSES, NO_ADDITIONAL_INFORMATION, INVALID_RECEIVED_NUMBER, INVALID_IN_FLOW_CONTROL_READY, REJECT_NOT_SUBSCRIBED, UNAUTHORIZED_INTERRUPT_CONFIRMATION, UNAUTHORIZED_INTERRUPT}
+use Rattle.xp_causes.specs.Told.{cause_told, diagnostic_told}
+use Rattle.xp_causes.specs.declared.diagnostic.TheConstants.{INVALID_RECEIVE_NUMBER, INVALID_IN_D1, REJECT_NOT_SUBSCRIBED, UNAUTHORIZED_INTERRUPT_CONFIRMATION, UNAUTHORIZED_INTERRUPT}
+use Rattle.xp_causes.specs.declared.resetting_cause.TheConstants.{REMOTE_PROCEDURE_ERROR, LOCAL_PROCEDURE_ERROR}
 use Rattle.xp_relay.specs.Direction.{Direction, far, to, received_number, told, is_open, release, released, emptied}
 use Rattle.xp_relay.specs.Judgement.{judgement}
 
@@ -22,10 +24,6 @@ pub record Turn (A : Type 0) : Type 0 where
 -- a reset indication (X.25 clause 4.4.3.2)
 abbrev pub indication : {A : Type 0} → End → ℕ → ℕ → Move A
 indication side cause diagnostic = to side (Reset cause (Some diagnostic))
-
--- a DTE's own cause goes on, any other is told as DTE originated (clause 5.4.3)
-abbrev pub indicated : ℕ → ℕ
-indicated cause = if nat_le DTE_CAUSES cause then cause else DTE_ORIGINATED
 
 -- an interrupt that waits
 abbrev pub held_interrupt : {A : Type 0} → Interruption A → Option (List ℕ)
@@ -108,7 +106,7 @@ module _ {A : Type 0} where
 
   -- RR or RNR whose P(R) stands for a count, or for none (clauses 4.4.1.3 to 4.4.1.5)
   abbrev pub flow_as : End → Bool → Option ℕ → Direction A → Direction A → Turn A
-  flow_as here ready None s r = failing here INVALID_RECEIVED_NUMBER s r
+  flow_as here ready None s r = failing here INVALID_RECEIVE_NUMBER s r
   flow_as here ready (Some count) s r = acknowledging here ready count s r
 
   -- RR or RNR
@@ -173,7 +171,7 @@ module _ {A : Type 0} where
   resetting here cause diagnostic s r = record {
     sent = emptied true s;
     received = emptied false r;
-    moves = to here ResetConfirm ∷ indicating here (indicated cause) diagnostic s;
+    moves = to here ResetConfirm ∷ indicating here (cause_told cause) diagnostic s;
   }
 
   -- the receiver owes nothing any more, and the interrupt that waited for that is on its way
@@ -195,9 +193,9 @@ module _ {A : Type 0} where
   abbrev pub reset : End → ℕ → Option ℕ → Direction A → Direction A → Turn A
   reset here cause diagnostic s r =
       if r.owes then settling here s r
-      else resetting here cause (unwrap_or diagnostic NO_ADDITIONAL_INFORMATION) s r
+      else resetting here cause (diagnostic_told diagnostic) s r
 
   -- a reset confirmation, lawful where this end owes it (clause 4.4.3.4)
   abbrev pub reset_confirm : End → Direction A → Direction A → Turn A
   reset_confirm here s r =
-      if r.owes then settling here s r else failing here INVALID_IN_FLOW_CONTROL_READY s r
+      if r.owes then settling here s r else failing here INVALID_IN_D1 s r

@@ -1,7 +1,6 @@
 //! What one call carries once it is set up: data, flow control, interrupts and resets (X.25 clauses 4.3 and 4.4).
 #![tactic(auto)]
 
-mod causes;
 mod data;
 mod judged;
 mod lane;

@@ -6,7 +6,6 @@ ghost use Rattle.xp_relay.specs.Judgement.{judgement, most_octets};
 ghost use Rattle.xp_relay.specs.Kept.{Ends, Shows};
 ghost use Rattle.xp_relay.specs.Turns.{accepting, carries};
 
-use crate::causes::{INVALID_RECEIVED_NUMBER, INVALID_SENT_NUMBER, PACKET_TOO_LONG};
 use crate::data::Data;
 use crate::judged::Judged;
 use crate::lane::Lane;
@@ -14,6 +13,7 @@ use crate::moves::Moves;
 use crate::turns::resetting::fail;
 use crate::turns::telling::{far, is_untold, telling};
 use std::alloc::Allocator;
+use xp_causes::diagnostic::{INVALID_RECEIVE_NUMBER, INVALID_SEND_NUMBER, PACKET_TOO_LONG};
 use xp_packets::End;
 
 /// What becomes of a data packet with these numbers and so many octets.
@@ -31,10 +31,10 @@ pub(crate) fn judge<A: Allocator>(
         return Judged::Discard;
     }
     if !(ps == sent.next_number() && sent.has_room()) {
-        return Judged::Reset(INVALID_SENT_NUMBER);
+        return Judged::Reset(INVALID_SEND_NUMBER);
     }
     if received.told(pr).is_none() {
-        return Judged::Reset(INVALID_RECEIVED_NUMBER);
+        return Judged::Reset(INVALID_RECEIVE_NUMBER);
     }
     if octets > sent.most_octets() {
         return Judged::Reset(PACKET_TOO_LONG);

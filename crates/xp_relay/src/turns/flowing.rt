@@ -5,12 +5,12 @@ ghost use Rattle.xp_relay.specs.Direction.{Direction};
 ghost use Rattle.xp_relay.specs.Kept.{Ends, Shows};
 ghost use Rattle.xp_relay.specs.Turns.{acknowledging, flow};
 
-use crate::causes::INVALID_RECEIVED_NUMBER;
 use crate::lane::Lane;
 use crate::moves::Moves;
 use crate::turns::resetting::fail;
 use crate::turns::telling::{is_news, telling};
 use std::alloc::Allocator;
+use xp_causes::diagnostic::INVALID_RECEIVE_NUMBER;
 use xp_packets::End;
 
 /// RR or RNR that acknowledges so many more.
@@ -54,6 +54,6 @@ pub(crate) fn flow<A: Allocator>(
     }
     match received.told(pr) {
         Some(more) => acknowledge(here, ready, more, sent, received, room),
-        None => fail(here, INVALID_RECEIVED_NUMBER, sent, received, room),
+        None => fail(here, INVALID_RECEIVE_NUMBER, sent, received, room),
     }
 }

@@ -5,13 +5,13 @@ ghost use Rattle.xp_relay.specs.Direction.{Direction};
 ghost use Rattle.xp_relay.specs.Kept.{Ends, Shows};
 ghost use Rattle.xp_relay.specs.Turns.{interrupt, interrupt_confirm, interrupting};
 
-use crate::causes::{UNAUTHORIZED_INTERRUPT, UNAUTHORIZED_INTERRUPT_CONFIRMATION};
 use crate::data::Interruption;
 use crate::lane::Lane;
 use crate::moves::{Move, Moves};
 use crate::turns::resetting::fail;
 use crate::turns::telling::far;
 use std::alloc::Allocator;
+use xp_causes::diagnostic::{UNAUTHORIZED_INTERRUPT, UNAUTHORIZED_INTERRUPT_CONFIRMATION};
 use xp_packets::{End, Octets, Packet};
 
 /// An interrupt that is lawful.

@@ -1,18 +1,17 @@
 //! Resets (X.25 clause 4.4.3).
 
-ghost use Rattle.std.specs.Prelude.{◌≡◌, ◌≤◌, [], unwrap_or};
+ghost use Rattle.std.specs.Prelude.{◌≡◌, ◌≤◌, []};
 ghost use Rattle.xp_relay.specs.Direction.{Direction};
 ghost use Rattle.xp_relay.specs.Kept.{Ends, Shows};
-ghost use Rattle.xp_relay.specs.Turns.{failing, indicated, reject, reset, reset_confirm, resetting, settling};
+ghost use Rattle.xp_relay.specs.Turns.{failing, reject, reset, reset_confirm, resetting, settling};
 
-use crate::causes::{
-    DTE_CAUSES, DTE_ORIGINATED, INVALID_IN_FLOW_CONTROL_READY, LOCAL_PROCEDURE_ERROR,
-    NO_ADDITIONAL_INFORMATION, REJECT_NOT_SUBSCRIBED, REMOTE_PROCEDURE_ERROR,
-};
 use crate::lane::Lane;
 use crate::moves::{Move, Moves};
 use crate::turns::telling::{indicating, indication, interrupts, telling_not_ready};
 use std::alloc::Allocator;
+use xp_causes::diagnostic::{INVALID_IN_D1, REJECT_NOT_SUBSCRIBED};
+use xp_causes::resetting_cause::{LOCAL_PROCEDURE_ERROR, REMOTE_PROCEDURE_ERROR};
+use xp_causes::{cause_told, diagnostic_told};
 use xp_packets::{End, Packet};
 
 /// A procedure error of this end resets the call.
@@ -34,17 +33,6 @@ pub(crate) fn fail<A: Allocator>(
         .with_some(told)
 }
 
-/// The cause that the far end is told of a reset request.
-fn indicated(cause: u8) -> u8
-    ensures { result ≡ indicated cause }
-{
-    if cause >= DTE_CAUSES {
-        cause
-    } else {
-        DTE_ORIGINATED
-    }
-}
-
 /// A reset request of an end that owes nothing.
 fn request<A: Allocator>(
     here: End,
@@ -58,7 +46,7 @@ fn request<A: Allocator>(
     requires space { 17 ≤ room.room }
     ensures { (s r : Direction A) → Shows sent.old s → Shows received.old r → Ends sent.new received.new result.moves (resetting here cause diagnostic s r) }
 {
-    let told = indicating(here, indicated(cause), diagnostic, sent);
+    let told = indicating(here, cause_told(cause), diagnostic, sent);
     sent.empty(true);
     received.empty(false);
     room.with(Move {
@@ -102,8 +90,14 @@ pub(crate) fn reset<A: Allocator>(
     if received.owes() {
         settle(here, sent, received, room)
     } else {
-        let diagnostic = diagnostic.unwrap_or(NO_ADDITIONAL_INFORMATION);
-        request(here, cause, diagnostic, sent, received, room)
+        request(
+            here,
+            cause,
+            diagnostic_told(diagnostic),
+            sent,
+            received,
+            room,
+        )
     }
 }
 
@@ -121,7 +115,7 @@ pub(crate) fn reset_confirm<A: Allocator>(
     if received.owes() {
         settle(here, sent, received, room)
     } else {
-        fail(here, INVALID_IN_FLOW_CONTROL_READY, sent, received, room)
+        fail(here, INVALID_IN_D1, sent, received, room)
     }
 }
 
