@@ -1,4 +1,4 @@
-ghost use Rattle.std.specs.Prelude.{◌≡◌, ◌^◌, ◌≤◌};
+ghost use Rattle.std.specs.Prelude.{◌≡◌, ◌≤◌, ◌↔◌, IsTrue};
 ghost use Rattle.xp_relay.specs.Terms.{IsWithinWay, IsWithinTerms, numbers, way_from};
 
 use xp_packets::End;
@@ -60,12 +60,24 @@ impl Modulus {
     }
 }
 
+impl Way {
+    /// Whether the sizes and windows are lawful.
+    fn is_within(self) -> bool
+        ensures { IsTrue result ↔ IsWithinWay self }
+    {
+        4 <= self.size
+            && self.size <= 10
+            && 1 <= self.window
+            && self.window <= 15
+            && self.window < self.sender.numbers()
+            && self.window < self.receiver.numbers()
+    }
+}
+
 impl Terms {
     /// The terms of what one end sends.
-    pub fn way_from(self, end: End) -> Way
-        requires { IsWithinTerms self }
-        ensures way { result ≡ way_from end self }
-        ensures within { IsWithinWay result }
+    fn way(self, end: End) -> Way
+        ensures { result ≡ way_from end self }
     {
         match end {
             End::Caller => Way {
@@ -81,5 +93,22 @@ impl Terms {
                 receiver: self.caller,
             },
         }
+    }
+
+    /// Whether sizes and windows are lawful: sizes of 4 to 10, windows of 1 to 7, or to 15 where both lines have long
+    /// numbers.
+    pub fn is_within(self) -> bool
+        ensures { IsTrue result ↔ IsWithinTerms self }
+    {
+        self.way(End::Caller).is_within() && self.way(End::Called).is_within()
+    }
+
+    /// The terms of what one end sends.
+    pub fn way_from(self, end: End) -> Way
+        requires { IsWithinTerms self }
+        ensures way { result ≡ way_from end self }
+        ensures within { IsWithinWay result }
+    {
+        self.way(end)
     }
 }

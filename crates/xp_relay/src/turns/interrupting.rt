@@ -27,7 +27,8 @@ fn put<A: Allocator>(
     ensures { (s r : Direction A) → Shows sent.old s → Shows received.old r → Ends sent.new received.new result.moves (interrupting here octets s r) }
 {
     let _ = received;
-    if sent.owes() {
+    let waits = sent.owes();
+    if waits {
         sent.set_interrupt(Interruption::Held(octets));
         room
     } else {
