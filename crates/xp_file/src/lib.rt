@@ -10,8 +10,6 @@ mod file;
 mod group_name;
 mod key;
 mod name;
-#[cfg(test)]
-mod tests;
 
 pub use entry::{Facilities, GroupColumns, LineColumns, Redirection, StationEntry};
 pub use fault::SubsFault;

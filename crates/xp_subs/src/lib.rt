@@ -9,8 +9,6 @@ mod read;
 mod station;
 mod subs;
 mod target;
-#[cfg(test)]
-mod tests;
 mod used;
 
 pub use line::Line;
