@@ -1,4 +1,6 @@
 pub mod Found
+pub mod OnceLemmas
+pub mod UsesLemmas
 pub mod TableLemmas
 pub mod UsedLemmas
 pub mod FitLemmas

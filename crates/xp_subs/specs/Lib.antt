@@ -4,3 +4,4 @@ pub mod Kept
 pub mod Passes
 pub mod Sound
 pub mod Tables
+pub mod Uses

@@ -15,7 +15,7 @@ pub use line::Line;
 pub use station::{Membership, Station};
 pub use subs::Subs;
 pub use target::{Counts, Target};
-pub use xp_file::{Key, LineName, Redirection, SubsFault};
+pub use xp_file::{Facilities, Key, Name, Redirection, SubsFault};
 
 /// The number of a line, from 0 in the file's order.
 pub type LineNo = u16;

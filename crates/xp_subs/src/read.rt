@@ -58,7 +58,7 @@ fn from_file(alloc: Global, file: File, uses: Uses) -> Result<Subs, AllocError>
     Ok(Subs {
         stations,
         lines,
-        groups: known.len(),
+        groups: known,
         segment_limit: file.segment_limit,
         journal: file.journal,
         host: file.host,
