@@ -342,6 +342,7 @@ impl File {
         ensures ok { IfOk result (λ file. file_in text.now ≡ Ok file) }
         ensures refused { IfErr result (λ fault. fault ≢ OutOfMemory → file_in text.now ≡ Err fault) }
         ensures some { IfOk result (λ file. 0 < length file.stations) }
+        ensures each { IfOk result (λ file. All IsStationEntry file.stations) }
         ensures limits { IfOk result (λ file. AreLimits file.segment_limit file.journal) }
     {
         match toml::table_from_str(alloc, text) {

@@ -1,8 +1,9 @@
 -- The stations and lines that are built: which line is whose, and what the indexes say of them.
-use Rattle.std.proofs.Common.{◌≡◌, ℕ, zero, suc, ◌+◌, ◌-◌, ◌<◌, ◌≤◌, List, [], ◌∷◌, ◌++◌, Bool, true, Option, None, Some, ◌⊎◌, inl, inr, Contains, All, IsTrue, Ok, length, map, get_or, refl, sym, ap, subst, ◌∙◌, arith, length-append}
+use Rattle.std.proofs.Common.{◌≡◌, ℕ, zero, suc, ◌+◌, ◌-◌, ◌<◌, ◌≤◌, List, [], ◌∷◌, ◌++◌, true, Option, None, Some, ◌⊎◌, inl, inr, Contains, All, IsTrue, Ok, length, map, get_or, refl, sym, ap, subst, ◌∙◌, arith, length-append}
 use Rattle.std.specs.Prelude.{position}
+use Rattle.std.specs.List.{list_all}
 use Rattle.std.specs.Map.{lookup}
-use Rattle.std.proofs.lemmas.Bool.{cases_lt}
+use Rattle.std.proofs.lemmas.Bool.{cases_lt, and_parts}
 use Rattle.std.proofs.lemmas.List.{get_or_append_left, get_or-append_right, length-map, map-append}
 use Rattle.std.proofs.lemmas.List.Elements.{All-head, All-tail, All-append, All-nil, All-cons}
 use Rattle.std.proofs.lemmas.List.Quantifiers.{position-Some}
@@ -15,16 +16,18 @@ use Rattle.xp_subs.specs.declared.line.Line.{Line}
 use Rattle.xp_subs.specs.declared.station.Membership.{Membership}
 use Rattle.xp_subs.specs.declared.station.Station.{Station}
 use Rattle.xp_subs.specs.declared.target.Target.{Target}
-use Rattle.xp_subs.specs.Built.{numbers, line_from, lines_of, lines_from, membership_from, memberships_of, station_from, stations_from, mentions, tables_of}
+use Rattle.xp_subs.specs.Built.{AreKnown, numbers, line_from, lines_of, lines_from, membership_from, memberships_of, station_from, stations_from, mentions, tables_of}
 use Rattle.xp_file.specs.File.{FileData}
 use Rattle.xp_subs.specs.declared.subs.Subs.TheInside.{Inside}
 use Rattle.xp_subs.specs.Kept.{tables, Keeps}
 use Rattle.xp_subs.specs.Fit.{IsFit, IsFitStation}
-use Rattle.xp_subs.specs.Passes.{Used, nothing_used, line_total, with_stations}
-use Rattle.xp_subs.specs.Sound.{IsSound, IsTarget, HasAddress, HasShortIndexes, IsPort, Lists}
-use Rattle.xp_subs.specs.Tables.{Tables, holds, no_line, no_station, station_at, line_at, station_of, target_of, line_named_of, has_address, whole_station, one_line, first_target, station_count, line_count, group_count}
+use Rattle.xp_subs.specs.Passes.{Used, nothing_used, line_total, with_stations, has_own_indexes}
+use Rattle.xp_subs.specs.Sound.{IsSound, IsTarget, HasAddress, HasShortIndexes, HasOwnGroups, IsPort, Lists}
+use Rattle.xp_subs.specs.Tables.{Tables, holds, no_line, no_station, station_at, line_at, station_of, target_of, line_named_of, has_address, whole_station, one_line, first_target, station_count, line_count}
 use Rattle.xp_subs.proofs.AgreeLemmas.{Agrees, Own, owns, no_own, lead}
 use Rattle.xp_subs.proofs.EntersLemmas.{own_list, name_list, station_addresses, all_names, all_owns, stations_agree}
+use Rattle.xp_subs.proofs.GroupLemmas.{mentions_once, all_known, own_groups}
+use Rattle.xp_subs.proofs.UsesLemmas.{all_once, line_ports_once}
 use Rattle.xp_subs.proofs.PositionLemmas.{position-map}
 use Rattle.xp_subs.proofs.TableLemmas.{same_is}
 use Rattle.xp_file.proofs.Choices.{none_is_some}
@@ -308,9 +311,19 @@ name_held tables n line found =
     let (within, here, _) = position-Some (λ (l : Line). same n l.name) tables.lines line no_line found in
     (within, sym (same_is n (line_at tables line).name here))
 
+all_own : (tables : Tables) (line : ℕ) (entries : List StationData) → All (AreKnown tables.groups) entries → list_all has_own_indexes entries ≡ true
+    → All (HasOwnGroups tables) (stations_from tables.groups line entries)
+all_own tables line [] known own = All-nil (HasOwnGroups tables)
+all_own tables line (entry ∷ entries) known own =
+    let both = and_parts (has_own_indexes entry) (list_all has_own_indexes entries) own in
+    All-cons (HasOwnGroups tables) (station_from tables.groups line entry) (stations_from tables.groups (line + length entry.lines) entries)
+    (own_groups tables line entry (All-head (AreKnown tables.groups) entry entries known) both.0)
+    (all_own tables (line + length entry.lines) entries (All-tail (AreKnown tables.groups) entry entries known) both.1)
+
 -- the facts of a file that is built
 module _ (file : FileData) (used : Used) (fit : IsFit file.stations) (some : 0 < length file.stations)
-    (limits : AreLimits file.segment_limit file.journal) (once : with_stations 0 0 file.stations nothing_used ≡ Ok used) where
+    (limits : AreLimits file.segment_limit file.journal) (once : with_stations 0 0 file.stations nothing_used ≡ Ok used)
+    (own : list_all has_own_indexes file.stations ≡ true) where
   entries : List StationData
   entries = file.stations
 
@@ -372,6 +385,11 @@ module _ (file : FileData) (used : Used) (fit : IsFit file.stations) (some : 0 <
       all_built {P = IsFitStation} HasShortIndexes (mentions [] file.stations) 0 file.stations
       (λ line entry is. short_indexes (mentions [] file.stations) entry.groups is.entry.groups) fit.each station no_station within
 
+  built_groups : (station : ℕ) → station < station_count (tables_of file) → HasOwnGroups (tables_of file) (station_at (tables_of file) station)
+  unfolding tables_of
+  built_groups station within =
+      all_own (tables_of file) 0 file.stations (all_known file.stations) own station no_station within
+
   pub built_sound : IsSound (tables_of file)
   unfolding tables_of
   built_sound = record {
@@ -388,23 +406,24 @@ module _ (file : FileData) (used : Used) (fit : IsFit file.stations) (some : 0 <
     address_held = leads_held (tables_of file);
     name_held = name_held (tables_of file);
     indexes = built_indexes;
-    own_groups = λ station within. ?;
-    names_of_groups = ?;
+    own_groups = built_groups;
+    names_of_groups = mentions_once file.stations;
     ports = λ line within. (built_line line within).1;
-    ports_once = ?;
+    ports_once = line_ports_once 0 file.stations (all_once file.stations used once);
     limits = limits;
     spelled = λ line within. (built_line line within).0;
   }
 
 -- what a `Subs` of such a file keeps
 pub built_keeps : (inside : Inside) (file : FileData) (used : Used) → IsFit file.stations → 0 < length file.stations
-    → AreLimits file.segment_limit file.journal → with_stations 0 0 file.stations nothing_used ≡ Ok used → tables inside ≡ tables_of file
+    → AreLimits file.segment_limit file.journal → with_stations 0 0 file.stations nothing_used ≡ Ok used
+    → list_all has_own_indexes file.stations ≡ true → tables inside ≡ tables_of file
     → inside.targets.entries ≡ used.targets → inside.names.entries ≡ used.names
     → Keeps inside
-built_keeps inside file used fit some limits once is targets names = record {
-  sound = subst IsSound (sym is) (built_sound file used fit some limits once);
-  targets = λ a. ap (lookup (same a)) targets ∙ built_targets file used fit some limits once a ∙ ap (λ t. target_of t a) (sym is);
-  names = λ n. ap (lookup (same n)) names ∙ built_names file used fit some limits once n ∙ ap (λ t. line_named_of t n) (sym is);
+built_keeps inside file used fit some limits once own is targets names = record {
+  sound = subst IsSound (sym is) (built_sound file used fit some limits once own);
+  targets = λ a. ap (lookup (same a)) targets ∙ built_targets file used fit some limits once own a ∙ ap (λ t. target_of t a) (sym is);
+  names = λ n. ap (lookup (same n)) names ∙ built_names file used fit some limits once own n ∙ ap (λ t. line_named_of t n) (sym is);
 }
 
 -- the tables that were built of the parts of a file

@@ -1,8 +1,7 @@
 -- What the stations of a file enter, all in order.
-use Rattle.std.proofs.Common.{◌≡◌, ℕ, ◌+◌, List, [], ◌∷◌, ◌++◌, Option, None, Result, Ok, Err, length, map, refl, sym, subst, ◌∙◌, arith, append_assoc, length-append}
+use Rattle.std.proofs.Common.{◌≡◌, ℕ, ◌+◌, List, [], ◌∷◌, ◌++◌, None, Ok, length, map, sym, subst, ◌∙◌, arith, append_assoc, length-append}
 use Rattle.std.proofs.lemmas.List.{append-nil, length-map}
 use Rattle.xp_file.specs.declared.entry.LineEntry.{LineEntry}
-use Rattle.xp_file.specs.declared.fault.SubsFault.{SubsFault}
 use Rattle.xp_file.specs.Entries.{StationData}
 use Rattle.xp_file.specs.Reading.{◌>>=◌}
 use Rattle.xp_subs.specs.Passes.{Used, with_address, with_name, with_names, with_port, with_ports, with_own, with_addresses, with_station, with_stations}

@@ -1,5 +1,5 @@
 -- The number of groups that is told: that of the different names which the file gives to groups.
-use Rattle.std.proofs.Common.{◌≡◌, ℕ, ◌+◌, ◌<◌, List, [], ◌∷◌, ◌++◌, Bool, true, false, not, ◌||◌, ◌⊎◌, inl, inr, All, Contains, Option, None, Some, length, map, fold, get_or, refl, sym, ap, subst, ◌∙◌, arith}
+use Rattle.std.proofs.Common.{◌≡◌, ℕ, ◌<◌, List, [], ◌∷◌, Bool, true, false, not, ◌&&◌, ◌||◌, inl, inr, All, Contains, length, map, fold, get_or, refl, sym, ap, subst, ◌∙◌, arith}
 use Rattle.std.specs.Cmp.{IsEquivalence}
 use Rattle.std.specs.Cmp.Lexicographic.{nat_list_eq_equiv}
 use Rattle.std.specs.List.{position_or_len, list_any, IsDistinct}
@@ -17,9 +17,10 @@ use Rattle.xp_file.specs.Entries.{StationData}
 use Rattle.xp_file.specs.File.{FileData}
 use Rattle.xp_file.specs.Name.{same}
 use Rattle.xp_subs.specs.declared.station.Membership.{Membership}
-use Rattle.xp_subs.specs.Built.{mention, mentions, group_names, group_number, IsKnown, AreKnown, memberships_of, tables_of, named_groups}
-use Rattle.xp_subs.specs.Passes.{all_differ, same_group, same_index}
-use Rattle.xp_subs.specs.Tables.{group_count}
+use Rattle.xp_subs.specs.Built.{mention, mentions, group_names, group_number, IsKnown, AreKnown, memberships_of, station_from, tables_of, named_groups}
+use Rattle.xp_subs.specs.Passes.{all_differ, same_group, same_index, has_own_indexes}
+use Rattle.xp_subs.specs.Sound.{HasOwnGroups}
+use Rattle.xp_subs.specs.Tables.{Tables, group_count}
 use Rattle.xp_subs.specs.Uses.{Once}
 use Rattle.xp_subs.proofs.OnceLemmas.{in_none, in_front, in_rest, in_cases, once_none, once_cons, once_distinct}
 use Rattle.xp_subs.proofs.TableLemmas.{same_is, same-itself}
@@ -142,6 +143,22 @@ module _ (known : List (List ℕ)) where
       let other = same_is b.name _ (passes_at_first (same b.name) known [] second) in
       one ∙ ap (λ n. get_or known n []) is ∙ sym other
 
+  number_not_there : (group : GroupEntry) (others : List GroupEntry) → IsKnown known group → All (IsKnown known) others
+      → list_any (λ y. same_group y group) others ≡ false
+      → Contains (map (λ (m : Membership). m.group) (memberships_of known others)) (group_number known group.name) → ⊥
+  number_not_there group [] is_known all none here = in_none (group_number known group.name) here
+  number_not_there group (other ∷ others) is_known all none here =
+      elim (in_cases (group_number known other.name) (group_number known group.name) (map (λ (m : Membership). m.group) (memberships_of known others)) here) [
+        | inl is ↦
+            let alike = same_number other group (All-head (IsKnown known) other others all) is_known is in
+            let yes : same other.name group.name ≡ true = ap (same other.name) (sym alike) ∙ same-itself other.name in
+            let no = (or_parts (same_group other group) (list_any (λ y. same_group y group) others) none).0 in
+            true_is_false (sym yes ∙ no)
+        | inr rest ↦
+            number_not_there group others is_known (All-tail (IsKnown known) other others all)
+            (or_parts (same_group other group) (list_any (λ y. same_group y group) others) none).1 rest
+      ]
+
   pub numbers_once : (groups : List GroupEntry) → All (IsKnown known) groups → all_differ same_group groups ≡ true
       → Once (map (λ (m : Membership). m.group) (memberships_of known groups))
   numbers_once [] all apart = once_none
@@ -149,45 +166,30 @@ module _ (known : List (List ℕ)) where
       let both = and_parts (not (list_any (λ y. same_group y group) groups)) (all_differ same_group groups) apart in
       let rest = All-tail (IsKnown known) group groups all in
       once_cons (group_number known group.name) (map (λ (m : Membership). m.group) (memberships_of known groups))
-      (λ here. not_there groups rest (not_true (list_any (λ y. same_group y group) groups) both.0) here)
+      (λ here. number_not_there group groups (All-head (IsKnown known) group groups all) rest (not_true (list_any (λ y. same_group y group) groups) both.0) here)
       (numbers_once groups rest both.1)
-    where
-      not_there : (others : List GroupEntry) → All (IsKnown known) others → list_any (λ y. same_group y group) others ≡ false
-          → Contains (map (λ (m : Membership). m.group) (memberships_of known others)) (group_number known group.name) → ⊥
-      not_there [] known_others none here = in_none (group_number known group.name) here
-      not_there (other ∷ others) known_others none here =
-          by (in_cases (group_number known other.name) (group_number known group.name) (map (λ (m : Membership). m.group) (memberships_of known others)) here)
-        where
-          by : (group_number known other.name ≡ group_number known group.name)
-              ⊎ Contains (map (λ (m : Membership). m.group) (memberships_of known others)) (group_number known group.name) → ⊥
-          by (inl is) =
-              let alike = same_number other group (All-head (IsKnown known) other others known_others) (All-head (IsKnown known) group groups all) is in
-              let yes : same other.name group.name ≡ true = ap (same other.name) (sym alike) ∙ same-itself other.name in
-              let never : true ≡ false = rw yes at none in
-              true_is_false never
-          by (inr rest) = not_there others (All-tail (IsKnown known) other others known_others) ((or_parts (same_group other group) (list_any (λ y. same_group y group) others) none).1) rest
 
 -- the same of the indexes
+index_not_there : (known : List (List ℕ)) (group : GroupEntry) (others : List GroupEntry) → list_any (λ y. same_index y group) others ≡ false
+    → Contains (map (λ (m : Membership). m.index) (memberships_of known others)) group.index → ⊥
+index_not_there known group [] none here = in_none group.index here
+index_not_there known group (other ∷ others) none here =
+    let parts = or_parts (same_index other group) (list_any (λ y. same_index y group) others) none in
+    elim (in_cases other.index group.index (map (λ (m : Membership). m.index) (memberships_of known others)) here) [
+      | inl is ↦
+          let yes : nat_eq other.index group.index ≡ true = eq-eqb other.index group.index is in
+          true_is_false (sym yes ∙ parts.0)
+      | inr rest ↦ index_not_there known group others parts.1 rest
+    ]
+
 pub indexes_once : (known : List (List ℕ)) (groups : List GroupEntry) → all_differ same_index groups ≡ true
     → Once (map (λ (m : Membership). m.index) (memberships_of known groups))
 indexes_once known [] apart = once_none
 indexes_once known (group ∷ groups) apart =
     let both = and_parts (not (list_any (λ y. same_index y group) groups)) (all_differ same_index groups) apart in
     once_cons group.index (map (λ (m : Membership). m.index) (memberships_of known groups))
-    (λ here. not_there groups (not_true (list_any (λ y. same_index y group) groups) both.0) here)
+    (λ here. index_not_there known group groups (not_true (list_any (λ y. same_index y group) groups) both.0) here)
     (indexes_once known groups both.1)
-  where
-    not_there : (others : List GroupEntry) → list_any (λ y. same_index y group) others ≡ false
-        → Contains (map (λ (m : Membership). m.index) (memberships_of known others)) group.index → ⊥
-    not_there [] none here = in_none group.index here
-    not_there (other ∷ others) none here =
-        by (in_cases other.index group.index (map (λ (m : Membership). m.index) (memberships_of known others)) here)
-      where
-        by : (other.index ≡ group.index) ⊎ Contains (map (λ (m : Membership). m.index) (memberships_of known others)) group.index → ⊥
-        by (inl is) =
-            let yes : nat_eq other.index group.index ≡ true = eq-eqb other.index group.index is in
-            true_is_false (rw yes at none)
-        by (inr rest) = not_there others (or_parts (same_index other group) (list_any (λ y. same_index y group) others) none).1 rest
 
 -- an index that is found is one of them
 pub index_held : (known : List (List ℕ)) (groups : List GroupEntry) (index : ℕ) → list_any (λ (group : GroupEntry). nat_eq group.index index) groups ≡ true
@@ -210,3 +212,17 @@ numbers_named known [] all = All-nil (λ n. n < length known)
 numbers_named known (group ∷ groups) all =
     All-cons (λ n. n < length known) (group_number known group.name) (map (λ (m : Membership). m.group) (memberships_of known groups))
     (All-head (IsKnown known) group groups all) (numbers_named known groups (All-tail (IsKnown known) group groups all))
+
+-- a station that is built has its groups as its own
+pub own_groups : (tables : Tables) (line : ℕ) (entry : StationData) → AreKnown tables.groups entry → has_own_indexes entry ≡ true
+    → HasOwnGroups tables (station_from tables.groups line entry)
+own_groups tables line entry all own =
+    let known = tables.groups in
+    let (apart, third) = and_parts (all_differ same_index entry.groups && all_differ same_group entry.groups) _ own in
+    let (indexes, names) = and_parts (all_differ same_index entry.groups) (all_differ same_group entry.groups) apart in
+    record {
+      indexes_once = indexes_once known entry.groups indexes;
+      groups_once = numbers_once known entry.groups all names;
+      groups_named = numbers_named known entry.groups all;
+      preferential = λ index is. index_held known entry.groups index (rw is at third);
+    }

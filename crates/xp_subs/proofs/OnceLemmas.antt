@@ -1,5 +1,5 @@
 -- Lists in which no value stands twice.
-use Rattle.std.proofs.Common.{◌≡◌, ℕ, zero, suc, ◌<◌, List, [], ◌∷◌, ◌++◌, Bool, true, false, ◌⊎◌, inl, inr, Contains, length, take, drop, refl, sym, ap, ◌∙◌, subst, arith}
+use Rattle.std.proofs.Common.{◌≡◌, zero, suc, List, [], ◌∷◌, ◌++◌, Bool, true, false, ◌⊎◌, inl, inr, Contains, take, drop, refl, sym, ap, ◌∙◌, subst, arith}
 use Rattle.std.specs.List.{IsDistinct, AllByRecursion}
 use Rattle.std.proofs.Math.Seq.{split_at}
 use Rattle.std.proofs.lemmas.Map.Keys.{IsDistinct-head, IsDistinct-tail}
@@ -21,11 +21,10 @@ module _ {A : Type 0} where
 
   pub in_left : (xs ys : List A) (x : A) → Contains xs x → Contains (xs ++ ys) x
   in_left [] ys x here = absurd (in_none x here)
-  in_left (y ∷ xs) ys x here = by (in_cases y x xs here)
-    where
-      by : (y ≡ x) ⊎ Contains xs x → Contains (y ∷ (xs ++ ys)) x
-      by (inl is) = subst (Contains (y ∷ (xs ++ ys))) is (in_front y (xs ++ ys))
-      by (inr rest) = in_rest y x (xs ++ ys) (in_left xs ys x rest)
+  in_left (y ∷ xs) ys x here = elim (in_cases y x xs here) [
+    | inl is ↦ let P : A → Type 0 = λ z. Contains (y ∷ (xs ++ ys)) z in subst P is (in_front y (xs ++ ys))
+    | inr rest ↦ in_rest y x (xs ++ ys) (in_left xs ys x rest)
+  ]
 
   pub in_right : (xs ys : List A) (x : A) → Contains ys x → Contains (xs ++ ys) x
   in_right [] ys x here = here
@@ -33,20 +32,19 @@ module _ {A : Type 0} where
 
   pub in_parts : (xs ys : List A) (x : A) → Contains (xs ++ ys) x → Contains xs x ⊎ Contains ys x
   in_parts [] ys x here = inr here
-  in_parts (y ∷ xs) ys x here = by (in_cases y x (xs ++ ys) here)
-    where
-      more : Contains xs x ⊎ Contains ys x → Contains (y ∷ xs) x ⊎ Contains ys x
-      more (inl left) = inl (in_rest y x xs left)
-      more (inr right) = inr right
-      by : (y ≡ x) ⊎ Contains (xs ++ ys) x → Contains (y ∷ xs) x ⊎ Contains ys x
-      by (inl is) = inl (subst (Contains (y ∷ xs)) is (in_front y xs))
-      by (inr rest) = more (in_parts xs ys x rest)
+  in_parts (y ∷ xs) ys x here = elim (in_cases y x (xs ++ ys) here) [
+    | inl is ↦ inl (let P : A → Type 0 = λ z. Contains (y ∷ xs) z in subst P is (in_front y xs))
+    | inr rest ↦ elim (in_parts xs ys x rest) [
+      | inl left ↦ inl (in_rest y x xs left)
+      | inr right ↦ inr right
+    ]
+  ]
 
   no_cons : (x : A) (xs before : List A) → [] ≡ before ++ x ∷ xs → ⊥
   no_cons x xs [] e = cc
   no_cons x xs (y ∷ before) e = cc
 
-  pub once_none : Once {A} []
+  pub once_none : Once {A = A} []
   once_none before x after e again = no_cons x after before e
 
   pub once_head : (x : A) (xs : List A) → Once (x ∷ xs) → Contains xs x → ⊥
@@ -62,8 +60,10 @@ module _ {A : Type 0} where
     where
       first : x ≡ b
       first = cc
+
       rest : xs ≡ before ++ y ∷ after
       rest = cc
+
       by : (b ≡ y) ⊎ Contains before y → ⊥
       by (inl is) = new (subst (Contains xs) (sym (first ∙ is)) (subst (λ l. Contains l y) (sym rest) (in_right before (y ∷ after) y (in_front y after))))
       by (inr more) = once before y after rest more
@@ -76,21 +76,21 @@ module _ {A : Type 0} where
       last : (x ≡ y) ⊎ Contains [] y → ⊥
       last (inl is) = new (subst (Contains (y ∷ xs)) (sym is) (in_front y xs))
       last (inr here) = in_none y here
+
       by : Contains xs y ⊎ Contains (x ∷ []) y → ⊥
       by (inl here) = once_head y xs once here
       by (inr here) = last (in_cases x y [] here)
 
   -- by a test that passes for equal values
   module _ (equal : A → A → Bool) (alike : (x : A) → equal x x ≡ true) where
+    none_passes : (x : A) (ys : List A) → AllByRecursion (λ y. equal x y ≡ false) ys → Contains ys x → ⊥
+    none_passes x [] all here = in_none x here
+    none_passes x (y ∷ ys) all here = elim (in_cases y x ys here) [
+      | inl is ↦ let yes : equal x y ≡ true = ap (equal x) is ∙ alike x in let no : equal x y ≡ false = all.0 in let never : true ≡ false = sym yes ∙ no in cc
+      | inr rest ↦ none_passes x ys all.1 rest
+    ]
+
     pub once_distinct : (xs : List A) → IsDistinct equal xs → Once xs
     once_distinct [] apart = once_none
     once_distinct (x ∷ xs) apart =
         once_cons x xs (λ here. none_passes x xs (IsDistinct-head equal x xs apart) here) (once_distinct xs (IsDistinct-tail equal x xs apart))
-      where
-        none_passes : (x : A) (ys : List A) → AllByRecursion (λ y. equal x y ≡ false) ys → Contains ys x → ⊥
-        none_passes x [] all here = in_none x here
-        none_passes x (y ∷ ys) all here = by (in_cases y x ys here)
-          where
-            by : (y ≡ x) ⊎ Contains ys x → ⊥
-            by (inl is) = let yes : equal x y ≡ true = ap (equal x) is ∙ alike x in let no = all.0 in cc
-            by (inr rest) = none_passes x ys all.1 rest

@@ -1,20 +1,19 @@
 -- The tables that a subscription file sets up.
-use Rattle.std.specs.Prelude.{ℕ, ◌<◌, All, zero, suc, ◌+◌, List, [], ◌∷◌, ◌++◌, Option, Result, Ok, Err, None, Some, fold, length, map, if◌then◌else◌}
+use Rattle.std.specs.Prelude.{◌≡◌, ◌⊎◌, ℕ, ◌<◌, All, true, false, zero, suc, ◌+◌, List, [], ◌∷◌, ◌++◌, Result, Ok, Err, None, Some, fold, length, map, if◌then◌else◌}
 use Rattle.std.specs.List.{list_any, list_all, position_or_len}
 use Rattle.xp_file.specs.declared.entry.GroupEntry.{GroupEntry}
 use Rattle.xp_file.specs.declared.entry.LineEntry.{LineEntry}
 use Rattle.xp_file.specs.declared.fault.SubsFault.{SubsFault}
 use Rattle.xp_file.specs.declared.fault.SubsFault.TheVariants as faults
-use Rattle.xp_file.specs.declared.key.Key.{Key}
 use Rattle.xp_file.specs.Entries.{StationData}
 use Rattle.xp_file.specs.File.{FileData, file_in}
 use Rattle.xp_file.specs.Name.{same}
-use Rattle.xp_file.specs.Reading.{◌>>=◌, checked}
 use Rattle.xp_subs.specs.declared.line.Line.{Line}
 use Rattle.xp_subs.specs.declared.station.Membership.{Membership}
 use Rattle.xp_subs.specs.declared.station.Station.{Station}
-use Rattle.xp_subs.specs.Passes.{nothing_used, over_limit, with_stations, has_own_indexes}
+use Rattle.xp_subs.specs.Passes.{over_limit, has_own_indexes}
 use Rattle.xp_subs.specs.Tables.{Tables}
+use Rattle.xp_subs.specs.Uses.{Use, key_of, uses_of, Once, IsFirstAgain}
 
 -- so many numbers from the first on
 abbrev pub numbers : ℕ → ℕ → List ℕ
@@ -104,14 +103,19 @@ tables_of file = record {
   host = file.host;
 }
 
--- what comes next, where no limit is passed
-abbrev pub limited : {A : Type 0} → Option Key → Result A SubsFault → Result A SubsFault
-limited None next = next
-limited (Some key) next = Err (faults.Limit key)
+-- the first refusal of stations whose values are read: a limit, a value that is used again, an index
+abbrev pub Refuses : List StationData → SubsFault → Type 0
+Refuses stations (faults.Limit key) = over_limit stations ≡ Some key
+Refuses stations (faults.TwiceUsed key) = (over_limit stations ≡ None) × (again : Use) × IsFirstAgain (uses_of stations) again × (key ≡ key_of again)
+Refuses stations faults.Index = (over_limit stations ≡ None) × Once (uses_of stations) × (list_all has_own_indexes stations ≡ false)
+Refuses stations _ = ⊥
 
--- the tables of a text, or the first refusal: of its values, its limits, what is used twice, its indexes
-unfoldable pub tables_in : List ℕ → Result Tables SubsFault
-tables_in text = do
-  file ← file_in text
-  used ← limited (over_limit file.stations) (with_stations 0 0 file.stations nothing_used)
-  checked (list_all has_own_indexes file.stations) faults.Index (Ok (tables_of file))
+pub record Accepts (stations : List StationData) : Type 0 where
+  pub limits : over_limit stations ≡ None
+  pub once : Once (uses_of stations)
+  pub indexes : list_all has_own_indexes stations ≡ true
+
+-- what a text sets up, or its first refusal: of its values, or of the stations
+abbrev pub SetsUp : List ℕ → Result Tables SubsFault → Type 0
+SetsUp text (Ok tables) = (file : FileData) × (file_in text ≡ Ok file) × Accepts file.stations × (tables ≡ tables_of file)
+SetsUp text (Err fault) = (file_in text ≡ Err fault) ⊎ ((file : FileData) × (file_in text ≡ Ok file) × Refuses file.stations fault)

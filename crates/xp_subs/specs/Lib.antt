@@ -5,3 +5,4 @@ pub mod Passes
 pub mod Sound
 pub mod Tables
 pub mod Uses
+pub mod Laws

@@ -1,6 +1,6 @@
 -- The subscription tables, and what is read off them.
 pub use Rattle.xp_file.specs.Name.{same}
-use Rattle.std.specs.Prelude.{ℕ, List, [], ◌∷◌, Bool, false, Option, None, Some, unwrap_or, length, position, slice_index_or}
+use Rattle.std.specs.Prelude.{ℕ, List, [], Bool, false, Option, None, Some, unwrap_or, length, position, slice_index_or}
 use Rattle.xp_subs.specs.declared.line.Line.{Line}
 use Rattle.xp_subs.specs.declared.station.Station.{Station}
 use Rattle.xp_subs.specs.declared.target.Target.{Target}

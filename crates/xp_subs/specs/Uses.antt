@@ -42,9 +42,9 @@ abbrev pub Once : {A : Type 0} → List A → Type 0
 Once {A} xs = (before : List A) (x : A) (after : List A) → xs ≡ before ++ x ∷ after → Contains before x → ⊥
 
 -- the first use, in the order of the file, of a value that was used before
-pub record IsFirstAgain (uses : List Use) (use : Use) : Type 0 where
+pub record IsFirstAgain (uses : List Use) (again_used : Use) : Type 0 where
   pub before : List Use
   pub after : List Use
-  pub split : uses ≡ before ++ use ∷ after
+  pub split : uses ≡ before ++ again_used ∷ after
   pub once : Once before
-  pub again : Contains before use
+  pub again : Contains before again_used

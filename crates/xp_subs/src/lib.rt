@@ -3,6 +3,7 @@
 
 mod build;
 mod indexes;
+mod laws;
 mod limits;
 mod line;
 mod read;
@@ -11,6 +12,7 @@ mod subs;
 mod target;
 mod used;
 
+pub use laws::one_answer;
 pub use line::Line;
 pub use station::{Membership, Station};
 pub use subs::Subs;

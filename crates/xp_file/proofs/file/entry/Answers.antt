@@ -1,7 +1,4 @@
-use Rattle.std.proofs.Common.{sym}
-use Rattle.std.proofs.lemmas.Result.{err_from_is_err_and}
 use Rattle.toml.specs.View.{table_view}
-use Rattle.xp_file.specs.File.{entry_of}
 use Rattle.xp_file.proofs.KeptLemmas.{lines_kept, groups_kept, as_many}
 use Rattle.xp_file.proofs.file.entry.Goals as goal
 
