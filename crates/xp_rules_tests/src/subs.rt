@@ -314,18 +314,6 @@ fn stations_and_lines_told(rt: HostRuntime) -> Result<(), Fail> {
     Ok(())
 }
 
-/// An address as a person writes it.
-fn digits(text: &str) -> Digits {
-    let mut digits = Digits::new();
-    for octet in text.as_bytes() {
-        let digit = octet.wrapping_sub(b'0');
-        if digits.len() < Digits::MOST && digit < 10 {
-            digits.push(digit);
-        }
-    }
-    digits
-}
-
 #[test]
 fn addresses_and_names_found(rt: HostRuntime) -> Result<(), Fail> {
     let text = file_with(rt.alloc(), Place::Top, "# no top keys")?;
@@ -344,7 +332,8 @@ fn addresses_and_names_found(rt: HostRuntime) -> Result<(), Fail> {
         ("", None),
     ] {
         let expected = expected.map(|(station, line)| Target { station, line });
-        assert_eq!(rt; subs.find(&digits(address)), expected, "{address}");
+        let found = Digits::from_text(address).and_then(|digits| subs.find(&digits));
+        assert_eq!(rt; found, expected, "{address}");
     }
     for (name, expected) in [
         ("a1", Some(0)),

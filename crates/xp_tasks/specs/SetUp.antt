@@ -3,7 +3,7 @@ use Rattle.std.specs.Prelude.{◌≡◌, ◌⊎◌, ℕ, List, ◌++◌, Result,
 use Rattle.std.specs.declared.io.ErrorKind.{ErrorKind}
 use Rattle.std.specs.declared.io.ErrorKind.TheVariants.{OutOfMemory}
 use Rattle.xp_file.specs.declared.fault.SubsFault.{SubsFault}
-use Rattle.xp_subs.specs.Built.{tables_in}
+use Rattle.xp_subs.specs.Built.{SetsUp as TextSetsUp}
 use Rattle.xp_subs.specs.Tables.{Tables, station_count, line_count, group_count}
 use Rattle.xp_tasks.specs.declared.failure.TaskFailure.{TaskFailure}
 use Rattle.xp_tasks.specs.declared.failure.TaskFailure.TheVariants.{File, Subscriptions, Memory}
@@ -15,9 +15,9 @@ unread _ = File
 
 -- the file's text, or why there is none, and what is set up by it; memory may be wanting for any text
 abbrev pub SetsUp : Result (List ℕ) ErrorKind → Result Tables TaskFailure → Type 0
-SetsUp (Ok text) (Ok subs) = tables_in text ≡ Ok subs
+SetsUp (Ok text) (Ok subs) = TextSetsUp text (Ok subs)
 SetsUp (Ok text) (Err failure) =
-    (failure ≡ Memory) ⊎ ((fault : SubsFault) × (tables_in text ≡ Err fault) × (failure ≡ Subscriptions fault))
+    (failure ≡ Memory) ⊎ ((fault : SubsFault) × TextSetsUp text (Err fault) × (failure ≡ Subscriptions fault))
 SetsUp (Err kind) (Ok subs) = ⊥
 SetsUp (Err kind) (Err failure) = failure ≡ unread kind
 

@@ -1,7 +1,7 @@
 use Rattle.std.proofs.Common.{◌≡◌, Some, map, take}
 use Rattle.toml.specs.View.{table_view, items_view}
 use Rattle.xp_file.specs.Reading.{tables_among}
-use Rattle.xp_file.proofs.column.tables_among.Given as goal
+use Rattle.xp_file.proofs.tables.tables_among.Given as goal
 
 abbrev pub invariant-loop-value : goal.invariant-loop-value
 invariant-loop-value l =

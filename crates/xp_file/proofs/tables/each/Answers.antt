@@ -2,7 +2,7 @@ use Rattle.std.proofs.Common.{rules}
 use Rattle.std.proofs.lemmas.Result.{err_from_is_err_and}
 use Rattle.toml.specs.View.{table_view}
 use Rattle.xp_file.proofs.EachLemmas.{each_more, each_refused}
-use Rattle.xp_file.proofs.column.each.Goals as goal
+use Rattle.xp_file.proofs.tables.each.Goals as goal
 
 pub returns-in_err-read-clause-refused : goal.returns-in_err-read-clause-refused
 returns-in_err-read-clause-refused g c =

@@ -2,7 +2,7 @@ use Rattle.std.proofs.Common.{sym, map}
 use Rattle.std.proofs.lemmas.List.{map-append}
 use Rattle.toml.specs.View.{table_view}
 use Rattle.xp_file.proofs.EachLemmas.{tables_more, tables_refused}
-use Rattle.xp_file.proofs.column.tables_among.Goals as goal
+use Rattle.xp_file.proofs.tables.tables_among.Goals as goal
 
 pub returns-in_default : goal.returns-in_default
 returns-in_default c =
