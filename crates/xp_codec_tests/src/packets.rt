@@ -201,7 +201,7 @@ const UNSPELLED: [(u16, Form, Wrong); 9] = [
     (1, Form::Ready(8), Wrong::Format),
     (
         1,
-        Form::Data(false, false, false, 8, 0, &[0; 1025]),
+        Form::Data(false, false, false, 8, 0, b"A"),
         Wrong::Format,
     ),
     (
