@@ -31,15 +31,20 @@ record HasVerdict {A : Type 0} (tables : Tables) (world : World) (caller : ℕ) 
 choice_among : (world : World) (caller : ℕ) (lines : List ℕ) → (verdict : Verdict) × Chosen world caller lines verdict
 choice_among world caller lines = elim (find (is_idle world caller) lines) as (λ found. find (is_idle world caller) lines ≡ found → (verdict : Verdict) × Chosen world caller lines verdict) [
   | Some line ↦ λ is. (Take line, find_some (is_idle world caller) lines line is)
-  | None ↦ λ is. (Refuse (why_none world lines), find_none (is_idle world caller) lines is, refl)
+  | None ↦ λ is. (Refuse (why_none world lines), (find_none (is_idle world caller) lines is, refl))
 ] refl
 
 module _ {A : Type 0} (tables : Tables) (world : World) (caller : ℕ) (block : Block A) where
+  placed_as : first_of (reasons tables block) ≡ None → (target : Target) → target_of tables block.called ≡ Some target
+      → (verdict : Verdict) → Chosen world caller (target_lines tables target) verdict → HasVerdict tables world caller block
+  placed_as fit target found (Take line) among =
+      record { verdict = Take line; decided = record { fit = fit; target = target; found = found; among = among } }
+  placed_as fit target found (Refuse why) among =
+      record { verdict = Refuse why; decided = inr (record { fit = fit; target = target; found = found; among = among }) }
+
   placed : first_of (reasons tables block) ≡ None → (target : Target) → target_of tables block.called ≡ Some target → HasVerdict tables world caller block
-  placed fit target found = elim (choice_among world caller (target_lines tables target)) [
-    | (Take line, among) ↦ record { verdict = Take line; decided = record { fit = fit; target = target; found = found; among = among } }
-    | (Refuse why, among) ↦ record { verdict = Refuse why; decided = inr (record { fit = fit; target = target; found = found; among = among }) }
-  ]
+  placed fit target found =
+      let among = choice_among world caller (target_lines tables target) in placed_as fit target found among.0 among.1
 
   has_verdict : HasVerdict tables world caller block
   has_verdict = elim (first_of (reasons tables block)) as (λ reason. first_of (reasons tables block) ≡ reason → HasVerdict tables world caller block) [

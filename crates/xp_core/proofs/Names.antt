@@ -21,15 +21,7 @@ use Rattle.xp_core.proofs.RunLemmas.{run_keeps, run_push}
 use Rattle.xp_core.proofs.Shapes.{none, one, step_shape}
 use Rattle.xp_core.proofs.Sounds.{IsRight, run_right}
 
-module _ {A : Type 0} (tables : Tables) (world : World) (coupled : AreCoupled tables world) (lines : length world.lines ≡ line_count tables) where
-  abbrev Named : List (Output A) → Type 0
-  Named outputs = AllByRecursion (λ output. output.line < line_count tables) outputs
-
-  way_named : (line : ℕ) (way : Way) (outputs : List (Output A)) → outputs ≡ told_on_way world line way → line < line_count tables → Named outputs
-  way_named line GoesOut outputs is within = let P : List (Output A) → Type 0 = λ o. Named o in subst P (sym is) tt
-  way_named line IsConfirmed outputs is within = let P : List (Output A) → Type 0 = λ o. Named o in subst P (sym is) (within, tt)
-  way_named line IsFree outputs is within = let P : List (Output A) → Type 0 = λ o. Named o in subst P (sym is) tt
-
+module _ (tables : Tables) (world : World) (coupled : AreCoupled tables world) where
   end_within : (number : ℕ) (call : Call) (line : ℕ) → call_numbered world number ≡ Some call → IsEnd call line → line < line_count tables
   end_within number call line live end =
       let held : IsHeld tables world number call = coupled.held number call live in
@@ -43,13 +35,22 @@ module _ {A : Type 0} (tables : Tables) (world : World) (coupled : AreCoupled ta
       let held : IsHeld tables world number call = coupled.held number call live in
       cond_both (eqb call.caller line) call.called call.caller (λ l. l < line_count tables) (λ first. held.called) (λ second. held.caller)
 
+module _ {A : Type 0} (tables : Tables) (world : World) (coupled : AreCoupled tables world) (lines : length world.lines ≡ line_count tables) where
+  abbrev Named : List (Output A) → Type 0
+  Named outputs = AllByRecursion (λ output. output.line < line_count tables) outputs
+
+  way_named : (line : ℕ) (way : Way) (outputs : List (Output A)) → outputs ≡ told_on_way world line way → line < line_count tables → Named outputs
+  way_named line GoesOut outputs is within = let P : List (Output A) → Type 0 = λ o. Named o in subst P (sym is) tt
+  way_named line IsConfirmed outputs is within = let P : List (Output A) → Type 0 = λ o. Named o in subst P (sym is) (within, tt)
+  way_named line IsFree outputs is within = let P : List (Output A) → Type 0 = λ o. Named o in subst P (sym is) tt
+
   own_named : (change : Change A) → CanBe world change → Named ((told world change).own)
   own_named (Rises line) can = tt
   own_named (Leaves line way) can = way_named line way _ refl (omega (arith, can.within, lines))
   own_named (Begins line identifier called dialled packet) can = tt
   own_named (IsRefused line identifier dialled why) can = (omega (arith, can.within, lines), tt)
   own_named (Connects number call packet) can = tt
-  own_named (Ends number call line way cause diagnostic) can = way_named line way _ refl (end_within number call line can.live can.end)
+  own_named (Ends number call line way cause diagnostic) can = way_named line way _ refl (end_within tables world coupled number call line can.live can.end)
 
   far_named : (change : Change A) → CanBe world change → Named ((told world change).far)
   far_named (Rises line) can = tt
@@ -57,7 +58,7 @@ module _ {A : Type 0} (tables : Tables) (world : World) (coupled : AreCoupled ta
   far_named (Begins line identifier called dialled packet) can = tt
   far_named (IsRefused line identifier dialled why) can = tt
   far_named (Connects number call packet) can = ((coupled.held number call can).caller, tt)
-  far_named (Ends number call line way cause diagnostic) can = (far_within number call line can.live, tt)
+  far_named (Ends number call line way cause diagnostic) can = (far_within tables world coupled number call line can.live, tt)
 
   taken_named : (change : Change A) → CanBe world change → Named ((told world change).taken)
   taken_named (Rises line) can = tt

@@ -1,7 +1,7 @@
 -- A station that would take a call doesn't decline it.
 use Rattle.xp_groups.proofs.Determined.{admitted_or_refused}
 use Rattle.xp_groups.specs.declared.admission.Admission.{Admission}
-use Rattle.xp_groups.specs.declared.refusal.Refusal.{Refusal}
+use Rattle.xp_causes.specs.declared.refusal.Refusal.{Refusal}
 use Rattle.xp_subs.specs.declared.station.Station.{Station}
 use Rattle.xp_decide.specs.Accepts.{Accepts, Declines}
 use Rattle.xp_decide.specs.Accepts as accepts

@@ -5,7 +5,7 @@ use Rattle.xp_groups.proofs.Determined.{admitted_or_refused, admission_determine
 use Rattle.xp_groups.specs.Admits.{Admits}
 use Rattle.xp_groups.specs.declared.admission.Admission.{Admission}
 use Rattle.xp_groups.specs.declared.intention.Intent.{Intent}
-use Rattle.xp_groups.specs.declared.refusal.Refusal.{Refusal}
+use Rattle.xp_causes.specs.declared.refusal.Refusal.{Refusal}
 use Rattle.xp_hunt.specs.Picks.{IsIdleIn}
 use Rattle.xp_hunt.specs.declared.lines.LineState.{LineState}
 use Rattle.xp_subs.specs.Tables.{Tables}

@@ -3,8 +3,8 @@ use Rattle.std.proofs.Common.{◌≡◌, ℕ, List, true, false, Err, refl, sym,
 use Rattle.xp_facilities.specs.Asked.{Means}
 use Rattle.xp_facilities.specs.declared.asked.Asked.{Asked}
 use Rattle.xp_groups.specs.Intends.{Intends}
-use Rattle.xp_groups.specs.declared.refusal.Refusal.{Refusal}
-use Rattle.xp_groups.specs.declared.refusal.TheConstants.Refusal.{ACCESS_BARRED}
+use Rattle.xp_causes.specs.declared.refusal.Refusal.{Refusal}
+use Rattle.xp_causes.specs.declared.refusal.TheConstants.Refusal.{ACCESS_BARRED}
 use Rattle.xp_packets.specs.declared.block.Block.{Block}
 use Rattle.xp_subs.specs.Tables.{Tables, station_at, station_of}
 use Rattle.xp_subs.specs.declared.station.Station.{Station}

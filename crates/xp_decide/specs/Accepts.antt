@@ -2,8 +2,8 @@
 use Rattle.std.specs.Prelude.{◌≡◌, true, false, Result, Ok, Err}
 use Rattle.xp_groups.specs.Admits.{Admits}
 use Rattle.xp_groups.specs.declared.admission.Admission.{Admission}
-use Rattle.xp_groups.specs.declared.refusal.Refusal.{Refusal}
-use Rattle.xp_groups.specs.declared.refusal.TheConstants.Refusal.{INCOMING_CALLS_BARRED, REVERSE_CHARGING_NOT_ACCEPTED, FAST_SELECT_NOT_ACCEPTED}
+use Rattle.xp_causes.specs.declared.refusal.Refusal.{Refusal}
+use Rattle.xp_causes.specs.declared.refusal.TheConstants.Refusal.{INCOMING_CALLS_BARRED, REVERSE_CHARGING_NOT_ACCEPTED, FAST_SELECT_NOT_ACCEPTED}
 use Rattle.xp_subs.specs.declared.station.Station.{Station}
 use Rattle.xp_decide.specs.declared.acceptance.Wanted.{Wanted}
 

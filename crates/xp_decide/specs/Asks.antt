@@ -7,8 +7,8 @@ use Rattle.xp_facilities.specs.declared.fast_select.FastSelect.TheVariants.{No, 
 use Rattle.xp_facilities.specs.declared.fault.FacilityFault.{FacilityFault}
 use Rattle.xp_facilities.specs.declared.fault.FacilityFault.TheVariants.{Length, Code, Param, Memory}
 use Rattle.xp_groups.specs.Intends.{Intends}
-use Rattle.xp_groups.specs.declared.refusal.Refusal.{Refusal}
-use Rattle.xp_groups.specs.declared.refusal.TheConstants.Refusal.{FACILITY_LENGTH, FACILITY_NOT_ALLOWED, FACILITY_PARAMETER, USER_DATA_TOO_LONG, ACCESS_BARRED}
+use Rattle.xp_causes.specs.declared.refusal.Refusal.{Refusal}
+use Rattle.xp_causes.specs.declared.refusal.TheConstants.Refusal.{FACILITY_LENGTH, FACILITY_NOT_ALLOWED, FACILITY_PARAMETER, USER_DATA_TOO_LONG, ACCESS_BARRED}
 use Rattle.xp_packets.specs.declared.block.Block.{Block}
 use Rattle.xp_subs.specs.Tables.{Tables, station_at, station_of}
 use Rattle.xp_subs.specs.declared.station.Station.{Station}

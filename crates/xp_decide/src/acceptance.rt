@@ -1,6 +1,7 @@
 ghost use Rattle.xp_decide.specs.Accepts.{Examines};
 
-use xp_groups::{Admission, Intent, Refusal, admit};
+use xp_causes::Refusal;
+use xp_groups::{Admission, Intent, admit};
 use xp_subs::Station;
 
 /// What a call asks of each station on its way.

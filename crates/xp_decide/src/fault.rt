@@ -3,8 +3,8 @@ ghost use Rattle.xp_decide.specs.Asks.{fault_of};
 ghost use Rattle.xp_decide.specs.declared.fault.CallFault.TheVariants.{Refused, Memory as OutOfMemory};
 
 use std::alloc::AllocError;
+use xp_causes::Refusal;
 use xp_facilities::FacilityFault;
-use xp_groups::Refusal;
 
 /// Why a call request rings no line.
 #[derive(Clone, Copy, Debug, PartialEq, Eq)]

@@ -5,8 +5,9 @@ ghost use Rattle.xp_subs.specs.Tables.{line_count};
 use crate::acceptance::Wanted;
 use crate::fault::CallFault;
 use std::alloc::{Allocator, Global};
+use xp_causes::Refusal;
 use xp_facilities::{Asked, FastSelect, parse};
-use xp_groups::{Intent, Refusal, intent};
+use xp_groups::{Intent, intent};
 use xp_packets::Block;
 use xp_subs::{LineNo, Subs};
 

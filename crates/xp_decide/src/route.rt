@@ -2,8 +2,9 @@ ghost use Rattle.xp_decide.specs.Routes.{Reaches};
 
 use crate::acceptance::Wanted;
 use crate::visit::{Visit, call_at};
+use xp_causes::Refusal;
 use xp_facilities::Reason;
-use xp_groups::{Admission, Refusal};
+use xp_groups::Admission;
 use xp_hunt::Lines;
 use xp_packets::Digits;
 use xp_subs::{LineNo, Subs};

@@ -1,6 +1,6 @@
 use std::alloc::{Allocator, Global};
+use xp_causes::Refusal;
 use xp_facilities::{Asked, Reason, Told};
-use xp_groups::Refusal;
 use xp_subs::LineNo;
 
 /// What becomes of a call request.

@@ -4,8 +4,9 @@ ghost use Rattle.xp_hunt.specs.Picks.{Picks};
 ghost use Rattle.xp_subs.specs.Tables.{station_at, station_count};
 
 use crate::acceptance::{Wanted, accept};
+use xp_causes::Refusal;
 use xp_facilities::Reason;
-use xp_groups::{Admission, Refusal};
+use xp_groups::Admission;
 use xp_hunt::{Lines, Picked, pick};
 use xp_packets::Digits;
 use xp_subs::{LineNo, Station, Subs, Target};

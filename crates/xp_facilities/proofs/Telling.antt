@@ -1,5 +1,5 @@
 -- What is written, octet by octet.
-use Rattle.std.proofs.Common.{◌≡◌, ℕ, ◌+◌, ◌-◌, ◌*◌, ◌<◌, ◌≤◌, true, List, [], ◌∷◌, ◌++◌, length, get_or, take, drop, Option, refl, sym, ap, ◌∙◌, subst, arith}
+use Rattle.std.proofs.Common.{◌≡◌, ℕ, ◌+◌, ◌-◌, ◌*◌, ◌<◌, ◌≤◌, true, List, [], ◌∷◌, ◌++◌, length, get_or, take, drop, Option, false, refl, sym, ap, ◌∙◌, subst, arith}
 use Rattle.std.specs.List.{flat_map, list_any}
 use Rattle.std.proofs.lemmas.Bool.{false≢true}
 use Rattle.std.proofs.lemmas.List.{append-nil, take_rest}
@@ -8,7 +8,8 @@ use Rattle.xp_packets.specs.Digits.{AreDigits}
 use Rattle.xp_facilities.specs.Items.{Item, IsField, octets_of, octets_of_all}
 use Rattle.xp_facilities.specs.Asked.{is_marker}
 use Rattle.xp_packets.specs.Writing.{packed}
-use Rattle.xp_facilities.specs.Told.{row, marked, marked_octets, IsCarried}
+use Rattle.xp_facilities.specs.Told.{row, marked, marked_octets, items_told, is_in_range, IsCarried, Tells}
+use Rattle.xp_facilities.specs.declared.told.Told.{Told}
 use Rattle.xp_facilities.proofs.Reading.{IsField-unique}
 
 abbrev pub rows : List (ℕ × Option (List ℕ)) → List Item
@@ -68,3 +69,9 @@ pub tells-octets : (entries : List (ℕ × Option (List ℕ))) (dte : List ℕ) 
     → octets_of_all (rows entries) ++ marked_octets dte ≡ octets_of_all (rows entries ++ marked carried)
 tells-octets entries dte carried is =
     ap (λ x. octets_of_all (rows entries) ++ x) (marked_octets-is dte carried is) ∙ sym (flat_map-append octets_of (rows entries) (marked carried))
+
+-- there is a field that tells values in their ranges
+pub some_field : (A : Type 0) (told : Told A) (carried : List Item) → IsField told.dte carried → list_any is_marker carried ≡ false → is_in_range told ≡ true
+    → (field : List ℕ) × Tells told field
+some_field A told carried is unmarked within =
+    (octets_of_all (items_told told carried), record { carried = carried; dte = record { whole = is; unmarked = unmarked }; in_range = within; whole = refl })

@@ -27,7 +27,7 @@ use xp_packets::Octets;
 /// allowed, both kinds of selection stand, a marker has an unknown parameter or the facilities
 /// between DTEs have over 80 octets. `Memory` only where none of these holds.
 #[tactic(auto, unfolding(crate::specs::Asked::packet_of, crate::specs::Asked::window_of))]
-pub fn parse<A: Allocator>(alloc: A, field: &[u8]) -> Result<Asked<A>, FacilityFault>
+pub fn parse<A: Allocator + Copy>(alloc: A, field: &[u8]) -> Result<Asked<A>, FacilityFault>
     ensures { Parses field.now result }
 {
     let Some(items) = Items::of(field) else {
@@ -40,7 +40,7 @@ pub fn parse<A: Allocator>(alloc: A, field: &[u8]) -> Result<Asked<A>, FacilityF
     let packet = sizes(&items, codes::PACKET_SIZE, SMALLEST_SIZE, LARGEST_SIZE)?;
     let window = sizes(&items, codes::WINDOW_SIZE, SMALLEST_WINDOW, LARGEST_WINDOW)?;
     let kept = dte(&items)?;
-    let dte = Vec::from_slice(alloc, kept.as_slice())?;
+    let dte = Octets::from_slice(alloc, kept.as_slice())?;
     let options = octet(&items, codes::FAST_SELECT);
     Ok(Asked {
         selection,
@@ -50,7 +50,7 @@ pub fn parse<A: Allocator>(alloc: A, field: &[u8]) -> Result<Asked<A>, FacilityF
         charging: first_bit(octet(&items, codes::CHARGING)),
         packet,
         window,
-        dte: Octets::from_vec(dte),
+        dte,
     })
 }
 

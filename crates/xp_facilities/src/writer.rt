@@ -30,7 +30,7 @@ use xp_packets::Octets;
 ///
 /// `Length` where the facilities between DTEs are no items or have a marker, else `Param` where a
 /// value is out of its range, else `Memory` only where memory is wanted.
-pub fn write<A: Allocator>(alloc: A, told: &Told<A>) -> Result<Octets<A>, FacilityFault>
+pub fn write<A: Allocator + Copy>(alloc: A, told: &Told<A>) -> Result<Octets<A>, FacilityFault>
     ensures value { Writes told.now result }
     ensures most { IfOk result (λ field. length field ≤ most_octets told.now) }
 
@@ -47,7 +47,9 @@ pub fn write<A: Allocator>(alloc: A, told: &Told<A>) -> Result<Octets<A>, Facili
     if !is_in_range(told) {
         return Err(FacilityFault::Param);
     }
-    Ok(Octets::from_vec(field(alloc, told)?))
+    let octets = field(alloc, told)?;
+    let octets = Octets::from_vec(octets)?;
+    Ok(octets)
 }
 
 fn has_marker(items: &Items<'_>) -> bool

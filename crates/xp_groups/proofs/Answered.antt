@@ -7,7 +7,7 @@ use Rattle.xp_facilities.specs.declared.selection.Selection.TheVariants.{Nothing
 use Rattle.xp_subs.specs.declared.station.Station.{Station}
 use Rattle.xp_subs.specs.declared.station.Membership.{Membership}
 use Rattle.xp_groups.specs.declared.intention.Intent.{Intent}
-use Rattle.xp_groups.specs.declared.refusal.TheConstants.Refusal.{ACCESS_BARRED}
+use Rattle.xp_causes.specs.declared.refusal.TheConstants.Refusal.{ACCESS_BARRED}
 use Rattle.xp_groups.specs.Groups.{HasGroups, HasNoGroups, preferred, part_in}
 use Rattle.xp_groups.specs.Intends.{Intends, preferential, preferential_open}
 use Rattle.xp_groups.specs.Admits.{Admits, EntersNone, from_outside}

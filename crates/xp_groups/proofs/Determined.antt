@@ -3,7 +3,7 @@ use Rattle.std.proofs.Common.{rules, Ok, Err}
 use Rattle.xp_subs.specs.declared.station.Station.{Station}
 use Rattle.xp_groups.specs.declared.intention.Intent.{Intent}
 use Rattle.xp_groups.specs.declared.admission.Admission.{Admission}
-use Rattle.xp_groups.specs.declared.refusal.Refusal.{Refusal}
+use Rattle.xp_causes.specs.declared.refusal.Refusal.{Refusal}
 use Rattle.xp_groups.specs.Admits.{Admits}
 use Rattle.xp_groups.specs.Admits as admits
 use Rattle.xp_groups.specs.Laws.{IntentIsDetermined, AdmissionIsDetermined}

@@ -7,7 +7,7 @@ use Rattle.xp_subs.specs.declared.station.Station.{Station}
 use Rattle.xp_subs.specs.declared.station.Membership.{Membership}
 use Rattle.xp_groups.specs.declared.intention.Intent.{Intent}
 use Rattle.xp_groups.specs.declared.admission.Admission.{Admission}
-use Rattle.xp_groups.specs.declared.refusal.Refusal.{Refusal}
+use Rattle.xp_causes.specs.declared.refusal.Refusal.{Refusal}
 use Rattle.xp_groups.specs.Groups.{selected_if_any, part_in}
 use Rattle.xp_groups.specs.Intends.{Intends, outside_only, Prefers}
 use Rattle.xp_groups.specs.Intends as intends

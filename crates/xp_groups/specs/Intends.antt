@@ -5,8 +5,8 @@ use Rattle.xp_facilities.specs.declared.selection.Selection.TheVariants.{Nothing
 use Rattle.xp_subs.specs.declared.station.Station.{Station}
 use Rattle.xp_subs.specs.declared.station.Membership.{Membership}
 use Rattle.xp_groups.specs.declared.intention.Intent.{Intent}
-use Rattle.xp_groups.specs.declared.refusal.Refusal.{Refusal}
-use Rattle.xp_groups.specs.declared.refusal.TheConstants.Refusal.{ACCESS_BARRED, GROUP_NOT_KNOWN, FACILITY_NOT_ALLOWED}
+use Rattle.xp_causes.specs.declared.refusal.Refusal.{Refusal}
+use Rattle.xp_causes.specs.declared.refusal.TheConstants.Refusal.{ACCESS_BARRED, GROUP_NOT_KNOWN, FACILITY_NOT_ALLOWED}
 use Rattle.xp_groups.specs.Groups.{HasGroups, HasNoGroups, selected, preferred}
 
 -- a call within a group alone, within a group and open, and open alone

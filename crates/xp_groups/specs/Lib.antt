@@ -1,4 +1,3 @@
-pub mod Refusals
 pub mod Groups
 pub mod Intends
 pub mod Admits

@@ -4,7 +4,7 @@ ghost use Rattle.xp_groups.specs.Admits.{Admits, from_outside};
 ghost use Rattle.xp_groups.specs.Groups.{HasGroups, HasNoGroups, part_in};
 
 use crate::intention::Intent;
-use crate::refusal::Refusal;
+use xp_causes::Refusal;
 use xp_facilities::Selection;
 use xp_subs::{GroupNo, Membership, Station};
 

@@ -4,7 +4,7 @@ ghost use Rattle.xp_groups.specs.Groups.{HasGroups, selected, preferred};
 ghost use Rattle.xp_groups.specs.Intends.{Intends};
 
 use crate::intention::Intent;
-use crate::refusal::Refusal;
+use xp_causes::Refusal;
 use xp_facilities::Selection;
 use xp_subs::{Membership, Station};
 

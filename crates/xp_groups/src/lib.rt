@@ -5,15 +5,8 @@ mod admission;
 mod calling;
 mod intention;
 mod laws;
-mod refusal;
 
 pub use admission::{Admission, admit};
 pub use calling::intent;
 pub use intention::Intent;
-pub use laws::{
-    admission_is_determined, intent_is_determined, joined_stations_may_join, refusals_are_coded,
-};
-pub use refusal::{Cause, Refusal};
-
-#[cfg(test)]
-mod tests;
+pub use laws::{admission_is_determined, intent_is_determined, joined_stations_may_join};

@@ -8,6 +8,3 @@ mod lines;
 pub use choice::{Picked, pick};
 pub use laws::picks_where_one_is_idle;
 pub use lines::{LineState, Lines};
-
-#[cfg(test)]
-mod tests;

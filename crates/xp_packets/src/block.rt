@@ -1,6 +1,6 @@
 //! The block of addresses, facilities and user data (X.25 clauses 5.2.1 to 5.2.5).
 
-ghost use Rattle.std.specs.Prelude.{◌≡◌, ◌≤◌, ◌++◌, false, length, OnOk};
+ghost use Rattle.std.specs.Prelude.{◌≡◌, ◌≤◌, ◌++◌, false, is_some, length, true, OnOk};
 ghost use Rattle.xp_packets.specs.Addresses.{AreAddresses, BlockHasAddresses};
 ghost use Rattle.xp_packets.specs.Fitness.{has_long_facilities};
 ghost use Rattle.xp_packets.specs.Reading.{Finds, Gives, block_at, fields_at, optional_block_at};
@@ -9,7 +9,7 @@ ghost use Rattle.xp_packets.specs.Writing.{written_block, written_option};
 use crate::address::{addresses_of, push_addresses};
 use crate::digits::Digits;
 use crate::fault::{PacketFault, Wrong};
-use crate::octets::{Octets, octets_of};
+use crate::octets::Octets;
 use std::alloc::{AllocError, Allocator, Global};
 
 /// Octets of facilities (clause 5.2.2).
@@ -42,7 +42,7 @@ pub(crate) fn block_of<A: Allocator + Copy>(
     octets: &[u8],
     most: usize,
 ) -> Result<Block<A>, PacketFault>
-    ensures { Gives (λ x. x) result (block_at most octets.now) }
+    ensures { Gives (λ _. true) result (block_at most octets.now) }
 {
     match octets {
         [] => Err(Wrong::Short.into()),
@@ -51,8 +51,8 @@ pub(crate) fn block_of<A: Allocator + Copy>(
             let calling = usize::from(*lengths >> 4);
             let (called, calling, rest) = addresses_of(called, calling, rest)?;
             let (facilities, user) = fields_of(rest, most)?;
-            let facilities = octets_of(alloc, facilities)?;
-            let user = octets_of(alloc, user)?;
+            let facilities = Octets::from_slice(alloc, facilities)?;
+            let user = Octets::from_slice(alloc, user)?;
             Ok(Block {
                 called,
                 calling,
@@ -70,7 +70,7 @@ pub(crate) fn optional_block_of<A: Allocator + Copy>(
     octets: &[u8],
     most: usize,
 ) -> Result<Option<Block<A>>, PacketFault>
-    ensures { Gives (λ x. x) result (optional_block_at most octets.now) }
+    ensures { Gives is_some result (optional_block_at most octets.now) }
 {
     match octets {
         [] => Ok(None),

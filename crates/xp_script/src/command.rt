@@ -113,7 +113,9 @@ fn octets_of<A: Allocator + Copy>(alloc: A, digits: &[u8]) -> Result<Octets<A>, 
     ensures { Answers (octets_of digits.now) result }
 {
     match hex::decode(alloc, digits) {
-        Ok(octets) if !octets.is_empty() => Ok(Octets::from_vec(octets)),
+        Ok(octets) if !octets.is_empty() => {
+            Octets::from_vec(octets).map_err(|_| LineFault::Memory)
+        }
         Err(FromHexError::OutOfMemory) => Err(LineFault::Memory),
         _ => Err(LineFault::Faulty),
     }

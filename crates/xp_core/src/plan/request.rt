@@ -27,11 +27,10 @@ use xp_subs::{LineNo, Subs};
 const STANDARD_FACILITIES: [u8; 6] = [0x42, 7, 7, 0x43, 2, 2];
 
 /// The facilities of every call: the standard packet and window sizes.
-pub fn standard_facilities<A: Allocator>(alloc: A) -> Result<Octets<A>, AllocError>
+pub fn standard_facilities<A: Allocator + Copy>(alloc: A) -> Result<Octets<A>, AllocError>
     ensures { IfOk result (λ facilities. facilities ≡ standard) }
 {
-    let octets = Vec::from_slice(alloc, &STANDARD_FACILITIES)?;
-    Ok(Octets::from_vec(octets))
+    Octets::from_slice(alloc, &STANDARD_FACILITIES)
 }
 
 /// A call request as it came.

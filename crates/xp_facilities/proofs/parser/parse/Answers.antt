@@ -46,5 +46,5 @@ returns g c = record {
   charging = c.first_bit-2.ensures ∙ ap first_bit c.octet-2.ensures;
   packet = c.in_ok-packet.ensures;
   window = c.in_ok-window.ensures;
-  dte = c.in_ok-kept.ensures ∙ ap Some (sym (c.from_vec.ensures ∙ c.in_ok-dte.ensures.items ∙ c.as_slice.ensures.value));
+  dte = c.in_ok-kept.ensures ∙ ap Some (sym (c.in_ok-dte.ensures ∙ c.as_slice.ensures.value));
 }
