@@ -12,7 +12,7 @@ use Rattle.xp_core.specs.declared.table.Action.{Action}
 use Rattle.xp_core.specs.Changes.{Change, Rises, Leaves, Begins, IsRefused, Connects, Ends, Way, GoesOut, IsConfirmed, IsFree, outputs_of, recorded, recorded_by, told, told_on_way}
 use Rattle.xp_core.specs.Clearing.{record_of, refused_record}
 use Rattle.xp_core.specs.Coupling.{AreCoupled, IsEnd, IsHeld}
-use Rattle.xp_core.specs.Named.{HasNames, IsLine, IsNamed}
+use Rattle.xp_core.specs.Lines.{HasLines, IsBetween}
 use Rattle.xp_core.specs.Run.{Run}
 use Rattle.xp_core.specs.Step.{Step}
 use Rattle.xp_core.specs.World.{Call, World, call_numbered, far_end, opening}
@@ -68,16 +68,16 @@ module _ {A : Type 0} (tables : Tables) (world : World) (coupled : AreCoupled ta
   taken_named (Connects number call packet) can = tt
   taken_named (Ends number call line way cause diagnostic) can = tt
 
-  records_named : (change : Change A) → CanBe world change → All (IsNamed tables) (recorded world change)
-  records_named (Rises line) can = All-nil (IsNamed tables)
-  records_named (Leaves line way) can = All-nil (IsNamed tables)
-  records_named (Begins line identifier called dialled packet) can = All-nil (IsNamed tables)
-  records_named (Connects number call packet) can = All-nil (IsNamed tables)
+  records_named : (change : Change A) → CanBe world change → All (IsBetween (line_count tables)) (recorded world change)
+  records_named (Rises line) can = All-nil (IsBetween (line_count tables))
+  records_named (Leaves line way) can = All-nil (IsBetween (line_count tables))
+  records_named (Begins line identifier called dialled packet) can = All-nil (IsBetween (line_count tables))
+  records_named (Connects number call packet) can = All-nil (IsBetween (line_count tables))
   records_named (IsRefused line identifier dialled why) can =
-      All-cons (IsNamed tables) (refused_record world.next line dialled why) [] (record { caller = omega (arith, can.within, lines); called = tt }) (All-nil (IsNamed tables))
+      All-cons (IsBetween (line_count tables)) (refused_record world.next line dialled why) [] (omega (arith, can.within, lines), tt) (All-nil (IsBetween (line_count tables)))
   records_named (Ends number call line way cause diagnostic) can =
       let held : IsHeld tables world number call = coupled.held number call can.live in
-      All-cons (IsNamed tables) (record_of number call cause diagnostic) [] (record { caller = held.caller; called = held.called }) (All-nil (IsNamed tables))
+      All-cons (IsBetween (line_count tables)) (record_of number call cause diagnostic) [] (held.caller, held.called) (All-nil (IsBetween (line_count tables)))
 
 module _ {A : Type 0} where
   abbrev AreNamed : Tables → List (Output A) → Type 0
@@ -97,34 +97,32 @@ module _ {A : Type 0} where
       (All-append P (own ++ []) (far ++ []) (each_named tables own all_own) (each_named tables far all_far)) (each_named tables new all_new)
 
   entry_named : (tables : Tables) (before : List (Entry A)) (world : World) (entry : Entry A) (next : World) → IsRight tables (length before) world
-      → Step tables before world entry next → HasNames tables entry
+      → Step tables before world entry next → HasLines (line_count tables) entry
   entry_named tables before world entry next right step =
       let P : List (Output A) → Type 0 = λ o. AreNamed tables o in
       elim (step_shape tables before world entry next right.coupled step) [
         | none is old ↦ record {
-          event = omega (arith, step.line, right.sound.lines);
           outputs = subst P (sym (step.outputs ∙ ap (outputs_of world) is)) (All-nil (λ output. output.line < line_count tables));
-          records = All-same (IsNamed tables) entry.records.items [] (step.records ∙ ap (recorded_by world) is) (All-nil (IsNamed tables));
+          records = All-same (IsBetween (line_count tables)) entry.records.items [] (step.records ∙ ap (recorded_by world) is) (All-nil (IsBetween (line_count tables)));
         }
         | one change is can from ↦ record {
-          event = omega (arith, step.line, right.sound.lines);
           outputs = subst P (sym (step.outputs ∙ ap (outputs_of world) is)) (one_named tables (told world change).own (told world change).far (told world change).taken
               (own_named tables world right.coupled right.sound.lines change can) (far_named tables world right.coupled right.sound.lines change can)
               (taken_named tables world right.coupled right.sound.lines change can));
-          records = All-same (IsNamed tables) entry.records.items (recorded world change) (step.records ∙ ap (recorded_by world) is ∙ append-nil (recorded world change))
+          records = All-same (IsBetween (line_count tables)) entry.records.items (recorded world change) (step.records ∙ ap (recorded_by world) is ∙ append-nil (recorded world change))
               (records_named tables world right.coupled right.sound.lines change can);
         }
       ]
 
   step_named : (tables : Tables) (before : List (Entry A)) (world : World) (entry : Entry A) (next : World)
-      → Run tables before world × All (HasNames tables) before → Step tables before world entry next
-      → Run tables (before ++ entry ∷ []) next × All (HasNames tables) (before ++ entry ∷ [])
+      → Run tables before world × All (HasLines (line_count tables)) before → Step tables before world entry next
+      → Run tables (before ++ entry ∷ []) next × All (HasLines (line_count tables)) (before ++ entry ∷ [])
   step_named tables before world entry next old step = (
     run_push tables [] (opening (line_count tables)) before world entry next old.0 step,
-    All-push (HasNames tables) before entry old.1 (entry_named tables before world entry next (run_right tables before world old.0) step),
+    All-push (HasLines (line_count tables)) before entry old.1 (entry_named tables before world entry next (run_right tables before world old.0) step),
   )
 
-  pub run_named : (tables : Tables) (history : List (Entry A)) (world : World) → Run tables history world → All (HasNames tables) history
+  pub run_named : (tables : Tables) (history : List (Entry A)) (world : World) → Run tables history world → All (HasLines (line_count tables)) history
   run_named tables history world run =
-      (run_keeps (λ before w. Run tables before w × All (HasNames tables) before) tables (step_named tables) [] (opening (line_count tables)) history world
-      (refl, All-nil (HasNames tables)) run).1
+      (run_keeps (λ before w. Run tables before w × All (HasLines (line_count tables)) before) tables (step_named tables) [] (opening (line_count tables)) history world
+      (refl, All-nil (HasLines (line_count tables))) run).1

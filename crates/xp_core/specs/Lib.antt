@@ -9,7 +9,7 @@ pub mod Determined
 pub mod Exchange
 pub mod Existence
 pub mod Kept
-pub mod Named
+pub mod Lines
 pub mod Packets
 pub mod Plan
 pub mod Records

@@ -94,7 +94,7 @@ impl<A: Allocator + Copy> Core<A> {
 
 impl<A: Allocator> Core<A> {
     ghost use Rattle.xp_core.specs.Coupling.{AreCoupled};
-    ghost use Rattle.xp_core.specs.Named.{HasNames};
+    ghost use Rattle.xp_core.specs.Lines.{HasLines};
     ghost use Rattle.xp_core.specs.Records.{OneRecordEach, records_of};
     ghost use Rattle.xp_core.specs.Run.{Run};
     ghost use Rattle.xp_core.specs.Writable.{AreWritable};
@@ -118,12 +118,12 @@ impl<A: Allocator> Core<A> {
     }
 
     /// All entries, which lead to the present state. Each packet that they put out can be encoded, and each line that
-    /// they name is one of the subscriptions'.
+    /// they put something out to or record is one of the subscriptions'.
     pub fn history(&self) -> &[Entry<A>]
         ensures entries { result.now ≡ self.now.history }
         ensures run { Run self.now.subs self.now.history (world_of self.now) }
         ensures writable { All (λ entry. AreWritable entry.outputs) self.now.history }
-        ensures named { All (HasNames self.now.subs) self.now.history }
+        ensures lines { All (HasLines (line_count self.now.subs)) self.now.history }
     {
         self.history.as_slice()
     }
