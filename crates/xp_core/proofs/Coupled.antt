@@ -1,12 +1,10 @@
 -- Each change keeps lines and live calls coupled.
-use Rattle.std.proofs.Common.{◌≡◌, ◌≢◌, ℕ, ◌+◌, ◌<◌, eqb, Option, Some, None, List, length, set, refl, ap, sym, subst, ◌∙◌, inl, inr, arith}
+use Rattle.std.proofs.Common.{◌≡◌, ◌≢◌, ℕ, ◌+◌, ◌<◌, eqb, Some, None, List, length, set, refl, ap, sym, subst, ◌∙◌, inl, inr, arith}
 use Rattle.std.proofs.lemmas.Bool.{cases_eq, cond_both}
-use Rattle.std.specs.FinMap.{FinMap, insert, remove}
-use Rattle.std.specs.Ordering.{nat_cmp}
-use Rattle.xp_packets.specs.declared.packet.Packet.{Packet}
+use Rattle.std.specs.FinMap.{insert, remove}
 use Rattle.xp_subs.specs.Tables.{Tables, line_count}
 use Rattle.xp_core.specs.Changes.{Change, Rises, Leaves, Begins, IsRefused, Connects, Ends, Way, GoesOut, IsConfirmed, IsFree, changed, state_after}
-use Rattle.xp_core.specs.Channel.{State, Ready, Waiting, Ringing, Talking, Cleared, INITIAL_IDENTIFIER, call_of}
+use Rattle.xp_core.specs.Channel.{State, Waiting, Ringing, Talking, INITIAL_IDENTIFIER, call_of}
 use Rattle.xp_core.specs.Coupling.{AreCoupled, IsEnd, IsHeld}
 use Rattle.xp_core.specs.World.{Call, Line, World, call_numbered, far_end, line_at, state_at}
 use Rattle.xp_core.proofs.InCall.{called_shows, caller_shows, end_of, held_still, pair, same_number, shows_none}

@@ -5,13 +5,10 @@ use Rattle.std.proofs.lemmas.List.Elements.{All-nil, All-cons, All-same}
 use Rattle.xp_packets.specs.declared.packet.Packet.TheVariants.{Clear}
 use Rattle.xp_subs.specs.Tables.{Tables, line_count}
 use Rattle.xp_core.specs.declared.entry.Entry.{Entry}
-use Rattle.xp_core.specs.declared.output.Output.{Output}
-use Rattle.xp_core.specs.declared.record.Record.{Record}
-use Rattle.xp_core.specs.declared.table.Action.{Action}
 use Rattle.xp_core.specs.declared.table.Action.TheVariants.{NewCall}
 use Rattle.xp_core.specs.Changes.{Change, Rises, Leaves, Begins, IsRefused, Connects, Ends, Way, GoesOut, IsConfirmed, IsFree, all_changed, changed, outputs_of, recorded, recorded_by}
 use Rattle.xp_core.specs.Clearing.{record_of, refused_record}
-use Rattle.xp_core.specs.Records.{Begins as HasBegun, Ends as HasEnded, IsLive, IsRecordOf, Moment, OneRecordEach, clears_to, count_of, holders}
+use Rattle.xp_core.specs.Records.{Begins as HasBegun, Ends as HasEnded, IsLive, IsRecordOf, Moment, OneRecordEach, clears_to, count_of}
 use Rattle.xp_core.specs.Run.{Run}
 use Rattle.xp_core.specs.Setting.{setting}
 use Rattle.xp_core.specs.Step.{action_at}

@@ -1,9 +1,8 @@
 -- Every event has a step.
-use Rattle.std.proofs.Common.{◌≡◌, ◌∙◌, ℕ, ◌+◌, ◌<◌, Bool, true, false, cond, ltb, find, length, is_none, Option, Some, None, List, [], ◌∷◌, inl, inr, refl, ap, sym, subst, arith}
+use Rattle.std.proofs.Common.{◌≡◌, ℕ, ◌+◌, ◌<◌, true, false, ltb, find, length, is_none, Option, Some, None, List, inl, inr, refl, ap, sym, subst, arith}
 use Rattle.xp_packets.specs.declared.block.Block.{Block}
 use Rattle.xp_subs.specs.declared.target.Target.{Target}
 use Rattle.xp_subs.specs.Tables.{Tables, line_count, target_of}
-use Rattle.xp_core.specs.declared.cause.Refusal.{Refusal}
 use Rattle.xp_core.specs.declared.entry.Entry.{Entry}
 use Rattle.xp_core.specs.declared.event.Event.{Event}
 use Rattle.xp_core.specs.declared.event.What.{What}
@@ -12,7 +11,7 @@ use Rattle.xp_core.specs.declared.table.Action.TheVariants.{NewCall}
 use Rattle.xp_core.specs.declared.verdict.Verdict.{Verdict}
 use Rattle.xp_core.specs.declared.verdict.Verdict.TheVariants.{Take, Refuse}
 use Rattle.xp_core.specs.Changes.{Change, all_changed, outputs_of, recorded_by}
-use Rattle.xp_core.specs.Decision.{Chosen, Decided, IsPlaced, first_of, is_idle, reasons, target_lines, why_none}
+use Rattle.xp_core.specs.Decision.{Chosen, Decided, first_of, is_idle, reasons, target_lines, why_none}
 use Rattle.xp_core.specs.Existence.{HasStep}
 use Rattle.xp_core.specs.Run.{Run}
 use Rattle.xp_core.specs.Setting.{Setting, setting}

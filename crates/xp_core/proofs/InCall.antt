@@ -2,7 +2,7 @@
 use Rattle.std.proofs.Common.{◌≡◌, ◌≢◌, ℕ, ◌⊎◌, eqb, Option, Some, None, refl, ap, sym, subst, ◌∙◌, inl, inr}
 use Rattle.std.proofs.lemmas.Bool.{eq-eqb, ne_eqb, cond-true, cond-false}
 use Rattle.xp_subs.specs.Tables.{Tables}
-use Rattle.xp_core.specs.Channel.{State, Waiting, Ringing, Talking, call_of}
+use Rattle.xp_core.specs.Channel.{Waiting, Ringing, Talking, call_of}
 use Rattle.xp_core.specs.Coupling.{AreCoupled, IsEnd, IsHeld}
 use Rattle.xp_core.specs.World.{Call, World, call_numbered, call_on, far_end, numbered, state_at}
 

@@ -1,5 +1,5 @@
 -- Each number given has one live call or one record.
-use Rattle.std.proofs.Common.{◌≡◌, ◌≢◌, ℕ, ◌+◌, ◌<◌, ◌≤◌, Bool, cond, eqb, is_some, Option, Some, None, List, [], ◌∷◌, ◌++◌, count_by, length, refl, ap, sym, subst, ◌∙◌, inl, inr, arith, append_assoc, append-nil}
+use Rattle.std.proofs.Common.{◌≡◌, ◌≢◌, ℕ, ◌+◌, ◌<◌, ◌≤◌, cond, eqb, is_some, Option, Some, None, List, [], ◌∷◌, ◌++◌, length, refl, ap, sym, subst, ◌∙◌, inl, inr, arith, append_assoc, append-nil}
 use Rattle.std.proofs.lemmas.Bool.{eq-eqb, ne_eqb, cases_eq, cases_lt}
 use Rattle.std.proofs.lemmas.List.Concat.{flat_map-append}
 use Rattle.std.specs.FinMap.{get-empty}
@@ -19,7 +19,7 @@ use Rattle.xp_core.proofs.Counts.{count_by-append, count_by-cons}
 use Rattle.xp_core.proofs.Coupled.{CanBe}
 use Rattle.xp_core.proofs.Maps.{get_gone, get_left, get_new, get_other, new_or_old, was_there}
 use Rattle.xp_core.proofs.RunLemmas.{run_keeps, run_push}
-use Rattle.xp_core.proofs.Shapes.{Shape, none, one, ComesOf, step_shape}
+use Rattle.xp_core.proofs.Shapes.{none, one, ComesOf, step_shape}
 use Rattle.xp_core.proofs.Sounds.{IsRight, run_right}
 
 -- 1 for a live call, else 0

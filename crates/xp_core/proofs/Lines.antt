@@ -1,11 +1,11 @@
 -- Lines, after one or two of them came to another state.
-use Rattle.std.proofs.Common.{◌≡◌, ◌≢◌, ℕ, ◌<◌, List, length, get_or, set, refl, ap, sym, subst, ◌∙◌, inl, inr, arith, get_or-set_other, length-set}
+use Rattle.std.proofs.Common.{◌≡◌, ◌≢◌, ℕ, ◌<◌, List, length, get_or, set, sym, subst, ◌∙◌, inl, inr, arith, get_or-set_other, length-set}
 use Rattle.std.proofs.lemmas.Bool.{cases_eq, cases_lt}
 use Rattle.std.proofs.lemmas.Bool.Decides.{eqb_tells}
 use Rattle.std.proofs.lemmas.Grind.{get_or-set_at}
 use Rattle.std.proofs.lemmas.List.{get_or_past, get_or-replicate, length-replicate, set_past}
 use Rattle.std.specs.Prelude.{replicate}
-use Rattle.xp_core.specs.World.{Line, World, line_at, off_line, opening}
+use Rattle.xp_core.specs.World.{Line, line_at, off_line, opening}
 
 -- a line, after one became this
 pub data Once (lines : List Line) (at : ℕ) (becomes : Line) (line : ℕ) : Type 0 where

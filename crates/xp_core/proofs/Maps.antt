@@ -1,11 +1,9 @@
 -- What a map from numbers holds.
-use Rattle.std.proofs.Common.{◌≡◌, ◌≢◌, ℕ, Bool, true, false, cond, eqb, not, is_some, Option, Some, None, List, [], ◌∷◌, ◌++◌, filter, find, map, option_map, refl, ap, sym, subst, ◌∙◌, ◌⊎◌, inl, inr}
-use Rattle.std.proofs.lemmas.Bool.{cases_eq, eq-eqb, ne_eqb, eqb-true}
-use Rattle.std.specs.Cmp.{nat_cmp_total, ranked, tied_itself}
-use Rattle.std.specs.FinMap as finite
-use Rattle.std.specs.FinMap.{FinMap, get, insert, remove, get-insert, get-remove, get-from_entries, nat_cmp-IsAntisymmetric, same_map}
+use Rattle.std.proofs.Common.{◌≡◌, ◌≢◌, ℕ, true, false, cond, eqb, Some, None, refl, ap, sym, subst, ◌∙◌, ◌⊎◌, inl, inr}
+use Rattle.std.proofs.lemmas.Bool.{cases_eq, eq-eqb, ne_eqb}
+use Rattle.std.specs.Cmp.{nat_cmp_total, tied_itself}
+use Rattle.std.specs.FinMap.{FinMap, get, insert, remove, get-insert, get-remove, nat_cmp-IsAntisymmetric}
 use Rattle.std.specs.Ordering.{eq_by_cmp, is_eq, nat_cmp}
-use Rattle.std.specs.declared.cmp.Ordering.{Ordering}
 use Rattle.std.specs.declared.cmp.Ordering.TheVariants.{Less, Equal, Greater}
 
 tied : (q k : ℕ) → q ≡ k → eq_by_cmp nat_cmp q k ≡ true

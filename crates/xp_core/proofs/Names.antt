@@ -1,14 +1,11 @@
 -- Every line that an entry of a run names is one of the subscriptions'.
-use Rattle.std.proofs.Common.{◌≡◌, ◌∙◌, ℕ, ◌+◌, ◌<◌, eqb, Option, Some, None, List, [], ◌∷◌, ◌++◌, All, length, refl, ap, sym, subst, inl, inr, arith, append-nil}
+use Rattle.std.proofs.Common.{◌≡◌, ◌∙◌, ℕ, ◌<◌, eqb, Some, List, [], ◌∷◌, ◌++◌, All, length, refl, ap, sym, subst, inl, inr, arith, append-nil}
 use Rattle.std.proofs.lemmas.Bool.{cond_both}
 use Rattle.std.proofs.lemmas.List.Elements.{All-nil, All-cons, All-push, All-append, All-from_recursion, All-same}
 use Rattle.std.specs.List.{AllByRecursion}
 use Rattle.xp_subs.specs.Tables.{Tables, line_count}
 use Rattle.xp_core.specs.declared.entry.Entry.{Entry}
-use Rattle.xp_core.specs.declared.event.What.{What}
 use Rattle.xp_core.specs.declared.output.Output.{Output}
-use Rattle.xp_core.specs.declared.record.Record.{Record}
-use Rattle.xp_core.specs.declared.table.Action.{Action}
 use Rattle.xp_core.specs.Changes.{Change, Rises, Leaves, Begins, IsRefused, Connects, Ends, Way, GoesOut, IsConfirmed, IsFree, outputs_of, recorded, recorded_by, told, told_on_way}
 use Rattle.xp_core.specs.Clearing.{record_of, refused_record}
 use Rattle.xp_core.specs.Coupling.{AreCoupled, IsEnd, IsHeld}

@@ -1,5 +1,5 @@
 -- Two steps of one event are the same, but for the line that a new call is put to.
-use Rattle.std.proofs.Common.{◌≡◌, ◌∙◌, ℕ, Bool, Option, Some, None, List, inl, inr, refl, ap, sym, subst}
+use Rattle.std.proofs.Common.{◌≡◌, ◌∙◌, ℕ, Option, Some, None, List, inl, inr, refl, ap, sym, subst}
 use Rattle.std.specs.Prelude.{is_none}
 use Rattle.std.specs.List.{list_any}
 use Rattle.std.proofs.lemmas.List.Folds.{list_any_at}

@@ -1,5 +1,5 @@
 -- What a step does: nothing, or one change that can be made.
-use Rattle.std.proofs.Common.{◌≡◌, ℕ, ◌<◌, Bool, Option, Some, None, List, [], ◌∷◌, length, refl, ap, sym, subst, ◌∙◌}
+use Rattle.std.proofs.Common.{◌≡◌, ℕ, ◌<◌, Bool, Option, Some, None, List, [], ◌∷◌, length, refl, ap, sym, subst}
 use Rattle.xp_packets.specs.declared.packet.Packet.{Packet}
 use Rattle.xp_subs.specs.Tables.{Tables}
 use Rattle.xp_core.specs.declared.entry.Entry.{Entry}
@@ -20,7 +20,7 @@ use Rattle.xp_core.specs.Step.{Chooses, IsDecided, Step, action_at, answers, con
 use Rattle.xp_core.specs.Table.{CallRequest, accepted_in, clear_in, kind_of, request_in}
 use Rattle.xp_core.specs.World.{Call, World, call_on, state_at}
 use Rattle.xp_core.proofs.Cells.{Suits, suits}
-use Rattle.xp_core.proofs.Coupled.{CanBe, IsOut}
+use Rattle.xp_core.proofs.Coupled.{CanBe}
 use Rattle.xp_core.proofs.Idle.{idle_ready, idle_within}
 use Rattle.xp_core.proofs.InCall.{end_of, none_on, shown_on}
 

@@ -1,5 +1,5 @@
 -- As an event is entered, what is kept goes on to show where the history leads.
-use Rattle.std.proofs.Common.{◌≡◌, ◌∙◌, ℕ, ◌+◌, ◌<◌, IfOk, OnErr, Result, Ok, Err, Option, Some, None, List, [], ◌∷◌, ◌++◌, All, length, refl, ap, sym, subst, append-nil}
+use Rattle.std.proofs.Common.{◌≡◌, ◌∙◌, ◌+◌, ◌<◌, IfOk, OnErr, Result, Ok, Err, Option, Some, None, List, [], ◌∷◌, ◌++◌, length, refl, ap, sym, subst, append-nil}
 use Rattle.std.proofs.lemmas.List.Concat.{flat_map-append}
 use Rattle.std.proofs.lemmas.List.Elements.{All-nil, All-pop, All-push}
 use Rattle.xp_subs.specs.Tables.{Tables, line_count}
@@ -16,14 +16,14 @@ use Rattle.xp_core.specs.declared.verdict.Verdict.{Verdict}
 use Rattle.xp_core.specs.Exchange.{Advances, Exchange, IsReadable, world_of}
 use Rattle.xp_core.specs.Plan.{IsPlan, Plans, PlansCall, applied_if_any}
 use Rattle.xp_core.specs.Records.{records_of}
-use Rattle.xp_core.specs.Run.{Run, world_after}
+use Rattle.xp_core.specs.Run.{Run}
 use Rattle.xp_core.specs.Setting.{Setting, setting}
 use Rattle.xp_core.specs.Shown.{Shows}
 use Rattle.xp_core.specs.Step.{Chooses, IsDecided, Step, action_at, does, requests, taken_by}
 use Rattle.xp_core.specs.Table.{CallRequest, request_in}
 use Rattle.xp_core.specs.Work.{Enters, Works}
 use Rattle.xp_core.specs.World.{World, opening}
-use Rattle.xp_core.specs.Writable.{AreReadable, AreWritable}
+use Rattle.xp_core.specs.Writable.{AreWritable}
 use Rattle.xp_core.proofs.Fitting.{run_fits}
 use Rattle.xp_core.proofs.RunLemmas.{run_push}
 use Rattle.xp_core.proofs.Worlds.{run_world}

@@ -1,5 +1,5 @@
 -- Every state that a history leads to is sound and coupled.
-use Rattle.std.proofs.Common.{◌≡◌, ◌≢◌, ℕ, ◌+◌, ◌≤◌, Some, None, List, [], ◌∷◌, ◌++◌, get_or, set, length, refl, ap, sym, subst, ◌∙◌, inl, inr, arith, length-append, length-set}
+use Rattle.std.proofs.Common.{◌≡◌, ℕ, ◌+◌, ◌≤◌, None, List, [], ◌∷◌, ◌++◌, get_or, set, length, ap, sym, subst, ◌∙◌, inl, inr, arith, length-append, length-set}
 use Rattle.std.proofs.lemmas.Bool.{cases_eq}
 use Rattle.std.proofs.lemmas.List.{length-replicate}
 use Rattle.std.specs.FinMap.{get-empty}
@@ -9,10 +9,10 @@ use Rattle.xp_core.specs.declared.entry.Entry.{Entry}
 use Rattle.xp_core.specs.Changes.{Change, Rises, Leaves, Begins, IsRefused, Connects, Ends, all_changed, changed}
 use Rattle.xp_core.specs.Channel.{call_of}
 use Rattle.xp_core.specs.Coupling.{AreCoupled}
-use Rattle.xp_core.specs.Run.{Run, RunFrom}
+use Rattle.xp_core.specs.Run.{Run}
 use Rattle.xp_core.specs.Sound.{IsSound}
 use Rattle.xp_core.specs.Step.{Step}
-use Rattle.xp_core.specs.World.{Line, World, call_numbered, far_end, line_at, off_line, opening, state_at}
+use Rattle.xp_core.specs.World.{Line, World, call_numbered, far_end, off_line, opening, state_at}
 use Rattle.xp_core.proofs.Coupled.{changed_coupled}
 use Rattle.xp_core.proofs.Lines.{get_or-set, line_at-opening}
 use Rattle.xp_core.proofs.Maps.{get_gone, get_left, get_other}

@@ -1,4 +1,4 @@
-use Rattle.std.proofs.Common.{List, ap, refl, subst, sym, ◌∙◌}
+use Rattle.std.proofs.Common.{List, refl, subst}
 use Rattle.xp_core.specs.Plan.{Plans}
 use Rattle.xp_core.specs.Setting.{setting}
 use Rattle.xp_core.specs.Step.{action_at}

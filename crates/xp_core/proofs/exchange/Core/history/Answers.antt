@@ -1,6 +1,6 @@
 use Rattle.std.proofs.Common.{All, subst}
-use Rattle.xp_core.specs.Exchange.{Exchange, world_of}
-use Rattle.xp_core.specs.Run.{Run, world_after}
+use Rattle.xp_core.specs.Exchange.{Exchange}
+use Rattle.xp_core.specs.Run.{world_after}
 use Rattle.xp_core.specs.Writable.{AreWritable}
 use Rattle.xp_subs.specs.Tables.{line_count}
 use Rattle.xp_core.specs.Lines.{HasLines}

@@ -1,7 +1,6 @@
-use Rattle.std.proofs.Common.{ap, arith, subst, sym, ◌∙◌}
+use Rattle.std.proofs.Common.{ap, arith, subst, ◌∙◌}
 use Rattle.xp_core.specs.Coupling.{AreCoupled}
 use Rattle.xp_core.specs.Exchange.{Exchange, world_of}
-use Rattle.xp_core.specs.Run.{world_after}
 use Rattle.xp_core.specs.View.{view_of}
 use Rattle.xp_core.specs.World.{line_at}
 use Rattle.xp_core.proofs.Fitting.{run_narrow}

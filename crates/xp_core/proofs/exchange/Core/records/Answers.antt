@@ -1,4 +1,4 @@
-use Rattle.std.proofs.Common.{subst, ◌∙◌}
+use Rattle.std.proofs.Common.{subst}
 use Rattle.xp_core.specs.Exchange.{Exchange, world_of}
 use Rattle.xp_core.specs.Records.{OneRecordEach}
 use Rattle.xp_core.specs.Run.{world_after}

@@ -1,5 +1,5 @@
 use Rattle.xp_core.proofs.Showing.{outcome_advances, outcome_fits, outcome_keeps, outcome_shows}
-use Rattle.xp_core.proofs.Sounds.{run_right, right_here}
+use Rattle.xp_core.proofs.Sounds.{right_here}
 use Rattle.xp_core.proofs.exchange.Core.step.Goals as goal
 
 pub advance-requires-clause-sound : goal.advance-requires-clause-sound

@@ -1,6 +1,5 @@
-use Rattle.std.proofs.Common.{rules, ◌≡◌, Option, Some, ap, sym, ◌∙◌, option_map}
+use Rattle.std.proofs.Common.{rules, ◌≡◌, Some, ap, ◌∙◌, option_map}
 use Rattle.std.specs.Option.{option_copied}
-use Rattle.xp_core.specs.declared.call.LiveCall.{LiveCall}
 use Rattle.xp_core.specs.Channel.{call_of}
 use Rattle.xp_core.specs.Kept.{entry_of}
 use Rattle.xp_core.specs.World.{numbered, state_at}
