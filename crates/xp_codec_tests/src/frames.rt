@@ -1,6 +1,7 @@
 //! Frames (RFC 1613): how a stream is cut, and what is refused.
 
-use std::alloc::Allocator;
+use std::alloc::{Allocator, Global};
+use std::process::Abort;
 use std::test::Fail;
 use xp_frames::{Deframer, FrameFault, write_frame};
 use xp_testing::Refusing;
@@ -83,10 +84,9 @@ const STREAMS: [Stream; 7] = [
     },
 ];
 
-#[test]
-fn streams_are_cut(rt: HostRuntime) -> Result<(), Fail> {
-    for stream in &STREAMS {
-        let mut frames = Deframer::new(rt.alloc());
+fn are_cut(rt: &impl Abort, alloc: Global, streams: &[Stream]) -> Result<(), Fail> {
+    for stream in streams {
+        let mut frames = Deframer::new(alloc);
         for (piece, answer) in stream.pieces {
             assert_eq!(rt; frames.feed(piece), *answer, "{piece:?}");
         }
@@ -97,6 +97,11 @@ fn streams_are_cut(rt: HostRuntime) -> Result<(), Fail> {
         assert!(rt; frames.next().is_none());
     }
     Ok(())
+}
+
+#[test]
+fn streams_are_cut(rt: HostRuntime) -> Result<(), Fail> {
+    are_cut(&rt, rt.alloc(), &STREAMS)
 }
 
 #[test]

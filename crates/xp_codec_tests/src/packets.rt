@@ -1,7 +1,8 @@
 //! Packets (X.25 clause 5): octets and what they spell.
 
 use crate::plain::{Form, Plain, packet};
-use std::alloc::Allocator;
+use std::alloc::{Allocator, Global};
+use std::process::Abort;
 use std::test::Fail;
 use xp_packets::{Digits, PacketFault, Wrong, decode, encode};
 use xp_testing::Refusing;
@@ -98,17 +99,22 @@ const SHORTER: [(&[u8], &[u8]); 2] = [
     (b"\x10\x01\x13\x00\x07\x00", b"\x10\x01\x13\x00\x07\x00\x00"),
 ];
 
-#[test]
-fn packets_are_read_and_written(rt: HostRuntime) -> Result<(), Fail> {
-    for (text, identifier, form) in &SPELLED {
-        let expected = packet(rt.alloc(), form)?;
-        let written = encode(rt.alloc(), *identifier, &expected)?;
+fn both_ways(rt: &impl Abort, alloc: Global, rows: &[(&[u8], u16, Form)]) -> Result<(), Fail> {
+    for (text, identifier, form) in rows {
+        let expected = packet(alloc, form)?;
+        let written = encode(alloc, *identifier, &expected)?;
         assert_eq!(rt; written.as_slice(), *text);
-        let (found, read) = decode(rt.alloc(), text)?;
+        let (found, read) = decode(alloc, text)?;
         assert_eq!(rt; found, *identifier, "{text:?}");
         assert_eq!(rt; read, expected, "{text:?}");
         assert_eq!(rt; read.copy()?, expected, "{text:?}");
     }
+    Ok(())
+}
+
+#[test]
+fn packets_are_read_and_written(rt: HostRuntime) -> Result<(), Fail> {
+    both_ways(&rt, rt.alloc(), &SPELLED)?;
     for (text, again) in &SHORTER {
         let (identifier, read) = decode(rt.alloc(), text)?;
         let written = encode(rt.alloc(), identifier, &read)?;
@@ -150,14 +156,18 @@ const WRONG: [(&[u8], Wrong); 27] = [
 ];
 
 // What is wrong is told without any request for memory.
-#[test]
-fn wrong_octets_are_told(rt: HostRuntime) {
-    for (text, wrong) in &WRONG {
-        let alloc = Refusing::new(rt.alloc(), 1);
+fn are_wrong(rt: &impl Abort, alloc: Global, rows: &[(&[u8], Wrong)]) {
+    for (text, wrong) in rows {
+        let alloc = Refusing::new(alloc, 1);
         let read = decode(&alloc, text);
         assert_eq!(rt; read.err(), Some(PacketFault::Wrong(*wrong)), "{text:?}");
         assert!(rt; alloc.is_pending(), "{text:?}");
     }
+}
+
+#[test]
+fn wrong_octets_are_told(rt: HostRuntime) {
+    are_wrong(&rt, rt.alloc(), &WRONG);
 }
 
 // So many octets behind these are read and written again; one more is too many.
@@ -212,14 +222,18 @@ const UNSPELLED: [(u16, Form, Wrong); 9] = [
     (1, Form::Interrupt(&[0; 33]), Wrong::Long),
 ];
 
-#[test]
-fn packets_without_spelling(rt: HostRuntime) -> Result<(), Fail> {
-    for (identifier, form, wrong) in &UNSPELLED {
-        let unspelled = packet(rt.alloc(), form)?;
-        let written = encode(rt.alloc(), *identifier, &unspelled);
+fn are_unspelled(rt: &impl Abort, alloc: Global, rows: &[(u16, Form, Wrong)]) -> Result<(), Fail> {
+    for (identifier, form, wrong) in rows {
+        let unspelled = packet(alloc, form)?;
+        let written = encode(alloc, *identifier, &unspelled);
         assert_eq!(rt; written.err(), Some(PacketFault::Wrong(*wrong)));
     }
     Ok(())
+}
+
+#[test]
+fn packets_without_spelling(rt: HostRuntime) -> Result<(), Fail> {
+    are_unspelled(&rt, rt.alloc(), &UNSPELLED)
 }
 
 // A call with facilities and user data, data, and an interrupt.

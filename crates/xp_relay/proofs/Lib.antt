@@ -1,0 +1,4 @@
+pub mod Residues
+pub mod Pictures
+pub mod Endings
+pub mod Calls

@@ -1,0 +1,10 @@
+use Rattle.xp_relay.proofs.Endings.{seen, when, otherwise}
+use Rattle.xp_relay.proofs.turns.resetting.reset_confirm.Goals as goal
+
+pub returns-then-owes : goal.returns-then-owes
+returns-then-owes g c = λ s r hs hr.
+    when _ (seen (λ k. k.owes) hr c.owes.ensures c.if-owes.true) (c.settle.ensures s r hs hr)
+
+pub returns-else-owes : goal.returns-else-owes
+returns-else-owes g c = λ s r hs hr.
+    otherwise _ (seen (λ k. k.owes) hr c.owes.ensures c.if-owes.false) (c.fail.ensures s r hs hr)

@@ -1,0 +1,6 @@
+pub mod Terms
+pub mod Direction
+pub mod Judgement
+pub mod Turns
+pub mod Kept
+pub mod Coupled

@@ -1,0 +1,10 @@
+/// What becomes of a data packet.
+#[derive(Clone, Copy, Debug, PartialEq, Eq)]
+pub enum Judged {
+    /// It is accepted.
+    Accept,
+    /// Its sender owes a reset confirmation, so it is dropped.
+    Discard,
+    /// It resets the call with this diagnostic.
+    Reset(u8),
+}

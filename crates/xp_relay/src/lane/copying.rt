@@ -1,0 +1,33 @@
+//! Equal copies.
+
+ghost use Rattle.std.specs.Prelude.{◌≡◌, IfOk};
+
+use crate::data::{Data, Interruption};
+use crate::lane::Lane;
+use std::alloc::{AllocError, Allocator};
+use std::collections::VecDeque;
+
+impl<A: Allocator + Copy> Lane<A> {
+    /// An equal copy, with the same room.
+    pub(crate) fn copy(&self) -> Result<Lane<A>, AllocError>
+        ensures { IfOk result (λ copied. copied ≡ self.now) }
+    {
+        let mut held = VecDeque::with_capacity(
+            *self.held.allocator(),
+            usize::from(self.terms.window),
+        )?;
+        for place in 0..self.held.len() {
+            held.push_back_reserved(self.held[place].copy()?);
+        }
+        Ok(Lane {
+            terms: self.terms,
+            pr: self.pr,
+            oldest: self.oldest,
+            out: self.out,
+            held,
+            interrupt: self.interrupt.copy()?,
+            ready: self.ready,
+            owes: self.owes,
+        })
+    }
+}

@@ -1,0 +1,18 @@
+//! What one call carries once it is set up: data, flow control, interrupts and resets (X.25 clauses 4.3 and 4.4).
+#![tactic(auto)]
+
+mod data;
+mod judged;
+mod lane;
+mod moves;
+mod relay;
+mod state;
+mod terms;
+mod turns;
+
+pub use data::{Data, Interruption};
+pub use judged::Judged;
+pub use moves::{Move, Moves};
+pub use relay::Relay;
+pub use state::FlowState;
+pub use terms::{Agreed, Modulus, Terms, Way};

@@ -1,0 +1,81 @@
+ghost use Rattle.std.specs.Prelude.{◌≡◌, ◌+◌, ◌-◌, ◌<◌, ◌≤◌, [], ◌∷◌, ◌++◌, IfOk, List, length, option_to_list};
+
+use std::alloc::{AllocError, Allocator, Global};
+use std::marker::Model;
+use xp_packets::{End, Packet};
+
+/// A packet for one end of the call.
+#[derive(Clone, Debug, Drop, PartialEq)]
+pub struct Move<A: Allocator = Global> {
+    /// The end that it is put out to.
+    pub side: End,
+    pub packet: Packet<A>,
+}
+
+/// Moves in the making, with room for more: to put one more takes no memory.
+#[derive(Debug, Drop)]
+pub struct Moves<A: Allocator = Global> {
+    moves: Vec<Move<A>, A>,
+    room: usize,
+}
+
+impl<A: Allocator> Model for Moves<A> {
+    ghost use Rattle.std.specs.Prelude.{◌+◌, ◌≤◌, vec_len, vec_capacity};
+    ghost use Rattle.xp_relay.specs.Direction.{Made};
+
+    ghost Value = { Made A };
+
+    ghost view = { λ m. record { moves = m.moves.items; room = m.room } };
+
+    ghost invariant = { λ m. vec_len m.moves + m.room ≤ vec_capacity m.moves };
+}
+
+impl<A: Allocator> Moves<A> {
+    /// How many moves one turn makes at most, and so how many of them go to one end.
+    pub const MOST: usize = 17;
+
+    /// No moves, and room for so many.
+    pub fn with_room(alloc: A, room: usize) -> Result<Moves<A>, AllocError>
+        ensures { IfOk result (λ made. made ≡ record { moves = []; room = room }) }
+    {
+        let moves = Vec::with_capacity(alloc, room)?;
+        Ok(Moves { moves, room })
+    }
+
+    /// The moves so far, in order.
+    pub fn as_slice(&self) -> &[Move<A>]
+        ensures { result.now ≡ self.now.moves }
+    {
+        self.moves.as_slice()
+    }
+
+    /// The moves so far, in order.
+    pub fn into_vec(self) -> Vec<Move<A>, A>
+        ensures { result.items ≡ self.moves }
+    {
+        let Moves { moves, room: _ } = self;
+        moves
+    }
+
+    /// The moves with one more.
+    pub(crate) fn with(mut self, next: Move<A>) -> Moves<A>
+        requires { 0 < self.room }
+        ensures { result ≡ record { moves = self.moves ++ next ∷ []; room = self.room - 1 } }
+    {
+        self.moves.push_reserved(next);
+        self.room -= 1;
+        self
+    }
+
+    /// The moves with one more, where there is one.
+    pub(crate) fn with_some(self, next: Option<Move<A>>) -> Moves<A>
+        requires { 0 < self.room }
+        ensures moves { result.moves ≡ self.moves ++ option_to_list next }
+        ensures room { self.room ≤ result.room + 1 }
+    {
+        match next {
+            Some(next) => self.with(next),
+            None => self,
+        }
+    }
+}

@@ -1,0 +1,237 @@
+ghost use Rattle.std.specs.Prelude.{◌≡◌, ◌≤◌, [], IfOk, length};
+ghost use Rattle.xp_relay.specs.Coupled.{Coupled, Follows, ShowsCall, coupled, received_by, sent_by, state_at};
+ghost use Rattle.xp_relay.specs.Judgement.{judgement};
+ghost use Rattle.xp_relay.specs.Terms.{IsWithinTerms};
+ghost use Rattle.xp_relay.specs.Turns.{carries, flow, interrupt, interrupt_confirm, reject, reset, reset_confirm};
+
+use crate::data::Data;
+use crate::judged::Judged;
+use crate::lane::Lane;
+use crate::moves::Moves;
+use crate::state::FlowState;
+use crate::terms::Terms;
+use crate::turns::carrying::{carry, judge};
+use crate::turns::flowing::flow;
+use crate::turns::interrupting::{interrupt, interrupt_confirm};
+use crate::turns::resetting::{reject, reset, reset_confirm};
+use std::alloc::{AllocError, Allocator, Global};
+use std::marker::Model;
+use xp_packets::{End, Octets};
+
+/// What a live call carries between its ends. All calls but `new` and `copy` take no memory: the room for what can
+/// wait is made by these, and that for the moves comes with the call.
+#[derive(Debug, Drop)]
+pub struct Relay<A: Allocator = Global> {
+    from_caller: Lane<A>,
+    from_called: Lane<A>,
+}
+
+impl<A: Allocator> Model for Relay<A> {
+    ghost use Rattle.xp_relay.specs.Coupled.{KeptPair};
+
+    ghost Value = { KeptPair A };
+
+    ghost view = { λ r. record { from_caller = r.from_caller; from_called = r.from_called } };
+}
+
+impl<A: Allocator + Copy> Relay<A> {
+    /// A call that was just set up on these terms.
+    pub fn new(alloc: A, terms: Terms) -> Result<Relay<A>, AllocError>
+        requires { IsWithinTerms terms }
+        ensures { IfOk result (λ relay. ShowsCall relay (coupled terms)) }
+    {
+        Ok(Relay {
+            from_caller: Lane::new(alloc, terms.way_from(End::Caller))?,
+            from_called: Lane::new(alloc, terms.way_from(End::Called))?,
+        })
+    }
+
+    /// An equal relay, with the same room.
+    pub fn copy(&self) -> Result<Relay<A>, AllocError>
+        ensures { IfOk result (λ copied. copied ≡ self.now) }
+    {
+        Ok(Relay {
+            from_caller: self.from_caller.copy()?,
+            from_called: self.from_called.copy()?,
+        })
+    }
+}
+
+impl<A: Allocator> Relay<A> {
+    /// The state of an end's channel.
+    pub fn state(&self, end: End) -> FlowState
+        ensures { (call : Coupled A) → ShowsCall self.now call → result ≡ state_at end call }
+    {
+        let owes = match end {
+            End::Caller => self.from_called.owes(),
+            End::Called => self.from_caller.owes(),
+        };
+        FlowState::of(owes)
+    }
+
+    /// What becomes of a data packet of this end, with P(S), P(R) and so many octets.
+    pub fn judge(&self, here: End, ps: u8, pr: u8, octets: usize) -> Judged
+        ensures { (call : Coupled A) → ShowsCall self.now call → result ≡ judgement ps pr octets (sent_by here call) (received_by here call) }
+    {
+        match here {
+            End::Caller => judge(ps, pr, octets, &self.from_caller, &self.from_called),
+            End::Called => judge(ps, pr, octets, &self.from_called, &self.from_caller),
+        }
+    }
+
+    /// Takes a data packet of this end, with P(S) and P(R) (X.25 clause 4.4.1).
+    pub fn data(&mut self, here: End, carried: Data<A>, ps: u8, pr: u8, room: Moves<A>) -> Moves<A>
+        requires empty { room.moves ≡ [] }
+        requires space { 17 ≤ room.room }
+        ensures { (call : Coupled A) → ShowsCall self.old call → Follows here (carries here carried ps pr) call self.new result.moves }
+    {
+        match here {
+            End::Caller => carry(
+                here,
+                carried,
+                ps,
+                pr,
+                &mut self.from_caller,
+                &mut self.from_called,
+                room,
+            ),
+            End::Called => carry(
+                here,
+                carried,
+                ps,
+                pr,
+                &mut self.from_called,
+                &mut self.from_caller,
+                room,
+            ),
+        }
+    }
+
+    /// Takes RR, or RNR where this end is not `ready` (clauses 4.4.1.4 and 4.4.1.5).
+    pub fn flow(&mut self, here: End, ready: bool, pr: u8, room: Moves<A>) -> Moves<A>
+        requires empty { room.moves ≡ [] }
+        requires space { 17 ≤ room.room }
+        ensures { (call : Coupled A) → ShowsCall self.old call → Follows here (flow here ready pr) call self.new result.moves }
+    {
+        match here {
+            End::Caller => flow(
+                here,
+                ready,
+                pr,
+                &mut self.from_caller,
+                &mut self.from_called,
+                room,
+            ),
+            End::Called => flow(
+                here,
+                ready,
+                pr,
+                &mut self.from_called,
+                &mut self.from_caller,
+                room,
+            ),
+        }
+    }
+
+    /// Takes REJ.
+    pub fn reject(&mut self, here: End, room: Moves<A>) -> Moves<A>
+        requires empty { room.moves ≡ [] }
+        requires space { 17 ≤ room.room }
+        ensures { (call : Coupled A) → ShowsCall self.old call → Follows here (reject here) call self.new result.moves }
+    {
+        match here {
+            End::Caller => reject(here, &mut self.from_caller, &mut self.from_called, room),
+            End::Called => reject(here, &mut self.from_called, &mut self.from_caller, room),
+        }
+    }
+
+    /// Takes an interrupt (clause 4.3.7).
+    pub fn interrupt(&mut self, here: End, octets: Octets<A>, room: Moves<A>) -> Moves<A>
+        requires empty { room.moves ≡ [] }
+        requires space { 17 ≤ room.room }
+        ensures { (call : Coupled A) → ShowsCall self.old call → Follows here (interrupt here octets) call self.new result.moves }
+    {
+        match here {
+            End::Caller => interrupt(
+                here,
+                octets,
+                &mut self.from_caller,
+                &mut self.from_called,
+                room,
+            ),
+            End::Called => interrupt(
+                here,
+                octets,
+                &mut self.from_called,
+                &mut self.from_caller,
+                room,
+            ),
+        }
+    }
+
+    /// Takes an interrupt confirmation (clause 4.3.7).
+    pub fn interrupt_confirm(&mut self, here: End, room: Moves<A>) -> Moves<A>
+        requires empty { room.moves ≡ [] }
+        requires space { 17 ≤ room.room }
+        ensures { (call : Coupled A) → ShowsCall self.old call → Follows here (interrupt_confirm here) call self.new result.moves }
+    {
+        match here {
+            End::Caller => interrupt_confirm(
+                here,
+                &mut self.from_caller,
+                &mut self.from_called,
+                room,
+            ),
+            End::Called => interrupt_confirm(
+                here,
+                &mut self.from_called,
+                &mut self.from_caller,
+                room,
+            ),
+        }
+    }
+
+    /// Takes a reset request (clause 4.4.3.1).
+    pub fn reset(
+        &mut self,
+        here: End,
+        cause: u8,
+        diagnostic: Option<u8>,
+        room: Moves<A>,
+    ) -> Moves<A>
+        requires empty { room.moves ≡ [] }
+        requires space { 17 ≤ room.room }
+        ensures { (call : Coupled A) → ShowsCall self.old call → Follows here (reset here cause diagnostic) call self.new result.moves }
+    {
+        match here {
+            End::Caller => reset(
+                here,
+                cause,
+                diagnostic,
+                &mut self.from_caller,
+                &mut self.from_called,
+                room,
+            ),
+            End::Called => reset(
+                here,
+                cause,
+                diagnostic,
+                &mut self.from_called,
+                &mut self.from_caller,
+                room,
+            ),
+        }
+    }
+
+    /// Takes a reset confirmation (clause 4.4.3.4).
+    pub fn reset_confirm(&mut self, here: End, room: Moves<A>) -> Moves<A>
+        requires empty { room.moves ≡ [] }
+        requires space { 17 ≤ room.room }
+        ensures { (call : Coupled A) → ShowsCall self.old call → Follows here (reset_confirm here) call self.new result.moves }
+    {
+        match here {
+            End::Caller => reset_confirm(here, &mut self.from_caller, &mut self.from_called, room),
+            End::Called => reset_confirm(here, &mut self.from_called, &mut self.from_caller, room),
+        }
+    }
+}

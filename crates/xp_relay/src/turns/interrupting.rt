@@ -1,0 +1,92 @@
+//! Interrupts (X.25 clause 4.3.7).
+
+ghost use Rattle.std.specs.Prelude.{◌≡◌, ◌≤◌, []};
+ghost use Rattle.xp_relay.specs.Direction.{Direction};
+ghost use Rattle.xp_relay.specs.Kept.{Ends, Shows};
+ghost use Rattle.xp_relay.specs.Turns.{interrupt, interrupt_confirm, interrupting};
+
+use crate::data::Interruption;
+use crate::lane::Lane;
+use crate::moves::{Move, Moves};
+use crate::turns::resetting::fail;
+use crate::turns::telling::far;
+use std::alloc::Allocator;
+use xp_causes::diagnostic::{UNAUTHORIZED_INTERRUPT, UNAUTHORIZED_INTERRUPT_CONFIRMATION};
+use xp_packets::{End, Octets, Packet};
+
+/// An interrupt that is lawful.
+fn put<A: Allocator>(
+    here: End,
+    octets: Octets<A>,
+    sent: &mut Lane<A>,
+    received: &mut Lane<A>,
+    room: Moves<A>,
+) -> Moves<A>
+    requires empty { room.moves ≡ [] }
+    requires space { 17 ≤ room.room }
+    ensures { (s r : Direction A) → Shows sent.old s → Shows received.old r → Ends sent.new received.new result.moves (interrupting here octets s r) }
+{
+    let _ = received;
+    let waits = sent.owes();
+    if waits {
+        sent.set_interrupt(Interruption::Held(octets));
+        room
+    } else {
+        sent.set_interrupt(Interruption::PutOut);
+        room.with(Move {
+            side: far(here),
+            packet: Packet::Interrupt { octets },
+        })
+    }
+}
+
+/// An interrupt.
+pub(crate) fn interrupt<A: Allocator>(
+    here: End,
+    octets: Octets<A>,
+    sent: &mut Lane<A>,
+    received: &mut Lane<A>,
+    room: Moves<A>,
+) -> Moves<A>
+    requires empty { room.moves ≡ [] }
+    requires space { 17 ≤ room.room }
+    ensures { (s r : Direction A) → Shows sent.old s → Shows received.old r → Ends sent.new received.new result.moves (interrupt here octets s r) }
+{
+    if received.owes() {
+        room
+    } else if sent.is_idle() {
+        put(here, octets, sent, received, room)
+    } else {
+        fail(here, UNAUTHORIZED_INTERRUPT, sent, received, room)
+    }
+}
+
+/// An interrupt confirmation.
+pub(crate) fn interrupt_confirm<A: Allocator>(
+    here: End,
+    sent: &mut Lane<A>,
+    received: &mut Lane<A>,
+    room: Moves<A>,
+) -> Moves<A>
+    requires empty { room.moves ≡ [] }
+    requires space { 17 ≤ room.room }
+    ensures { (s r : Direction A) → Shows sent.old s → Shows received.old r → Ends sent.new received.new result.moves (interrupt_confirm here s r) }
+{
+    if received.owes() {
+        room
+    } else if received.has_put_interrupt() {
+        received.set_interrupt(Interruption::Idle);
+        room.with(Move {
+            side: far(here),
+            packet: Packet::InterruptConfirm,
+        })
+    } else {
+        fail(
+            here,
+            UNAUTHORIZED_INTERRUPT_CONFIRMATION,
+            sent,
+            received,
+            room,
+        )
+    }
+}
