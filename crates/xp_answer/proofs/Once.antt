@@ -1,10 +1,9 @@
 -- An answer has one outcome, and a clear request one indication.
-use Rattle.std.proofs.Common.{◌≡◌, ◌≢◌, ℕ, Bool, true, false, List, [], ◌∷◌, Option, None, Some, refl, sym, ◌∙◌, ap, subst, ◌⊎◌, inl, inr}
+use Rattle.std.proofs.Common.{◌≡◌, ℕ, Bool, true, List, [], Option, Some, sym, ◌∙◌, ap, subst, inl, inr}
 use Rattle.std.proofs.lemmas.Bool.{false≢true}
 use Rattle.xp_causes.specs.Told.{cause_told, diagnostic_told}
 use Rattle.xp_decide.specs.declared.verdict.Ring.{Ring}
 use Rattle.xp_facilities.proofs.OneReading.{Means-unique, Means-faultless, IsFaulty-unique}
-use Rattle.xp_facilities.specs.Asked.{Means, IsFaulty}
 use Rattle.xp_facilities.specs.Told.{Tells}
 use Rattle.xp_facilities.specs.declared.asked.Asked.{Asked}
 use Rattle.xp_facilities.specs.declared.fast_select.FastSelect.{FastSelect}

@@ -1,5 +1,5 @@
 -- The sizes that an incoming call indicates are those of a call.
-use Rattle.std.proofs.Common.{◌≡◌, ℕ, Option, Some, sym, subst}
+use Rattle.std.proofs.Common.{ℕ, Option, sym, subst}
 use Rattle.std.specs.Prelude.{unwrap_or}
 use Rattle.xp_decide.specs.Indicated.{TellsWithin, IndicatesSizes}
 use Rattle.xp_decide.specs.Rings.{default_packet_sizes, default_window_sizes}

@@ -1,5 +1,5 @@
 -- The packets of the exchange can be encoded, and their facility fields are one and short.
-use Rattle.std.proofs.Common.{◌≡◌, ℕ, ◌≤◌, Bool, false, ◌||◌, ltb, List, [], ◌∷◌, length, Option, None, Some, refl, sym, ap, ◌∙◌, subst, arith, inl}
+use Rattle.std.proofs.Common.{◌≡◌, ℕ, ◌≤◌, Bool, false, ltb, List, [], ◌∷◌, length, Option, None, Some, refl, sym, ap, ◌∙◌, subst, arith, inl}
 use Rattle.std.proofs.lemmas.Bool.{le-ltb}
 use Rattle.xp_decide.specs.Written.{CanBeWritten}
 use Rattle.xp_decide.specs.declared.verdict.Ring.{Ring}
@@ -11,13 +11,11 @@ use Rattle.xp_facilities.specs.declared.fast_select.FastSelect.{FastSelect}
 use Rattle.xp_facilities.specs.declared.segment_counts.SegmentCounts.{SegmentCounts}
 use Rattle.xp_facilities.specs.declared.told.Told.{Told}
 use Rattle.xp_packets.specs.Examination.{first_of}
-use Rattle.xp_packets.specs.Fitness.{unfit}
 use Rattle.xp_packets.specs.declared.block.Block.{Block}
-use Rattle.xp_packets.specs.declared.fault.Wrong.{Wrong}
 use Rattle.xp_packets.specs.declared.fault.Wrong.TheVariants.{Short, Format, Facilities, Long}
 use Rattle.xp_packets.specs.declared.packet.Packet.{Packet}
 use Rattle.xp_packets.specs.declared.packet.Packet.TheVariants.{Call, Accepted, Clear}
-use Rattle.xp_answer.specs.Answered.{Accepts, Connects, told_connected}
+use Rattle.xp_answer.specs.Answered.{Connects, told_connected}
 use Rattle.xp_answer.specs.Blocks.{user_in}
 use Rattle.xp_answer.specs.CarriedOn.{CarriedOn, Carries, block_with, told_cleared}
 use Rattle.xp_answer.specs.CarriedOn as carried

@@ -1,15 +1,14 @@
 -- The sizes of a connected call.
-use Rattle.std.proofs.Common.{◌≡◌, ℕ, ◌≤◌, ◌&&◌, leb, min, max, true, Option, None, Some, refl, sym, subst, arith, ◌⊎◌, inl, inr}
+use Rattle.std.proofs.Common.{◌≡◌, ℕ, ◌≤◌, ◌&&◌, leb, min, max, Bool, true, List, Option, None, Some, sym, subst, arith, ◌⊎◌, inl, inr}
 use Rattle.std.specs.Prelude.{unwrap_or}
-use Rattle.std.proofs.lemmas.Bool.{and_parts, and_from, or_cases, leb-true, le-leb}
+use Rattle.std.proofs.lemmas.Bool.{and_parts, or_cases, leb-true}
 use Rattle.xp_decide.specs.Rings.{default_packet_sizes, default_window_sizes}
 use Rattle.xp_facilities.specs.Limits.{largest_window}
 use Rattle.xp_facilities.specs.declared.asked.Asked.{Asked}
 use Rattle.xp_facilities.specs.declared.pair.Pair.{Pair}
 use Rattle.xp_packets.specs.declared.block.Block.{Block}
 use Rattle.xp_answer.specs.Answered.{Accepts, Connects}
-use Rattle.xp_answer.specs.Laws.{AreSettled}
-use Rattle.xp_answer.specs.Terms.{AreBetween, AreTerms, AreWithin, AreWithinIndicated, IsWithin, is_between, is_offered, are_offered, settled}
+use Rattle.xp_answer.specs.Terms.{AreBetween, AreTerms, AreSettled, AreWithin, AreWithinIndicated, IsWithin, is_between, is_offered, are_offered, settled}
 use Rattle.xp_answer.specs.declared.connection.Connection.{Connection}
 use Rattle.xp_answer.specs.declared.setup.Setup.{Setup}
 use Rattle.xp_answer.specs.declared.terms.Terms.{Terms}
@@ -75,7 +74,7 @@ module _ {A : Type 0} where
         window = offered_within indicated.window default_window_sizes asked.window parts.1;
       }
 
-  pub settled_terms : (indicated : Terms) (asked : Asked A) → AreTerms indicated → are_offered indicated asked ≡ true → AreSettled indicated (settled indicated asked)
+  settled_terms : (indicated : Terms) (asked : Asked A) → AreTerms indicated → are_offered indicated asked ≡ true → AreSettled indicated (settled indicated asked)
   settled_terms indicated asked terms offered =
       let within = settled_within indicated asked offered in
       record {
@@ -85,3 +84,9 @@ module _ {A : Type 0} where
         };
         within = within;
       }
+
+  pub connection_settled : (setup : Setup) (address dialled : List ℕ) (d : Bool) (block : Option (Block A)) (asked : Asked A) (connection : Connection A)
+      → AreTerms setup.indicated → Accepts setup block asked → Connects setup address dialled d block asked connection
+      → AreSettled setup.indicated connection.terms
+  connection_settled setup address dialled d block asked connection terms accepts connects =
+      subst (AreSettled setup.indicated) (sym connects.terms) (settled_terms setup.indicated asked terms accepts.offered)

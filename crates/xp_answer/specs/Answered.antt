@@ -95,3 +95,8 @@ module _ {A : Type 0} where
   Answered setup address dialled d block (answers.Connected connection) =
       (asked : Asked A) × Accepts setup block asked × Connects setup address dialled d block asked connection
   Answered setup address dialled d block (answers.Refused diagnostic) = Declines setup block diagnostic
+
+  -- where the call is connected
+  abbrev pub IfConnected : Answer A → (Connection A → Type 0) → Type 0
+  IfConnected (answers.Connected connection) Holds = Holds connection
+  IfConnected (answers.Refused diagnostic) Holds = Unit {0}

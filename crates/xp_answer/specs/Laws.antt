@@ -12,11 +12,10 @@ use Rattle.xp_answer.specs.Blocks.{user_in}
 use Rattle.xp_answer.specs.CarriedOn.{CarriedOn}
 use Rattle.xp_answer.specs.Fields.{CanBeSent}
 use Rattle.xp_answer.specs.Incoming.{IsIncomingCall}
-use Rattle.xp_answer.specs.Terms.{AreTerms, AreWithinIndicated}
+use Rattle.xp_answer.specs.Terms.{AreTerms, AreSettled}
 use Rattle.xp_answer.specs.declared.answer.Answer.{Answer}
 use Rattle.xp_answer.specs.declared.answer.Answer.TheVariants.{Connected}
 use Rattle.xp_answer.specs.declared.connection.Connection.{Connection}
-use Rattle.xp_answer.specs.declared.terms.Terms.{Terms}
 use Rattle.xp_answer.specs.declared.setup.Setup.{Setup}
 
 -- ---- a call that is put to a line
@@ -44,11 +43,6 @@ abbrev pub EveryAnswerHasOne : Type 0 → Type 0
 EveryAnswerHasOne A =
     (setup : Setup) (address dialled : List ℕ) (d : Bool) (block : Option (Block A))
     → AreTerms setup.indicated → HasOneAnswer A setup address dialled d block
-
--- What a connection settles are sizes of a call, none of them beyond what was indicated and the usual one.
-pub record AreSettled (indicated terms : Terms) : Type 0 where
-  pub sizes : AreTerms terms
-  pub within : AreWithinIndicated indicated terms
 
 abbrev pub ConnectionsSettleTerms : Type 0 → Type 0
 ConnectionsSettleTerms A =

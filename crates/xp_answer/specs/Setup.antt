@@ -1,5 +1,5 @@
 -- What the exchange keeps of the set-up of a call.
-use Rattle.std.specs.Prelude.{◌≡◌, Bool, true, false, if◌then◌else◌}
+use Rattle.std.specs.Prelude.{Bool, if◌then◌else◌}
 use Rattle.xp_decide.specs.declared.verdict.Ring.{Ring}
 use Rattle.xp_packets.specs.declared.end.End.{End}
 use Rattle.xp_packets.specs.declared.end.End.TheVariants.{Caller, Called}

@@ -1,5 +1,5 @@
 -- The packet and window sizes of a call (X.25 clause 6.12).
-use Rattle.std.specs.Prelude.{◌≡◌, ℕ, ◌≤◌, min, max, nat_le, Bool, true, ◌&&◌, ◌||◌, Option, None, Some, unwrap_or}
+use Rattle.std.specs.Prelude.{ℕ, ◌≤◌, min, max, nat_le, Bool, true, ◌&&◌, ◌||◌, Option, None, Some, unwrap_or}
 use Rattle.xp_decide.specs.Rings.{default_packet_sizes, default_window_sizes}
 use Rattle.xp_facilities.specs.Limits.{largest_window}
 use Rattle.xp_facilities.specs.declared.asked.Asked.{Asked}
@@ -62,3 +62,8 @@ pub record AreWithin (one other sizes : Pair) : Type 0 where
 pub record AreWithinIndicated (indicated terms : Terms) : Type 0 where
   pub packet : AreWithin indicated.packet default_packet_sizes terms.packet
   pub window : AreWithin indicated.window default_window_sizes terms.window
+
+-- sizes of a call, none of them beyond what was indicated and the usual one
+pub record AreSettled (indicated terms : Terms) : Type 0 where
+  pub sizes : AreTerms terms
+  pub within : AreWithinIndicated indicated terms

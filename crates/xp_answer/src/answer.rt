@@ -1,7 +1,9 @@
-ghost use Rattle.std.specs.Prelude.{◌≡◌, false, IsTrue, IfOk};
-ghost use Rattle.xp_answer.specs.Answered.{Answered, MayCarry, MayNotCarry};
+ghost use Rattle.std.specs.Prelude.{◌≡◌, ◌≤◌, length, false, IsTrue, IfOk};
+ghost use Rattle.xp_answer.specs.Answered.{Answered, IfConnected, MayCarry, MayNotCarry};
+ghost use Rattle.xp_answer.specs.Blocks.{user_in};
 ghost use Rattle.xp_answer.specs.Examined.{Examines};
-ghost use Rattle.xp_answer.specs.Terms.{AreTerms};
+ghost use Rattle.xp_answer.specs.Fields.{CanBeSent};
+ghost use Rattle.xp_answer.specs.Terms.{AreTerms, AreSettled};
 
 use crate::block::{facilities_in, has_user_data};
 use crate::connection::{Connection, connect};
@@ -35,7 +37,13 @@ pub fn examine<A: Allocator + Copy>(
     block: &Option<Block<A>>,
 ) -> Result<Answer<A>, AllocError>
     requires { AreTerms setup.now.indicated }
-    ensures { IfOk result (Answered setup.now address.now dialled.now d block.now) }
+    ensures answered { IfOk result (Answered setup.now address.now dialled.now d block.now) }
+
+    // No size of the call is beyond what was indicated and what is usual.
+    ensures settled { IfOk result (λ answer. IfConnected answer (λ c. AreSettled setup.now.indicated c.terms)) }
+
+    // With at most 128 octets of user data the call connected packet can be encoded.
+    ensures sent { length (user_in block.now) ≤ 128 → IfOk result (λ answer. IfConnected answer (λ c. CanBeSent c.packet)) }
 {
     match accept(alloc, setup, block) {
         Ok(asked) => {

@@ -1,7 +1,9 @@
-ghost use Rattle.std.specs.Prelude.{◌≡◌, true, IfOk};
+ghost use Rattle.std.specs.Prelude.{◌≡◌, ◌≤◌, length, true, IfOk};
 ghost use Rattle.xp_decide.specs.Asks.{is_fast};
 ghost use Rattle.xp_facilities.specs.Told.{counts_fit};
+ghost use Rattle.xp_answer.specs.Blocks.{user_in};
 ghost use Rattle.xp_answer.specs.CarriedOn.{CarriedOn, Carries, TakesOver, block_with, told_cleared};
+ghost use Rattle.xp_answer.specs.Fields.{CanBeSent};
 
 use crate::block::{facilities_in, user_in};
 use crate::field::field_of;
@@ -22,7 +24,10 @@ pub fn carry_clear<A: Allocator + Copy>(
     segments: Option<SegmentCounts>,
 ) -> Result<Packet<A>, AllocError>
     requires { counts_fit segments ≡ true }
-    ensures { IfOk result (CarriedOn fast cause diagnostic block.now segments) }
+    ensures carried { IfOk result (CarriedOn fast cause diagnostic block.now segments) }
+
+    // With at most 128 octets of user data it can be encoded.
+    ensures sent { length (user_in block.now) ≤ 128 → IfOk result CanBeSent }
 {
     let (user, dte) = carried(alloc, fast, block)?;
     let facilities = field_of(alloc, &tell(segments, dte))?;

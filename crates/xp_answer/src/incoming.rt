@@ -1,5 +1,6 @@
-ghost use Rattle.std.specs.Prelude.{IfOk};
+ghost use Rattle.std.specs.Prelude.{◌≤◌, length, IfOk};
 ghost use Rattle.xp_decide.specs.Written.{CanBeWritten};
+ghost use Rattle.xp_answer.specs.Fields.{CanBeSent};
 ghost use Rattle.xp_answer.specs.Incoming.{IsIncomingCall};
 
 use crate::field::field_of;
@@ -18,7 +19,10 @@ pub fn incoming_call<A: Allocator + Copy>(
     block: &Block<A>,
 ) -> Result<Packet<A>, AllocError>
     requires { CanBeWritten ring.now.told }
-    ensures { IfOk result (IsIncomingCall ring.now called.now calling.now d block.now) }
+    ensures put { IfOk result (IsIncomingCall ring.now called.now calling.now d block.now) }
+
+    // With at most 128 octets of user data it can be encoded.
+    ensures sent { length block.now.user ≤ 128 → IfOk result CanBeSent }
 {
     let facilities = field_of(alloc, &ring.told)?;
     let user = block.user.copy()?;

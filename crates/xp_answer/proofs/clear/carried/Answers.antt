@@ -1,4 +1,4 @@
-use Rattle.std.proofs.Common.{refl, sym, ◌∙◌, subst}
+use Rattle.std.proofs.Common.{sym, ◌∙◌, subst}
 use Rattle.xp_answer.specs.CarriedOn.{TakesOver}
 use Rattle.xp_answer.specs.CarriedOn as carried
 use Rattle.xp_answer.proofs.clear.carried.Goals as goal
