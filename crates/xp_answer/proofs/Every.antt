@@ -8,7 +8,6 @@ use Rattle.xp_causes.specs.declared.diagnostic.TheConstants.{NOT_COMPATIBLE_WITH
 use Rattle.xp_decide.specs.Asks.{is_fast}
 use Rattle.xp_facilities.proofs.OneReading.{some_reading}
 use Rattle.xp_facilities.specs.Asked.{Means, IsFaulty}
-use Rattle.xp_facilities.specs.Told.{counts_fit}
 use Rattle.xp_facilities.specs.declared.asked.Asked.{Asked}
 use Rattle.xp_facilities.specs.declared.fast_select.FastSelect.{FastSelect}
 use Rattle.xp_facilities.specs.declared.fast_select.FastSelect.TheVariants.{No, Unrestricted, Restricted}
@@ -25,7 +24,7 @@ use Rattle.xp_answer.proofs.Tellable.{connected_told, cleared_told}
 use Rattle.xp_answer.specs.Answered.{Names, IsDiagnosedBy, MayCarry, MayNotCarry, Accepts, Declines, Connects, Answered}
 use Rattle.xp_answer.specs.Answered as answered
 use Rattle.xp_answer.specs.Blocks.{facilities_in, user_in}
-use Rattle.xp_answer.specs.CarriedOn.{CarriedOn, Carries, TakesOver, block_with}
+use Rattle.xp_answer.specs.CarriedOn.{AreCounts, CarriedOn, Carries, TakesOver, block_with}
 use Rattle.xp_answer.specs.CarriedOn as carried
 use Rattle.xp_answer.specs.Laws.{HasOneAnswer, HasOneIndication}
 use Rattle.xp_answer.specs.Terms.{AreTerms, are_offered, settled}
@@ -133,7 +132,7 @@ taken_over A field = by_reading (some_reading field) where
   by_reading (inr faulty) = ([], carried.faulty faulty.0 faulty.1 refl)
 
 module _ {A : Type 0} (fast : FastSelect) (cause : ℕ) (diagnostic : Option ℕ) (block : Option (Block A)) (segments : Option SegmentCounts) where
-  indicated : (user dte : List ℕ) → counts_fit segments ≡ true → Carries fast block user dte
+  indicated : (user dte : List ℕ) → AreCounts segments → Carries fast block user dte
       → (packet : Packet A) × CarriedOn fast cause diagnostic block segments packet
   indicated user dte counts carries =
       let told = cleared_told fast block segments user dte counts carries in (
@@ -141,14 +140,14 @@ module _ {A : Type 0} (fast : FastSelect) (cause : ℕ) (diagnostic : Option ℕ
         record { user = user; dte = dte; carries = carries; field = told.0; tells = told.1; whole = refl },
       )
 
-  some_indication : counts_fit segments ≡ true → (selected : Bool) → is_fast fast ≡ selected
+  some_indication : AreCounts segments → (selected : Bool) → is_fast fast ≡ selected
       → (packet : Packet A) × CarriedOn fast cause diagnostic block segments packet
   some_indication counts false not = indicated [] [] counts (carried.nothing not refl refl)
   some_indication counts true selected =
       let taken = taken_over A (facilities_in block) in
       indicated (user_in block) taken.0 counts (carried.both selected refl taken.1)
 
-  pub one_indication : counts_fit segments ≡ true → HasOneIndication A fast cause diagnostic block segments
+  pub one_indication : AreCounts segments → HasOneIndication A fast cause diagnostic block segments
   one_indication counts = record {
     some = some_indication counts (is_fast fast) refl;
     same = indications_same fast cause diagnostic block segments;

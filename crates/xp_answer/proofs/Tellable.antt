@@ -22,7 +22,7 @@ use Rattle.xp_answer.specs.Answered.{told_connected}
 use Rattle.xp_answer.specs.Answered as answered
 use Rattle.xp_answer.specs.Blocks.{facilities_in}
 use Rattle.xp_answer.specs.Examined.{Examines, fault_of}
-use Rattle.xp_answer.specs.CarriedOn.{TakesOver, Carries, told_cleared}
+use Rattle.xp_answer.specs.CarriedOn.{AreCounts, TakesOver, Carries, told_cleared}
 use Rattle.xp_answer.specs.CarriedOn as carried
 use Rattle.xp_answer.specs.Fields.{CanBeTold}
 use Rattle.xp_answer.specs.Terms.{AreBetween, AreTerms}
@@ -68,6 +68,11 @@ taken_over_tellable : (A : Type 0) (field dte : List ℕ) → TakesOver A field 
 taken_over_tellable A field dte (carried.read asked means is) = subst IsTellable (sym is) (asks_in_range field asked means).dte
 taken_over_tellable A field dte (carried.faulty fault faulty is) = subst IsTellable (sym is) none_tellable
 
+counted : (segments : Option SegmentCounts) → AreCounts segments → counts_fit segments ≡ true
+unfolding counts_fit
+counted None counts = refl
+counted (Some segments) counts = and_from _ _ (le-leb segments.sent 99_999_999 counts.0) (le-leb segments.received 99_999_999 counts.1)
+
 cleared_in_range : (A : Type 0) (segments : Option SegmentCounts) (dte : List ℕ) → counts_fit segments ≡ true → IsTellable dte
     → is_in_range (told_cleared {A = A} segments dte) ≡ true
 unfolding is_in_range index_fits sizes_fit
@@ -79,11 +84,11 @@ module _ {A : Type 0} where
   carried_tellable fast block user dte (carried.nothing _ _ is) = subst IsTellable (sym is) none_tellable
   carried_tellable fast block user dte (carried.both _ _ takes) = taken_over_tellable A _ dte takes
 
-  pub cleared_told : (fast : FastSelect) (block : Option (Block A)) (segments : Option SegmentCounts) (user dte : List ℕ) → counts_fit segments ≡ true
+  pub cleared_told : (fast : FastSelect) (block : Option (Block A)) (segments : Option SegmentCounts) (user dte : List ℕ) → AreCounts segments
       → Carries fast block user dte → CanBeTold (told_cleared {A = A} segments dte)
   cleared_told fast block segments user dte counts carries =
       let tellable = carried_tellable fast block user dte carries in
-      told_by (told_cleared {A = A} segments dte) (cleared_in_range A segments dte counts tellable) tellable
+      told_by (told_cleared {A = A} segments dte) (cleared_in_range A segments dte (counted segments counts) tellable) tellable
 
 -- a field that is refused is faulty, but for want of memory
 pub refused_faulty : (A : Type 0) (field : List ℕ) (fault : FacilityFault) → fault ≢ Memory → Parses {A = A} field (Err fault) → IsFaulty field fault

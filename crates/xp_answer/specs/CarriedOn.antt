@@ -1,5 +1,5 @@
 -- What the far end is told of a clear request (X.25 clauses 4.1.7, 5.2.4 and 6.16).
-use Rattle.std.specs.Prelude.{◌≡◌, ℕ, true, false, List, [], Option, None, Some}
+use Rattle.std.specs.Prelude.{◌≡◌, ℕ, ◌≤◌, true, false, List, [], Option, None, Some}
 use Rattle.xp_causes.specs.Told.{cause_told, diagnostic_told}
 use Rattle.xp_decide.specs.Asks.{is_fast}
 use Rattle.xp_facilities.specs.Asked.{Means, IsFaulty}
@@ -15,6 +15,11 @@ use Rattle.xp_packets.specs.declared.block.Block.{Block}
 use Rattle.xp_packets.specs.declared.packet.Packet.{Packet}
 use Rattle.xp_packets.specs.declared.packet.Packet.TheVariants.{Clear}
 use Rattle.xp_answer.specs.Blocks.{facilities_in, user_in}
+
+-- segment counts of eight decimal digits
+abbrev pub AreCounts : Option SegmentCounts → Type 0
+AreCounts None = Unit {0}
+AreCounts (Some segments) = (segments.sent ≤ 99_999_999) × (segments.received ≤ 99_999_999)
 
 -- The facilities between DTEs that go on; where the field is faulty there are none.
 pub data TakesOver (A : Type 0) (field dte : List ℕ) : Type 0 where

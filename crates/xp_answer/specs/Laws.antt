@@ -1,15 +1,14 @@
 -- What follows from the rules of answering and of clearing.
-use Rattle.std.specs.Prelude.{◌≡◌, ℕ, ◌≤◌, Bool, true, List, length, Option}
+use Rattle.std.specs.Prelude.{◌≡◌, ℕ, ◌≤◌, Bool, List, length, Option}
 use Rattle.xp_decide.specs.Written.{CanBeWritten}
 use Rattle.xp_decide.specs.declared.verdict.Ring.{Ring}
-use Rattle.xp_facilities.specs.Told.{counts_fit}
 use Rattle.xp_facilities.specs.declared.fast_select.FastSelect.{FastSelect}
 use Rattle.xp_facilities.specs.declared.segment_counts.SegmentCounts.{SegmentCounts}
 use Rattle.xp_packets.specs.declared.block.Block.{Block}
 use Rattle.xp_packets.specs.declared.packet.Packet.{Packet}
 use Rattle.xp_answer.specs.Answered.{Answered}
 use Rattle.xp_answer.specs.Blocks.{user_in}
-use Rattle.xp_answer.specs.CarriedOn.{CarriedOn}
+use Rattle.xp_answer.specs.CarriedOn.{AreCounts, CarriedOn}
 use Rattle.xp_answer.specs.Fields.{CanBeSent}
 use Rattle.xp_answer.specs.Incoming.{IsIncomingCall}
 use Rattle.xp_answer.specs.Terms.{AreTerms, AreSettled}
@@ -66,7 +65,7 @@ pub record HasOneIndication (A : Type 0) (fast : FastSelect) (cause : ℕ) (diag
 abbrev pub EveryClearHasOneIndication : Type 0 → Type 0
 EveryClearHasOneIndication A =
     (fast : FastSelect) (cause : ℕ) (diagnostic : Option ℕ) (block : Option (Block A)) (segments : Option SegmentCounts)
-    → counts_fit segments ≡ true → HasOneIndication A fast cause diagnostic block segments
+    → AreCounts segments → HasOneIndication A fast cause diagnostic block segments
 
 abbrev pub CarriedOnCanBeSent : Type 0 → Type 0
 CarriedOnCanBeSent A =

@@ -1,8 +1,7 @@
-ghost use Rattle.std.specs.Prelude.{◌≡◌, ◌≤◌, length, true, IfOk};
+ghost use Rattle.std.specs.Prelude.{◌≡◌, ◌≤◌, length, IfOk};
 ghost use Rattle.xp_decide.specs.Asks.{is_fast};
-ghost use Rattle.xp_facilities.specs.Told.{counts_fit};
 ghost use Rattle.xp_answer.specs.Blocks.{user_in};
-ghost use Rattle.xp_answer.specs.CarriedOn.{CarriedOn, Carries, TakesOver, block_with, told_cleared};
+ghost use Rattle.xp_answer.specs.CarriedOn.{AreCounts, CarriedOn, Carries, TakesOver, block_with, told_cleared};
 ghost use Rattle.xp_answer.specs.Fields.{CanBeSent};
 
 use crate::block::{facilities_in, user_in};
@@ -23,7 +22,7 @@ pub fn carry_clear<A: Allocator + Copy>(
     block: &Option<Block<A>>,
     segments: Option<SegmentCounts>,
 ) -> Result<Packet<A>, AllocError>
-    requires { counts_fit segments ≡ true }
+    requires { AreCounts segments }
     ensures carried { IfOk result (CarriedOn fast cause diagnostic block.now segments) }
 
     // With at most 128 octets of user data it can be encoded.
