@@ -60,7 +60,7 @@ pub fn examine<A: Allocator + Copy>(
 /// # Errors
 ///
 /// Want of memory, or its first fault.
-fn accept<A: Allocator>(
+fn accept<A: Allocator + Copy>(
     alloc: A,
     setup: &Setup,
     block: &Option<Block<A>>,

@@ -7,7 +7,7 @@ use xp_facilities::{FacilityFault, Told, write};
 use xp_packets::Octets;
 
 /// The facility field that tells these values.
-pub fn field_of<A: Allocator>(alloc: A, told: &Told<A>) -> Result<Octets<A>, AllocError>
+pub fn field_of<A: Allocator + Copy>(alloc: A, told: &Told<A>) -> Result<Octets<A>, AllocError>
     requires { CanBeTold told.now }
     ensures { IfOk result (Tells told.now) }
 {
