@@ -4,3 +4,4 @@ pub mod Judgement
 pub mod Turns
 pub mod Kept
 pub mod Coupled
+pub mod Runs

@@ -2,7 +2,7 @@
 use Rattle.std.specs.Prelude.{ℕ, ◌==◌, nat_le, Bool, true, false, not, ◌&&◌, ◌||◌, if◌then◌else◌, List, [], ◌∷◌, ◌++◌, length, Option, Some, None}
 use Rattle.xp_packets.specs.declared.end.End.{End}
 use Rattle.xp_packets.specs.declared.packet.Packet.{Packet}
-use Rattle.xp_packets.specs.declared.packet.Packet.TheVariants.{Ready, NotReady, Interrupt, InterruptConfirm, Reset, ResetConfirm}
+use Rattle.xp_packets.specs.declared.packet.Packet.TheVariants.{DataPacket, Ready, NotReady, Reject, Interrupt, InterruptConfirm, Reset, ResetConfirm}
 use Rattle.xp_relay.specs.declared.data.Data.{Data}
 use Rattle.xp_relay.specs.declared.data.Interruption.{Interruption}
 use Rattle.xp_relay.specs.declared.data.Interruption.TheVariants.{Idle, Held, PutOut}
@@ -199,3 +199,15 @@ module _ {A : Type 0} where
   abbrev pub reset_confirm : End → Direction A → Direction A → Turn A
   reset_confirm here s r =
       if r.owes then settling here s r else failing here INVALID_IN_D1 s r
+
+-- What a packet of this end leads to. The packets of call set-up and clearing are none of what a call carries.
+abbrev pub turn_of : {A : Type 0} → End → Packet A → Direction A → Direction A → Turn A
+turn_of here (DataPacket q d more ps pr octets) = carries here (record { q = q; d = d; more = more; octets = octets }) ps pr
+turn_of here (Ready pr) = flow here true pr
+turn_of here (NotReady pr) = flow here false pr
+turn_of here (Reject pr) = reject here
+turn_of here (Interrupt octets) = interrupt here octets
+turn_of here InterruptConfirm = interrupt_confirm here
+turn_of here (Reset cause diagnostic) = reset here cause diagnostic
+turn_of here ResetConfirm = reset_confirm here
+turn_of here _ = unchanged

@@ -4,6 +4,7 @@
 mod data;
 mod judged;
 mod lane;
+mod laws;
 mod moves;
 mod relay;
 mod state;
@@ -12,6 +13,7 @@ mod turns;
 
 pub use data::{Data, Interruption};
 pub use judged::Judged;
+pub use laws::everything_is_delivered;
 pub use moves::{Move, Moves};
 pub use relay::Relay;
 pub use state::FlowState;
