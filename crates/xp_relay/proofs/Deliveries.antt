@@ -1,5 +1,5 @@
 -- Each packet takes both directions on, and a run keeps what is seen of them.
-use Rattle.std.proofs.Common.{◌≡◌, ℕ, ◌+◌, ◌-◌, ◌<◌, ◌≤◌, Bool, true, false, not, ◌&&◌, cond, leb, ltb, List, [], ◌∷◌, ◌++◌, length, take, Option, Some, None, is_none, refl, sym, ap, subst, ◌∙◌, inl, inr, arith}
+use Rattle.std.proofs.Common.{◌≡◌, ℕ, ◌+◌, ◌-◌, ◌<◌, Bool, true, false, not, ◌&&◌, cond, ltb, List, [], ◌∷◌, ◌++◌, length, take, Option, Some, None, is_none, refl, sym, ap, subst, ◌∙◌, inl, inr, arith}
 use Rattle.std.proofs.lemmas.Bool.{and_parts, cases_Bool, cond_both, cond-true, cond-false, ltb-true}
 use Rattle.std.proofs.lemmas.List.{length-take}
 use Rattle.xp_causes.specs.declared.diagnostic.TheConstants.{INVALID_SEND_NUMBER, INVALID_RECEIVE_NUMBER, PACKET_TOO_LONG, INVALID_IN_D1, REJECT_NOT_SUBSCRIBED, UNAUTHORIZED_INTERRUPT_CONFIRMATION, UNAUTHORIZED_INTERRUPT}
@@ -15,19 +15,18 @@ use Rattle.xp_relay.specs.declared.judged.Judged.TheVariants.{Accept, Discard, R
 use Rattle.xp_relay.specs.declared.moves.Move.{Move}
 use Rattle.xp_relay.specs.declared.terms.Terms.{Terms}
 use Rattle.xp_relay.specs.declared.terms.Way.{Way}
-use Rattle.xp_relay.specs.Coupled.{Coupled, after, coupled, received_by, sent_by, turn_at}
-use Rattle.xp_relay.specs.Direction.{Direction, IsSound, far, has_room, next_number, opening, told}
-use Rattle.xp_relay.specs.Judgement.{is_awaited, judgement, most_octets}
+use Rattle.xp_relay.specs.Coupled.{Coupled, after, coupled, received_by, sent_by}
+use Rattle.xp_relay.specs.Direction.{Direction, IsSound, far, has_room, opening, told}
+use Rattle.xp_relay.specs.Judgement.{is_awaited, most_octets}
 use Rattle.xp_relay.specs.Runs.{Arrival, IsDelivered, Seen, data_to, nothing_seen, offered, resets, run, same_end, see, seen_over, turn_on, with_numbers}
 use Rattle.xp_relay.specs.Terms.{IsWithinTerms, IsWithinWay, numbers, way_from}
-use Rattle.xp_relay.specs.Turns.{Turn, carries, data_as, failing, flow, flow_as, interrupt, interrupt_confirm, interrupting, is_idle, is_put_out, reject, reset, reset_confirm, resetting, settling, turn_of, unchanged}
+use Rattle.xp_relay.specs.Turns.{Turn, carries, data_as, flow, flow_as, interrupting, is_idle, is_put_out, turn_of}
 use Rattle.xp_relay.proofs.Runs.{length-with_numbers}
 use Rattle.xp_relay.proofs.Steps.{GoesOn, TakesOn, put_of}
 use Rattle.xp_relay.proofs.Takes.{takes_accepting, takes_acknowledging, takes_failing, takes_quiet, takes_resetting, takes_settling, takes_unchanged, told-range}
-use Rattle.xp_relay.proofs.Runs.{IsQuiet}
 
 -- a judgement, by its tests
-abbrev judged_by : Bool → Bool → Bool → Bool → Judged
+abbrev pub judged_by : Bool → Bool → Bool → Bool → Judged
 judged_by owing awaited unknown long =
     cond owing Discard (cond (not awaited) (ResetWith INVALID_SEND_NUMBER) (cond unknown (ResetWith INVALID_RECEIVE_NUMBER) (cond long (ResetWith PACKET_TOO_LONG) Accept)))
 
@@ -39,7 +38,7 @@ module _ {A : Type 0} where
   either s r here new b x y h k = cond_both b x y (λ t. TakesOn s r here new t) h k
 
   -- the window has room, by the test
-  room_of : (ps : ℕ) (s : Direction A) → IsSound s → is_awaited ps s ≡ true → length s.accepted < s.acknowledged + s.terms.window
+  pub room_of : (ps : ℕ) (s : Direction A) → IsSound s → is_awaited ps s ≡ true → length s.accepted < s.acknowledged + s.terms.window
   room_of ps s h e =
       let parts = and_parts _ (has_room s) e in
       let below = ltb-true (length s.accepted - s.acknowledged) s.terms.window parts.1 in
@@ -119,7 +118,7 @@ module _ {A : Type 0} where
   offered_none _ = refl
 
   -- both directions are sound
-  record AreSound (call : Coupled A) : Type 0 where
+  pub record AreSound (call : Coupled A) : Type 0 where
     pub from_caller : IsSound call.from_caller
     pub from_called : IsSound call.from_called
 
@@ -191,6 +190,15 @@ module _ {A : Type 0} where
   opened : (terms : Terms) (sender : End) → Holds (way_from sender terms) (sent_by sender (coupled {A = A} terms)) nothing_seen
   opened terms Caller = record { terms = refl; accepted = refl; put = refl }
   opened terms Called = record { terms = refl; accepted = refl; put = refl }
+
+  -- a run keeps both directions sound
+  sound_over : (call : Coupled A) (arrivals : List (Arrival A)) → AreSound call → AreSound (run call arrivals)
+  sound_over call [] h = h
+  sound_over call (arrival ∷ rest) h = sound_over (after arrival.here (turn_on call arrival)) rest (sound_after arrival.here arrival.packet call h)
+
+  pub sound_run : (terms : Terms) → IsWithinTerms terms → (arrivals : List (Arrival A)) → AreSound (run (coupled terms) arrivals)
+  sound_run terms within arrivals =
+      sound_over (coupled terms) arrivals (record { from_caller = sound_opening (way_from Caller terms) within.from_caller; from_called = sound_opening (way_from Called terms) within.from_called })
 
   pub everything_is_delivered : (terms : Terms) → IsWithinTerms terms → (arrivals : List (Arrival A)) (sender : End) → IsDelivered {A = A} terms sender (run (coupled terms) arrivals) (seen_over sender (coupled terms) nothing_seen arrivals)
   everything_is_delivered terms within arrivals sender =

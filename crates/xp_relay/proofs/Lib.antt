@@ -6,3 +6,5 @@ pub mod Runs
 pub mod Steps
 pub mod Takes
 pub mod Deliveries
+pub mod Bounds
+pub mod Few

@@ -1,17 +1,14 @@
 -- What a turn puts out, and what a direction then has.
-use Rattle.std.proofs.Common.{◌≡◌, ℕ, suc, zero, ◌+◌, ◌-◌, ◌%◌, ◌<◌, ◌≤◌, Bool, true, false, not, ◌&&◌, ◌||◌, cond, List, [], ◌∷◌, ◌++◌, append_assoc, length, take, drop, refl, sym, ap, subst, ◌∙◌, arith}
-use Rattle.std.proofs.lemmas.Bool.{cond_both, cond-true, cond-false, or_parts, or_from}
-use Rattle.std.proofs.lemmas.List.{append-nil, length-append, length-take}
+use Rattle.std.proofs.Common.{◌≡◌, ℕ, suc, ◌+◌, ◌%◌, Bool, true, false, not, ◌&&◌, List, [], ◌∷◌, ◌++◌, append_assoc, length, drop, refl, sym, ap, ◌∙◌, arith}
+use Rattle.std.proofs.lemmas.Bool.{cond_both, or_parts, or_from}
 use Rattle.xp_packets.specs.declared.end.End.{End}
 use Rattle.xp_packets.specs.declared.end.End.TheVariants.{Caller, Called}
-use Rattle.xp_packets.specs.declared.packet.Packet.{Packet}
-use Rattle.xp_packets.specs.declared.packet.Packet.TheVariants.{Ready, NotReady}
 use Rattle.xp_relay.specs.declared.data.Data.{Data}
 use Rattle.xp_relay.specs.declared.moves.Move.{Move}
-use Rattle.xp_relay.specs.Direction.{Direction, IsSound, far, is_open, numbered, put_all, release, released, to}
+use Rattle.xp_relay.specs.Direction.{Direction, far, is_open, numbered, released, to}
 use Rattle.xp_relay.specs.Runs.{data_in, data_to, is_of_reset, resets, same_end, with_numbers}
 use Rattle.xp_relay.specs.Terms.{numbers}
-use Rattle.xp_relay.specs.Turns.{flow_packet, interrupts, telling, telling_not_ready}
+use Rattle.xp_relay.specs.Turns.{flow_packet, telling, telling_not_ready}
 
 pub same_self : (e : End) → same_end e e ≡ true
 same_self Caller = refl

@@ -5,3 +5,4 @@ pub mod Turns
 pub mod Kept
 pub mod Coupled
 pub mod Runs
+pub mod Bounds

@@ -8,7 +8,7 @@ use Rattle.xp_relay.specs.declared.data.Data.{Data}
 use Rattle.xp_relay.specs.declared.moves.Move.{Move}
 use Rattle.xp_relay.specs.declared.terms.Terms.{Terms}
 use Rattle.xp_relay.specs.Coupled.{Coupled, after, coupled, received_by, sent_by, turn_at}
-use Rattle.xp_relay.specs.Direction.{Direction, far}
+use Rattle.xp_relay.specs.Direction.{far}
 use Rattle.xp_relay.specs.Terms.{IsWithinTerms, numbers, way_from}
 use Rattle.xp_relay.specs.Turns.{Turn, turn_of}
 
