@@ -1,9 +1,9 @@
 -- The command lines that the program takes, as `clap` reads them.
 use Rattle.std.specs.Prelude.{◌≡◌, ℕ, List, [], Option, Some, true, codes, option_map}
 use Rattle.clap.specs.Words.{App, Row, Rule, Text, fault_of, first_of, new_app, new_rule, subcommand_of, with_rule, with_subcommand}
-use Rattle.xp.specs.declared.task.Task.{Task}
-use Rattle.xp.specs.declared.task.Task.TheVariants.{Check, Replay}
-use Rattle.xp.specs.Tasks.{word_of}
+use Rattle.xp_tasks.specs.declared.task.Task.{Task}
+use Rattle.xp_tasks.specs.declared.task.Task.TheVariants.{Check, Replay}
+use Rattle.xp_tasks.specs.Tasks.{word_of}
 
 -- the one argument of a command
 abbrev pub file : Rule

@@ -1,49 +1,19 @@
--- What the program tells where it fails, and its exit status.
-use Rattle.std.specs.Prelude.{◌≡◌, ◌≢◌, ◌⊎◌, ℕ, Result, Ok, Err}
+-- The exit status of the program where it fails.
+use Rattle.std.specs.Prelude.{◌≡◌, ◌≢◌, ℕ}
 use Rattle.clap.specs.declared.error.Error.{Error}
 use Rattle.clap.specs.Words.{kind_of}
 use Rattle.clap.specs.declared.error.kind.ErrorKind.TheVariants.{OutOfMemory}
-use Rattle.xp_exchange.specs.declared.fault.ReplayFault.{ReplayFault}
-use Rattle.xp_exchange.specs.declared.fault.ReplayFault.TheVariants as replays
-use Rattle.xp_file.specs.declared.fault.SubsFault.{SubsFault}
-use Rattle.xp_file.specs.declared.fault.SubsFault.TheVariants as files
+use Rattle.xp_tasks.specs.declared.failure.TaskFailure.TheVariants.{Memory}
+use Rattle.xp_tasks.specs.Failures.{status_of as status_of_task}
 use Rattle.xp.specs.declared.failure.Failure.{Failure}
-use Rattle.xp.specs.declared.failure.Failure.TheVariants.{Arguments, File, Subscriptions, Replay, Memory, Output}
+use Rattle.xp.specs.declared.failure.Failure.TheVariants.{Arguments, Task}
 
--- 2 for what was asked, 4 for want of room, 5 for input and output
-abbrev pub replay_status : ReplayFault → ℕ
-replay_status (replays.Script line) = 2
-replay_status replays.Journal = 4
-replay_status replays.Memory = 4
-replay_status replays.Read = 5
-replay_status replays.Write = 5
-
--- likewise, and 3 for the subscription file
+-- 2 for what was asked
 abbrev pub status_of : Failure → ℕ
 status_of (Arguments told) = 2
-status_of File = 3
-status_of (Subscriptions fault) = 3
-status_of (Replay fault) = replay_status fault
-status_of Memory = 4
-status_of Output = 5
-
--- what is told of a replay: what it answers, or that what it put out could not all be handed on
-abbrev pub Tells : Result (Unit {0}) ReplayFault → Result (Unit {0}) Failure → Type 0
-Tells (Ok done) (Ok told) = Unit {0}
-Tells (Ok done) (Err failure) = failure ≡ Output
-Tells (Err fault) (Ok told) = ⊥
-Tells (Err fault) (Err failure) = (failure ≡ Replay fault) ⊎ (failure ≡ Output)
-
--- subscriptions that are refused
-abbrev pub of_file : SubsFault → Failure
-of_file files.Toml = Subscriptions files.Toml
-of_file (files.Field key) = Subscriptions (files.Field key)
-of_file (files.TwiceUsed key) = Subscriptions (files.TwiceUsed key)
-of_file files.Index = Subscriptions files.Index
-of_file (files.Limit key) = Subscriptions (files.Limit key)
-of_file files.Memory = Memory
+status_of (Task failure) = status_of_task failure
 
 -- arguments that are refused, and what is told of them
 pub record IsOfArguments (told : Error) (failure : Failure) : Type 0 where
-  pub memory : kind_of told ≡ OutOfMemory → failure ≡ Memory
+  pub memory : kind_of told ≡ OutOfMemory → failure ≡ Task Memory
   pub refused : kind_of told ≢ OutOfMemory → failure ≡ Arguments told

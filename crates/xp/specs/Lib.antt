@@ -1,4 +1,2 @@
 pub mod Commands
 pub mod Failures
-pub mod SetUp
-pub mod Tasks

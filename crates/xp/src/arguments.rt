@@ -5,12 +5,12 @@ ghost use Rattle.clap.specs.Words.{app_of, kind_of, rule_of, subcommand_rows_of}
 ghost use Rattle.clap.specs.declared.error.kind.ErrorKind.TheVariants.{OutOfMemory};
 ghost use Rattle.clap.specs.declared.builder.command.Command.TheViews.{out-Command as fields_of};
 ghost use Rattle.xp.specs.Commands.{AreRight, Ask, AsksFor, command_of, file as file_rule, program};
-ghost use Rattle.xp.specs.declared.task.Task.{Task};
+ghost use Rattle.xp_tasks.specs.declared.task.Task.{Task};
 
-use crate::task::Task;
 use clap::error::ErrorKind;
 use clap::{Arg, ArgMatches, Command, Error};
 use std::alloc::{AllocError, Global};
+use xp_tasks::Task;
 
 const ABOUT: &str = "The call-control exchange of an X.25 packet network.";
 

@@ -1,15 +1,15 @@
 //! Why the program did not do what it was asked for.
 
 ghost use Rattle.std.specs.Prelude.{◌≡◌};
-ghost use Rattle.xp.specs.Failures.{status_of, of_file, IsOfArguments};
-ghost use Rattle.xp.specs.declared.failure.Failure.TheVariants.{Memory as OutOfMemory, Replay as NotReplayed};
+ghost use Rattle.xp.specs.Failures.{status_of, IsOfArguments};
+ghost use Rattle.xp.specs.declared.failure.Failure.TheVariants.{Task as OfTask};
+ghost use Rattle.xp_tasks.specs.declared.failure.TaskFailure.TheVariants.{Memory as OutOfMemory};
 
 use clap::error::ErrorKind;
 use std::alloc::AllocError;
 use std::io;
 use thiserror::Error;
-use xp_exchange::ReplayFault;
-use xp_subs::SubsFault;
+use xp_tasks::TaskFailure;
 
 /// Why the program did not do what it was asked for.
 #[derive(Debug, Drop, Error)]
@@ -17,32 +17,19 @@ pub enum Failure {
     /// The arguments ask for nothing that it can do, or for help.
     #[error("{0}")]
     Arguments(clap::Error),
-    /// The subscription file cannot be read, or is not UTF-8.
-    #[error("xp: file")]
-    File,
-    /// The subscription file is refused.
-    #[error("xp: subscriptions: {0}")]
-    Subscriptions(SubsFault),
-    /// The script is not replayed to its end.
-    #[error("xp: {0}")]
-    Replay(ReplayFault),
-    #[error("xp: memory")]
-    Memory,
-    /// Standard output cannot be written on.
-    #[error("xp: output")]
-    Output,
+    /// What they ask for was not done.
+    #[error("{0}")]
+    Task(TaskFailure),
 }
 
 impl Failure {
-    /// The exit status: 2 for what was asked, 3 for the subscription file, 4 for want of room, 5 for input and output.
+    /// The exit status: 2 for what was asked, and else that of the task.
     pub fn status(&self) -> u8
         ensures { result ≡ status_of self.now }
     {
         match self {
-            Failure::Arguments(_) | Failure::Replay(ReplayFault::Script(_)) => 2,
-            Failure::File | Failure::Subscriptions(_) => 3,
-            Failure::Memory | Failure::Replay(ReplayFault::Journal | ReplayFault::Memory) => 4,
-            Failure::Output | Failure::Replay(ReplayFault::Read | ReplayFault::Write) => 5,
+            Failure::Arguments(_) => 2,
+            Failure::Task(failure) => failure.status(),
         }
     }
 
@@ -51,35 +38,24 @@ impl Failure {
         match self {
             // It ends its last line by itself.
             Failure::Arguments(told) => rt.eprint(told),
-            failure => rt.eprintln(failure),
+            Failure::Task(failure) => rt.eprintln(failure),
         }
     }
 }
 
 impl From<AllocError> for Failure {
-    ghost from_gives = { λ _ failure. failure ≡ OutOfMemory };
+    ghost from_gives = { λ _ failure. failure ≡ OfTask OutOfMemory };
 
     fn from(_refused: AllocError) -> Failure {
-        Failure::Memory
+        Failure::Task(TaskFailure::Memory)
     }
 }
 
-impl From<ReplayFault> for Failure {
-    ghost from_gives = { λ fault failure. failure ≡ NotReplayed fault };
+impl From<TaskFailure> for Failure {
+    ghost from_gives = { λ told failure. failure ≡ OfTask told };
 
-    fn from(fault: ReplayFault) -> Failure {
-        Failure::Replay(fault)
-    }
-}
-
-impl From<SubsFault> for Failure {
-    ghost from_gives = { λ fault failure. failure ≡ of_file fault };
-
-    fn from(fault: SubsFault) -> Failure {
-        match fault {
-            SubsFault::Memory => Failure::Memory,
-            refused => Failure::Subscriptions(refused),
-        }
+    fn from(told: TaskFailure) -> Failure {
+        Failure::Task(told)
     }
 }
 
@@ -88,7 +64,7 @@ impl From<clap::Error> for Failure {
 
     fn from(told: clap::Error) -> Failure {
         match told.kind() {
-            ErrorKind::OutOfMemory => Failure::Memory,
+            ErrorKind::OutOfMemory => Failure::Task(TaskFailure::Memory),
             _ => Failure::Arguments(told),
         }
     }

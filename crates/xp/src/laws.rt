@@ -2,7 +2,7 @@
 
 ghost use Rattle.std.specs.Prelude.{[], ◌∷◌, codes};
 ghost use Rattle.xp.specs.Commands.{Ask};
-ghost use Rattle.xp.specs.declared.task.Task.TheVariants.{Check, Replay};
+ghost use Rattle.xp_tasks.specs.declared.task.Task.TheVariants.{Check, Replay};
 
 /// There are words that ask for each task.
 pub fn tasks_can_be_asked_for()

@@ -4,11 +4,6 @@
 mod arguments;
 mod failure;
 mod laws;
-mod set_up;
-mod task;
-#[cfg(test)]
-mod tests;
-mod work;
 
 use crate::arguments::Arguments;
 use crate::failure::Failure;
@@ -16,6 +11,7 @@ use std::io::{BufReader, BufWriter, ErrorKind};
 use std::process::ExitCode;
 use std::rt::{Env, Files};
 use std::{env, fs, io};
+use xp_tasks::{TaskFailure, perform, subscriptions};
 
 fn main(rt: HostRuntime) -> ExitCode {
     match run(&rt) {
@@ -33,10 +29,11 @@ fn run<R: AllocGlobal + Env + Files + Input + Print>(rt: &R) -> Result<(), Failu
     let alloc = rt.alloc();
     let words = words(rt)?;
     let arguments = Arguments::read(alloc, &words)?;
-    let subs = work::subscriptions(alloc, fs::read_to_string(rt, arguments.file))?;
-    let reader = BufReader::new(alloc, rt.reader()).map_err(|_| Failure::Memory)?;
-    let mut writer = BufWriter::new(alloc, io::writer(rt)).map_err(|_| Failure::Memory)?;
-    work::perform(alloc, arguments.task, subs, reader, &mut writer)
+    let subs = subscriptions(alloc, fs::read_to_string(rt, arguments.file))?;
+    let reader = BufReader::new(alloc, rt.reader()).map_err(|_| TaskFailure::Memory)?;
+    let mut writer = BufWriter::new(alloc, io::writer(rt)).map_err(|_| TaskFailure::Memory)?;
+    perform(alloc, arguments.task, subs, reader, &mut writer)?;
+    Ok(())
 }
 
 /// The words of the command line.
@@ -44,7 +41,9 @@ fn words<R: AllocGlobal + Env>(rt: &R) -> Result<Vec<String>, Failure> {
     let alloc = rt.alloc();
     match env::args(rt) {
         Ok(words) => Ok(words.collect(alloc)?),
-        Err(error) if error.kind() == ErrorKind::OutOfMemory => Err(Failure::Memory),
+        Err(error) if error.kind() == ErrorKind::OutOfMemory => {
+            Err(Failure::Task(TaskFailure::Memory))
+        }
         Err(_) => Err(Failure::from(arguments::refused(alloc, "an argument is not UTF-8")?)),
     }
 }

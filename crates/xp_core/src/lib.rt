@@ -29,6 +29,3 @@ pub use output::{Outgoing, Output, Outputs, Put};
 pub use record::{Record, Records};
 pub use stepped::Stepped;
 pub use view::{Channel, LineView};
-
-#[cfg(test)]
-mod tests;

@@ -1,9 +1,11 @@
--- A refusal for want of a line comes from an address without an idle line.
-use Rattle.std.proofs.Common.{◌≡◌, ℕ, Err, inl, inr, sym, ◌∙◌, ap, subst}
-use Rattle.xp_groups.proofs.Causes.{IsGroupCause, intent_cause, admission_cause}
+-- Which refusals there are, and that those for want of a line come from an address without an idle line.
+use Rattle.std.proofs.Common.{◌≡◌, ℕ, Err, ◌⊎◌, inl, inr, refl, sym, ◌∙◌, ap, subst, lit<}
+use Rattle.std.specs.Prelude.{Contains}
+use Rattle.xp_causes.specs.Refusals.{call_refusals}
 use Rattle.xp_causes.specs.declared.clearing_cause.TheConstants as causes
 use Rattle.xp_causes.specs.declared.refusal.Refusal.{Refusal}
-use Rattle.xp_causes.specs.declared.refusal.TheConstants.Refusal.{TOO_MANY_REDIRECTIONS}
+use Rattle.xp_causes.specs.declared.refusal.TheConstants.Refusal.{FACILITY_LENGTH, FACILITY_NOT_ALLOWED, FACILITY_PARAMETER, USER_DATA_TOO_LONG, ACCESS_BARRED, GROUP_NOT_KNOWN, ADDRESS_NOT_KNOWN, INCOMING_CALLS_BARRED, REVERSE_CHARGING_NOT_ACCEPTED, FAST_SELECT_NOT_ACCEPTED, OUT_OF_ORDER, NUMBER_BUSY, TOO_MANY_REDIRECTIONS}
+use Rattle.xp_groups.proofs.Refused.{IsGroupRefusal, intent_refusal, admission_refusal}
 use Rattle.xp_hunt.specs.Picks.{HasNoneIdle}
 use Rattle.xp_hunt.specs.declared.lines.LineState.{LineState}
 use Rattle.xp_packets.specs.declared.block.Block.{Block}
@@ -17,82 +19,101 @@ use Rattle.xp_decide.specs.Asks as asks
 use Rattle.xp_decide.specs.Decided.{Decided}
 use Rattle.xp_decide.specs.Decided as decided
 use Rattle.xp_decide.specs.Laws.{IsWantOfLine, EndsWithoutLine}
-use Rattle.xp_decide.specs.Routes.{Place, place_at, Refuses, RefusesAt, Reaches}
+use Rattle.xp_decide.specs.Routes.{Place, Refuses, Reaches}
 use Rattle.xp_decide.specs.Routes as routes
 use Rattle.xp_decide.specs.Seen.{seen_by}
 use Rattle.xp_decide.specs.declared.acceptance.Wanted.{Wanted}
 use Rattle.xp_decide.specs.declared.request.Request.{Request}
 use Rattle.xp_decide.specs.declared.verdict.Verdict.TheVariants.{Refuse}
 
--- a cause of another kind
-pub record IsOther (cause : ℕ) : Type 0 where
-  pub not_off : cause ≡ causes.OUT_OF_ORDER → ⊥
-  pub not_busy : cause ≡ causes.NUMBER_BUSY → ⊥
+-- a refusal for another reason than want of a line
+record IsOther (refusal : Refusal) : Type 0 where
+  known : Contains call_refusals refusal
+  no_want : IsWantOfLine refusal → ⊥
 
-other : (refusal : Refusal) → IsWantOfLine refusal → IsOther refusal.cause → ⊥
-other refusal (inl is) others = others.not_off (ap (λ (r : Refusal). r.cause) is)
-other refusal (inr is) others = others.not_busy (ap (λ (r : Refusal). r.cause) is)
+named : (refusal name : Refusal) → refusal ≡ name → Contains call_refusals name
+    → (name.cause ≡ causes.OUT_OF_ORDER → ⊥) → (name.cause ≡ causes.NUMBER_BUSY → ⊥) → IsOther refusal
+named refusal name is at not_off not_busy = record { known = subst (Contains call_refusals) (sym is) at; no_want = never }
+  where
+    never : IsWantOfLine refusal → ⊥
+    never (inl off) = not_off (ap (λ (r : Refusal). r.cause) (sym is ∙ off))
+    never (inr busy) = not_busy (ap (λ (r : Refusal). r.cause) (sym is ∙ busy))
 
-cause_is : (refusal named : Refusal) → refusal ≡ named → IsOther named.cause → IsOther refusal.cause
-cause_is refusal named is others =
-    let same = ap (λ (r : Refusal). r.cause) is in
-    record { not_off = λ h. others.not_off (sym same ∙ h); not_busy = λ h. others.not_busy (sym same ∙ h) }
+by_groups : (refusal : Refusal) → IsGroupRefusal refusal → IsOther refusal
+by_groups refusal (inl is) = named refusal ACCESS_BARRED is (4, lit< tt, refl) (λ h. cc) (λ h. cc)
+by_groups refusal (inr (inl is)) = named refusal GROUP_NOT_KNOWN is (5, lit< tt, refl) (λ h. cc) (λ h. cc)
+by_groups refusal (inr (inr is)) = named refusal FACILITY_NOT_ALLOWED is (1, lit< tt, refl) (λ h. cc) (λ h. cc)
 
-group_other : (cause : ℕ) → IsGroupCause cause → IsOther cause
-group_other cause (inl is) = record { not_off = λ h. cc; not_busy = λ h. cc }
-group_other cause (inr is) = record { not_off = λ h. cc; not_busy = λ h. cc }
+declined : (wanted : Wanted) (station : Station) (refusal : Refusal) → Declines wanted station refusal → IsOther refusal
+declined wanted station refusal (accepts.incoming_barred _ is) = named refusal INCOMING_CALLS_BARRED is (7, lit< tt, refl) (λ h. cc) (λ h. cc)
+declined wanted station refusal (accepts.not_admitted _ not_admitted) = by_groups refusal (admission_refusal _ _ _ not_admitted)
+declined wanted station refusal (accepts.reverse_charging _ _ _ _ _ is) = named refusal REVERSE_CHARGING_NOT_ACCEPTED is (8, lit< tt, refl) (λ h. cc) (λ h. cc)
+declined wanted station refusal (accepts.fast_select _ _ _ _ _ _ is) = named refusal FAST_SELECT_NOT_ACCEPTED is (9, lit< tt, refl) (λ h. cc) (λ h. cc)
 
-declined_other : (wanted : Wanted) (station : Station) (refusal : Refusal) → Declines wanted station refusal → IsOther refusal.cause
-declined_other wanted station refusal (accepts.incoming_barred _ is) = cause_is refusal _ is (record { not_off = λ h. cc; not_busy = λ h. cc })
-declined_other wanted station refusal (accepts.not_admitted _ not_admitted) = group_other _ (admission_cause _ _ _ not_admitted)
-declined_other wanted station refusal (accepts.reverse_charging _ _ _ _ _ is) = cause_is refusal _ is (record { not_off = λ h. cc; not_busy = λ h. cc })
-declined_other wanted station refusal (accepts.fast_select _ _ _ _ _ _ is) = cause_is refusal _ is (record { not_off = λ h. cc; not_busy = λ h. cc })
+module _ {A : Type 0} (tables : Tables) (states : ℕ → LineState) (from : ℕ) (block : Block A) (refusal : Refusal) where
+  not_asked : MayNotAsk tables from block refusal → IsOther refusal
+  not_asked (asks.facility_length _ is) = named refusal FACILITY_LENGTH is (0, lit< tt, refl) (λ h. cc) (λ h. cc)
+  not_asked (asks.facility_code _ is) = named refusal FACILITY_NOT_ALLOWED is (1, lit< tt, refl) (λ h. cc) (λ h. cc)
+  not_asked (asks.facility_parameter _ is) = named refusal FACILITY_PARAMETER is (2, lit< tt, refl) (λ h. cc) (λ h. cc)
+  not_asked (asks.user_data _ _ _ is) = named refusal USER_DATA_TOO_LONG is (3, lit< tt, refl) (λ h. cc) (λ h. cc)
+  not_asked (asks.outgoing_barred _ _ _ _ is) = named refusal ACCESS_BARRED is (4, lit< tt, refl) (λ h. cc) (λ h. cc)
+  not_asked (asks.not_intended _ _ _ _ intends) = by_groups refusal (intent_refusal _ _ _ intends)
 
-place_none_idle : (states : ℕ → LineState) (wanted : Wanted) (place : Place) (refusal : Refusal)
-    → IsWantOfLine refusal → Refuses states wanted place refusal → HasNoneIdle states place.lines
-place_none_idle states wanted place refusal want (routes.declined declines) = absurd (other refusal want (declined_other _ _ _ declines))
-place_none_idle states wanted place refusal want (routes.all_off _ _ off _) = off_none_idle states place.lines off
-place_none_idle states wanted place refusal want (routes.none_idle _ _ none_idle _ _) = none_idle
+  -- a refusal for want of a line is known too, and no line is idle
+  record IsWithoutLine : Type 0 where
+    known : Contains call_refusals refusal
+    ends : EndsWithoutLine tables states from block
 
-module _ {A : Type 0} (tables : Tables) (states : ℕ → LineState) (from : ℕ) (block : Block A) (refusal : Refusal) (want : IsWantOfLine refusal) where
-  asking_other : MayNotAsk tables from block refusal → IsOther refusal.cause
-  asking_other (asks.facility_length _ is) = cause_is refusal _ is (record { not_off = λ h. cc; not_busy = λ h. cc })
-  asking_other (asks.facility_code _ is) = cause_is refusal _ is (record { not_off = λ h. cc; not_busy = λ h. cc })
-  asking_other (asks.facility_parameter _ is) = cause_is refusal _ is (record { not_off = λ h. cc; not_busy = λ h. cc })
-  asking_other (asks.user_data _ _ _ is) = cause_is refusal _ is (record { not_off = λ h. cc; not_busy = λ h. cc })
-  asking_other (asks.outgoing_barred _ _ _ _ is) = cause_is refusal _ is (record { not_off = λ h. cc; not_busy = λ h. cc })
-  asking_other (asks.not_intended _ _ _ _ intends) = group_other _ (intent_cause _ _ _ intends)
+  want : (name : Refusal) → refusal ≡ name → Contains call_refusals name → EndsWithoutLine tables states from block → IsWithoutLine
+  want name is at ends = record { known = subst (Contains call_refusals) (sym is) at; ends = ends }
+
+  at_place : (place : Place) → (HasNoneIdle (seen_by from states) place.lines → EndsWithoutLine tables states from block)
+      → (wanted : Wanted) → Refuses (seen_by from states) wanted place refusal → IsOther refusal ⊎ IsWithoutLine
+  at_place place ends wanted (routes.declined declines) = inl (declined wanted place.station refusal declines)
+  at_place place ends wanted (routes.all_off _ _ off is) =
+      inr (want OUT_OF_ORDER is (10, lit< tt, refl) (ends (off_none_idle (seen_by from states) place.lines off)))
+  at_place place ends wanted (routes.none_idle _ _ none_idle _ is) =
+      inr (want NUMBER_BUSY is (11, lit< tt, refl) (ends none_idle))
 
   on_way : (request : Request A) → Asks tables from block request
       → Reaches tables (seen_by from states) (wanted_of request) block.called (Err refusal)
-      → EndsWithoutLine tables states from block
+      → IsOther refusal ⊎ IsWithoutLine
   on_way request asked (routes.taken _ _ _ _ _ _ _ _ e) = cc
-  on_way request asked (routes.refused hops last named follows _ _ (routes.not_known _ is) e) =
-      let same : refusal ≡ named = cc in
-      absurd (other refusal want (cause_is refusal _ (same ∙ is) (record { not_off = λ h. cc; not_busy = λ h. cc })))
-  on_way request asked (routes.refused hops last named follows _ _ (routes.refused place known refuses) e) =
-      let same : named ≡ refusal = cc in
+  on_way request asked (routes.refused hops last told follows _ _ (routes.not_known _ is) e) =
+      let same : refusal ≡ told = cc in
+      inl (named refusal ADDRESS_NOT_KNOWN (same ∙ is) (6, lit< tt, refl) (λ h. cc) (λ h. cc))
+  on_way request asked (routes.refused hops last told follows few ends (routes.refused place known refuses) e) =
+      let same : told ≡ refusal = cc in
       let P : Refusal → Type 0 = λ r. Refuses (seen_by from states) (wanted_of request) place r in
-      record {
+      at_place place
+      (λ none_idle. record {
         request = request;
         asked = asked;
         hops = hops;
         last = last;
         follows = follows;
+        few = few;
+        ends = ends;
         place = place;
         known = known;
-        none_idle = place_none_idle (seen_by from states) (wanted_of request) place refusal want (subst P same refuses);
-      }
+        none_idle = none_idle;
+      })
+      (wanted_of request) (subst P same refuses)
   on_way request asked (routes.too_many _ _ _ _ e) =
       let same : refusal ≡ TOO_MANY_REDIRECTIONS = cc in
-      absurd (other refusal want (cause_is refusal _ same (record { not_off = λ h. cc; not_busy = λ h. cc })))
+      inl (named refusal TOO_MANY_REDIRECTIONS same (12, lit< tt, refl) (λ h. cc) (λ h. cc))
 
-  pub ends_without_line : Decided tables states from block (Refuse refusal) → EndsWithoutLine tables states from block
-  ends_without_line (decided.not_asked named may_not e) =
-      let same : named ≡ refusal = cc in
-      absurd (other refusal want (asking_other (subst (MayNotAsk tables from block) same may_not)))
-  ends_without_line (decided.not_reached request named asked way e) =
-      let same : named ≡ refusal = cc in
+  by_reason : Decided tables states from block (Refuse refusal) → IsOther refusal ⊎ IsWithoutLine
+  by_reason (decided.not_asked told may_not e) =
+      let same : told ≡ refusal = cc in inl (not_asked (subst (MayNotAsk tables from block) same may_not))
+  by_reason (decided.not_reached request told asked way e) =
+      let same : told ≡ refusal = cc in
       let P : Refusal → Type 0 = λ r. Reaches tables (seen_by from states) (wanted_of request) block.called (Err r) in
       on_way request asked (subst P same way)
-  ends_without_line (decided.reached _ _ _ _ e) = cc
+  by_reason (decided.reached _ _ _ _ e) = cc
+
+  pub refusal_known : Decided tables states from block (Refuse refusal) → Contains call_refusals refusal
+  refusal_known refused = elim (by_reason refused) [ inl other ↦ other.known | inr without ↦ without.known ]
+
+  pub ends_without_line : Decided tables states from block (Refuse refusal) → IsWantOfLine refusal → EndsWithoutLine tables states from block
+  ends_without_line refused wants = elim (by_reason refused) [ inl other ↦ absurd (other.no_want wants) | inr without ↦ without.ends ]

@@ -1,5 +1,5 @@
 -- What the decision tells a line can be written.
-use Rattle.std.proofs.Common.{◌≡◌, ℕ, ◌≤◌, ◌&&◌, min, true, leb, length, List, Option, None, Some, Ok, inr, refl, sym, ◌∙◌, ap, subst, arith}
+use Rattle.std.proofs.Common.{◌≡◌, ℕ, ◌≤◌, ◌&&◌, min, true, leb, length, List, Option, None, Some, Ok, Err, inr, refl, sym, ◌∙◌, ap, subst, arith}
 use Rattle.std.proofs.Math.Nat.{le-min, min-le_right}
 use Rattle.std.proofs.lemmas.Bool.{and_parts, and_from, leb-true, le-leb}
 use Rattle.std.proofs.lemmas.List.Elements.{All-contains}
@@ -9,9 +9,12 @@ use Rattle.xp_facilities.proofs.Meant.{AsksInRange, asks_in_range}
 use Rattle.xp_facilities.specs.Items.{octets_of_all}
 use Rattle.xp_facilities.specs.Limits.{largest_window}
 use Rattle.xp_facilities.specs.Octets.{is_within}
-use Rattle.xp_facilities.specs.Told.{index_fits, sizes_fit, counts_fit, is_in_range, items_told, Tells}
+use Rattle.xp_facilities.specs.Told.{index_fits, sizes_fit, counts_fit, is_in_range, items_told, Tells, Writes}
 use Rattle.xp_facilities.specs.declared.asked.Asked.{Asked}
+use Rattle.xp_facilities.specs.declared.fault.FacilityFault.{FacilityFault}
+use Rattle.xp_facilities.specs.declared.fault.FacilityFault.TheVariants.{Length, Code, Param, Memory}
 use Rattle.xp_facilities.specs.declared.pair.Pair.{Pair}
+use Rattle.xp_facilities.specs.declared.told.Told.{Told}
 use Rattle.xp_facilities.specs.declared.redirection.Reason.{Reason}
 use Rattle.xp_facilities.specs.declared.selection.Selection.TheVariants.{Nothing, Closed, AlsoOpen}
 use Rattle.xp_groups.proofs.Joined.{part_held}
@@ -34,6 +37,7 @@ use Rattle.xp_decide.specs.Rings.{indicated_packet, indicated_window, notified, 
 use Rattle.xp_decide.specs.Routes.{first_reason, Reaches, TakesAt}
 use Rattle.xp_decide.specs.Routes as routes
 use Rattle.xp_decide.specs.Seen.{seen_by}
+use Rattle.xp_decide.specs.Indicated.{TellsWithin, IndicatesSizes}
 use Rattle.xp_decide.specs.Written.{CanBeWritten}
 use Rattle.xp_decide.specs.declared.acceptance.Wanted.{Wanted}
 use Rattle.xp_decide.specs.declared.request.Request.{Request}
@@ -70,19 +74,31 @@ taker_short tables states wanted address line admission sound takes =
     let short = sound.indexes (station_of tables line) (sound.placed line placed.known) in
     index_told wanted.intent takes.place.station admission (subst HasShortIndexes (sym placed.station) short) takes.accepts.admitted
 
--- packet sizes in their range stay in it where 1,024 octets bound them
-size_capped : (size : ℕ) → (leb 4 size && leb size 12) ≡ true → (leb 4 (min size 10) && leb (min size 10) 12) ≡ true
+-- 1,024 octets bound packet sizes that are in their range
+size_capped : (size : ℕ) → (leb 4 size && leb size 12) ≡ true → (leb 4 (min size 10) && leb (min size 10) 10) ≡ true
 size_capped size fits =
     and_from _ _
     (le-leb 4 (min size 10) (le-min (leb-true 4 size (and_parts _ _ fits).0) (omega arith)))
-    (le-leb (min size 10) 12 (omega (arith, min-le_right size 10)))
+    (le-leb (min size 10) 10 (min-le_right size 10))
 
-packet_told : (asked : Option Pair) → sizes_fit 4 12 asked ≡ true → is_within 4 12 (indicated_packet asked) ≡ true
+packet_indicated : (asked : Option Pair) → sizes_fit 4 12 asked ≡ true → is_within 4 10 (indicated_packet asked) ≡ true
 unfolding sizes_fit
-packet_told None fits = refl
-packet_told (Some sizes) fits =
+packet_indicated None fits = refl
+packet_indicated (Some sizes) fits =
     let parts = and_parts _ _ fits in
     and_from _ _ (size_capped sizes.from_called parts.0) (size_capped sizes.from_calling parts.1)
+
+-- so a field can tell them
+size_told : (size : ℕ) → (leb 4 size && leb size 10) ≡ true → (leb 4 size && leb size 12) ≡ true
+size_told size fits =
+    let parts = and_parts _ _ fits in
+    and_from _ _ parts.0 (le-leb size 12 (omega (arith, leb-true size 10 parts.1)))
+
+packet_told : (asked : Option Pair) → sizes_fit 4 12 asked ≡ true → is_within 4 12 (indicated_packet asked) ≡ true
+packet_told asked fits =
+    let sizes = indicated_packet asked in
+    let parts = and_parts _ _ (packet_indicated asked fits) in
+    and_from _ _ (size_told sizes.from_called parts.0) (size_told sizes.from_calling parts.1)
 
 window_told : (asked : Option Pair) → sizes_fit 1 largest_window asked ≡ true → is_within 1 largest_window (indicated_window asked) ≡ true
 unfolding sizes_fit
@@ -92,6 +108,29 @@ window_told (Some sizes) fits = fits
 dialled_few : (reason : Option Reason) (dialled : List ℕ) → length dialled ≤ 15 → IfSome (notified reason dialled) (λ r. length r.dialled ≤ 15)
 dialled_few None dialled few = tt
 dialled_few (Some reason) dialled few = few
+
+-- what a field tells is refused for want of memory alone
+for_memory : {A : Type 0} (told : Told A) (field : List ℕ) → Tells told field
+    → (fault : FacilityFault) → Writes told (Err fault) → fault ≡ Memory
+for_memory told field tells Length none = absurd (none tells.carried tells.dte)
+for_memory told field tells Code never = absurd never
+for_memory told field tells Param (carried, items, wrong) = let is = tells.in_range in cc
+for_memory told field tells Memory _ = refl
+
+-- bounds of both sizes, one after the other
+within_bounds : (least most : ℕ) (sizes : Pair) → is_within least most sizes ≡ true → TellsWithin least most (Some sizes)
+within_bounds least most sizes fits =
+    let parts = and_parts _ _ fits in
+    let called = and_parts _ _ parts.0 in
+    let calling = and_parts _ _ parts.1 in
+    record {
+      sizes = sizes;
+      told_are = refl;
+      called_least = leb-true least sizes.from_called called.0;
+      called_most = leb-true sizes.from_called most called.1;
+      calling_least = leb-true least sizes.from_calling calling.0;
+      calling_most = leb-true sizes.from_calling most calling.1;
+    }
 
 module _ {A : Type 0} (asked : Asked A) (admission : Admission) (reason : Option Reason) (dialled : List ℕ) where
   told_in_range : index_fits admission.told ≡ true → AsksInRange asked → is_in_range (told_of asked admission reason dialled) ≡ true
@@ -114,7 +153,8 @@ module _ {A : Type 0} (asked : Asked A) (admission : Admission) (reason : Option
       record {
         field = field;
         tells = tells;
-        most = told-exchange told (length field) (told-length told field tells (dialled_few reason dialled few)) (inr (refl, refl));
+        most = λ other also. told-exchange told (length other) (told-length told other also (dialled_few reason dialled few)) (inr (refl, refl));
+        refused = for_memory told field tells;
       }
 
 module _ {A : Type 0} (tables : Tables) (states : ℕ → LineState) (from : ℕ) (block : Block A) (sound : IsSound tables) (few : length block.called ≤ 15) where
@@ -138,3 +178,16 @@ module _ {A : Type 0} (tables : Tables) (states : ℕ → LineState) (from : ℕ
       let same : ring ≡ ring_of request.asked end block.called = cc in
       let P : Ring A → Type 0 = λ r. CanBeWritten r.told in
       subst P (sym same) (by_way request end asks way)
+
+module _ {A : Type 0} (tables : Tables) (states : ℕ → LineState) (from : ℕ) (block : Block A) where
+  pub told_sizes : (ring : Ring A) → Decided tables states from block (Take ring) → IndicatesSizes ring.told
+  told_sizes ring (decided.not_asked _ _ e) = cc
+  told_sizes ring (decided.not_reached _ _ _ _ e) = cc
+  told_sizes ring (decided.reached request end asks way e) =
+      let same : ring ≡ ring_of request.asked end block.called = cc in
+      let range = asks_in_range block.facilities request.asked asks.means in
+      let P : Ring A → Type 0 = λ r. IndicatesSizes r.told in
+      subst P (sym same) (record {
+        packet = within_bounds 4 10 (indicated_packet request.asked.packet) (packet_indicated request.asked.packet range.packet);
+        window = within_bounds 1 largest_window (indicated_window request.asked.window) (window_told request.asked.window range.window);
+      })

@@ -35,3 +35,12 @@ module _ {A : Type 0} where
   PutsThrough tables states from block (Ok ring) = Decided tables states from block (Take ring)
   PutsThrough tables states from block (Err (faults.Refused refusal)) = Decided tables states from block (Refuse refusal)
   PutsThrough tables states from block (Err faults.Memory) = Unit {0}
+
+  -- what holds of the line that rings, and of the refusal
+  abbrev pub IfTaken : Verdict A → (Ring A → Type 0) → Type 0
+  IfTaken (Take ring) holds = holds ring
+  IfTaken (Refuse refusal) holds = Unit {0}
+
+  abbrev pub IfRefused : Verdict A → (Refusal → Type 0) → Type 0
+  IfRefused (Take ring) holds = Unit {0}
+  IfRefused (Refuse refusal) holds = holds refusal

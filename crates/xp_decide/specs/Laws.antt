@@ -1,5 +1,6 @@
 -- What follows from the decision of a call request.
-use Rattle.std.specs.Prelude.{◌≡◌, ◌≢◌, ℕ, ◌<◌, ◌≤◌, List, length, Some, ◌⊎◌}
+use Rattle.std.specs.Prelude.{◌≡◌, ◌≢◌, ℕ, ◌<◌, ◌≤◌, List, length, Some, ◌⊎◌, Contains}
+use Rattle.xp_causes.specs.Refusals.{call_refusals}
 use Rattle.xp_groups.specs.MayJoin.{MayJoin}
 use Rattle.xp_causes.specs.declared.refusal.Refusal.{Refusal}
 use Rattle.xp_causes.specs.declared.refusal.TheConstants.Refusal.{OUT_OF_ORDER, NUMBER_BUSY}
@@ -11,7 +12,8 @@ use Rattle.xp_subs.specs.Sound.{IsSound}
 use Rattle.xp_subs.specs.Tables.{Tables, line_count}
 use Rattle.xp_decide.specs.Asks.{station_of_line, Asks, wanted_of}
 use Rattle.xp_decide.specs.Decided.{Decided}
-use Rattle.xp_decide.specs.Routes.{Place, place_at, Hop, Follows}
+use Rattle.xp_decide.specs.Indicated.{IndicatesSizes}
+use Rattle.xp_decide.specs.Routes.{Place, place_at, Hop, Follows, IsLast}
 use Rattle.xp_decide.specs.Seen.{seen_by}
 use Rattle.xp_decide.specs.Written.{CanBeWritten}
 use Rattle.xp_decide.specs.declared.request.Request.{Request}
@@ -45,17 +47,31 @@ ToldCanBeWritten A =
     → IsSound tables → length block.called ≤ 15 → Decided tables states from block (Take ring)
     → CanBeWritten ring.told
 
+-- it is told packet and window sizes that a call may have
+abbrev pub ToldSizesAreIndicated : Type 0 → Type 0
+ToldSizesAreIndicated A =
+    (tables : Tables) (states : ℕ → LineState) (from : ℕ) (block : Block A) (ring : Ring A)
+    → Decided tables states from block (Take ring) → IndicatesSizes ring.told
+
+-- a refusal is one that call requests have
+abbrev pub RefusalsAreKnown : Type 0 → Type 0
+RefusalsAreKnown A =
+    (tables : Tables) (states : ℕ → LineState) (from : ℕ) (block : Block A) (refusal : Refusal)
+    → Decided tables states from block (Refuse refusal) → Contains call_refusals refusal
+
 -- the refusals for want of a line
 abbrev pub IsWantOfLine : Refusal → Type 0
 IsWantOfLine refusal = (refusal ≡ OUT_OF_ORDER) ⊎ (refusal ≡ NUMBER_BUSY)
 
--- the call went along the redirections to an address none of whose lines is idle
+-- the call went along the redirections to the last address, and none of its lines is idle
 pub record EndsWithoutLine {A : Type 0} (tables : Tables) (states : ℕ → LineState) (from : ℕ) (block : Block A) : Type 0 where
   pub request : Request A
   pub asked : Asks tables from block request
   pub hops : List Hop
   pub last : List ℕ
   pub follows : Follows tables (seen_by from states) (wanted_of request) block.called hops last
+  pub few : length hops ≤ 4
+  pub ends : IsLast tables (seen_by from states) (wanted_of request) last
   pub place : Place
   pub known : place_at tables last ≡ Some place
   pub none_idle : HasNoneIdle (seen_by from states) place.lines

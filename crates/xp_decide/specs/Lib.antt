@@ -5,4 +5,5 @@ pub mod Asks
 pub mod Rings
 pub mod Decided
 pub mod Written
+pub mod Indicated
 pub mod Laws

@@ -1,4 +1,4 @@
-ghost use Rattle.xp_decide.specs.Laws.{TakenMayJoin, TakenIsFree, ToldCanBeWritten, RefusesWithoutIdleLine, IsDeterminedButLine};
+ghost use Rattle.xp_decide.specs.Laws.{TakenMayJoin, TakenIsFree, ToldCanBeWritten, ToldSizesAreIndicated, RefusalsAreKnown, RefusesWithoutIdleLine, IsDeterminedButLine};
 
 use std::alloc::Allocator;
 
@@ -7,7 +7,7 @@ pub fn taken_stations_may_join<A: Allocator>()
     ensures { TakenMayJoin A }
 {}
 
-/// A call is refused for want of a line only where no line of the address at which it ends is idle.
+/// A call is refused for want of a line only where it ends at an address none of whose lines is idle.
 pub fn refuses_without_idle_line_alone<A: Allocator>()
     ensures { RefusesWithoutIdleLine A }
 {}
@@ -17,9 +17,20 @@ pub fn taken_line_is_free<A: Allocator>()
     ensures { TakenIsFree A }
 {}
 
-/// What the line that rings is told can be written: a facility field of at most 107 octets tells it.
+/// What the line that rings is told can be written: a facility field of at most 107 octets tells it, and is refused for want
+/// of memory alone.
 pub fn told_can_be_written<A: Allocator>()
     ensures { ToldCanBeWritten A }
+{}
+
+/// The line that rings is told packets of 16 to 1,024 octets and windows of 1 to 7.
+pub fn told_sizes_are_indicated<A: Allocator>()
+    ensures { ToldSizesAreIndicated A }
+{}
+
+/// A refusal is one of those that call requests have, with their causes and diagnostics.
+pub fn refusals_are_known<A: Allocator>()
+    ensures { RefusalsAreKnown A }
 {}
 
 /// A call request has one answer, but for which idle line rings.

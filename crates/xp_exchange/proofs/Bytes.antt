@@ -20,6 +20,10 @@ appends_kept (Some xs) None third one a b = elim a [ ]
 appends_kept (Some xs) (Some ys) None one a b = elim b [ ]
 appends_kept (Some xs) (Some ys) (Some zs) one a b = b ∙ a
 
+pub keeps_itself : (known : Option (List ℕ)) → Keeps known known
+keeps_itself None = tt
+keeps_itself (Some octets) = refl
+
 pub consumes_nothing : (known : Option (List ℕ)) → Consumes known known []
 consumes_nothing None = tt
 consumes_nothing (Some octets) = refl

@@ -1,5 +1,5 @@
 -- Lines that are played one after the other.
-use Rattle.std.proofs.Common.{◌≡◌, ◌≢◌, ℕ, ◌+◌, List, [], ◌∷◌, ◌++◌, length, refl, sym, ap, ◌∙◌, append_assoc, append-nil, length-append, subst, arith, Ok, Err, inl, inr}
+use Rattle.std.proofs.Common.{◌≡◌, ◌≢◌, ℕ, ◌+◌, List, [], ◌∷◌, ◌++◌, length, refl, sym, ap, ◌∙◌, append_assoc, append-nil, length-append, subst, arith, Option, Some, Ok, Err, inl, inr}
 use Rattle.xp_core.specs.Exchange.{Exchange}
 use Rattle.xp_exchange.specs.declared.fault.ReplayFault.{ReplayFault}
 use Rattle.xp_exchange.specs.declared.fault.ReplayFault.TheVariants.{Script, Journal, Memory, Read, Write}
@@ -8,9 +8,9 @@ use Rattle.xp_exchange.specs.Playing.{Played, ReachesIn}
 use Rattle.xp_exchange.specs.Replaying.{Progress, TakesIn, Overflows}
 use Rattle.xp_exchange.specs.Serial.{IsTold, Stops, StopsAt, PlaysOut, Reaches}
 use Rattle.xp_exchange.specs.Splitting.{joined, line_feed, HasNoFeed, EndsLine}
-use Rattle.xp_exchange.proofs.Tellings.{told_nothing, told_both, told_in_part}
+use Rattle.xp_exchange.proofs.Tellings.{told_all_but_none, told_nothing, told_both, told_but_last, told_in_part}
 
-no_feed_more : (octets : List ℕ) (octet : ℕ) → HasNoFeed octets → octet ≢ line_feed → HasNoFeed (octets ++ octet ∷ [])
+pub no_feed_more : (octets : List ℕ) (octet : ℕ) → HasNoFeed octets → octet ≢ line_feed → HasNoFeed (octets ++ octet ∷ [])
 no_feed_more [] octet none other = (other, tt)
 no_feed_more (first ∷ octets) octet none other = (none.0, no_feed_more octets octet none.1 other)
 
@@ -72,21 +72,22 @@ module _ {A : Type 0} where
   reaches at line more now over (inr begun) = inr (over, begun)
 
   -- a line at which it stops
-  stops_at : (fault : ReplayFault) (first at new : Standing A) (line more : List ℕ) (number there : ℕ) (text other : List ℕ) → number ≡ there → at.exchange.subs ≡ first.exchange.subs
+  stops_at : (fault : ReplayFault) (first at new : Standing A) (line more : List ℕ) (left : Option (List ℕ)) (number there : ℕ) (text other : List ℕ) → number ≡ there → at.exchange.subs ≡ first.exchange.subs
       → IsTold first.exchange at.exchange text → EndsLine more → Played at number line (Err fault) new other
-      → StopsAt first at line more there fault (text ++ other)
-  stops_at (Script found) first at new line more number there text other here same told over played = (
+      → StopsAt first at line more there fault left new.exchange (text ++ other)
+  stops_at (Script found) first at new line more left number there text other here same told over played = (
     played.0 ∙ here,
     inl (over, played.1),
-    subst (IsTold first.exchange at.exchange) (sym (ap (λ rest. text ++ rest) played.2 ∙ append-nil text)) told,
+    played.2,
+    subst (IsTold first.exchange new.exchange) (sym (ap (λ rest. text ++ rest) played.3 ∙ append-nil text)) (subst (λ after. IsTold first.exchange after text) (sym played.2) told),
   )
-  stops_at Journal first at new line more number there text other here same told over played =
-      (played.0, played.1, told_both first.exchange at.exchange played.0 text other same told played.2, over, played.3, played.4)
-  stops_at Memory first at new line more number there text other here same told over played =
-      (played.0, reaches at line more played.0 over played.1, told_both first.exchange at.exchange played.0 text other same told played.2)
-  stops_at Write first at new line more number there text other here same told over played =
-      (played.0, reaches at line more played.0 over played.1, told_in_part first.exchange at.exchange played.0 text other same told played.2)
-  stops_at Read first at new line more number there text other here same told over played = elim played [ ]
+  stops_at Journal first at new line more left number there text other here same told over played =
+      (played.0, told_both first.exchange at.exchange new.exchange text other same told played.1, over, played.2, played.3)
+  stops_at Memory first at new line more left number there text other here same told over played =
+      (reaches at line more new.exchange over played.0, told_but_last first.exchange at.exchange new.exchange text other same told played.1)
+  stops_at Write first at new line more left number there text other here same told over played =
+      (reaches at line more new.exchange over played.0, told_in_part first.exchange at.exchange new.exchange text other same told played.1)
+  stops_at Read first at new line more left number there text other here same told over played = elim played [ ]
 
   -- what was read, and what follows
   onward : (old between : Progress A) (front more : List ℕ) (text : List ℕ) → (took : TakesIn old front between text)
@@ -95,10 +96,10 @@ module _ {A : Type 0} where
       sym (append_assoc old.line front more) ∙ ap (λ some. some ++ more) took.whole ∙ append_assoc (joined took.lines) between.line more
 
   -- it stops at a line that is over
-  pub took_stops : (fault : ReplayFault) (old between : Progress A) (new : Standing A) (front more : List ℕ) (text other : List ℕ) → TakesIn old front between text
+  pub took_stops : (fault : ReplayFault) (old between : Progress A) (new : Standing A) (front more : List ℕ) (left : Option (List ℕ)) (text other : List ℕ) → TakesIn old front between text
       → EndsLine more → HasNoFeed between.line → Played between.moment between.number between.line (Err fault) new other
-      → Stops old.moment old.number (old.line ++ (front ++ more)) fault (text ++ other)
-  took_stops fault old between new front more text other took over clean played = record {
+      → Stops old.moment old.number (old.line ++ (front ++ more)) fault left new.exchange (text ++ other)
+  took_stops fault old between new front more left text other took over clean played = record {
     lines = took.lines;
     line = between.line;
     more = more;
@@ -107,15 +108,15 @@ module _ {A : Type 0} where
     no_feed = clean;
     at = between.moment;
     played = took.played;
-    why = stops_at fault old.moment between.moment new between.line more between.number (old.number + length took.lines) text other took.number
+    why = stops_at fault old.moment between.moment new between.line more left between.number (old.number + length took.lines) text other took.number
         (same_subs old.moment took.lines between.moment took.played) took.told over played;
   }
 
   -- it stops in the midst of a line
-  pub took_overflows : (fault : ReplayFault) (old between : Progress A) (front more : List ℕ) (octet : ℕ) (text : List ℕ) → TakesIn old front between text
+  pub took_overflows : (fault : ReplayFault) (old between : Progress A) (front more : List ℕ) (left : Option (List ℕ)) (octet : ℕ) (text : List ℕ) → TakesIn old front between text
       → octet ≢ line_feed → HasNoFeed between.line → Overflows between fault
-      → Stops old.moment old.number (old.line ++ (front ++ octet ∷ more)) fault text
-  took_overflows (Script found) old between front more octet text took other clean over = record {
+      → Stops old.moment old.number (old.line ++ (front ++ octet ∷ more)) fault left between.moment.exchange text
+  took_overflows (Script found) old between front more left octet text took other clean over = record {
     lines = took.lines;
     line = between.line ++ octet ∷ [];
     more = more;
@@ -124,9 +125,9 @@ module _ {A : Type 0} where
     no_feed = no_feed_more between.line octet clean other;
     at = between.moment;
     played = took.played;
-    why = (over.0 ∙ took.number, inr (omega (arith, over.1, length-append between.line (octet ∷ []))), took.told);
+    why = (over.0 ∙ took.number, inr (omega (arith, over.1, length-append between.line (octet ∷ []))), refl, took.told);
   }
-  took_overflows Memory old between front more octet text took other clean over = record {
+  took_overflows Memory old between front more left octet text took other clean over = record {
     lines = took.lines;
     line = between.line;
     more = octet ∷ more;
@@ -135,43 +136,44 @@ module _ {A : Type 0} where
     no_feed = clean;
     at = between.moment;
     played = took.played;
-    why = (between.moment.exchange, inl refl, took.told);
+    why = (inl refl, told_all_but_none old.moment.exchange between.moment.exchange text took.told);
   }
-  took_overflows Journal old between front more octet text took other clean over = elim over [ ]
-  took_overflows Write old between front more octet text took other clean over = elim over [ ]
-  took_overflows Read old between front more octet text took other clean over = elim over [ ]
+  took_overflows Journal old between front more left octet text took other clean over = elim over [ ]
+  took_overflows Write old between front more left octet text took other clean over = elim over [ ]
+  took_overflows Read old between front more left octet text took other clean over = elim over [ ]
 
   -- it can't be read on
-  pub took_unread : (old between : Progress A) (front more : List ℕ) (text : List ℕ) → TakesIn old front between text
-      → Stops old.moment old.number (old.line ++ (front ++ more)) Read text
-  took_unread old between front more text took = record {
+  pub took_unread : (old between : Progress A) (front more : List ℕ) (left : Option (List ℕ)) (text : List ℕ) → TakesIn old front between text → HasNoFeed between.line
+      → left ≡ Some more → Stops old.moment old.number (old.line ++ (front ++ more)) Read left between.moment.exchange text
+  took_unread old between front more left text took clean rest = record {
     lines = took.lines;
-    line = [];
-    more = between.line ++ more;
+    line = between.line;
+    more = more;
     whole = onward old between front more text took;
     each = took.each;
-    no_feed = tt;
+    no_feed = clean;
     at = between.moment;
     played = took.played;
-    why = took.told;
+    why = (rest, refl, took.told);
   }
 
   -- the last line was played
   pub took_all : (old between new : Progress A) (octets : List ℕ) (text other : List ℕ) → TakesIn old octets between text → HasNoFeed between.line
       → Played between.moment between.number between.line (Ok tt) new.moment other
-      → PlaysOut old.moment (old.line ++ octets) (text ++ other)
+      → PlaysOut old.moment (old.line ++ octets) new.moment.exchange (text ++ other)
   took_all old between new octets text other took clean played = record {
     lines = took.lines;
     last = between.line;
     split = record { whole = took.whole; each = took.each; no_feed = clean };
     at = new.moment;
     played = (between.moment, took.played, played.0);
+    after_is = refl;
     told = told_both old.moment.exchange between.moment.exchange new.moment.exchange text other (same_subs old.moment took.lines between.moment took.played) took.told played.1;
   }
 
   -- nothing was read yet
-  pub stops_first : (first : Standing A) (number : ℕ) (octets : List ℕ) → Stops first number octets Memory []
-  stops_first first number octets = record {
+  pub stops_first : (first : Standing A) (number : ℕ) (octets : List ℕ) (left : Option (List ℕ)) → Stops first number octets Memory left first.exchange []
+  stops_first first number octets left = record {
     lines = [];
     line = [];
     more = octets;
@@ -180,5 +182,5 @@ module _ {A : Type 0} where
     no_feed = tt;
     at = first;
     played = refl;
-    why = (first.exchange, inl refl, told_nothing first.exchange);
+    why = (inl refl, told_all_but_none first.exchange first.exchange [] (told_nothing first.exchange));
   }

@@ -36,18 +36,17 @@ module _ {A : Type 0} where
   played (Ok done) old new number line command events text says plays acted =
       (record { command = command; says = says; events = events; plays = plays; acts = acted.0 }, acted.1)
   played (Err Journal) old new number line command events text says plays acted =
-      (acted.0, begins old line command events new.unfinished acted.0 says plays acted.1, acted.2, acted.3, acted.4)
+      (begins old line command events new.unfinished new.exchange says plays acted.0, acted.1, acted.2, acted.3)
   played (Err Memory) old new number line command events text says plays acted =
-      (acted.0, inr (begins old line command events new.unfinished acted.0 says plays acted.1), acted.2)
+      (inr (begins old line command events new.unfinished new.exchange says plays acted.0), acted.1)
   played (Err Write) old new number line command events text says plays acted =
-      (acted.0, inr (begins old line command events new.unfinished acted.0 says plays acted.1), acted.2)
+      (inr (begins old line command events new.unfinished new.exchange says plays acted.0), acted.1)
   played (Err (Script found)) old new number line command events text says plays acted = elim acted [ ]
   played (Err Read) old new number line command events text says plays acted = elim acted [ ]
 
   -- what was played to its end was also begun
   pub played_in_part : (old new : Standing A) (number : ℕ) (line text : List ℕ) → Played old number line (Ok tt) new text → Played old number line (Err Write) new text
   played_in_part old new number line text done = (
-    new.exchange,
     inr (record {
       command = done.0.command;
       says = done.0.says;

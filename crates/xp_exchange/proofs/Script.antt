@@ -1,17 +1,18 @@
 -- A script that is read in pieces.
-use Rattle.std.proofs.Common.{◌≡◌, ℕ, ◌+◌, List, [], ◌∷◌, ◌++◌, length, sym, ap, ◌∙◌, append_assoc, append-nil, length-append, subst, arith, Option, None, Some, Result, Ok, Err, IfSome}
+use Rattle.std.proofs.Common.{◌≡◌, ℕ, ◌+◌, List, [], ◌∷◌, ◌++◌, length, refl, sym, ap, ◌∙◌, append_assoc, append-nil, length-append, subst, arith, Option, None, Some, Result, Ok, Err, IfSome}
 use Rattle.std.specs.List.{AllByRecursion}
 use Rattle.std.specs.Io.KnownBytes.{Appends, Consumes, Keeps, IsAtEnd}
 use Rattle.xp_subs.specs.Tables.{Tables}
+use Rattle.xp_core.specs.Exchange.{Exchange}
 use Rattle.xp_exchange.specs.declared.fault.ReplayFault.{ReplayFault}
 use Rattle.xp_exchange.specs.declared.fault.ReplayFault.TheVariants.{Script, Journal, Memory, Read, Write}
-use Rattle.xp_exchange.specs.Play.{Standing, PlaysAll, start}
+use Rattle.xp_exchange.specs.Play.{Standing, PlaysAll, opened, start}
 use Rattle.xp_exchange.specs.Replaying.{Progress, TakesIn, Took, Finished, ReplaysFrom}
-use Rattle.xp_exchange.specs.Serial.{IsTold, StopsAt, Stops, Replays}
+use Rattle.xp_exchange.specs.Serial.{IsTold, StopsAt, Stops, Replays, ReplaysAlone}
 use Rattle.xp_exchange.specs.Splitting.{joined, HasNoFeed}
 use Rattle.xp_exchange.proofs.Bytes.{appends_nothing, appends_both, consumes_nothing, consumes_both, consumes_kept}
 use Rattle.xp_exchange.proofs.Lines.{same_subs, took_none, took_stops, took_unread, took_all, stops_first}
-use Rattle.xp_exchange.proofs.Tellings.{told_both, told_in_part}
+use Rattle.xp_exchange.proofs.Tellings.{told_both, told_but_last, told_in_part}
 
 joined-append : (late early : List (List ℕ)) → joined (late ++ early) ≡ joined early ++ joined late
 joined-append [] early = sym (append-nil (joined early))
@@ -28,10 +29,16 @@ on_script None now taken P consumed holds = tt
 on_script (Some script) None taken P consumed holds = elim consumed [ ]
 on_script (Some script) (Some rest) taken P consumed holds = subst P (sym consumed) (holds rest)
 
-on_whole : (first now : Option (List ℕ)) (taken : List ℕ) (P : List ℕ → Type 0) → Consumes first now taken → IsAtEnd now → P taken → IfSome first P
+-- likewise, where it is known what is left
+on_rest : (first now : Option (List ℕ)) (taken : List ℕ) (P : List ℕ → Type 0) → Consumes first now taken → ((more : List ℕ) → now ≡ Some more → P (taken ++ more)) → IfSome first P
+on_rest None now taken P consumed holds = tt
+on_rest (Some script) None taken P consumed holds = elim consumed [ ]
+on_rest (Some script) (Some rest) taken P consumed holds = subst P (sym consumed) (holds rest refl)
+
+on_whole : (first now : Option (List ℕ)) (taken : List ℕ) (P : List ℕ → Type 0) → Consumes first now taken → IsAtEnd now → (now ≡ Some [] → P taken) → IfSome first P
 on_whole None now taken P consumed over holds = tt
 on_whole (Some script) None taken P consumed over holds = elim consumed [ ]
-on_whole (Some script) (Some rest) taken P consumed over holds = subst P (sym (consumed ∙ ap (λ some. taken ++ some) over ∙ append-nil taken)) holds
+on_whole (Some script) (Some rest) taken P consumed over holds = subst P (sym (consumed ∙ ap (λ some. taken ++ some) over ∙ append-nil taken)) (holds (ap Some over))
 
 module _ {A : Type 0} where
   plays-append : (old : Standing A) (early : List (List ℕ)) (between : Standing A) (late : List (List ℕ)) (new : Standing A)
@@ -55,24 +62,24 @@ module _ {A : Type 0} where
         (same_subs old.moment first.lines between.moment first.played) first.told second.told;
   }
 
-  stops_from : (fault : ReplayFault) (first between at : Standing A) (line more : List ℕ) (number there : ℕ) (text other : List ℕ) → number ≡ there
+  stops_from : (fault : ReplayFault) (first between at : Standing A) (line more : List ℕ) (left : Option (List ℕ)) (after : Exchange A) (number there : ℕ) (text other : List ℕ) → number ≡ there
       → between.exchange.subs ≡ first.exchange.subs → IsTold first.exchange between.exchange text
-      → StopsAt between at line more number fault other → StopsAt first at line more there fault (text ++ other)
-  stops_from (Script found) first between at line more number there text other here same told why =
-      (why.0 ∙ here, why.1, told_both first.exchange between.exchange at.exchange text other same told why.2)
-  stops_from Journal first between at line more number there text other here same told why =
-      (why.0, why.1, told_both first.exchange between.exchange why.0 text other same told why.2, why.3, why.4, why.5)
-  stops_from Memory first between at line more number there text other here same told why =
-      (why.0, why.1, told_both first.exchange between.exchange why.0 text other same told why.2)
-  stops_from Write first between at line more number there text other here same told why =
-      (why.0, why.1, told_in_part first.exchange between.exchange why.0 text other same told why.2)
-  stops_from Read first between at line more number there text other here same told why =
-      told_both first.exchange between.exchange at.exchange text other same told why
+      → StopsAt between at line more number fault left after other → StopsAt first at line more there fault left after (text ++ other)
+  stops_from (Script found) first between at line more left after number there text other here same told why =
+      (why.0 ∙ here, why.1, why.2, told_both first.exchange between.exchange after text other same told why.3)
+  stops_from Journal first between at line more left after number there text other here same told why =
+      (why.0, told_both first.exchange between.exchange after text other same told why.1, why.2, why.3, why.4)
+  stops_from Memory first between at line more left after number there text other here same told why =
+      (why.0, told_but_last first.exchange between.exchange after text other same told why.1)
+  stops_from Write first between at line more left after number there text other here same told why =
+      (why.0, told_in_part first.exchange between.exchange after text other same told why.1)
+  stops_from Read first between at line more left after number there text other here same told why =
+      (why.0, why.1, told_both first.exchange between.exchange after text other same told why.2)
 
-  stops_later : (fault : ReplayFault) (old between : Progress A) (front more : List ℕ) (text other : List ℕ) → TakesIn old front between text
-      → Stops between.moment between.number (between.line ++ more) fault other
-      → Stops old.moment old.number (old.line ++ (front ++ more)) fault (text ++ other)
-  stops_later fault old between front more text other first stops = record {
+  stops_later : (fault : ReplayFault) (old between : Progress A) (front more : List ℕ) (left : Option (List ℕ)) (after : Exchange A) (text other : List ℕ) → TakesIn old front between text
+      → Stops between.moment between.number (between.line ++ more) fault left after other
+      → Stops old.moment old.number (old.line ++ (front ++ more)) fault left after (text ++ other)
+  stops_later fault old between front more left after text other first stops = record {
     lines = stops.lines ++ first.lines;
     line = stops.line;
     more = stops.more;
@@ -85,7 +92,7 @@ module _ {A : Type 0} where
     no_feed = stops.no_feed;
     at = stops.at;
     played = plays-append old.moment first.lines between.moment stops.lines stops.at first.played stops.played;
-    why = stops_from fault old.moment between.moment stops.at stops.line stops.more (between.number + length stops.lines) (old.number + length (stops.lines ++ first.lines)) text other
+    why = stops_from fault old.moment between.moment stops.at stops.line stops.more left after (between.number + length stops.lines) (old.number + length (stops.lines ++ first.lines)) text other
         (omega (arith, first.number, length-append stops.lines first.lines)) (same_subs old.moment first.lines between.moment first.played) first.told stops.why;
   }
 
@@ -128,63 +135,77 @@ module _ {A : Type 0} where
     took = so_far.took;
   }
 
-  abbrev pub Told : Progress A → Option (List ℕ) → Option (List ℕ) → Result (Unit {0}) ReplayFault → List ℕ → Type 0
-  Told first old new result octets = (text : List ℕ) × Appends old new text × ReplaysFrom first octets result text
+  abbrev pub Told : Progress A → Option (List ℕ) → Option (List ℕ) → Result (Unit {0}) ReplayFault → Option (List ℕ) → Exchange A → List ℕ → Type 0
+  Told first old new result left after octets = (text : List ℕ) × Appends old new text × ReplaysFrom first octets result left after text
 
   pub told_stops : (first : Progress A) (source before now : Option (List ℕ)) (progress next : Progress A) (piece octets : List ℕ) (old between new : Option (List ℕ)) (fault : ReplayFault)
       → ReadTo first source before progress old between → Consumes before now piece → octets ≡ piece
       → (text : List ℕ) × Appends between new text × Took progress octets (Err fault) next text
-      → IfSome source (Told first old new (Err fault))
+      → IfSome source (Told first old new (Err fault) now next.moment.exchange)
   told_stops first source before now progress next piece octets old between new fault so_far consumed same took =
-      on_script source now (so_far.taken ++ octets) (Told first old new (Err fault))
+      on_script source now (so_far.taken ++ octets) (Told first old new (Err fault) now next.moment.exchange)
       (consumes_both source before now so_far.taken octets so_far.consumed (subst (Consumes before now) (sym same) consumed))
       (λ more. (
         so_far.text ++ took.0,
         appends_both old between new so_far.text took.0 so_far.puts took.1,
-        subst (λ rest. Stops first.moment first.number (first.line ++ rest) fault (so_far.text ++ took.0)) (sym (append_assoc so_far.taken octets more))
-            (stops_later fault first progress so_far.taken (octets ++ more) so_far.text took.0 so_far.took (took.2 more)),
+        subst (λ rest. Stops first.moment first.number (first.line ++ rest) fault now next.moment.exchange (so_far.text ++ took.0)) (sym (append_assoc so_far.taken octets more))
+            (stops_later fault first progress so_far.taken (octets ++ more) now next.moment.exchange so_far.text took.0 so_far.took (took.2 more now)),
       ))
 
   pub told_unread : (first : Progress A) (source before now : Option (List ℕ)) (progress : Progress A) (old new : Option (List ℕ))
-      → ReadTo first source before progress old new → IfSome source (Told first old new (Err Read))
-  told_unread first source before now progress old new so_far =
-      on_script source before so_far.taken (Told first old new (Err Read)) so_far.consumed
-      (λ more. (so_far.text, so_far.puts, took_unread first progress so_far.taken more so_far.text so_far.took))
+      → ReadTo first source before progress old new → Keeps before now → HasNoFeed progress.line
+      → IfSome source (Told first old new (Err Read) now progress.moment.exchange)
+  told_unread first source before now progress old new so_far keeps clean =
+      on_rest source now so_far.taken (Told first old new (Err Read) now progress.moment.exchange) (consumes_kept source before now so_far.taken so_far.consumed keeps)
+      (λ more rest. (so_far.text, so_far.puts, took_unread first progress so_far.taken more now so_far.text so_far.took clean rest))
 
   pub told_all : (first : Progress A) (source before now : Option (List ℕ)) (progress next : Progress A) (nothing : List ℕ) (old between new : Option (List ℕ)) (result : Result (Unit {0}) ReplayFault)
       → ReadTo first source before progress old between → Consumes before now nothing → nothing ≡ [] → IsAtEnd now → HasNoFeed progress.line
       → (text : List ℕ) × Appends between new text × Finished progress result next text
-      → IfSome source (Told first old new result)
+      → IfSome source (Told first old new result now next.moment.exchange)
   told_all first source before now progress next nothing old between new result so_far consumed none over clean finished =
-      on_whole source now so_far.taken (Told first old new result) whole over
-      (so_far.text ++ finished.0, appends_both old between new so_far.text finished.0 so_far.puts finished.1, go result finished.2)
+      on_whole source now so_far.taken (Told first old new result now next.moment.exchange) whole over
+      (λ empty. (so_far.text ++ finished.0, appends_both old between new so_far.text finished.0 so_far.puts finished.1, go result empty finished.2))
     where
       whole : Consumes source now so_far.taken
       whole = subst (Consumes source now) (append-nil so_far.taken)
           (consumes_both source before now so_far.taken [] so_far.consumed (subst (Consumes before now) none consumed))
 
-      go : (result : Result (Unit {0}) ReplayFault) → Finished progress result next finished.0 → ReplaysFrom first so_far.taken result (so_far.text ++ finished.0)
-      go (Ok done) played = took_all first progress next so_far.taken so_far.text finished.0 so_far.took clean played
-      go (Err fault) stopped =
-          subst (λ rest. Stops first.moment first.number (first.line ++ rest) fault (so_far.text ++ finished.0)) (append-nil so_far.taken)
-          (took_stops fault first progress next.moment so_far.taken [] so_far.text finished.0 so_far.took tt clean stopped)
+      go : (result : Result (Unit {0}) ReplayFault) → now ≡ Some [] → Finished progress result next finished.0 → ReplaysFrom first so_far.taken result now next.moment.exchange (so_far.text ++ finished.0)
+      go (Ok done) empty played = (empty, took_all first progress next so_far.taken so_far.text finished.0 so_far.took clean played)
+      go (Err fault) empty stopped =
+          subst (λ rest. Stops first.moment first.number (first.line ++ rest) fault now next.moment.exchange (so_far.text ++ finished.0)) (append-nil so_far.taken)
+          (took_stops fault first progress next.moment so_far.taken [] now so_far.text finished.0 so_far.took tt clean stopped)
 
-module _ (A : Type 0) where
-  from_start : (tables : Tables) (script : List ℕ) (result : Result (Unit {0}) ReplayFault) (text : List ℕ)
-      → ReplaysFrom {A = A} (record { moment = start tables; line = []; number = 1 }) script result text → Replays A tables script result text
-  from_start tables script (Ok done) text replays = replays
-  from_start tables script (Err fault) text replays = replays
+  from_start : (old : Exchange A) (script : List ℕ) (result : Result (Unit {0}) ReplayFault) (left : Option (List ℕ)) (after : Exchange A) (text : List ℕ)
+      → ReplaysFrom (record { moment = start old; line = []; number = 1 }) script result left after text → Replays old script result left after text
+  from_start old script (Ok done) left after text replays = replays
+  from_start old script (Err fault) left after text replays = replays
+
+  abbrev pub Wrote : Exchange A → Option (List ℕ) → Option (List ℕ) → Result (Unit {0}) ReplayFault → Option (List ℕ) → Exchange A → List ℕ → Type 0
+  Wrote first old new result left after script = (text : List ℕ) × Appends old new text × Replays first script result left after text
 
   -- a replay that began with nothing
-  pub told_from_start : (tables : Tables) (source old new : Option (List ℕ)) (first : Progress A) (result : Result (Unit {0}) ReplayFault)
-      → first ≡ record { moment = start tables; line = []; number = 1 } → IfSome source (Told first old new result)
-      → IfSome source (λ script. (text : List ℕ) × Appends old new text × Replays A tables script result text)
-  told_from_start tables None old new first result begun told = tt
-  told_from_start tables (Some script) old new first result begun told =
-      (told.0, told.1, from_start tables script result told.0 (subst (λ progress. ReplaysFrom progress script result told.0) begun told.2))
+  pub told_from_start : (exchange : Exchange A) (source old new left : Option (List ℕ)) (first : Progress A) (result : Result (Unit {0}) ReplayFault) (after : Exchange A)
+      → first ≡ record { moment = start exchange; line = []; number = 1 } → IfSome source (Told first old new result left after)
+      → IfSome source (Wrote exchange old new result left after)
+  told_from_start exchange None old new left first result after begun told = tt
+  told_from_start exchange (Some script) old new left first result after begun told =
+      (told.0, told.1, from_start exchange script result left after told.0 (subst (λ progress. ReplaysFrom progress script result left after told.0) begun told.2))
 
   -- nothing was read yet
-  pub told_first : (tables : Tables) (source known : Option (List ℕ))
-      → IfSome source (λ script. (text : List ℕ) × Appends known known text × Replays A tables script (Err Memory) text)
-  told_first tables None known = tt
-  told_first tables (Some script) known = ([], appends_nothing known, stops_first (start tables) 1 script)
+  pub told_first : (exchange : Exchange A) (source known : Option (List ℕ)) → IfSome source (Wrote exchange known known (Err Memory) source exchange)
+  told_first exchange None known = tt
+  told_first exchange (Some script) known = ([], appends_nothing known, stops_first (start exchange) 1 script (Some script))
+
+module _ (A : Type 0) where
+  abbrev pub WroteAlone : Tables → Option (List ℕ) → Option (List ℕ) → Result (Unit {0}) ReplayFault → List ℕ → Type 0
+  WroteAlone tables old new result script = (text : List ℕ) × Appends old new text × ReplaysAlone A tables script result text
+
+  -- on an exchange that was opened for it
+  pub told_alone : (tables : Tables) (source old new left : Option (List ℕ)) (first after : Exchange A) (result : Result (Unit {0}) ReplayFault) → first ≡ opened tables
+      → IfSome source (Wrote first old new result left after) → IfSome source (WroteAlone tables old new result)
+  told_alone tables None old new left first after result same told = tt
+  told_alone tables (Some script) old new left first after result same told =
+      let wrote = subst (λ exchange. Wrote exchange old new result left after script) same told in
+      (wrote.0, wrote.1, record { left = left; after = after; replays = wrote.2 })

@@ -12,7 +12,7 @@ use Rattle.xp_exchange.specs.Play.{ActsOn}
 use Rattle.xp_exchange.specs.Serial.{IsTold}
 use Rattle.xp_exchange.proofs.Acts.{acts_on_nothing, acts_on_both, first_after}
 use Rattle.xp_exchange.proofs.Bytes.{appends_nothing, appends_both}
-use Rattle.xp_exchange.proofs.Tellings.{told_nothing, told_both, told_in_part}
+use Rattle.xp_exchange.proofs.Tellings.{told_nothing, told_both, told_but_last, told_in_part}
 
 module _ {A : Type 0} where
   -- an event that the exchange takes
@@ -65,33 +65,30 @@ module _ {A : Type 0} where
       let all : so_far.done ≡ events = sym (so_far.split ∙ ap (λ some. so_far.done ++ some) none ∙ append-nil so_far.done) in
       (so_far.text, so_far.puts, (subst (λ done. ActsOn first done now) all so_far.acts, so_far.told))
 
-  pub so_far_broken : (first : Exchange A) (events left rest : List (Event A)) (event : Event A) (now next last : Exchange A) (old between new : Option (List ℕ)) (fault : ReplayFault)
+  pub so_far_broken : (first : Exchange A) (events left rest : List (Event A)) (event : Event A) (now next : Exchange A) (old between new : Option (List ℕ)) (fault : ReplayFault)
       → SoFar first events left now old between → left ≡ event ∷ rest
       → (text : List ℕ) × Appends between new text × Acted now (event ∷ []) (Err fault) next text
-      → (text : List ℕ) × Appends old new text × Acted first events (Err fault) last text
-  so_far_broken first events left rest event now next last old between new fault so_far cut acted =
+      → (text : List ℕ) × Appends old new text × Acted first events (Err fault) next text
+  so_far_broken first events left rest event now next old between new fault so_far cut acted =
       (so_far.text ++ acted.0, appends_both old between new so_far.text acted.0 so_far.puts acted.1, go fault acted.2)
     where
       whole : events ≡ so_far.done ++ ((event ∷ []) ++ rest)
       whole = so_far.split ∙ ap (λ some. so_far.done ++ some) cut
 
-      go : (fault : ReplayFault) → Breaks now (event ∷ []) fault acted.0 → Breaks first events fault (so_far.text ++ acted.0)
+      go : (fault : ReplayFault) → Breaks now (event ∷ []) fault next acted.0 → Breaks first events fault next (so_far.text ++ acted.0)
       go Journal breaks = (
-        breaks.0,
-        first_after first now breaks.0 so_far.done (event ∷ []) events rest whole so_far.acts breaks.1,
-        told_both first now breaks.0 so_far.text acted.0 so_far.acts.subs so_far.told breaks.2,
-        omega (arith, breaks.3, length-append breaks.1.later rest),
-        breaks.4,
+        first_after first now next so_far.done (event ∷ []) events rest whole so_far.acts breaks.0,
+        told_both first now next so_far.text acted.0 so_far.acts.subs so_far.told breaks.1,
+        omega (arith, breaks.2, length-append breaks.0.later rest),
+        breaks.3,
       )
       go Memory breaks = (
-        breaks.0,
-        first_after first now breaks.0 so_far.done (event ∷ []) events rest whole so_far.acts breaks.1,
-        told_both first now breaks.0 so_far.text acted.0 so_far.acts.subs so_far.told breaks.2,
+        first_after first now next so_far.done (event ∷ []) events rest whole so_far.acts breaks.0,
+        told_but_last first now next so_far.text acted.0 so_far.acts.subs so_far.told breaks.1,
       )
       go Write breaks = (
-        breaks.0,
-        first_after first now breaks.0 so_far.done (event ∷ []) events rest whole so_far.acts breaks.1,
-        told_in_part first now breaks.0 so_far.text acted.0 so_far.acts.subs so_far.told breaks.2,
+        first_after first now next so_far.done (event ∷ []) events rest whole so_far.acts breaks.0,
+        told_in_part first now next so_far.text acted.0 so_far.acts.subs so_far.told breaks.1,
       )
       go (Script number) breaks = elim breaks [ ]
       go Read breaks = elim breaks [ ]

@@ -16,7 +16,7 @@ use Rattle.xp_core.specs.declared.fault.StepFault.TheVariants as steps
 use Rattle.xp_exchange.specs.Acting.{Tells, Acted, reason}
 use Rattle.xp_exchange.proofs.Acts.{acts_on_one, first_of_all, first_of_none, told_one}
 use Rattle.xp_exchange.proofs.Bytes.{appends_nothing}
-use Rattle.xp_exchange.proofs.Tellings.{told_nothing}
+use Rattle.xp_exchange.proofs.Tellings.{told_all_but_none, told_nothing}
 
 -- the last of a list that was pushed to
 pub last_pushed : {X : Type 0} (xs : List X) (x d : X) (all : List X) (at : ℕ) → all ≡ xs ++ x ∷ [] → at ≡ length all - 1 → get_or all at d ≡ x
@@ -48,12 +48,18 @@ module _ {A : Type 0} where
       go : (result : Result (Unit {0}) ReplayFault) → Tells before after (entry_text old.subs advances.entry) result
           → (text : List ℕ) × Appends before after text × Acted old (event ∷ []) result new text
       go (Ok done) tells = (entry_text old.subs advances.entry, tells, (acts_on_one old event new told advances room, told_one old event new told advances))
-      go (Err Memory) tells = ([], tells, (old, first_of_none old (event ∷ []), told_nothing old))
+      go (Err Memory) tells = (
+        [],
+        tells,
+        (
+          first_of_all old new (event ∷ []) (acts_on_one old event new told advances room),
+          record { entries = []; untold = advances.entry ∷ []; history = advances.history; last = omega arith; text_is = refl },
+        ),
+      )
       go (Err Write) tells = (
         take tells.0 (entry_text old.subs advances.entry),
         tells.1,
         (
-          new,
           first_of_all old new (event ∷ []) (acts_on_one old event new told advances room),
           record { whole = entry_text old.subs advances.entry; told = told_one old event new told advances; count = tells.0; front = refl },
         ),
@@ -74,20 +80,20 @@ module _ {A : Type 0} where
   ]
 
   -- A refused step: the history is full, or memory was wanted.
-  pub stopped : (old new : Exchange A) (event : Event A) (known : Option (List ℕ)) (fault : StepFault A) (why : ReplayFault) → why ≡ reason fault
+  pub stopped : (old new : Exchange A) (event : Event A) (known : Option (List ℕ)) (fault : StepFault A) (why : ReplayFault) → why ≡ reason fault → new ≡ old
       → (length old.history + 4 ≤ old.subs.journal → fault ≡ steps.Memory event)
       → (text : List ℕ) × Appends known known text × Acted old (event ∷ []) (Err why) new text
-  stopped old new event known fault why told memory =
-      subst (λ reported. (text : List ℕ) × Appends known known text × Acted old (event ∷ []) (Err reported) new text) (sym told) (go fault memory)
+  stopped old new event known fault why told same memory =
+      subst (λ reported. (text : List ℕ) × Appends known known text × Acted old (event ∷ []) (Err reported) new text) (sym told)
+      (subst (λ now. (text : List ℕ) × Appends known known text × Acted old (event ∷ []) (Err (reason fault)) now text) (sym same) (go fault memory))
     where
       go : (fault : StepFault A) → (length old.history + 4 ≤ old.subs.journal → fault ≡ steps.Memory event)
-          → (text : List ℕ) × Appends known known text × Acted old (event ∷ []) (Err (reason fault)) new text
-      go (steps.Memory back) memory = ([], appends_nothing known, (old, first_of_none old (event ∷ []), told_nothing old))
+          → (text : List ℕ) × Appends known known text × Acted old (event ∷ []) (Err (reason fault)) old text
+      go (steps.Memory back) memory = ([], appends_nothing known, (first_of_none old (event ∷ []), told_all_but_none old old [] (told_nothing old)))
       go (steps.JournalFull back) memory = (
         [],
         appends_nothing known,
         (
-          old,
           first_of_none old (event ∷ []),
           told_nothing old,
           omega arith,

@@ -11,7 +11,7 @@ use Rattle.xp_core.specs.declared.fault.StepFault.TheVariants as steps
 use Rattle.xp_exchange.specs.declared.fault.ReplayFault.{ReplayFault}
 use Rattle.xp_exchange.specs.declared.fault.ReplayFault.TheVariants.{Script, Journal, Memory, Read, Write}
 use Rattle.xp_exchange.specs.Play.{ActsOn}
-use Rattle.xp_exchange.specs.Serial.{IsTold, IsToldInPart}
+use Rattle.xp_exchange.specs.Serial.{IsTold, IsToldButLast, IsToldInPart}
 
 -- the text was written, or at a fault a prefix of it
 abbrev pub Puts : Option (List ℕ) → Option (List ℕ) → List ℕ → Result (Unit {0}) ReplayFault → Type 0
@@ -52,17 +52,17 @@ module _ {A : Type 0} where
     pub in_order : events ≡ first ++ later
     pub acts : ActsOn old first now
 
-  -- why it stopped among the events, and the text so far
-  abbrev pub Breaks : Exchange A → List (Event A) → ReplayFault → List ℕ → Type 0
-  Breaks old events Journal text =
-      (now : Exchange A) × (acted : ActsOnFirst old events now) × IsTold old now text
-      × (0 < length acted.later) × (now.subs.journal < length now.history + 4)
-  Breaks old events Memory text = (now : Exchange A) × ActsOnFirst old events now × IsTold old now text
-  Breaks old events Write text = (now : Exchange A) × ActsOnFirst old events now × IsToldInPart old now text
-  Breaks old events (Script number) text = ⊥
-  Breaks old events Read text = ⊥
+  -- why it stopped among the events, the exchange then, and the text so far
+  abbrev pub Breaks : Exchange A → List (Event A) → ReplayFault → Exchange A → List ℕ → Type 0
+  Breaks old events Journal new text =
+      (acted : ActsOnFirst old events new) × IsTold old new text
+      × (0 < length acted.later) × (new.subs.journal < length new.history + 4)
+  Breaks old events Memory new text = ActsOnFirst old events new × IsToldButLast old new text
+  Breaks old events Write new text = ActsOnFirst old events new × IsToldInPart old new text
+  Breaks old events (Script number) new text = ⊥
+  Breaks old events Read new text = ⊥
 
   -- acting on events in turn
   abbrev pub Acted : Exchange A → List (Event A) → Result (Unit {0}) ReplayFault → Exchange A → List ℕ → Type 0
   Acted old events (Ok done) new text = ActsOn old events new × IsTold old new text
-  Acted old events (Err fault) new text = Breaks old events fault text
+  Acted old events (Err fault) new text = Breaks old events fault new text

@@ -56,12 +56,13 @@ pub record Standing (A : Type 0) : Type 0 where
   pub unfinished : List (List ℕ)
 
 module _ {A : Type 0} where
-  -- nothing was played yet
-  abbrev pub start : Tables → Standing A
-  start tables = record {
-    exchange = record { subs = tables; history = []; world = opening (line_count tables) };
-    unfinished = replicate (line_count tables) [];
-  }
+  -- an exchange to which nothing was done yet
+  abbrev pub opened : Tables → Exchange A
+  opened tables = record { subs = tables; history = []; world = opening (line_count tables) }
+
+  -- a script begins: no frame is unfinished
+  abbrev pub start : Exchange A → Standing A
+  start exchange = record { exchange = exchange; unfinished = replicate (line_count exchange.subs) [] }
 
   -- The exchange acts on these events in turn: one entry for each.
   pub record ActsOn (old : Exchange A) (events : List (Event A)) (new : Exchange A) : Type 0 where

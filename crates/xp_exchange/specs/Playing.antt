@@ -5,7 +5,7 @@ use Rattle.xp_script.specs.Command.{said}
 use Rattle.xp_exchange.specs.declared.fault.ReplayFault.{ReplayFault}
 use Rattle.xp_exchange.specs.declared.fault.ReplayFault.TheVariants.{Script, Journal, Memory, Read, Write}
 use Rattle.xp_exchange.specs.Play.{Standing, BeginsLine, PlaysLine}
-use Rattle.xp_exchange.specs.Serial.{IsTold, IsToldInPart}
+use Rattle.xp_exchange.specs.Serial.{IsTold, IsToldButLast, IsToldInPart}
 
 module _ {A : Type 0} where
   -- none of the line's events, or the first of them, were acted on
@@ -15,12 +15,12 @@ module _ {A : Type 0} where
   abbrev pub Played : Standing A → ℕ → List ℕ → Result (Unit {0}) ReplayFault → Standing A → List ℕ → Type 0
   Played old number line (Ok done) new text = PlaysLine old line new × IsTold old.exchange new.exchange text
   Played old number line (Err (Script found)) new text =
-      (found ≡ number) × (said {A = A} old.exchange.subs line ≡ None) × (text ≡ [])
+      (found ≡ number) × (said {A = A} old.exchange.subs line ≡ None) × (new.exchange ≡ old.exchange) × (text ≡ [])
   Played old number line (Err Journal) new text =
-      (now : Exchange A) × (begun : BeginsLine old line now) × IsTold old.exchange now text
-      × (0 < length begun.later) × (now.subs.journal < length now.history + 4)
+      (begun : BeginsLine old line new.exchange) × IsTold old.exchange new.exchange text
+      × (0 < length begun.later) × (new.exchange.subs.journal < length new.exchange.history + 4)
   Played old number line (Err Memory) new text =
-      (now : Exchange A) × ReachesIn old line now × IsTold old.exchange now text
+      ReachesIn old line new.exchange × IsToldButLast old.exchange new.exchange text
   Played old number line (Err Write) new text =
-      (now : Exchange A) × ReachesIn old line now × IsToldInPart old.exchange now text
+      ReachesIn old line new.exchange × IsToldInPart old.exchange new.exchange text
   Played old number line (Err Read) new text = ⊥

@@ -1,6 +1,7 @@
 -- What the steps of a replay tell one another of the octets that were read.
-use Rattle.std.specs.Prelude.{◌≡◌, ℕ, ◌+◌, ◌≤◌, List, [], ◌++◌, length, Result, Ok, Err}
+use Rattle.std.specs.Prelude.{◌≡◌, ℕ, ◌+◌, ◌≤◌, List, [], ◌++◌, length, Option, Some, Result, Ok, Err}
 use Rattle.std.specs.List.{AllByRecursion}
+use Rattle.xp_core.specs.Exchange.{Exchange}
 use Rattle.xp_script.specs.Command.{longest}
 use Rattle.xp_exchange.specs.declared.fault.ReplayFault.{ReplayFault}
 use Rattle.xp_exchange.specs.declared.fault.ReplayFault.TheVariants.{Script, Memory}
@@ -29,7 +30,7 @@ module _ {A : Type 0} where
   abbrev pub Took : Progress A → List ℕ → Result (Unit {0}) ReplayFault → Progress A → List ℕ → Type 0
   Took old octets (Ok done) new text = TakesIn old octets new text
   Took old octets (Err fault) new text =
-      (more : List ℕ) → Stops old.moment old.number (old.line ++ (octets ++ more)) fault text
+      (more : List ℕ) (left : Option (List ℕ)) → Stops old.moment old.number (old.line ++ (octets ++ more)) fault left new.moment.exchange text
 
   abbrev pub Ended : Progress A → Result (Unit {0}) ReplayFault → Progress A → List ℕ → Type 0
   Ended old (Ok done) new text =
@@ -46,6 +47,6 @@ module _ {A : Type 0} where
   Overflows old fault = ⊥
 
   -- from here on to the end of the octets
-  abbrev pub ReplaysFrom : Progress A → List ℕ → Result (Unit {0}) ReplayFault → List ℕ → Type 0
-  ReplaysFrom old octets (Ok done) text = PlaysOut old.moment (old.line ++ octets) text
-  ReplaysFrom old octets (Err fault) text = Stops old.moment old.number (old.line ++ octets) fault text
+  abbrev pub ReplaysFrom : Progress A → List ℕ → Result (Unit {0}) ReplayFault → Option (List ℕ) → Exchange A → List ℕ → Type 0
+  ReplaysFrom old octets (Ok done) left after text = (left ≡ Some []) × PlaysOut old.moment (old.line ++ octets) after text
+  ReplaysFrom old octets (Err fault) left after text = Stops old.moment old.number (old.line ++ octets) fault left after text

@@ -5,6 +5,7 @@ ghost use Rattle.std.specs.Io.KnownBytes.{Appends};
 ghost use Rattle.xp_core.specs.Exchange.{IsReadable};
 ghost use Rattle.xp_core.specs.Writable.{AreWritable};
 ghost use Rattle.xp_exchange.specs.Acting.{Acted, Tells, reason};
+ghost use Rattle.xp_script.specs.Lines.{HasLines};
 ghost use Rattle.xp_script.specs.Text.{entry_text};
 ghost use Rattle.xp_subs.specs.Tables.{line_count};
 
@@ -70,7 +71,8 @@ fn tell<A: Allocator + Copy, W: Write>(
     entry: &Entry<A>,
     writer: &mut W,
 ) -> Result<(), ReplayFault>
-    requires { AreWritable entry.now.outputs }
+    requires writable { AreWritable entry.now.outputs }
+    requires lines { HasLines (line_count subs.now) entry.now }
     ensures { Tells (W.contents writer.old) (W.contents writer.new) (entry_text subs.now entry.now) result }
 {
     let mut text = Vec::new(alloc);

@@ -7,9 +7,7 @@ mod frames;
 mod playing;
 mod replaying;
 mod streams;
-#[cfg(test)]
-mod tests;
 mod writing;
 
 pub use fault::ReplayFault;
-pub use replaying::replay;
+pub use replaying::{Replayed, replay, replay_on};

@@ -1,6 +1,6 @@
 //! Playing the lines of a script.
 
-ghost use Rattle.std.specs.Prelude.{◌≡◌, ◌+◌, ◌<◌, ◌^◌, ℕ, List, [], ◌∷◌, All, IfOk, OnOk, length};
+ghost use Rattle.std.specs.Prelude.{◌≡◌, ◌+◌, ◌<◌, ◌^◌, ℕ, List, [], ◌∷◌, All, IfErr, IfOk, OnOk, length};
 ghost use Rattle.std.specs.Io.KnownBytes.{Appends};
 ghost use Rattle.xp_core.specs.Exchange.{IsReadable};
 ghost use Rattle.xp_exchange.specs.Play.{Plays, is_off_at};
@@ -16,7 +16,7 @@ use std::io::Write;
 use std::marker::Model;
 use xp_core::{Channel, Core, Event, What};
 use xp_script::{Command, LineFault};
-use xp_subs::{LineNo, Subs};
+use xp_subs::LineNo;
 
 /// An exchange that a script is played to.
 #[derive(Drop)]
@@ -41,17 +41,26 @@ impl<A: Allocator> Model for Playing<A> {
 impl<A: Allocator + Copy> Playing<A> {
     ghost use Rattle.xp_exchange.specs.Play.{start};
 
-    /// An exchange with these subscriptions, to which nothing was played yet.
-    pub fn new(alloc: A, subs: Subs) -> Result<Playing<A>, AllocError>
-        ensures { IfOk result (λ playing. playing ≡ start subs) }
+    /// An exchange that a script begins to be played to. Where no memory is found it comes back.
+    pub fn new(alloc: A, core: Core<A>) -> Result<Playing<A>, Core<A>>
+        ensures ok { IfOk result (λ playing. playing ≡ start core) }
+        ensures err { IfErr result (λ back. back ≡ core) }
     {
-        let streams = Streams::new(alloc, subs.counts().lines)?;
-        let core = Core::new(alloc, subs)?;
-        Ok(Playing {
-            alloc,
-            core,
-            streams,
-        })
+        match Streams::new(alloc, core.subs().counts().lines) {
+            Ok(streams) => Ok(Playing {
+                alloc,
+                core,
+                streams,
+            }),
+            Err(_) => Err(core),
+        }
+    }
+
+    /// The exchange.
+    pub fn into_core(self) -> Core<A>
+        ensures { result ≡ self.exchange }
+    {
+        self.core
     }
 
     /// Plays the line of this number, and writes what is put out and recorded.

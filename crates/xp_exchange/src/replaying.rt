@@ -3,14 +3,15 @@
 ghost use Rattle.std.specs.Prelude.{◌≡◌, ◌≢◌, ◌+◌, ◌<◌, ◌≤◌, ◌^◌, ℕ, List, [], ◌∷◌, ◌++◌, IfOk, IfErr, IfSome, OnOk, length};
 ghost use Rattle.std.specs.Io.KnownBytes.{Appends};
 ghost use Rattle.xp_exchange.specs.Replaying.{Took, Ended, Finished, Overflows, ReplaysFrom};
-ghost use Rattle.xp_exchange.specs.Serial.{Replays};
+ghost use Rattle.xp_exchange.specs.Serial.{Replays, ReplaysAlone};
 ghost use Rattle.xp_exchange.specs.Splitting.{line_feed, HasNoFeed};
 
 use crate::fault::ReplayFault;
 use crate::playing::Playing;
-use std::alloc::{AllocError, Allocator, Global};
+use std::alloc::{Allocator, Global};
 use std::io::{ErrorKind, Read, Write};
 use std::marker::Model;
+use xp_core::Core;
 use xp_script::MAX_LINE_OCTETS;
 use xp_subs::Subs;
 
@@ -22,25 +23,54 @@ const PIECE: usize = 4096;
 
 const LINE_FEED: u8 = b'\n';
 
-/// Replays a script: plays its lines in turn to an exchange with these subscriptions, and writes what it puts out
-/// and records, each line's before the next is played.
-///
-/// # Errors
-///
-/// `Script` with the number of the first line that is not a line of a script, of which nothing is done; `Journal`
-/// where fewer than four places of the history are left for an event; `Memory`; `Read`, also after 1,000,000,000
-/// reads. What was entered before is written, but for an entry whose own text finds no memory. `Write` where it
-/// cannot be written; then a prefix of it is.
+/// What a replay answers, and the exchange as it is then.
+#[derive(Drop)]
+pub struct Replayed<A: Allocator = Global> {
+    pub ended: Result<(), ReplayFault>,
+    pub core: Core<A>,
+}
+
+/// Replays a script on an exchange that is opened for it: `replay_on`.
 pub fn replay<A: Allocator + Copy, R: Read + Drop, W: Write>(
     alloc: A,
     subs: Subs,
     mut reader: R,
     writer: &mut W,
 ) -> Result<(), ReplayFault>
-    ensures { IfSome (R.remaining reader) (λ script. (text : List ℕ) × Appends (W.contents writer.old) (W.contents writer.new) text × Replays A subs script result text) }
+    ensures { IfSome (R.remaining reader) (λ script. (text : List ℕ) × Appends (W.contents writer.old) (W.contents writer.new) text × ReplaysAlone A subs script result text) }
 {
-    let mut script = UnfinishedScript::new(alloc, subs)?;
-    script.read_all(&mut reader, writer)
+    let core = Core::new(alloc, subs)?;
+    replay_on(alloc, core, &mut reader, writer).ended
+}
+
+/// Replays a script: plays its lines in turn to an exchange, and writes what it puts out and records, each line's before
+/// the next is played.
+///
+/// # Errors
+///
+/// `Script` with the number of the first line that is not a line of a script, of which nothing is done; `Journal`
+/// where fewer than four places of the history are left for an event; `Memory`; `Read`, also after 1,000,000,000
+/// reads, when all whole lines that were read are played. What was entered before is written, but for an entry whose
+/// own text finds no memory. `Write` where it cannot be written; then a prefix of it is.
+pub fn replay_on<A: Allocator + Copy, R: Read, W: Write>(
+    alloc: A,
+    core: Core<A>,
+    reader: &mut R,
+    writer: &mut W,
+) -> Replayed<A>
+    ensures { IfSome (R.remaining reader.old) (λ script. (text : List ℕ) × Appends (W.contents writer.old) (W.contents writer.new) text × Replays core script result.ended (R.remaining reader.new) result.core text) }
+{
+    match UnfinishedScript::new(alloc, core) {
+        Ok(mut script) => {
+            let ended = script.read_all(reader, writer);
+            let core = script.playing.into_core();
+            Replayed { ended, core }
+        }
+        Err(core) => {
+            let ended = Err(ReplayFault::Memory);
+            Replayed { ended, core }
+        }
+    }
 }
 
 /// A script on the way.
@@ -68,10 +98,11 @@ impl<A: Allocator> Model for UnfinishedScript<A> {
 impl<A: Allocator + Copy> UnfinishedScript<A> {
     ghost use Rattle.xp_exchange.specs.Play.{start};
 
-    fn new(alloc: A, subs: Subs) -> Result<UnfinishedScript<A>, AllocError>
-        ensures { IfOk result (λ script. script ≡ record { moment = start subs; line = []; number = 1 }) }
+    fn new(alloc: A, core: Core<A>) -> Result<UnfinishedScript<A>, Core<A>>
+        ensures ok { IfOk result (λ script. script ≡ record { moment = start core; line = []; number = 1 }) }
+        ensures err { IfErr result (λ back. back ≡ core) }
     {
-        let playing = Playing::new(alloc, subs)?;
+        let playing = Playing::new(alloc, core)?;
         Ok(UnfinishedScript {
             playing,
             line: Vec::new(alloc),
@@ -85,8 +116,9 @@ impl<A: Allocator + Copy> UnfinishedScript<A> {
         reader: &mut R,
         writer: &mut W,
     ) -> Result<(), ReplayFault>
-        requires { self.old.number ≤ 1 }
-        ensures { IfSome (R.remaining reader.old) (λ octets. (text : List ℕ) × Appends (W.contents writer.old) (W.contents writer.new) text × ReplaysFrom self.old octets result text) }
+        requires number { self.old.number ≤ 1 }
+        requires line { HasNoFeed self.old.line }
+        ensures { IfSome (R.remaining reader.old) (λ octets. (text : List ℕ) × Appends (W.contents writer.old) (W.contents writer.new) text × ReplaysFrom self.old octets result (R.remaining reader.new) self.new.moment.exchange text) }
     {
         let mut piece = [0; PIECE];
         for _ in 0..MOST_READS {
@@ -105,9 +137,11 @@ impl<A: Allocator + Copy> UnfinishedScript<A> {
 
     /// Takes the next octets of the script.
     fn take<W: Write>(&mut self, octets: &[u8], writer: &mut W) -> Result<(), ReplayFault>
-        requires { self.old.number + length octets.now < 2 ^ 64 }
+        requires number { self.old.number + length octets.now < 2 ^ 64 }
+        requires line { HasNoFeed self.old.line }
         ensures took { (text : List ℕ) × Appends (W.contents writer.old) (W.contents writer.new) text × Took self.old octets.now result self.new text }
         ensures number { OnOk result (self.new.number ≤ self.old.number + length octets.now) }
+        ensures line { OnOk result (HasNoFeed self.new.line) }
     {
         for octet in octets {
             if *octet == LINE_FEED {
@@ -136,6 +170,7 @@ impl<A: Allocator + Copy> UnfinishedScript<A> {
         requires { octet ≢ line_feed }
         ensures added { OnOk result (self.new ≡ record self.old { line = self.old.line ++ octet ∷ [] }) }
         ensures refused { IfErr result (λ fault. Overflows self.old fault) }
+        ensures kept { self.new.moment ≡ self.old.moment }
         ensures line { HasNoFeed self.old.line }
     {
         if self.line.len() >= MAX_LINE_OCTETS {

@@ -4,3 +4,5 @@ pub mod Meant
 pub mod OneReading
 pub mod Reading
 pub mod Telling
+pub mod ReadBack
+pub mod OneTold

@@ -3,3 +3,4 @@ pub mod Items
 pub mod Limits
 pub mod Octets
 pub mod Told
+pub mod Laws

@@ -1,9 +1,7 @@
-ghost use Rattle.std.specs.Prelude.{◌≡◌, IfOk};
-
 use crate::fast_select::FastSelect;
 use crate::pair::Pair;
 use crate::selection::Selection;
-use std::alloc::{AllocError, Allocator, Global};
+use std::alloc::{Allocator, Global};
 use xp_packets::Octets;
 
 /// What the facility field of a call request or call accepted packet asks for (X.25 clause 7.2).
@@ -25,23 +23,4 @@ pub struct Asked<A: Allocator = Global> {
     pub window: Option<Pair>,
     /// The items of the facilities between DTEs, without their markers; at most 80 octets.
     pub dte: Octets<A>,
-}
-
-impl<A: Allocator + Copy> Asked<A> {
-    /// An equal copy, by the same allocator.
-    pub fn copy(&self) -> Result<Asked<A>, AllocError>
-        ensures { IfOk result (λ copied. copied ≡ self.now) }
-    {
-        let dte = self.dte.copy()?;
-        Ok(Asked {
-            selection: self.selection,
-            fast: self.fast,
-            reverse: self.reverse,
-            throughput: self.throughput,
-            charging: self.charging,
-            packet: self.packet,
-            window: self.window,
-            dte,
-        })
-    }
 }

@@ -26,6 +26,3 @@ pub use segment_counts::SegmentCounts;
 pub use selection::Selection;
 pub use told::Told;
 pub use writer::write;
-
-#[cfg(test)]
-mod tests;

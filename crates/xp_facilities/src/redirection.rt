@@ -37,15 +37,3 @@ pub struct Redirected {
     /// The address that was dialled.
     pub dialled: Digits,
 }
-
-impl Redirected {
-    /// An equal copy.
-    pub fn copy(&self) -> Redirected
-        ensures { result ≡ self.now }
-    {
-        Redirected {
-            reason: self.reason,
-            dialled: self.dialled.copy(),
-        }
-    }
-}

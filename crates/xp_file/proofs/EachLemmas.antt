@@ -9,13 +9,13 @@ use Rattle.std.proofs.lemmas.List.Elements.{All-nil, All-cons}
 use Rattle.toml.specs.Data.{Data, Members, as_str, as_table, get_member}
 use Rattle.toml.specs.View.{view, items_view}
 use Rattle.xp_file.specs.declared.fault.SubsFault.{SubsFault}
-use Rattle.xp_file.specs.Reading.{◌>>=◌, each, tables_among, required, line_name_in, ok_at}
+use Rattle.xp_file.specs.Reading.{◌>>=◌, each, examined, tables_among, required, line_name_in, ok_at}
 use Rattle.xp_file.specs.declared.fault.SubsFault.TheVariants as faults
 use Rattle.xp_file.specs.declared.key.Key.TheVariants as keys
 use Rattle.xp_file.specs.Keys.{key_text}
 use Rattle.xp_file.specs.Name.{is_line_name}
 use Rattle.xp_file.proofs.Choices.{none_is_some, err_is_ok}
-use Rattle.xp_file.proofs.Lists.{cut, front_more}
+use Rattle.xp_file.proofs.Lists.{cut, front_more, rest_at}
 
 module _ {A : Type 0} where
   push_step : (r : Result A SubsFault) (rs more : Result (List A) SubsFault) (xs : List A) (x : A)
@@ -66,6 +66,16 @@ module _ {A : Type 0} (read : Members → Result A SubsFault) where
         ap (λ l. each read (map shown l)) (cut xs i x within here)
         ∙ ap (each read) (map-append shown (take i xs) (x ∷ drop (i + 1) xs))
         ∙ each-refused (map shown (take i xs)) (shown x) (map shown (drop (i + 1) xs)) ys fault before read_here
+
+-- a key of each table in turn
+module _ {A X : Type 0} (read : Members → Result A SubsFault) (shown : X → Members) (xs : List X) (i : ℕ) (x : X) where
+  pub examined_more : (y : A) → i < length xs → x ≡ get_or xs i x → read (shown x) ≡ Ok y
+      → examined read (map shown (drop i xs)) ≡ examined read (map shown (drop (i + 1) xs))
+  examined_more y within here read_here = ap (λ l. examined read (map shown l)) (rest_at xs i x within here) ∙ rw read_here
+
+  pub examined_refused : (fault : SubsFault) → i < length xs → x ≡ get_or xs i x → read (shown x) ≡ Err fault
+      → examined read (map shown (drop i xs)) ≡ Err fault
+  examined_refused fault within here read_here = ap (λ l. examined read (map shown l)) (rest_at xs i x within here) ∙ rw read_here
 
 -- one more table of an array
 push_table : (t : Option Members) (ts more : Option (List Members)) (tables : List Members) (table : Members)
@@ -127,10 +137,6 @@ pub length-each : {A : Type 0} (read : Members → Result A SubsFault) (tables :
 length-each read [] xs all = let none : [] ≡ xs = cc in ap length (sym none)
 length-each read (table ∷ tables) xs all =
     length_step (read table) (each read tables) (length tables) xs all (λ ys these. length-each read tables ys these)
-
-pub as_long : {A B : Type 0} (f : Members → Result A SubsFault) (g : Members → Result B SubsFault) (tables : List Members) (xs : List A) (ys : List B)
-    → each f tables ≡ Ok xs → each g tables ≡ Ok ys → length ys ≡ length xs
-as_long f g tables xs ys these those = length-each g tables ys those ∙ sym (length-each f tables xs these)
 
 all_step : {A : Type 0} (P : A → Type 0) (r : Result A SubsFault) (rs : Result (List A) SubsFault) (xs : List A)
     → (r >>= λ y. rs >>= λ ys. Ok (y ∷ ys)) ≡ Ok xs → ((y : A) → r ≡ Ok y → P y) → ((ys : List A) → rs ≡ Ok ys → All P ys) → All P xs

@@ -2,3 +2,4 @@ pub mod Choices
 pub mod Lists
 pub mod Ranges
 pub mod EachLemmas
+pub mod KeptLemmas

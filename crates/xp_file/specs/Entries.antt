@@ -1,33 +1,35 @@
 -- What the subscription file says, table by table.
-use Rattle.std.specs.Prelude.{◌≡◌, ℕ, ◌<◌, ◌≤◌, List, Bool, Option, All, IsTrue, length}
+use Rattle.std.specs.Prelude.{ℕ, ◌<◌, ◌≤◌, List, Option, All, IsTrue, length}
+use Rattle.xp_file.specs.declared.entry.Facilities.{Facilities}
+use Rattle.xp_file.specs.declared.entry.GroupEntry.{GroupEntry}
+use Rattle.xp_file.specs.declared.entry.LineEntry.{LineEntry}
+use Rattle.xp_file.specs.declared.entry.Redirection.{Redirection}
 use Rattle.xp_file.specs.Name.{is_line_name}
 
--- the lines of a station, a list for each key
-pub record LineData : Type 0 where
-  pub names : List (List ℕ)
-  pub ports : List ℕ
-  pub addresses : List (Option (List ℕ))
+-- a station
+pub record StationData : Type 0 where
+  pub address : List ℕ
+  pub facilities : Facilities
+  pub preferential : Option ℕ
+  pub lines : List LineEntry
+  pub groups : List GroupEntry
+  pub redirect : Option Redirection
 
--- the groups of a station, a list for each key
-pub record GroupData : Type 0 where
-  pub names : List (List ℕ)
-  pub indexes : List ℕ
-  pub outgoing_barred : List Bool
-  pub incoming_barred : List Bool
+-- a line has a name that a line may have, and a port that there is
+pub record IsLineEntry (line : LineEntry) : Type 0 where
+  pub spelled : IsTrue (is_line_name line.name)
+  pub least_port : 1 ≤ line.port
+  pub most_port : line.port ≤ 65_535
 
--- at least one line; each has every key, and a name that a line may have
-pub record IsEvenLines (lines : LineData) : Type 0 where
-  pub some : 0 < length lines.names
-  pub spelled : All (λ name. IsTrue (is_line_name name)) lines.names
-  pub ports : length lines.ports ≡ length lines.names
-  pub addresses : length lines.addresses ≡ length lines.names
+-- an index has at most four digits
+abbrev pub IsGroupEntry : GroupEntry → Type 0
+IsGroupEntry group = group.index ≤ 9_999
 
--- each group has every key, and an index of at most four digits
-pub record IsEvenGroups (groups : GroupData) : Type 0 where
-  pub four_digits : All (λ index. index ≤ 9_999) groups.indexes
-  pub indexes : length groups.indexes ≡ length groups.names
-  pub outgoing_barred : length groups.outgoing_barred ≡ length groups.names
-  pub incoming_barred : length groups.incoming_barred ≡ length groups.names
+-- a station has at least one line
+pub record IsStationEntry (station : StationData) : Type 0 where
+  pub some : 0 < length station.lines
+  pub lines : All IsLineEntry station.lines
+  pub groups : All IsGroupEntry station.groups
 
 -- the limits that a file may set: to the segments of a call in one direction, and to the entries of the history
 pub record AreLimits (segment_limit journal : ℕ) : Type 0 where

@@ -4,14 +4,15 @@ use Rattle.std.specs.List.{list_all}
 use Rattle.toml.specs.Data.{Members, as_str, as_table}
 use Rattle.toml.specs.Parse.{parse_document}
 use Rattle.xp_file.specs.declared.entry.Facilities.{Facilities}
-use Rattle.xp_file.specs.declared.entry.StationEntry.{StationEntry}
+use Rattle.xp_file.specs.declared.entry.GroupEntry.{GroupEntry}
+use Rattle.xp_file.specs.declared.entry.LineEntry.{LineEntry}
 use Rattle.xp_file.specs.declared.fault.SubsFault.{SubsFault}
 use Rattle.xp_file.specs.declared.fault.SubsFault.TheVariants as faults
 use Rattle.xp_file.specs.declared.key.Key.{Key}
 use Rattle.xp_file.specs.declared.key.Key.TheVariants as keys
 use Rattle.xp_file.specs.declared.entry.Redirection.{Redirection}
-use Rattle.xp_file.specs.Entries.{LineData, GroupData}
-use Rattle.xp_file.specs.Reading.{◌>>=◌, number_in, line_name_in, group_name_in, address_in, tables_in, some_tables_in, required, defaulted, optional, flag, each, has_only, checked}
+use Rattle.xp_file.specs.Entries.{StationData}
+use Rattle.xp_file.specs.Reading.{◌>>=◌, number_in, line_name_in, group_name_in, address_in, tables_in, some_tables_in, required, defaulted, optional, flag, each, examined, has_only, checked}
 
 -- the keys that each table may have
 abbrev pub top_keys : List Key
@@ -48,20 +49,36 @@ facilities_of table = do
     incoming_access = incoming_access;
   })
 
-unfoldable pub lines_of : List Members → Result LineData SubsFault
-lines_of tables = do
-  names ← each (required line_name_in keys.Name) tables
-  ports ← each (required (number_in 1 65535) keys.Port) tables
-  addresses ← each (optional address_in keys.Address) tables
-  Ok (record { names = names; ports = ports; addresses = addresses })
+-- a line, and a group
+unfoldable pub line_of : Members → Result LineEntry SubsFault
+line_of table = do
+  name ← required line_name_in keys.Name table
+  port ← required (number_in 1 65535) keys.Port table
+  address ← optional address_in keys.Address table
+  Ok (record { name = name; port = port; address = address })
 
-unfoldable pub groups_of : List Members → Result GroupData SubsFault
+unfoldable pub group_of : Members → Result GroupEntry SubsFault
+group_of table = do
+  name ← required group_name_in keys.Name table
+  index ← required (number_in 0 9999) keys.Index table
+  outgoing_barred ← flag keys.OutgoingBarred table
+  incoming_barred ← flag keys.IncomingBarred table
+  Ok (record { name = name; index = index; outgoing_barred = outgoing_barred; incoming_barred = incoming_barred })
+
+-- all lines: each key is examined in all of them before the next, the last as they are read
+unfoldable pub lines_of : List Members → Result (List LineEntry) SubsFault
+lines_of tables = do
+  names ← examined (required line_name_in keys.Name) tables
+  ports ← examined (required (number_in 1 65535) keys.Port) tables
+  each line_of tables
+
+-- all groups
+unfoldable pub groups_of : List Members → Result (List GroupEntry) SubsFault
 groups_of tables = do
-  names ← each (required group_name_in keys.Name) tables
-  indexes ← each (required (number_in 0 9999) keys.Index) tables
-  outgoing_barred ← each (flag keys.OutgoingBarred) tables
-  incoming_barred ← each (flag keys.IncomingBarred) tables
-  Ok (record { names = names; indexes = indexes; outgoing_barred = outgoing_barred; incoming_barred = incoming_barred })
+  names ← examined (required group_name_in keys.Name) tables
+  indexes ← examined (required (number_in 0 9999) keys.Index) tables
+  outgoing ← examined (flag keys.OutgoingBarred) tables
+  each group_of tables
 
 unfoldable pub redirection_of : Option Members → Result (Option Redirection) SubsFault
 redirection_of None = Ok None
@@ -81,7 +98,7 @@ are_listed table lines groups redirect =
       one (Some table) = has_only redirect_keys table
 
 -- a station: its own keys, then those of its lines, of its groups and of its redirection, then keys not listed
-unfoldable pub entry_of : Members → Result StationEntry SubsFault
+unfoldable pub entry_of : Members → Result StationData SubsFault
 entry_of table = do
   address ← required address_in keys.Address table
   line_tables ← required some_tables_in keys.Line table
@@ -105,7 +122,7 @@ pub record FileData : Type 0 where
   pub segment_limit : ℕ
   pub journal : ℕ
   pub host : List ℕ
-  pub stations : List StationEntry
+  pub stations : List StationData
 
 -- the file: its top keys, keys not listed, then the stations in order
 unfoldable pub file_of : Members → Result FileData SubsFault

@@ -7,19 +7,21 @@ use Rattle.std.specs.List.{list_all}
 abbrev pub same : List ℕ → List ℕ → Bool
 same a b = pointwise nat_eq a b
 
+-- 1 to 16 octets
+abbrev pub has_length : List ℕ → Bool
+has_length text = nat_le 1 (length text) && nat_le (length text) 16
+
 -- a small letter or a digit
 abbrev pub is_line_letter : ℕ → Bool
 is_line_letter octet = (nat_le 97 octet && nat_le octet 122) || (nat_le 48 octet && nat_le octet 57)
 
--- 1 to 16 of these
 abbrev pub is_line_name : List ℕ → Bool
-is_line_name text = (nat_le 1 (length text) && nat_le (length text) 16) && list_all is_line_letter text
+is_line_name text = has_length text && list_all is_line_letter text
 
 -- a letter or a digit
 abbrev pub is_group_letter : ℕ → Bool
 is_group_letter octet =
     (nat_le 65 octet && nat_le octet 90) || (nat_le 97 octet && nat_le octet 122) || (nat_le 48 octet && nat_le octet 57)
 
--- 1 to 16 of these
 abbrev pub is_group_name : List ℕ → Bool
-is_group_name text = (nat_le 1 (length text) && nat_le (length text) 16) && list_all is_group_letter text
+is_group_name text = has_length text && list_all is_group_letter text

@@ -82,9 +82,16 @@ each read (table ∷ tables) = do
   xs ← each read tables
   Ok (x ∷ xs)
 
--- all that is returned at a table, as it is shown, is what is read of it
-abbrev pub Reads : {X A : Type 0} → (X → Members) → (X → Result A SubsFault → Type 0) → (Members → Result A SubsFault) → Type 0
-Reads {X} {A} shown Returns read = (table : X) (answer : Result A SubsFault) → Returns table answer → read (shown table) ≡ answer
+-- a key of each table in turn, the first that is refused
+abbrev pub examined : {A : Type 0} → (Members → Result A SubsFault) → List Members → Result (Unit {0}) SubsFault
+examined read [] = Ok tt
+examined read (table ∷ tables) = do
+  x ← read table
+  examined read tables
+
+-- all that is returned at a table or a value, as it is shown, is what is read of it
+abbrev pub Reads : {X Y B : Type 0} → (X → Y) → (X → B → Type 0) → (Y → B) → Type 0
+Reads {X} {Y} {B} shown Returns read = (x : X) (answer : B) → Returns x answer → read (shown x) ≡ answer
 
 -- the table has no other keys
 abbrev pub has_only : List Key → Members → Bool

@@ -1,8 +1,7 @@
 //! What the subscription file says, table by table.
 ghost use Rattle.std.specs.Prelude.{◌≡◌};
 
-use crate::group_name::GroupName;
-use crate::name::LineName;
+use crate::name::Name;
 use std::marker::Model;
 use xp_packets::Digits;
 
@@ -33,8 +32,8 @@ impl Redirection {
     }
 }
 
-/// The facilities to which a station subscribes or not.
-#[derive(Clone, Copy)]
+/// The facilities to which a station subscribes or not (X.25 clause 6).
+#[derive(Clone, Copy, Debug, Default, PartialEq, Eq)]
 pub struct Facilities {
     /// Outgoing calls barred (X.25 clause 6.6).
     pub outgoing_barred: bool,
@@ -50,52 +49,26 @@ pub struct Facilities {
     pub incoming_access: bool,
 }
 
-/// The lines of a station in order, at least one: a list for each key, all of one length, since each key is examined in
-/// all lines before the next.
+/// A line.
 #[derive(Drop)]
-pub struct LineColumns {
-    pub names: Vec<LineName>,
+pub struct LineEntry {
+    pub name: Name,
     /// 1 to 65,535.
-    pub ports: Vec<u16>,
-    /// The lines' own addresses, 1 to 15 digits, where they have one beside their station's.
-    pub addresses: Vec<Option<Digits>>,
+    pub port: u16,
+    /// The line's own address, 1 to 15 digits, where it has one beside its station's.
+    pub address: Option<Digits>,
 }
 
-impl Model for LineColumns {
-    ghost use Rattle.xp_file.specs.Entries.{LineData};
-
-    ghost Value = { LineData };
-
-    ghost view = { λ lines. record {
-      names = lines.names.items;
-      ports = lines.ports.items;
-      addresses = lines.addresses.items;
-    } };
-}
-
-/// The closed user groups of a station in order: a list for each key, all of one length, as of lines.
+/// A station's part in a closed user group.
 #[derive(Drop)]
-pub struct GroupColumns {
-    pub names: Vec<GroupName>,
-    /// The numbers by which the station selects the groups, 0 to 9,999.
-    pub indexes: Vec<u16>,
+pub struct GroupEntry {
+    pub name: Name,
+    /// The number by which the station selects the group, 0 to 9,999.
+    pub index: u16,
     /// Outgoing calls barred within the group.
-    pub outgoing_barred: Vec<bool>,
+    pub outgoing_barred: bool,
     /// Incoming calls barred within the group.
-    pub incoming_barred: Vec<bool>,
-}
-
-impl Model for GroupColumns {
-    ghost use Rattle.xp_file.specs.Entries.{GroupData};
-
-    ghost Value = { GroupData };
-
-    ghost view = { λ groups. record {
-      names = groups.names.items;
-      indexes = groups.indexes.items;
-      outgoing_barred = groups.outgoing_barred.items;
-      incoming_barred = groups.incoming_barred.items;
-    } };
+    pub incoming_barred: bool,
 }
 
 /// A station.
@@ -106,7 +79,24 @@ pub struct StationEntry {
     pub facilities: Facilities,
     /// The index of the preferential group, 0 to 9,999.
     pub preferential: Option<u16>,
-    pub lines: LineColumns,
-    pub groups: GroupColumns,
+    /// The lines in order, at least one.
+    pub lines: Vec<LineEntry>,
+    /// The closed user groups in order.
+    pub groups: Vec<GroupEntry>,
     pub redirect: Option<Redirection>,
+}
+
+impl Model for StationEntry {
+    ghost use Rattle.xp_file.specs.Entries.{StationData};
+
+    ghost Value = { StationData };
+
+    ghost view = { λ station. record {
+      address = station.address;
+      facilities = station.facilities;
+      preferential = station.preferential;
+      lines = station.lines.items;
+      groups = station.groups.items;
+      redirect = station.redirect;
+    } };
 }

@@ -5,22 +5,23 @@ ghost use Rattle.toml.specs.Data.{as_str};
 ghost use Rattle.toml.specs.View.{table_view};
 ghost use Rattle.xp_file.specs.declared.fault.SubsFault.TheVariants.{Memory as OutOfMemory};
 ghost use Rattle.xp_file.specs.declared.key.Key.TheVariants as keys;
-ghost use Rattle.xp_file.specs.Entries.{AreLimits, IsEvenLines, IsEvenGroups};
-ghost use Rattle.xp_file.specs.File.{facilities_of, lines_of, groups_of, redirection_of, are_listed, entry_of, file_of, file_in};
-ghost use Rattle.xp_file.specs.Reading.{each, has_only, defaulted};
+ghost use Rattle.xp_file.specs.Entries.{AreLimits, IsStationEntry};
+ghost use Rattle.xp_file.specs.File.{facilities_of, line_of, lines_of, group_of, groups_of, redirection_of, are_listed, entry_of, file_of, file_in};
+ghost use Rattle.xp_file.specs.Reading.{each, has_only, required, optional, defaulted, number_in, address_in, line_name_in, group_name_in};
 
-use crate::column::{
-    flags, group_names, line_names, numbers, optional_addresses, some_tables_at, tables_at,
-};
-use crate::entry::{Facilities, GroupColumns, LineColumns, Redirection, StationEntry};
+use crate::entry::{Facilities, GroupEntry, LineEntry, Redirection, StationEntry};
 use crate::fault::SubsFault;
 use crate::field::{
-    address_at, flag_at, has_only, number_or, optional_number_at, optional_table_at, value_at,
+    address, defaulted, flag, group_name, has_only, line_name, number, optional, optional_table,
+    required, short, value_at,
 };
 use crate::key::Key;
+use crate::name::Name;
+use crate::tables::{each, examine, some_tables_at, tables_at};
 use std::alloc::Global;
 use std::marker::Model;
 use toml::Table;
+use xp_packets::Digits;
 
 /// All that the subscription file says, with the values of the keys that it leaves out.
 #[derive(Drop)]
@@ -98,12 +99,12 @@ const REDIRECT_KEYS: [Key; 4] = [Key::To, Key::Systematic, Key::Busy, Key::OutOf
 fn facilities(table: &Table) -> Result<Facilities, SubsFault>
     ensures { result ≡ facilities_of (table_view table.now) }
 {
-    let outgoing_barred = flag_at(table, Key::OutgoingBarred)?;
-    let incoming_barred = flag_at(table, Key::IncomingBarred)?;
-    let reverse_charging = flag_at(table, Key::ReverseCharging)?;
-    let fast_select = flag_at(table, Key::FastSelect)?;
-    let outgoing_access = flag_at(table, Key::OutgoingAccess)?;
-    let incoming_access = flag_at(table, Key::IncomingAccess)?;
+    let outgoing_barred = flag(table, Key::OutgoingBarred)?;
+    let incoming_barred = flag(table, Key::IncomingBarred)?;
+    let reverse_charging = flag(table, Key::ReverseCharging)?;
+    let fast_select = flag(table, Key::FastSelect)?;
+    let outgoing_access = flag(table, Key::OutgoingAccess)?;
+    let incoming_access = flag(table, Key::IncomingAccess)?;
     Ok(Facilities {
         outgoing_barred,
         incoming_barred,
@@ -114,39 +115,90 @@ fn facilities(table: &Table) -> Result<Facilities, SubsFault>
     })
 }
 
-#[tactic(auto, unfolding(crate::specs::File::lines_of))]
-fn lines(alloc: Global, tables: &[&Table]) -> Result<LineColumns, SubsFault>
-    requires { 0 < length tables.now }
-    ensures ok { IfOk result (λ lines. lines_of (map (λ table. table_view table.now) tables.now) ≡ Ok lines) }
-    ensures refused { IfErr result (λ fault. fault ≢ OutOfMemory → lines_of (map (λ table. table_view table.now) tables.now) ≡ Err fault) }
-    ensures even { IfOk result IsEvenLines }
+fn address_of(table: &Table, key: Key) -> Result<Digits, SubsFault>
+    ensures { result ≡ required address_in key (table_view table.now) }
 {
-    let names = line_names(alloc, tables)?;
-    let ports = numbers(alloc, tables, Key::Port, 1, u16::MAX)?;
-    let addresses = optional_addresses(alloc, tables)?;
-    Ok(LineColumns {
-        names,
-        ports,
-        addresses,
+    required(table, key, address)
+}
+
+fn preferential_of(table: &Table) -> Result<Option<u16>, SubsFault>
+    ensures { result ≡ optional (number_in 0 9999) keys.Preferential (table_view table.now) }
+{
+    optional(table, Key::Preferential, |value| short(value, 0, MAX_INDEX))
+}
+
+fn line_name_of(table: &Table) -> Result<Name, SubsFault>
+    ensures { result ≡ required line_name_in keys.Name (table_view table.now) }
+{
+    required(table, Key::Name, line_name)
+}
+
+fn port_of(table: &Table) -> Result<u16, SubsFault>
+    ensures { result ≡ required (number_in 1 65535) keys.Port (table_view table.now) }
+{
+    required(table, Key::Port, |value| short(value, 1, u16::MAX))
+}
+
+fn own_address_of(table: &Table) -> Result<Option<Digits>, SubsFault>
+    ensures { result ≡ optional address_in keys.Address (table_view table.now) }
+{
+    optional(table, Key::Address, address)
+}
+
+#[tactic(auto, unfolding(crate::specs::File::line_of))]
+fn line(table: &Table) -> Result<LineEntry, SubsFault>
+    ensures { result ≡ line_of (table_view table.now) }
+{
+    Ok(LineEntry {
+        name: line_name_of(table)?,
+        port: port_of(table)?,
+        address: own_address_of(table)?,
+    })
+}
+
+#[tactic(auto, unfolding(crate::specs::File::lines_of))]
+fn lines(alloc: Global, tables: &[&Table]) -> Result<Vec<LineEntry>, SubsFault>
+    ensures ok { IfOk result (λ lines. lines_of (map (λ table. table_view table.now) tables.now) ≡ Ok lines.items) }
+    ensures refused { IfErr result (λ fault. fault ≢ OutOfMemory → lines_of (map (λ table. table_view table.now) tables.now) ≡ Err fault) }
+{
+    examine(tables, line_name_of)?;
+    examine(tables, port_of)?;
+    each(alloc, tables, line)
+}
+
+fn group_name_of(table: &Table) -> Result<Name, SubsFault>
+    ensures { result ≡ required group_name_in keys.Name (table_view table.now) }
+{
+    required(table, Key::Name, group_name)
+}
+
+fn index_of(table: &Table) -> Result<u16, SubsFault>
+    ensures { result ≡ required (number_in 0 9999) keys.Index (table_view table.now) }
+{
+    required(table, Key::Index, |value| short(value, 0, MAX_INDEX))
+}
+
+#[tactic(auto, unfolding(crate::specs::File::group_of))]
+fn group(table: &Table) -> Result<GroupEntry, SubsFault>
+    ensures { result ≡ group_of (table_view table.now) }
+{
+    Ok(GroupEntry {
+        name: group_name_of(table)?,
+        index: index_of(table)?,
+        outgoing_barred: flag(table, Key::OutgoingBarred)?,
+        incoming_barred: flag(table, Key::IncomingBarred)?,
     })
 }
 
 #[tactic(auto, unfolding(crate::specs::File::groups_of))]
-fn groups(alloc: Global, tables: &[&Table]) -> Result<GroupColumns, SubsFault>
-    ensures ok { IfOk result (λ groups. groups_of (map (λ table. table_view table.now) tables.now) ≡ Ok groups) }
+fn groups(alloc: Global, tables: &[&Table]) -> Result<Vec<GroupEntry>, SubsFault>
+    ensures ok { IfOk result (λ groups. groups_of (map (λ table. table_view table.now) tables.now) ≡ Ok groups.items) }
     ensures refused { IfErr result (λ fault. fault ≢ OutOfMemory → groups_of (map (λ table. table_view table.now) tables.now) ≡ Err fault) }
-    ensures even { IfOk result IsEvenGroups }
 {
-    let names = group_names(alloc, tables)?;
-    let indexes = numbers(alloc, tables, Key::Index, 0, MAX_INDEX)?;
-    let outgoing_barred = flags(alloc, tables, Key::OutgoingBarred)?;
-    let incoming_barred = flags(alloc, tables, Key::IncomingBarred)?;
-    Ok(GroupColumns {
-        names,
-        indexes,
-        outgoing_barred,
-        incoming_barred,
-    })
+    examine(tables, group_name_of)?;
+    examine(tables, index_of)?;
+    examine(tables, |table| flag(table, Key::OutgoingBarred))?;
+    each(alloc, tables, group)
 }
 
 #[tactic(auto, unfolding(crate::specs::File::redirection_of))]
@@ -156,10 +208,10 @@ fn redirection(table: Option<&Table>) -> Result<Option<Redirection>, SubsFault>
     let Some(table) = table else {
         return Ok(None);
     };
-    let to = address_at(table, Key::To)?;
-    let systematic = flag_at(table, Key::Systematic)?;
-    let busy = flag_at(table, Key::Busy)?;
-    let out_of_order = flag_at(table, Key::OutOfOrder)?;
+    let to = address_of(table, Key::To)?;
+    let systematic = flag(table, Key::Systematic)?;
+    let busy = flag(table, Key::Busy)?;
+    let out_of_order = flag(table, Key::OutOfOrder)?;
     Ok(Some(Redirection {
         to,
         systematic,
@@ -189,15 +241,14 @@ fn are_listed(table: &Table, lines: &[&Table], groups: &[&Table], redirect: Opti
 fn entry(alloc: Global, table: &Table) -> Result<StationEntry, SubsFault>
     ensures ok { IfOk result (λ entry. entry_of (table_view table.now) ≡ Ok entry) }
     ensures refused { IfErr result (λ fault. fault ≢ OutOfMemory → entry_of (table_view table.now) ≡ Err fault) }
-    ensures even_lines { IfOk result (λ entry. IsEvenLines entry.lines) }
-    ensures even_groups { IfOk result (λ entry. IsEvenGroups entry.groups) }
+    ensures kept { IfOk result IsStationEntry }
 {
-    let address = address_at(table, Key::Address)?;
+    let address = address_of(table, Key::Address)?;
     let line_tables = some_tables_at(alloc, table, Key::Line)?;
     let facilities = facilities(table)?;
-    let preferential = optional_number_at(table, Key::Preferential, 0, MAX_INDEX)?;
+    let preferential = preferential_of(table)?;
     let group_tables = tables_at(alloc, table, Key::Group)?;
-    let redirect_table = optional_table_at(table, Key::Redirect)?;
+    let redirect_table = optional_table(table, Key::Redirect)?;
     let lines = lines(alloc, &line_tables)?;
     let groups = groups(alloc, &group_tables)?;
     let redirect = redirection(redirect_table)?;
@@ -218,7 +269,7 @@ fn entries(alloc: Global, tables: &[&Table]) -> Result<Vec<StationEntry>, SubsFa
     ensures ok { IfOk result (λ entries. each entry_of (map (λ table. table_view table.now) tables.now) ≡ Ok entries.items) }
     ensures refused { IfErr result (λ fault. fault ≢ OutOfMemory → each entry_of (map (λ table. table_view table.now) tables.now) ≡ Err fault) }
     ensures count { IfOk result (λ entries. length entries.items ≡ length tables.now) }
-    ensures even { IfOk result (λ entries. All (λ entry. IsEvenLines entry.lines × IsEvenGroups entry.groups) entries.items) }
+    ensures kept { IfOk result (λ entries. All IsStationEntry entries.items) }
 {
     let mut entries = Vec::new(alloc);
     for table in tables {
@@ -232,17 +283,17 @@ fn read_table(alloc: Global, table: &Table) -> Result<File, SubsFault>
     ensures ok { IfOk result (λ file. file_of (table_view table.now) ≡ Ok file) }
     ensures refused { IfErr result (λ fault. fault ≢ OutOfMemory → file_of (table_view table.now) ≡ Err fault) }
     ensures some { IfOk result (λ file. 0 < length file.stations) }
-    ensures even { IfOk result (λ file. All (λ entry. IsEvenLines entry.lines × IsEvenGroups entry.groups) file.stations) }
+    ensures each { IfOk result (λ file. All IsStationEntry file.stations) }
     ensures limits { IfOk result (λ file. AreLimits file.segment_limit file.journal) }
 {
-    let segment_limit = number_or(
+    let segment_limit = limit(
         table,
         Key::SegmentLimit,
         1,
         MAX_SEGMENT_LIMIT,
         MAX_SEGMENT_LIMIT,
     )?;
-    let journal = number_or(
+    let journal = limit(
         table,
         Key::Journal,
         MIN_JOURNAL,
@@ -261,6 +312,12 @@ fn read_table(alloc: Global, table: &Table) -> Result<File, SubsFault>
         host,
         stations,
     })
+}
+
+fn limit(table: &Table, key: Key, low: u32, high: u32, absent: u32) -> Result<u32, SubsFault>
+    ensures { result ≡ defaulted (number_in low high) absent key (table_view table.now) }
+{
+    defaulted(table, key, absent, |value| number(value, low, high))
 }
 
 fn host(alloc: Global, table: &Table) -> Result<String, SubsFault>
@@ -285,7 +342,7 @@ impl File {
         ensures ok { IfOk result (λ file. file_in text.now ≡ Ok file) }
         ensures refused { IfErr result (λ fault. fault ≢ OutOfMemory → file_in text.now ≡ Err fault) }
         ensures some { IfOk result (λ file. 0 < length file.stations) }
-        ensures even { IfOk result (λ file. All (λ entry. IsEvenLines entry.lines × IsEvenGroups entry.groups) file.stations) }
+        ensures each { IfOk result (λ file. All IsStationEntry file.stations) }
         ensures limits { IfOk result (λ file. AreLimits file.segment_limit file.journal) }
     {
         match toml::table_from_str(alloc, text) {

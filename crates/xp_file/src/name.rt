@@ -1,80 +1,110 @@
-ghost use Rattle.std.specs.Prelude.{◌≡◌, IsTrue, if◌then◌else◌};
+ghost use Rattle.std.specs.Prelude.{◌≡◌, if◌then◌else◌};
 ghost use Rattle.std.specs.List.{list_all};
-ghost use Rattle.xp_file.specs.Name.{is_line_letter, is_line_name};
+ghost use Rattle.xp_file.specs.Name.{has_length, is_line_letter, is_line_name, is_group_letter, is_group_name};
 
 use arrayvec::ArrayString;
 use std::fmt;
 use std::hash::{Hash, Hasher};
 use std::marker::Model;
 
-/// The name of a line: 1 to 16 of the letters `a` to `z` and the digits `0` to `9`.
+/// The name of a line or of a closed user group: 1 to 16 letters and digits, in a line's name no capital letters.
 #[derive(Drop)]
-pub struct LineName {
+pub struct Name {
     text: ArrayString<16>,
 }
 
-impl Model for LineName {
-    ghost use Rattle.std.specs.Prelude.{List, ℕ, IsTrue};
-    ghost use Rattle.xp_file.specs.Name.{is_line_name};
+impl Model for Name {
+    ghost use Rattle.std.specs.Prelude.{List, ℕ};
 
     ghost Value = { List ℕ };
 
     ghost view = { λ name. name.text.bytes };
-
-    ghost invariant = { λ name. IsTrue (is_line_name name.text.bytes) };
 }
 
-impl LineName {
+impl Name {
     /// The longest name.
-    pub const MOST: usize = 16;
+    const MOST: usize = 16;
 
-    /// The name that a text is, if it is one.
-    pub fn read(text: &str) -> Option<LineName>
+    /// The line's name that a text is, if it is one.
+    pub fn of_line(text: &str) -> Option<Name>
         ensures { result ≡ (if is_line_name text.now then Some text.now else None) }
     {
-        if !is_name(text) {
+        if !is_line_name(text) {
             return None;
         }
         let text = ArrayString::from(text).ok()?;
-        Some(LineName { text })
+        Some(Name { text })
+    }
+
+    /// The group's name that a text is, if it is one.
+    pub fn of_group(text: &str) -> Option<Name>
+        ensures { result ≡ (if is_group_name text.now then Some text.now else None) }
+    {
+        if !is_group_name(text) {
+            return None;
+        }
+        let text = ArrayString::from(text).ok()?;
+        Some(Name { text })
     }
 
     /// An equal copy.
-    pub fn copy(&self) -> LineName
+    pub fn copy(&self) -> Name
         ensures { result ≡ self.now }
     {
-        LineName { text: self.text }
+        Name { text: self.text }
     }
 
     /// The name as text.
     pub fn as_str(&self) -> &str
-        ensures text { result.now ≡ self.now }
-        ensures form { IsTrue (is_line_name self.now) }
+        ensures { result.now ≡ self.now }
     {
         self.text.as_str()
     }
 }
 
-fn is_name(text: &str) -> bool
+fn has_length(text: &str) -> bool
+    ensures { result ≡ has_length text.now }
+{
+    matches!(text.len(), 1..=Name::MOST)
+}
+
+fn is_line_name(text: &str) -> bool
     ensures { result ≡ is_line_name text.now }
 {
-    let octets = text.as_bytes();
-    matches!(octets.len(), 1..=LineName::MOST) && are_letters(octets)
+    has_length(text) && are_line_letters(text.as_bytes())
 }
 
-fn are_letters(octets: &[u8]) -> bool
+fn are_line_letters(octets: &[u8]) -> bool
     ensures { result ≡ list_all is_line_letter octets.now }
 {
-    octets.iter().all(|octet| is_letter(*octet))
+    octets.iter().all(|octet| is_line_letter(*octet))
 }
 
-fn is_letter(octet: u8) -> bool
+fn is_line_letter(octet: u8) -> bool
     ensures { result ≡ is_line_letter octet }
 {
     matches!(octet, b'a'..=b'z' | b'0'..=b'9')
 }
 
-impl PartialEq for LineName {
+fn is_group_name(text: &str) -> bool
+    ensures { result ≡ is_group_name text.now }
+{
+    has_length(text) && are_group_letters(text.as_bytes())
+}
+
+fn are_group_letters(octets: &[u8]) -> bool
+    ensures { result ≡ list_all is_group_letter octets.now }
+{
+    octets.iter().all(|octet| is_group_letter(*octet))
+}
+
+fn is_group_letter(octet: u8) -> bool
+    ensures { result ≡ is_group_letter octet }
+{
+    matches!(octet, b'A'..=b'Z' | b'a'..=b'z' | b'0'..=b'9')
+}
+
+impl PartialEq for Name {
     ghost use Rattle.std.specs.Prelude.{nat_eq};
     ghost use Rattle.std.specs.Cmp.{partial_equiv_from_equiv};
     ghost use Rattle.std.specs.Cmp.Lexicographic.{pointwise, nat_list_eq_equiv};
@@ -83,18 +113,18 @@ impl PartialEq for LineName {
 
     ghost laws = { partial_equiv_from_equiv nat_list_eq_equiv };
 
-    fn eq(&self, other: &LineName) -> bool {
+    fn eq(&self, other: &Name) -> bool {
         self.text == other.text
     }
 }
 
-impl Eq for LineName {
+impl Eq for Name {
     ghost use Rattle.std.specs.Cmp.Lexicographic.{nat_list_eq_equiv};
 
     ghost laws = { nat_list_eq_equiv };
 }
 
-impl Hash for LineName {
+impl Hash for Name {
     ghost use Rattle.std.specs.Hash as fed;
     ghost use Rattle.std.specs.Cmp.Rules.{hashing};
     ghost use Rattle.std.proofs.Common.{rules};
@@ -108,13 +138,13 @@ impl Hash for LineName {
     }
 }
 
-impl fmt::Debug for LineName {
+impl fmt::Debug for Name {
     fn fmt<W: fmt::Write>(&self, f: &mut fmt::Formatter<W>) -> fmt::Result {
         fmt::Debug::fmt(&self.text, f)
     }
 }
 
-impl fmt::Display for LineName {
+impl fmt::Display for Name {
     ghost use Rattle.std.specs.Prelude.{Some};
 
     ghost output = { λ name. Some name };

@@ -14,6 +14,3 @@ pub use deframer::Deframer;
 pub use fault::FrameFault;
 pub use laws::{any_pieces, failed_ever_after, no_frame_begins_another, one_reading};
 pub use writer::write_frame;
-
-#[cfg(test)]
-mod tests;

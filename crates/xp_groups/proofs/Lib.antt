@@ -1,4 +1,4 @@
 pub mod Joined
 pub mod Answered
 pub mod Determined
-pub mod Causes
+pub mod Refused

@@ -10,6 +10,7 @@ use Rattle.xp_packets.specs.Decoding.{Decodes}
 use Rattle.xp_packets.specs.Examination.{IsWrong, first_of, conditions}
 use Rattle.xp_packets.specs.Fitness.{unfit}
 use Rattle.xp_packets.specs.Laws.{AreOctets, SpellsOnly, IsOnlyWrong, EitherSpelledOrWrong, OneWrittenSpelling, WrittenIsReadBack, SpelledIsFit, FitIsWritten}
+use Rattle.xp_packets.specs.Owning.{owns_octets}
 use Rattle.xp_packets.specs.Reading.{Gives, packet_at}
 use Rattle.xp_packets.specs.Spelling.{Spells}
 use Rattle.xp_packets.specs.Writing.{written}
@@ -23,12 +24,12 @@ use Rattle.xp_packets.proofs.Results.{error_of, ok_is}
 wrong_is : (A : Type 0) (octets : List ℕ) (wrong : Wrong) → packet_at {A = A} octets ≡ Err wrong → IsWrong octets wrong
 wrong_is A octets wrong read = sym (packet_error A octets) ∙ ap (λ (r : Result (ℕ × Packet A) Wrong). error_of r) read
 
-pub decodes : (A : Type 0) (octets : List ℕ) (answer : Result (ℕ × Packet A) PacketFault) → AreOctets octets → Gives (λ (x : ℕ × Packet A). x) answer (packet_at octets) → Decodes octets answer
+pub decodes : (A : Type 0) (octets : List ℕ) (answer : Result (ℕ × Packet A) PacketFault) → AreOctets octets → Gives (λ (x : ℕ × Packet A). owns_octets x.1) answer (packet_at octets) → Decodes octets answer
 decodes A octets (Ok read) are given = packet_takes A octets read are given
 decodes A octets (Err (faults.Wrong wrong)) are given = wrong_is A octets wrong given
-decodes A octets (Err faults.Memory) are given = (given.0.0, given.0.1, packet_takes A octets given.0 are given.1)
+decodes A octets (Err faults.Memory) are given = (given.0.0, given.0.1, packet_takes A octets given.0 are given.1, given.2)
 
-pub decodes_fit : (A : Type 0) (octets : List ℕ) (answer : Result (ℕ × Packet A) PacketFault) → AreOctets octets → Gives (λ (x : ℕ × Packet A). x) answer (packet_at octets) → IfOk answer (λ read. unfit read.0 read.1 ≡ None)
+pub decodes_fit : (A : Type 0) (octets : List ℕ) (answer : Result (ℕ × Packet A) PacketFault) → AreOctets octets → Gives (λ (x : ℕ × Packet A). owns_octets x.1) answer (packet_at octets) → IfOk answer (λ read. unfit read.0 read.1 ≡ None)
 decodes_fit A octets (Ok read) are given = spelled_fits A octets read.0 read.1 (packet_takes A octets read are given)
 decodes_fit A octets (Err fault) are given = tt
 

@@ -1,5 +1,6 @@
 -- The digits of an address (X.25 clause 5.2.1).
-use Rattle.std.specs.Prelude.{◌≡◌, ℕ, ◌+◌, ◌/◌, ◌%◌, ◌<◌, ◌≤◌, ◌==◌, if◌then◌else◌, List, [], ◌∷◌, ◌++◌, length, map}
+use Rattle.std.specs.Prelude.{◌≡◌, ℕ, ◌+◌, ◌-◌, ◌/◌, ◌%◌, ◌<◌, ◌≤◌, ◌==◌, nat_le, Bool, ◌&&◌, if◌then◌else◌, List, [], ◌∷◌, ◌++◌, length, map, Option, Some, None}
+use Rattle.std.specs.List.{list_all}
 
 -- each is 0 to 9
 abbrev pub AreDigits : List ℕ → Type 0
@@ -9,6 +10,14 @@ AreDigits (digit ∷ digits) = (digit < 10) × AreDigits digits
 -- how they are written: 0 is the character 48
 abbrev pub text_of : List ℕ → List ℕ
 text_of digits = map (λ digit. 48 + digit) digits
+
+-- a character 0 to 9
+abbrev pub is_digit : ℕ → Bool
+is_digit character = nat_le 48 character && nat_le character 57
+
+-- the digits that a text writes, at most 15
+abbrev pub digits_in : List ℕ → Option (List ℕ)
+digits_in text = if nat_le (length text) 15 && list_all is_digit text then Some (map (λ character. character - 48) text) else None
 
 -- the half-octets of octets, the high half first
 abbrev pub halves : List ℕ → List ℕ

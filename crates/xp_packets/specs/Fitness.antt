@@ -1,5 +1,5 @@
 -- Which packets have no spelling, and why: the first, in the order of examination, of conditions over the packet.
-use Rattle.std.specs.Prelude.{ℕ, ◌==◌, nat_lt, Bool, true, false, ◌||◌, [], ◌∷◌, length, Option, Some, None}
+use Rattle.std.specs.Prelude.{◌≡◌, ℕ, ◌==◌, nat_lt, Bool, true, false, ◌||◌, [], ◌∷◌, length, Option, Some, None}
 use Rattle.xp_packets.specs.declared.fault.Wrong.{Wrong}
 use Rattle.xp_packets.specs.declared.fault.Wrong.TheVariants.{Short, Format, Facilities, Long}
 use Rattle.xp_packets.specs.declared.block.Block.{Block}
@@ -56,3 +56,7 @@ unfit identifier packet =
     ∷ (has_long_facilities (block_of packet), Facilities)
     ∷ (is_too_long packet, Long)
     ∷ [])
+
+-- `encode` refuses them for want of memory alone
+abbrev pub CanBeEncoded : {A : Type 0} → ℕ → Packet A → Type 0
+CanBeEncoded identifier packet = unfit identifier packet ≡ None

@@ -12,3 +12,4 @@ pub mod Writing
 pub mod Decoding
 pub mod Encoding
 pub mod Laws
+pub mod Owning

@@ -1,5 +1,5 @@
 -- Reading a packet from its first octet to its last.
-use Rattle.std.specs.Prelude.{◌≡◌, ℕ, ◌+◌, ◌*◌, ◌/◌, ◌%◌, ◌==◌, nat_lt, nat_le, Bool, not, ◌&&◌, ◌||◌, if◌then◌else◌, List, [], ◌∷◌, length, take, drop, slice_index, Option, Some, None, Result, Ok, Err}
+use Rattle.std.specs.Prelude.{◌≡◌, ℕ, ◌+◌, ◌*◌, ◌/◌, ◌%◌, ◌==◌, nat_lt, nat_le, Bool, true, not, ◌&&◌, ◌||◌, if◌then◌else◌, List, [], ◌∷◌, length, take, drop, slice_index, Option, Some, None, Result, Ok, Err}
 use Rattle.std.specs.List.{list_all}
 use Rattle.xp_packets.specs.declared.fault.Wrong.{Wrong}
 use Rattle.xp_packets.specs.declared.fault.Wrong.TheVariants.{Short, Format, Unknown, Address, Facilities, Long}
@@ -26,14 +26,14 @@ abbrev pub Finds : {X Y : Type 0} → (X → Y) → Result X Wrong → Result Y 
 Finds view (Ok x) read = read ≡ Ok (view x)
 Finds view (Err wrong) read = read ≡ Err wrong
 
--- The same of a function that takes memory, which is wanted only where reading gives something.
-abbrev pub Fails : {Y : Type 0} → PacketFault → Result Y Wrong → Type 0
-Fails {Y} faults.Memory read = (y : Y) × (read ≡ Ok y)
-Fails (faults.Wrong wrong) read = read ≡ Err wrong
+-- The same of a function that takes memory, which is wanted only where reading gives something that owns some.
+abbrev pub Fails : {Y : Type 0} → (Y → Bool) → PacketFault → Result Y Wrong → Type 0
+Fails {Y} owns faults.Memory read = (y : Y) × (read ≡ Ok y) × (owns y ≡ true)
+Fails owns (faults.Wrong wrong) read = read ≡ Err wrong
 
-abbrev pub Gives : {X Y : Type 0} → (X → Y) → Result X PacketFault → Result Y Wrong → Type 0
-Gives view (Ok x) read = read ≡ Ok (view x)
-Gives view (Err e) read = Fails e read
+abbrev pub Gives : {X : Type 0} → (X → Bool) → Result X PacketFault → Result X Wrong → Type 0
+Gives owns (Ok x) read = read ≡ Ok x
+Gives owns (Err e) read = Fails owns e read
 
 -- ---- the first three octets, and what stands after them
 

@@ -1,6 +1,6 @@
 //! The block of addresses, facilities and user data (X.25 clauses 5.2.1 to 5.2.5).
 
-ghost use Rattle.std.specs.Prelude.{◌≡◌, ◌≤◌, ◌++◌, false, length, OnOk};
+ghost use Rattle.std.specs.Prelude.{◌≡◌, ◌≤◌, ◌++◌, false, is_some, length, true, OnOk};
 ghost use Rattle.xp_packets.specs.Addresses.{AreAddresses, BlockHasAddresses};
 ghost use Rattle.xp_packets.specs.Fitness.{has_long_facilities};
 ghost use Rattle.xp_packets.specs.Reading.{Finds, Gives, block_at, fields_at, optional_block_at};
@@ -42,7 +42,7 @@ pub(crate) fn block_of<A: Allocator + Copy>(
     octets: &[u8],
     most: usize,
 ) -> Result<Block<A>, PacketFault>
-    ensures { Gives (λ x. x) result (block_at most octets.now) }
+    ensures { Gives (λ _. true) result (block_at most octets.now) }
 {
     match octets {
         [] => Err(Wrong::Short.into()),
@@ -70,7 +70,7 @@ pub(crate) fn optional_block_of<A: Allocator + Copy>(
     octets: &[u8],
     most: usize,
 ) -> Result<Option<Block<A>>, PacketFault>
-    ensures { Gives (λ x. x) result (optional_block_at most octets.now) }
+    ensures { Gives is_some result (optional_block_at most octets.now) }
 {
     match octets {
         [] => Ok(None),

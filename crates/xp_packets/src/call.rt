@@ -1,6 +1,7 @@
 //! Call set-up packets (X.25 clauses 5.2.2 and 5.2.3).
 
 ghost use Rattle.std.specs.Prelude.{◌≡◌};
+ghost use Rattle.xp_packets.specs.Owning.{owns_octets};
 ghost use Rattle.xp_packets.specs.Reading.{Gives, accepted_at, call_at};
 
 use crate::block::{MOST_USER, block_of, optional_block_of};
@@ -15,7 +16,7 @@ pub(crate) fn call_of<A: Allocator + Copy>(
     d: bool,
     rest: &[u8],
 ) -> Result<Packet<A>, PacketFault>
-    ensures { Gives (λ x. x) result (call_at d rest.now) }
+    ensures { Gives owns_octets result (call_at d rest.now) }
 {
     let block = block_of(alloc, rest, MOST_USER)?;
     Ok(Packet::Call { d, block })
@@ -28,7 +29,7 @@ pub(crate) fn accepted_of<A: Allocator + Copy>(
     d: bool,
     rest: &[u8],
 ) -> Result<Packet<A>, PacketFault>
-    ensures { Gives (λ x. x) result (accepted_at d rest.now) }
+    ensures { Gives owns_octets result (accepted_at d rest.now) }
 {
     let block = optional_block_of(alloc, rest, MOST_USER)?;
     Ok(Packet::Accepted { d, block })

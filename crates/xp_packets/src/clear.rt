@@ -1,6 +1,7 @@
 //! Clearing packets (X.25 clauses 5.2.4 and 5.2.5).
 
 ghost use Rattle.std.specs.Prelude.{◌≡◌, ◌++◌, OnOk};
+ghost use Rattle.xp_packets.specs.Owning.{owns_octets};
 ghost use Rattle.xp_packets.specs.Reading.{Gives, clear_at, confirm_at};
 ghost use Rattle.xp_packets.specs.Writing.{written_cause};
 
@@ -12,7 +13,7 @@ use std::alloc::{AllocError, Allocator};
 /// Reads what stands after the type of a clear.
 #[tactic(auto, unfolding(crate::specs::Reading::clear_at))]
 pub(crate) fn clear_of<A: Allocator + Copy>(alloc: A, rest: &[u8]) -> Result<Packet<A>, PacketFault>
-    ensures { Gives (λ x. x) result (clear_at rest.now) }
+    ensures { Gives owns_octets result (clear_at rest.now) }
 {
     match rest {
         [] => Err(Wrong::Short.into()),
@@ -38,7 +39,7 @@ pub(crate) fn confirm_of<A: Allocator + Copy>(
     alloc: A,
     rest: &[u8],
 ) -> Result<Packet<A>, PacketFault>
-    ensures { Gives (λ x. x) result (confirm_at rest.now) }
+    ensures { Gives owns_octets result (confirm_at rest.now) }
 {
     let block = optional_block_of(alloc, rest, NO_USER)?;
     Ok(Packet::ClearConfirm { block })

@@ -1,6 +1,7 @@
 //! Data packets (X.25 clause 5.3.1).
 
 ghost use Rattle.std.specs.Prelude.{◌≡◌};
+ghost use Rattle.xp_packets.specs.Owning.{owns_octets};
 ghost use Rattle.xp_packets.specs.Reading.{Gives, data_at};
 
 use crate::fault::{PacketFault, Wrong};
@@ -20,7 +21,7 @@ pub(crate) fn data_of<A: Allocator + Copy>(
     header: &Header,
     rest: &[u8],
 ) -> Result<Packet<A>, PacketFault>
-    ensures { Gives (λ x. x) result (data_at header.now.q header.now.d header.now.octet rest.now) }
+    ensures { Gives owns_octets result (data_at header.now.q header.now.d header.now.octet rest.now) }
 {
     if rest.len() > MOST_DATA {
         return Err(Wrong::Long.into());

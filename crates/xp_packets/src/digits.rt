@@ -1,5 +1,6 @@
 ghost use Rattle.std.specs.Prelude.{◌≡◌, ◌<◌, ◌≤◌, ◌↔◌, [], ◌∷◌, ◌++◌, IsTrue, length};
-ghost use Rattle.xp_packets.specs.Digits.{AreDigits};
+ghost use Rattle.std.specs.List.{list_all};
+ghost use Rattle.xp_packets.specs.Digits.{AreDigits, digits_in, is_digit};
 
 use arrayvec::ArrayVec;
 use std::fmt;
@@ -35,6 +36,20 @@ impl Digits {
         Digits {
             values: ArrayVec::new(),
         }
+    }
+
+    /// The digits that a text writes, if it is at most 15 characters 0 to 9.
+    pub fn from_text(text: &str) -> Option<Digits>
+        ensures { result ≡ digits_in text.now }
+    {
+        if text.len() > Digits::MOST || !are_digits(text.as_bytes()) {
+            return None;
+        }
+        let mut digits = Digits::new();
+        for character in text.as_bytes() {
+            digits.push(*character - b'0');
+        }
+        Some(digits)
     }
 
     /// How many digits there are.
@@ -79,6 +94,18 @@ impl Digits {
         let _ = values.try_extend_from_slice(self.as_slice());
         Digits { values }
     }
+}
+
+fn are_digits(text: &[u8]) -> bool
+    ensures { result ≡ list_all is_digit text.now }
+{
+    text.iter().all(|character| is_digit(*character))
+}
+
+fn is_digit(character: u8) -> bool
+    ensures { result ≡ is_digit character }
+{
+    matches!(character, b'0'..=b'9')
 }
 
 impl Default for Digits {

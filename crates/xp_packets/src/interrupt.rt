@@ -1,6 +1,7 @@
 //! Interrupts (X.25 clause 5.3.2).
 
 ghost use Rattle.std.specs.Prelude.{◌≡◌};
+ghost use Rattle.xp_packets.specs.Owning.{owns_octets};
 ghost use Rattle.xp_packets.specs.Reading.{Gives, interrupt_at};
 
 use crate::fault::{PacketFault, Wrong};
@@ -17,7 +18,7 @@ pub(crate) fn interrupt_of<A: Allocator + Copy>(
     alloc: A,
     rest: &[u8],
 ) -> Result<Packet<A>, PacketFault>
-    ensures { Gives (λ x. x) result (interrupt_at rest.now) }
+    ensures { Gives owns_octets result (interrupt_at rest.now) }
 {
     match rest {
         [] => Err(Wrong::Short.into()),

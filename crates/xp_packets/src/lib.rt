@@ -34,6 +34,3 @@ pub use octets::Octets;
 pub use packet::Packet;
 pub use reading::decode;
 pub use writing::encode;
-
-#[cfg(test)]
-mod tests;

@@ -1,8 +1,9 @@
 //! From octets to packets.
 
-ghost use Rattle.std.specs.Prelude.{◌≡◌, None, IfOk};
+ghost use Rattle.std.specs.Prelude.{◌≡◌, IfOk};
 ghost use Rattle.xp_packets.specs.Decoding.{Decodes};
-ghost use Rattle.xp_packets.specs.Fitness.{unfit};
+ghost use Rattle.xp_packets.specs.Fitness.{CanBeEncoded};
+ghost use Rattle.xp_packets.specs.Owning.{owns_octets};
 ghost use Rattle.xp_packets.specs.Reading.{Gives, body_by, packet_at};
 
 use crate::call::{accepted_of, call_of};
@@ -22,17 +23,17 @@ use std::alloc::Allocator;
 ///
 /// # Errors
 ///
-/// `Wrong` with the first fault in the order of examination; `Memory` only where the octets are a packet.
+/// `Wrong` with the first fault in the order of examination; `Memory` only where the octets are a packet with a block, data or interrupt data.
 pub fn decode<A: Allocator + Copy>(alloc: A, octets: &[u8]) -> Result<(u16, Packet<A>), PacketFault>
     ensures decoded { Decodes octets.now result }
-    ensures fit { IfOk result (λ read. unfit read.0 read.1 ≡ None) }
+    ensures fit { IfOk result (λ read. CanBeEncoded read.0 read.1) }
 {
     packet_of(alloc, octets)
 }
 
 #[tactic(auto, unfolding(crate::specs::Reading::packet_at))]
 fn packet_of<A: Allocator + Copy>(alloc: A, octets: &[u8]) -> Result<(u16, Packet<A>), PacketFault>
-    ensures { Gives (λ x. x) result (packet_at octets.now) }
+    ensures { Gives (λ read. owns_octets read.1) result (packet_at octets.now) }
 {
     let (header, rest) = header_of(octets)?;
     let packet = body_of(alloc, &header, rest)?;
@@ -44,7 +45,7 @@ fn body_of<A: Allocator + Copy>(
     header: &Header,
     rest: &[u8],
 ) -> Result<Packet<A>, PacketFault>
-    ensures { Gives (λ x. x) result (body_by header.now.kind header.now rest.now) }
+    ensures { Gives owns_octets result (body_by header.now.kind header.now rest.now) }
 {
     Ok(match header.kind {
         Kind::Call => call_of(alloc, header.d, rest)?,

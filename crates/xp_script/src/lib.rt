@@ -12,6 +12,3 @@ mod text;
 pub use command::{Command, MAX_LINE_OCTETS};
 pub use entry::write_entry;
 pub use fault::LineFault;
-
-#[cfg(test)]
-mod tests;

@@ -1,7 +1,6 @@
 //! Lines by their names.
 
 ghost use Rattle.std.specs.Prelude.{◌≡◌, ◌<◌, IfSome};
-ghost use Rattle.xp_script.specs.Text.{name_of};
 ghost use Rattle.xp_subs.specs.Tables.{line_count, line_named_of};
 
 use std::str;
@@ -19,16 +18,5 @@ pub fn line_named(subs: &Subs, name: &[u8]) -> Option<LineNo>
             let _ = subs.counts();
             None
         }
-    }
-}
-
-/// The name of a line, and nothing for a line that there is not.
-pub fn name_of(subs: &Subs, line: LineNo) -> &str
-    ensures { result.now ≡ name_of subs.now line }
-{
-    if usize::from(line) < subs.counts().lines {
-        subs.name_of(line)
-    } else {
-        ""
     }
 }

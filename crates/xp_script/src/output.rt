@@ -1,13 +1,13 @@
 //! The text of what is put out.
 
-ghost use Rattle.std.specs.Prelude.{◌≡◌, ◌++◌, OnOk, IfOk, None};
+ghost use Rattle.std.specs.Prelude.{◌≡◌, ◌<◌, ◌++◌, OnOk, IfOk, None};
 ghost use Rattle.xp_core.specs.Writable.{IsWritable};
 ghost use Rattle.xp_frames.specs.Frame.{frame};
 ghost use Rattle.xp_packets.specs.Fitness.{unfit};
 ghost use Rattle.xp_packets.specs.Writing.{written};
 ghost use Rattle.xp_script.specs.Text.{output_text};
+ghost use Rattle.xp_subs.specs.Tables.{line_count};
 
-use crate::line::name_of;
 use crate::text::{push_field, push_octets};
 use std::alloc::{AllocError, Allocator};
 use xp_core::{Output, Put};
@@ -22,7 +22,8 @@ pub fn push_output<A: Allocator + Copy>(
     output: &Output<A>,
     text: &mut Vec<u8, A>,
 ) -> Result<(), AllocError>
-    requires { IsWritable output.now.outgoing.put }
+    requires writable { IsWritable output.now.outgoing.put }
+    requires line { output.now.line < line_count subs.now }
     ensures { OnOk result (text.new.items ≡ text.old.items ++ output_text subs.now output.now) }
 {
     match &output.outgoing.put {
@@ -30,7 +31,7 @@ pub fn push_output<A: Allocator + Copy>(
         Put::Send { identifier, packet } => {
             let frame = frame_of(alloc, *identifier, packet)?;
             text.extend_from_slice(b"out")?;
-            push_field(text, name_of(subs, output.line).as_bytes())?;
+            push_field(text, subs.name_of(output.line).as_bytes())?;
             push_octets(alloc, text, frame.as_slice())?;
             text.push(b'\n')?;
             Ok(())

@@ -1,9 +1,10 @@
 //! The text of charging records.
 
-ghost use Rattle.std.specs.Prelude.{◌≡◌, ◌++◌, OnOk};
+ghost use Rattle.std.specs.Prelude.{◌≡◌, ◌<◌, ◌++◌, IfSome, OnOk};
+ghost use Rattle.xp_script.specs.Lines.{IsBetween};
 ghost use Rattle.xp_script.specs.Text.{called_text, digits_text, field, payer_text, record_text};
+ghost use Rattle.xp_subs.specs.Tables.{line_count};
 
-use crate::line::name_of;
 use crate::text::{push_field, push_number, push_octets};
 use std::alloc::{AllocError, Allocator};
 use xp_core::Record;
@@ -20,11 +21,12 @@ pub fn push_record<A: Allocator + Copy>(
     record: &Record,
     text: &mut Vec<u8, A>,
 ) -> Result<(), AllocError>
+    requires { IsBetween (line_count subs.now) «record».now }
     ensures { OnOk result (text.new.items ≡ text.old.items ++ record_text subs.now «record».now) }
 {
     text.extend_from_slice(b"record")?;
     push_number(alloc, text, record.number)?;
-    push_field(text, name_of(subs, record.caller).as_bytes())?;
+    push_field(text, subs.name_of(record.caller).as_bytes())?;
     push_field(text, name_of_called(subs, record.called).as_bytes())?;
     push_digits(alloc, text, &record.dialled)?;
     push_field(text, name_of_payer(record.payer).as_bytes())?;
@@ -37,10 +39,11 @@ pub fn push_record<A: Allocator + Copy>(
 }
 
 fn name_of_called(subs: &Subs, called: Option<LineNo>) -> &str
+    requires { IfSome called (λ line. line < line_count subs.now) }
     ensures { result.now ≡ called_text subs.now called }
 {
     match called {
-        Some(line) => name_of(subs, line),
+        Some(line) => subs.name_of(line),
         None => NONE,
     }
 }

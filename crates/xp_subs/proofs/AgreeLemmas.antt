@@ -39,7 +39,7 @@ pub record Agrees (stations names : List (List ℕ)) (lines : List Own) (used : 
   pub names_once : (i : ℕ) → i < length names → position (same (get_or names i [])) names ≡ Some i
 
 -- what was entered was not there
-address_is_new : (target : Target) (a : List ℕ) (used more : Used) → with_address target a used ≡ Ok more
+pub address_is_new : (target : Target) (a : List ℕ) (used more : Used) → with_address target a used ≡ Ok more
     → (lookup (same a) used.targets ≡ None) × (more ≡ record used { targets = used.targets ++ (a, target) ∷ [] })
 address_is_new target a used more entered = by (lookup (same a) used.targets) refl
   where
@@ -48,7 +48,7 @@ address_is_new target a used more entered = by (lookup (same a) used.targets) re
     by None e = (e, (let made : Ok (record used { targets = used.targets ++ (a, target) ∷ [] }) ≡ Ok more = rw e at entered in cc))
     by (Some x) e = let never = rw e at entered in absurd (err_is_ok never)
 
-name_is_new : (line : ℕ) (n : List ℕ) (used more : Used) → with_name line n used ≡ Ok more
+pub name_is_new : (line : ℕ) (n : List ℕ) (used more : Used) → with_name line n used ≡ Ok more
     → (lookup (same n) used.names ≡ None) × (more ≡ record used { names = used.names ++ (n, line) ∷ [] })
 name_is_new line n used more entered = by (lookup (same n) used.names) refl
   where

@@ -1,37 +1,36 @@
 -- The stations and lines that are built: which line is whose, and what the indexes say of them.
-use Rattle.std.proofs.Common.{◌≡◌, ℕ, zero, suc, ◌+◌, ◌-◌, ◌<◌, ◌≤◌, List, [], ◌∷◌, ◌++◌, Bool, true, Option, None, Some, ◌⊎◌, inl, inr, Contains, All, IsTrue, Ok, length, map, get_or, refl, sym, ap, subst, ◌∙◌, arith, length-append}
+use Rattle.std.proofs.Common.{◌≡◌, ℕ, zero, suc, ◌+◌, ◌-◌, ◌<◌, ◌≤◌, List, [], ◌∷◌, ◌++◌, true, Option, None, Some, ◌⊎◌, inl, inr, Contains, All, IsTrue, Ok, length, map, get_or, refl, sym, ap, subst, ◌∙◌, arith, length-append}
 use Rattle.std.specs.Prelude.{position}
+use Rattle.std.specs.List.{list_all}
 use Rattle.std.specs.Map.{lookup}
-use Rattle.std.proofs.lemmas.Bool.{cases_lt}
+use Rattle.std.proofs.lemmas.Bool.{cases_lt, and_parts}
 use Rattle.std.proofs.lemmas.List.{get_or_append_left, get_or-append_right, length-map, map-append}
 use Rattle.std.proofs.lemmas.List.Elements.{All-head, All-tail, All-append, All-nil, All-cons}
 use Rattle.std.proofs.lemmas.List.Quantifiers.{position-Some}
 use Rattle.std.proofs.lemmas.List.Sums.{sum_by-cons}
-use Rattle.xp_file.specs.declared.entry.StationEntry.{StationEntry}
-use Rattle.xp_file.specs.Entries.{AreLimits}
+use Rattle.xp_file.specs.declared.entry.GroupEntry.{GroupEntry}
+use Rattle.xp_file.specs.declared.entry.LineEntry.{LineEntry}
+use Rattle.xp_file.specs.Entries.{AreLimits, StationData, IsLineEntry, IsGroupEntry}
 use Rattle.xp_file.specs.Name.{same, is_line_name}
 use Rattle.xp_subs.specs.declared.line.Line.{Line}
 use Rattle.xp_subs.specs.declared.station.Membership.{Membership}
 use Rattle.xp_subs.specs.declared.station.Station.{Station}
 use Rattle.xp_subs.specs.declared.target.Target.{Target}
-use Rattle.xp_subs.specs.Built.{numbers, line_list, lines_of, lines_from, membership_list, station_from, stations_from, mentions, tables_of}
+use Rattle.xp_subs.specs.Built.{AreKnown, numbers, line_from, lines_of, lines_from, membership_from, memberships_of, station_from, stations_from, mentions, tables_of}
 use Rattle.xp_file.specs.File.{FileData}
 use Rattle.xp_subs.specs.declared.subs.Subs.TheInside.{Inside}
 use Rattle.xp_subs.specs.Kept.{tables, Keeps}
 use Rattle.xp_subs.specs.Fit.{IsFit, IsFitStation}
-use Rattle.xp_subs.specs.Passes.{Used, nothing_used, line_total, with_stations}
-use Rattle.xp_subs.specs.Sound.{IsSound, IsTarget, HasAddress, HasShortIndexes, Lists}
-use Rattle.xp_subs.specs.Tables.{Tables, holds, no_line, no_station, station_at, line_at, station_of, target_of, line_named_of, has_address, whole_station, one_line, first_target, station_count, line_count, group_count}
+use Rattle.xp_subs.specs.Passes.{Used, nothing_used, line_total, with_stations, has_own_indexes}
+use Rattle.xp_subs.specs.Sound.{IsSound, IsTarget, HasAddress, HasShortIndexes, HasOwnGroups, IsPort, Lists}
+use Rattle.xp_subs.specs.Tables.{Tables, holds, no_line, no_station, station_at, line_at, station_of, target_of, line_named_of, has_address, whole_station, one_line, first_target, station_count, line_count}
 use Rattle.xp_subs.proofs.AgreeLemmas.{Agrees, Own, owns, no_own, lead}
-use Rattle.xp_subs.proofs.EntersLemmas.{AllEven, own_list, station_addresses, all_names, all_owns, stations_agree}
+use Rattle.xp_subs.proofs.EntersLemmas.{own_list, name_list, station_addresses, all_names, all_owns, stations_agree}
+use Rattle.xp_subs.proofs.GroupLemmas.{mentions_once, all_known, own_groups}
+use Rattle.xp_subs.proofs.UsesLemmas.{all_once, line_ports_once}
 use Rattle.xp_subs.proofs.PositionLemmas.{position-map}
 use Rattle.xp_subs.proofs.TableLemmas.{same_is}
 use Rattle.xp_file.proofs.Choices.{none_is_some}
-
-pub even_from : (entries : List StationEntry) → All IsFitStation entries → AllEven entries
-unfolding AllEven
-even_from [] each = tt
-even_from (entry ∷ entries) each = ((All-head IsFitStation entry entries each).even_lines, even_from entries (All-tail IsFitStation entry entries each))
 
 length-numbers : (first count : ℕ) → length (numbers first count) ≡ count
 length-numbers first zero = refl
@@ -42,140 +41,130 @@ numbers-at first zero i d within = absurd (omega arith)
 numbers-at first (suc count) zero d within = omega arith
 numbers-at first (suc count) (suc i) d within = numbers-at (first + 1) count i d (omega arith) ∙ omega arith
 
+-- a line that a file may have
+abbrev pub IsLine : Line → Type 0
+IsLine line = IsTrue (is_line_name line.name) × IsPort line.port
+
 -- the lines of one station
 own_of : Line → Own
 own_of line = (line.station, line.address)
 
-line_list-names : (station : ℕ) (names : List (List ℕ)) (ports : List ℕ) (addresses : List (Option (List ℕ)))
-    → length ports ≡ length names → length addresses ≡ length names → map (λ (l : Line). l.name) (line_list station names ports addresses) ≡ names
-line_list-names station [] ports addresses p a = refl
-line_list-names station (n ∷ names) [] addresses p a = absurd (omega (arith, p))
-line_list-names station (n ∷ names) (q ∷ ports) [] p a = absurd (omega (arith, a))
-line_list-names station (n ∷ names) (q ∷ ports) (x ∷ addresses) p a =
-    ap (λ l. n ∷ l) (line_list-names station names ports addresses (omega (arith, p)) (omega (arith, a)))
+lines_of-names : (station : ℕ) (lines : List LineEntry) → map (λ (l : Line). l.name) (lines_of station lines) ≡ name_list lines
+unfolding name_list
+lines_of-names station [] = refl
+lines_of-names station (line ∷ lines) = ap (λ l. line.name ∷ l) (lines_of-names station lines)
 
-line_list-owns : (station : ℕ) (names : List (List ℕ)) (ports : List ℕ) (addresses : List (Option (List ℕ)))
-    → length ports ≡ length names → length addresses ≡ length names → map own_of (line_list station names ports addresses) ≡ own_list station addresses
+lines_of-owns : (station : ℕ) (lines : List LineEntry) → map own_of (lines_of station lines) ≡ own_list station lines
 unfolding own_of own_list
-line_list-owns station [] ports [] p a = refl
-line_list-owns station [] ports (x ∷ addresses) p a = absurd (omega (arith, a))
-line_list-owns station (n ∷ names) [] addresses p a = absurd (omega (arith, p))
-line_list-owns station (n ∷ names) (q ∷ ports) [] p a = absurd (omega (arith, a))
-line_list-owns station (n ∷ names) (q ∷ ports) (x ∷ addresses) p a =
-    ap (λ l. (station, x) ∷ l) (line_list-owns station names ports addresses (omega (arith, p)) (omega (arith, a)))
+lines_of-owns station [] = refl
+lines_of-owns station (line ∷ lines) = ap (λ l. (station, line.address) ∷ l) (lines_of-owns station lines)
 
-line_list-length : (station : ℕ) (names : List (List ℕ)) (ports : List ℕ) (addresses : List (Option (List ℕ)))
-    → length ports ≡ length names → length addresses ≡ length names → length (line_list station names ports addresses) ≡ length names
-line_list-length station names ports addresses p a =
-    sym (length-map (line_list station names ports addresses) (λ (l : Line). l.name)) ∙ ap length (line_list-names station names ports addresses p a)
+lines_of-length : (station : ℕ) (lines : List LineEntry) → length (lines_of station lines) ≡ length lines
+lines_of-length station lines = length-map lines (line_from station)
 
-line_list-station : (station : ℕ) (names : List (List ℕ)) (ports : List ℕ) (addresses : List (Option (List ℕ))) (i : ℕ)
-    → i < length (line_list station names ports addresses) → (get_or (line_list station names ports addresses) i no_line).station ≡ station
-line_list-station station [] ports addresses i within = absurd (omega arith)
-line_list-station station (n ∷ names) [] addresses i within = absurd (omega arith)
-line_list-station station (n ∷ names) (q ∷ ports) [] i within = absurd (omega arith)
-line_list-station station (n ∷ names) (q ∷ ports) (x ∷ addresses) zero within = refl
-line_list-station station (n ∷ names) (q ∷ ports) (x ∷ addresses) (suc i) within =
-    line_list-station station names ports addresses i (omega arith)
+lines_of-station : (station : ℕ) (lines : List LineEntry) (i : ℕ)
+    → i < length (lines_of station lines) → (get_or (lines_of station lines) i no_line).station ≡ station
+lines_of-station station [] i within = absurd (omega arith)
+lines_of-station station (line ∷ lines) zero within = refl
+lines_of-station station (line ∷ lines) (suc i) within = lines_of-station station lines i (omega arith)
 
 -- the lines of all stations
-lines_from-names : (number : ℕ) (entries : List StationEntry) → AllEven entries → map (λ (l : Line). l.name) (lines_from number entries) ≡ all_names entries
-unfolding AllEven all_names
-lines_from-names number [] even = refl
-lines_from-names number (entry ∷ entries) even =
+lines_from-names : (number : ℕ) (entries : List StationData) → map (λ (l : Line). l.name) (lines_from number entries) ≡ all_names entries
+unfolding all_names
+lines_from-names number [] = refl
+lines_from-names number (entry ∷ entries) =
     map-append (λ (l : Line). l.name) (lines_of number entry.lines) (lines_from (number + 1) entries)
-    ∙ ap (λ l. l ++ map (λ (l : Line). l.name) (lines_from (number + 1) entries)) (line_list-names number entry.lines.names entry.lines.ports entry.lines.addresses even.0.ports even.0.addresses)
-    ∙ ap (λ l. entry.lines.names ++ l) (lines_from-names (number + 1) entries even.1)
+    ∙ ap (λ l. l ++ map (λ (l : Line). l.name) (lines_from (number + 1) entries)) (lines_of-names number entry.lines)
+    ∙ ap (λ l. name_list entry.lines ++ l) (lines_from-names (number + 1) entries)
 
-lines_from-owns : (number : ℕ) (entries : List StationEntry) → AllEven entries → map own_of (lines_from number entries) ≡ all_owns number entries
-unfolding AllEven all_owns
-lines_from-owns number [] even = refl
-lines_from-owns number (entry ∷ entries) even =
+lines_from-owns : (number : ℕ) (entries : List StationData) → map own_of (lines_from number entries) ≡ all_owns number entries
+unfolding all_owns
+lines_from-owns number [] = refl
+lines_from-owns number (entry ∷ entries) =
     map-append own_of (lines_of number entry.lines) (lines_from (number + 1) entries)
-    ∙ ap (λ l. l ++ map own_of (lines_from (number + 1) entries)) (line_list-owns number entry.lines.names entry.lines.ports entry.lines.addresses even.0.ports even.0.addresses)
-    ∙ ap (λ l. own_list number entry.lines.addresses ++ l) (lines_from-owns (number + 1) entries even.1)
+    ∙ ap (λ l. l ++ map own_of (lines_from (number + 1) entries)) (lines_of-owns number entry.lines)
+    ∙ ap (λ l. own_list number entry.lines ++ l) (lines_from-owns (number + 1) entries)
 
-lines_from-length : (number : ℕ) (entries : List StationEntry) → AllEven entries → length (lines_from number entries) ≡ line_total entries
-unfolding AllEven
-lines_from-length number [] even = refl
-lines_from-length number (entry ∷ entries) even =
+lines_from-length : (number : ℕ) (entries : List StationData) → length (lines_from number entries) ≡ line_total entries
+lines_from-length number [] = refl
+lines_from-length number (entry ∷ entries) =
     length-append (lines_of number entry.lines) (lines_from (number + 1) entries)
-    ∙ ap (λ n. n + length (lines_from (number + 1) entries)) (line_list-length number entry.lines.names entry.lines.ports entry.lines.addresses even.0.ports even.0.addresses)
-    ∙ ap (λ n. length entry.lines.names + n) (lines_from-length (number + 1) entries even.1)
-    ∙ sym (sum_by-cons (λ (station : StationEntry). length station.lines.names) entry entries)
+    ∙ ap (λ n. n + length (lines_from (number + 1) entries)) (lines_of-length number entry.lines)
+    ∙ ap (λ n. length entry.lines + n) (lines_from-length (number + 1) entries)
+    ∙ sym (sum_by-cons (λ (station : StationData). length station.lines) entry entries)
 
 module _ (known : List (List ℕ)) where
-  stations_from-addresses : (line : ℕ) (entries : List StationEntry) → map (λ (s : Station). s.address) (stations_from known line entries) ≡ station_addresses entries
+  stations_from-addresses : (line : ℕ) (entries : List StationData) → map (λ (s : Station). s.address) (stations_from known line entries) ≡ station_addresses entries
   unfolding station_addresses
   stations_from-addresses line [] = refl
-  stations_from-addresses line (entry ∷ entries) = ap (λ l. entry.address ∷ l) (stations_from-addresses (line + length entry.lines.names) entries)
+  stations_from-addresses line (entry ∷ entries) = ap (λ l. entry.address ∷ l) (stations_from-addresses (line + length entry.lines) entries)
 
-  stations_from-length : (line : ℕ) (entries : List StationEntry) → length (stations_from known line entries) ≡ length entries
+  stations_from-length : (line : ℕ) (entries : List StationData) → length (stations_from known line entries) ≡ length entries
   stations_from-length line [] = refl
-  stations_from-length line (entry ∷ entries) = ap suc (stations_from-length (line + length entry.lines.names) entries)
+  stations_from-length line (entry ∷ entries) = ap suc (stations_from-length (line + length entry.lines) entries)
 
   -- a line is its station's
-  Placed : ℕ → ℕ → List StationEntry → ℕ → Type 0
+  Placed : ℕ → ℕ → List StationData → ℕ → Type 0
   Placed number first entries l =
       (k : ℕ) × (k < length entries) × ((get_or (lines_from number entries) l no_line).station ≡ number + k)
       × Contains (get_or (stations_from known first entries) k no_station).lines.items (first + l)
 
-  placed : (number first : ℕ) (entries : List StationEntry) → AllEven entries → (l : ℕ) → l < length (lines_from number entries) → Placed number first entries l
-  unfolding AllEven Placed
-  placed number first [] even l within = absurd (omega arith)
-  placed number first (entry ∷ entries) even l within =
-      by (line_list-length number entry.lines.names entry.lines.ports entry.lines.addresses even.0.ports even.0.addresses)
+  placed : (number first : ℕ) (entries : List StationData) → (l : ℕ) → l < length (lines_from number entries) → Placed number first entries l
+  unfolding Placed
+  placed number first [] l within = absurd (omega arith)
+  placed number first (entry ∷ entries) l within =
+      by (lines_of-length number entry.lines)
       (cases_lt l (length (lines_of number entry.lines)))
-      (λ i. placed (number + 1) (first + length entry.lines.names) entries even.1 i)
+      (λ i. placed (number + 1) (first + length entry.lines) entries i)
     where
-      by : length (lines_of number entry.lines) ≡ length entry.lines.names
+      by : length (lines_of number entry.lines) ≡ length entry.lines
           → (l < length (lines_of number entry.lines)) ⊎ (length (lines_of number entry.lines) ≤ l)
-          → ((i : ℕ) → i < length (lines_from (number + 1) entries) → Placed (number + 1) (first + length entry.lines.names) entries i)
+          → ((i : ℕ) → i < length (lines_from (number + 1) entries) → Placed (number + 1) (first + length entry.lines) entries i)
           → Placed number first (entry ∷ entries) l
       by long (inl below) rest =
-          let here : l < length entry.lines.names = omega (arith, long) in
-          let inside : l < length (numbers first (length entry.lines.names)) = omega (arith, length-numbers first (length entry.lines.names)) in (
+          let here : l < length entry.lines = omega (arith, long) in
+          let inside : l < length (numbers first (length entry.lines)) = omega (arith, length-numbers first (length entry.lines)) in (
             0,
             omega arith,
             ap (λ (x : Line). x.station) (get_or_append_left (lines_of number entry.lines) (lines_from (number + 1) entries) no_line l below)
-                ∙ line_list-station number entry.lines.names entry.lines.ports entry.lines.addresses l below ∙ omega arith,
-            (l, inside, numbers-at first (length entry.lines.names) l (first + l) here),
+                ∙ lines_of-station number entry.lines l below ∙ omega arith,
+            (l, inside, numbers-at first (length entry.lines) l (first + l) here),
           )
       by long (inr above) rest =
           let i = l - length (lines_of number entry.lines) in
           let within_rest : i < length (lines_from (number + 1) entries) =
           omega (arith, within, length-append (lines_of number entry.lines) (lines_from (number + 1) entries)) in
           let (k, below, station, held) = rest i within_rest in
-          let same_line : first + length entry.lines.names + i ≡ first + l = omega (arith, long) in (
+          let same_line : first + length entry.lines + i ≡ first + l = omega (arith, long) in (
             suc k,
             omega arith,
             ap (λ (x : Line). x.station) (get_or-append_right (lines_of number entry.lines) (lines_from (number + 1) entries) (length (lines_of number entry.lines)) l no_line refl above)
                 ∙ station ∙ omega arith,
-            subst (Contains (get_or (stations_from known (first + length entry.lines.names) entries) k no_station).lines.items) same_line held,
+            subst (Contains (get_or (stations_from known (first + length entry.lines) entries) k no_station).lines.items) same_line held,
           )
 
   -- and a station's lines are its own
-  Owned : ℕ → ℕ → List StationEntry → ℕ → ℕ → Type 0
+  Owned : ℕ → ℕ → List StationData → ℕ → ℕ → Type 0
   Owned number first entries k v =
       (l : ℕ) × (v ≡ first + l) × (l < length (lines_from number entries)) × ((get_or (lines_from number entries) l no_line).station ≡ number + k)
 
-  owned : (number first : ℕ) (entries : List StationEntry) → AllEven entries → (k v : ℕ) → k < length entries
+  owned : (number first : ℕ) (entries : List StationData) → (k v : ℕ) → k < length entries
       → Contains (get_or (stations_from known first entries) k no_station).lines.items v → Owned number first entries k v
-  unfolding AllEven Owned
-  owned number first [] even k v within held = absurd (omega arith)
-  owned number first (entry ∷ entries) even zero v within (i, inside, is) =
-      let long = line_list-length number entry.lines.names entry.lines.ports entry.lines.addresses even.0.ports even.0.addresses in
-      let here : i < length entry.lines.names = omega (arith, inside, length-numbers first (length entry.lines.names)) in
+  unfolding Owned
+  owned number first [] k v within held = absurd (omega arith)
+  owned number first (entry ∷ entries) zero v within (i, inside, is) =
+      let long = lines_of-length number entry.lines in
+      let here : i < length entry.lines = omega (arith, inside, length-numbers first (length entry.lines)) in
       let below : i < length (lines_of number entry.lines) = omega (arith, long) in (
         i,
-        sym is ∙ numbers-at first (length entry.lines.names) i v here,
+        sym is ∙ numbers-at first (length entry.lines) i v here,
         omega (arith, below, length-append (lines_of number entry.lines) (lines_from (number + 1) entries)),
         ap (λ (x : Line). x.station) (get_or_append_left (lines_of number entry.lines) (lines_from (number + 1) entries) no_line i below)
-            ∙ line_list-station number entry.lines.names entry.lines.ports entry.lines.addresses i below ∙ omega arith,
+            ∙ lines_of-station number entry.lines i below ∙ omega arith,
       )
-  owned number first (entry ∷ entries) even (suc k) v within held =
-      let long = line_list-length number entry.lines.names entry.lines.ports entry.lines.addresses even.0.ports even.0.addresses in
-      let (l, is, inside, station) = owned (number + 1) (first + length entry.lines.names) entries even.1 k v (omega arith) held in
+  owned number first (entry ∷ entries) (suc k) v within held =
+      let long = lines_of-length number entry.lines in
+      let (l, is, inside, station) = owned (number + 1) (first + length entry.lines) entries k v (omega arith) held in
       let a = length (lines_of number entry.lines) in
       let there : a ≤ a + l = omega arith in
       let less : a + l - a ≡ l = omega arith in (
@@ -188,31 +177,36 @@ module _ (known : List (List ℕ)) where
             ∙ station ∙ omega arith,
       )
 
--- each name is one that a line may have
-spelled_names : (entries : List StationEntry) → All IsFitStation entries → All (λ name. IsTrue (is_line_name name)) (all_names entries)
-unfolding all_names
-spelled_names [] each = All-nil (λ name. IsTrue (is_line_name name))
-spelled_names (entry ∷ entries) each =
-    All-append (λ name. IsTrue (is_line_name name)) entry.lines.names (all_names entries) (All-head IsFitStation entry entries each).even_lines.spelled
-    (spelled_names entries (All-tail IsFitStation entry entries each))
+-- each line is one of a file
+all_lines : (number : ℕ) (entries : List StationData) → All IsFitStation entries → All IsLine (lines_from number entries)
+all_lines number [] each = All-nil IsLine
+all_lines number (entry ∷ entries) each =
+    All-append IsLine (lines_of number entry.lines) (lines_from (number + 1) entries)
+    (made entry.lines (All-head IsFitStation entry entries each).entry.lines)
+    (all_lines (number + 1) entries (All-tail IsFitStation entry entries each))
+  where
+    made : (lines : List LineEntry) → All IsLineEntry lines → All IsLine (lines_of number lines)
+    made [] all = All-nil IsLine
+    made (line ∷ lines) all =
+        let here = All-head IsLineEntry line lines all in
+        All-cons IsLine (line_from number line) (lines_of number lines) (here.spelled, (here.least_port, here.most_port))
+        (made lines (All-tail IsLineEntry line lines all))
 
-short_indexes : (known names : List (List ℕ)) (indexes : List ℕ) (outgoing incoming : List Bool) → All (λ index. index ≤ 9_999) indexes
-    → All (λ (membership : Membership). membership.index ≤ 9_999) (membership_list known names indexes outgoing incoming)
-short_indexes known [] indexes outgoing incoming all = All-nil (λ (membership : Membership). membership.index ≤ 9_999)
-short_indexes known (name ∷ names) [] outgoing incoming all = All-nil (λ (membership : Membership). membership.index ≤ 9_999)
-short_indexes known (name ∷ names) (index ∷ indexes) [] incoming all = All-nil (λ (membership : Membership). membership.index ≤ 9_999)
-short_indexes known (name ∷ names) (index ∷ indexes) (out ∷ outgoing) [] all = All-nil (λ (membership : Membership). membership.index ≤ 9_999)
-short_indexes known (name ∷ names) (index ∷ indexes) (out ∷ outgoing) (into ∷ incoming) all =
-    All-cons (λ (membership : Membership). membership.index ≤ 9_999) _ (membership_list known names indexes outgoing incoming)
-    (All-head (λ n. n ≤ 9_999) index indexes all) (short_indexes known names indexes outgoing incoming (All-tail (λ n. n ≤ 9_999) index indexes all))
+-- what holds of each station of a file holds of each that is built
+all_built : {P : StationData → Type 0} (Q : Station → Type 0) (known : List (List ℕ)) (line : ℕ) (entries : List StationData)
+    → ((line : ℕ) (entry : StationData) → P entry → Q (station_from known line entry)) → All P entries → All Q (stations_from known line entries)
+all_built {P} Q known line [] made each = All-nil Q
+all_built {P} Q known line (entry ∷ entries) made each =
+    All-cons Q (station_from known line entry) (stations_from known (line + length entry.lines) entries)
+    (made line entry (All-head P entry entries each))
+    (all_built Q known (line + length entry.lines) entries made (All-tail P entry entries each))
 
-all_short : (known : List (List ℕ)) (line : ℕ) (entries : List StationEntry) → All IsFitStation entries → All HasShortIndexes (stations_from known line entries)
-all_short known line [] each = All-nil HasShortIndexes
-all_short known line (entry ∷ entries) each =
-    All-cons HasShortIndexes (station_from known line entry) (stations_from known (line + length entry.lines.names) entries)
-    (short_indexes known entry.groups.names entry.groups.indexes entry.groups.outgoing_barred entry.groups.incoming_barred
-    (All-head IsFitStation entry entries each).even_groups.four_digits)
-    (all_short known (line + length entry.lines.names) entries (All-tail IsFitStation entry entries each))
+short_indexes : (known : List (List ℕ)) (groups : List GroupEntry) → All IsGroupEntry groups
+    → All (λ (membership : Membership). membership.index ≤ 9_999) (memberships_of known groups)
+short_indexes known [] all = All-nil (λ (membership : Membership). membership.index ≤ 9_999)
+short_indexes known (group ∷ groups) all =
+    All-cons (λ (membership : Membership). membership.index ≤ 9_999) (membership_from known group) (memberships_of known groups)
+    (All-head IsGroupEntry group groups all) (short_indexes known groups (All-tail IsGroupEntry group groups all))
 
 get_or-shown : {X Y : Type 0} (f : X → Y) (xs : List X) (i : ℕ) (d : X) → get_or (map f xs) i (f d) ≡ f (get_or xs i d)
 get_or-shown f [] i d = refl
@@ -317,14 +311,21 @@ name_held tables n line found =
     let (within, here, _) = position-Some (λ (l : Line). same n l.name) tables.lines line no_line found in
     (within, sym (same_is n (line_at tables line).name here))
 
+all_own : (tables : Tables) (line : ℕ) (entries : List StationData) → All (AreKnown tables.groups) entries → list_all has_own_indexes entries ≡ true
+    → All (HasOwnGroups tables) (stations_from tables.groups line entries)
+all_own tables line [] known own = All-nil (HasOwnGroups tables)
+all_own tables line (entry ∷ entries) known own =
+    let both = and_parts (has_own_indexes entry) (list_all has_own_indexes entries) own in
+    All-cons (HasOwnGroups tables) (station_from tables.groups line entry) (stations_from tables.groups (line + length entry.lines) entries)
+    (own_groups tables line entry (All-head (AreKnown tables.groups) entry entries known) both.0)
+    (all_own tables (line + length entry.lines) entries (All-tail (AreKnown tables.groups) entry entries known) both.1)
+
 -- the facts of a file that is built
 module _ (file : FileData) (used : Used) (fit : IsFit file.stations) (some : 0 < length file.stations)
-    (limits : AreLimits file.segment_limit file.journal) (once : with_stations 0 0 file.stations nothing_used ≡ Ok used) where
-  entries : List StationEntry
+    (limits : AreLimits file.segment_limit file.journal) (once : with_stations 0 0 file.stations nothing_used ≡ Ok used)
+    (own : list_all has_own_indexes file.stations ≡ true) where
+  entries : List StationData
   entries = file.stations
-
-  even : AllEven file.stations
-  even = even_from file.stations fit.each
 
   nothing_agrees : Agrees [] [] [] nothing_used
   nothing_agrees = record {
@@ -339,8 +340,8 @@ module _ (file : FileData) (used : Used) (fit : IsFit file.stations) (some : 0 <
       (map own_of (tables_of file).lines) used
   unfolding tables_of
   all_agree =
-      rw (stations_from-addresses (mentions [] file.stations) 0 file.stations, lines_from-names 0 file.stations even, lines_from-owns 0 file.stations even)
-      (stations_agree file.stations [] [] [] nothing_used used 0 0 refl refl refl even nothing_agrees once)
+      rw (stations_from-addresses (mentions [] file.stations) 0 file.stations, lines_from-names 0 file.stations, lines_from-owns 0 file.stations)
+      (stations_agree file.stations [] [] [] nothing_used used 0 0 refl refl refl nothing_agrees once)
 
   pub built_targets : (a : List ℕ) → lookup (same a) used.targets ≡ target_of (tables_of file) a
   built_targets = targets_agree (tables_of file) used all_agree
@@ -352,7 +353,7 @@ module _ (file : FileData) (used : Used) (fit : IsFit file.stations) (some : 0 <
       → (station_of (tables_of file) line < station_count (tables_of file)) × Lists (tables_of file) (station_of (tables_of file) line) line
   unfolding tables_of Placed
   built_placed line within =
-      let (k, below, station, held) = placed (mentions [] file.stations) 0 0 file.stations even line within in
+      let (k, below, station, held) = placed (mentions [] file.stations) 0 0 file.stations line within in
       let same_station : station_of (tables_of file) line ≡ k = station ∙ omega arith in
       let same_line : 0 + line ≡ line = omega arith in
       rw same_station (
@@ -365,33 +366,35 @@ module _ (file : FileData) (used : Used) (fit : IsFit file.stations) (some : 0 <
   unfolding tables_of Owned
   built_own station line within held =
       let below : station < length file.stations = omega (arith, within, stations_from-length (mentions [] file.stations) 0 file.stations) in
-      let (l, is, inside, at) = owned (mentions [] file.stations) 0 0 file.stations even station line below held in
+      let (l, is, inside, at) = owned (mentions [] file.stations) 0 0 file.stations station line below held in
       let same_line : l ≡ line = omega (arith, is) in
       subst (λ l. (l < line_count (tables_of file)) × (station_of (tables_of file) l ≡ station)) same_line (inside, at ∙ omega arith)
 
-  at_least_one : (entries : List StationEntry) → 0 < length entries → AllEven entries → 0 < line_total entries
-  unfolding AllEven
-  at_least_one [] none even = absurd (omega arith)
-  at_least_one (entry ∷ entries) here even =
-      omega (arith, even.0.some, sum_by-cons (λ (station : StationEntry). length station.lines.names) entry entries)
+  at_least_one : (entries : List StationData) → 0 < length entries → All IsFitStation entries → 0 < line_total entries
+  at_least_one [] none each = absurd (omega arith)
+  at_least_one (entry ∷ entries) here each =
+      omega (arith, (All-head IsFitStation entry entries each).entry.some, sum_by-cons (λ (station : StationData). length station.lines) entry entries)
 
-  built_spelled : (line : ℕ) → line < line_count (tables_of file) → IsTrue (is_line_name (line_at (tables_of file) line).name)
+  built_line : (line : ℕ) → line < line_count (tables_of file) → IsLine (line_at (tables_of file) line)
   unfolding tables_of
-  built_spelled line within =
-      let names = map (λ (l : Line). l.name) (lines_from 0 file.stations) in
-      let inside : line < length names = omega (arith, within, length-map (lines_from 0 file.stations) (λ (l : Line). l.name)) in
-      let all : All (λ name. IsTrue (is_line_name name)) names = rw (lines_from-names 0 file.stations even) (spelled_names file.stations fit.each) in
-      rw (get_or-shown (λ (l : Line). l.name) (lines_from 0 file.stations) line no_line) at (all line [] inside)
+  built_line line within = all_lines 0 file.stations fit.each line no_line within
 
   built_indexes : (station : ℕ) → station < station_count (tables_of file) → HasShortIndexes (station_at (tables_of file) station)
   unfolding tables_of
-  built_indexes station within = all_short (mentions [] file.stations) 0 file.stations fit.each station no_station within
+  built_indexes station within =
+      all_built {P = IsFitStation} HasShortIndexes (mentions [] file.stations) 0 file.stations
+      (λ line entry is. short_indexes (mentions [] file.stations) entry.groups is.entry.groups) fit.each station no_station within
+
+  built_groups : (station : ℕ) → station < station_count (tables_of file) → HasOwnGroups (tables_of file) (station_at (tables_of file) station)
+  unfolding tables_of
+  built_groups station within =
+      all_own (tables_of file) 0 file.stations (all_known file.stations) own station no_station within
 
   pub built_sound : IsSound (tables_of file)
   unfolding tables_of
   built_sound = record {
-    some_line = omega (arith, lines_from-length 0 file.stations even, at_least_one file.stations some even);
-    few_lines = omega (arith, lines_from-length 0 file.stations even, fit.lines);
+    some_line = omega (arith, lines_from-length 0 file.stations, at_least_one file.stations some fit.each);
+    few_lines = omega (arith, lines_from-length 0 file.stations, fit.lines);
     few_stations = omega (arith, stations_from-length (mentions [] file.stations) 0 file.stations, fit.few);
     placed = λ line within. (built_placed line within).0;
     listed = λ line within. (built_placed line within).1;
@@ -403,29 +406,33 @@ module _ (file : FileData) (used : Used) (fit : IsFit file.stations) (some : 0 <
     address_held = leads_held (tables_of file);
     name_held = name_held (tables_of file);
     indexes = built_indexes;
+    own_groups = built_groups;
+    names_of_groups = mentions_once file.stations;
+    ports = λ line within. (built_line line within).1;
+    ports_once = line_ports_once 0 file.stations (all_once file.stations used once);
     limits = limits;
-    spelled = built_spelled;
+    spelled = λ line within. (built_line line within).0;
   }
 
 -- what a `Subs` of such a file keeps
 pub built_keeps : (inside : Inside) (file : FileData) (used : Used) → IsFit file.stations → 0 < length file.stations
-    → AreLimits file.segment_limit file.journal → with_stations 0 0 file.stations nothing_used ≡ Ok used → tables inside ≡ tables_of file
+    → AreLimits file.segment_limit file.journal → with_stations 0 0 file.stations nothing_used ≡ Ok used
+    → list_all has_own_indexes file.stations ≡ true → tables inside ≡ tables_of file
     → inside.targets.entries ≡ used.targets → inside.names.entries ≡ used.names
-    → inside.groups ≡ group_count (tables inside) → Keeps inside
-built_keeps inside file used fit some limits once is targets names groups = record {
-  sound = subst IsSound (sym is) (built_sound file used fit some limits once);
-  targets = λ a. ap (lookup (same a)) targets ∙ built_targets file used fit some limits once a ∙ ap (λ t. target_of t a) (sym is);
-  names = λ n. ap (lookup (same n)) names ∙ built_names file used fit some limits once n ∙ ap (λ t. line_named_of t n) (sym is);
-  groups = groups;
+    → Keeps inside
+built_keeps inside file used fit some limits once own is targets names = record {
+  sound = subst IsSound (sym is) (built_sound file used fit some limits once own);
+  targets = λ a. ap (lookup (same a)) targets ∙ built_targets file used fit some limits once own a ∙ ap (λ t. target_of t a) (sym is);
+  names = λ n. ap (lookup (same n)) names ∙ built_names file used fit some limits once own n ∙ ap (λ t. line_named_of t n) (sym is);
 }
 
 -- the tables that were built of the parts of a file
-pub built_tables : (file : FileData) (limit journal : ℕ) (host : List ℕ) (entries first second third : List StationEntry)
+pub built_tables : (file : FileData) (limit journal : ℕ) (host : List ℕ) (entries first second third : List StationData)
     (known : List (List ℕ)) (stations : List Station) (lines : List Line)
     → record { segment_limit = limit; journal = journal; host = host; stations = entries } ≡ file
     → first ≡ entries → known ≡ mentions [] first → second ≡ entries → stations ≡ stations_from known 0 second
     → third ≡ entries → lines ≡ lines_from 0 third
-    → record { stations = stations; lines = lines; segment_limit = limit; journal = journal; host = host } ≡ tables_of file
+    → record { stations = stations; lines = lines; groups = known; segment_limit = limit; journal = journal; host = host } ≡ tables_of file
 unfolding tables_of
 built_tables file limit journal host entries first second third known stations lines is a names b these c those =
     rw (← is, these, those, names, a, b, c)

@@ -1,24 +1,28 @@
 -- The number of groups that is told: that of the different names which the file gives to groups.
-use Rattle.std.proofs.Common.{◌≡◌, ℕ, ◌+◌, ◌<◌, ◌≤◌, List, [], ◌∷◌, ◌++◌, Bool, true, false, cond, ◌||◌, None, Some, max, length, map, fold, refl, sym, ap, ◌∙◌, inl, inr, arith, append_assoc, append-nil, length-append}
-use Rattle.std.specs.Prelude.{unwrap_or, All}
+use Rattle.std.proofs.Common.{◌≡◌, ℕ, ◌<◌, List, [], ◌∷◌, Bool, true, false, not, ◌&&◌, ◌||◌, inl, inr, All, Contains, length, map, fold, get_or, refl, sym, ap, subst, ◌∙◌, arith}
 use Rattle.std.specs.Cmp.{IsEquivalence}
 use Rattle.std.specs.Cmp.Lexicographic.{nat_list_eq_equiv}
 use Rattle.std.specs.List.{position_or_len, list_any, IsDistinct}
+use Rattle.std.specs.Prelude.{nat_eq}
 use Rattle.std.specs.Set.{is_member, distinct_count}
 use Rattle.std.proofs.Math.Bool.{or_assoc}
-use Rattle.std.proofs.Math.Nat.{max-eq_left, max-eq_right}
-use Rattle.std.proofs.lemmas.Bool.{cases_Bool, lt-ltb}
-use Rattle.std.proofs.lemmas.List.Elements.{All-head, All-tail}
+use Rattle.std.proofs.lemmas.Bool.{cases_Bool, eq-eqb, eqb-true, and_parts, or_left, or_right, or_parts}
+use Rattle.std.proofs.lemmas.List.Elements.{All-head, All-tail, All-nil, All-cons}
 use Rattle.std.proofs.lemmas.List.Folds.{list_any-append}
+use Rattle.std.proofs.lemmas.List.Sums.{passes_at_first}
 use Rattle.std.proofs.lemmas.Map.Keys.{IsDistinct-push}
 use Rattle.std.proofs.lemmas.Map.Made.{length-from_keys}
-use Rattle.xp_file.specs.declared.entry.StationEntry.{StationEntry}
+use Rattle.xp_file.specs.declared.entry.GroupEntry.{GroupEntry}
+use Rattle.xp_file.specs.Entries.{StationData}
 use Rattle.xp_file.specs.File.{FileData}
 use Rattle.xp_file.specs.Name.{same}
 use Rattle.xp_subs.specs.declared.station.Membership.{Membership}
-use Rattle.xp_subs.specs.Built.{mention, mentions, group_number, membership_list, memberships_of, stations_from, tables_of, named_groups}
-use Rattle.xp_subs.specs.Fit.{IsFit, IsFitStation}
-use Rattle.xp_subs.specs.Tables.{groups_among, group_count}
+use Rattle.xp_subs.specs.Built.{mention, mentions, group_names, group_number, IsKnown, AreKnown, memberships_of, station_from, tables_of, named_groups}
+use Rattle.xp_subs.specs.Passes.{all_differ, same_group, same_index, has_own_indexes}
+use Rattle.xp_subs.specs.Sound.{HasOwnGroups}
+use Rattle.xp_subs.specs.Tables.{Tables, group_count}
+use Rattle.xp_subs.specs.Uses.{Once}
+use Rattle.xp_subs.proofs.OnceLemmas.{in_none, in_front, in_rest, in_cases, once_none, once_cons, once_distinct}
 use Rattle.xp_subs.proofs.TableLemmas.{same_is, same-itself}
 
 same_laws : IsEquivalence same
@@ -39,10 +43,10 @@ fold_distinct : (names known : List (List ℕ)) → IsDistinct same known → Is
 fold_distinct [] known apart = apart
 fold_distinct (name ∷ names) known apart = fold_distinct names (mention known name) (mention_distinct known name apart)
 
-mentions_distinct : (entries : List StationEntry) (known : List (List ℕ)) → IsDistinct same known → IsDistinct same (mentions known entries)
+mentions_distinct : (entries : List StationData) (known : List (List ℕ)) → IsDistinct same known → IsDistinct same (mentions known entries)
 mentions_distinct [] known apart = apart
 mentions_distinct (entry ∷ entries) known apart =
-    mentions_distinct entries (fold mention known entry.groups.names) (fold_distinct entry.groups.names known apart)
+    mentions_distinct entries (fold mention known (group_names entry.groups)) (fold_distinct (group_names entry.groups) known apart)
 
 or_true : (a b : Bool) → (b ≡ true → a ≡ true) → a ≡ (a || b)
 or_true true b more = refl
@@ -68,137 +72,157 @@ fold_member (name ∷ names) known q =
     ∙ ap (λ b. b || is_member same names q) (mention_member known name q)
     ∙ or_assoc (is_member same known q) (same q name) (is_member same names q)
 
-mentions_member : (entries : List StationEntry) (known : List (List ℕ)) (q : List ℕ)
+mentions_member : (entries : List StationData) (known : List (List ℕ)) (q : List ℕ)
     → is_member same (mentions known entries) q ≡ (is_member same known q || is_member same (named_groups entries) q)
 mentions_member [] known q = sym (or_none (is_member same known q))
 mentions_member (entry ∷ entries) known q =
-    mentions_member entries (fold mention known entry.groups.names) q
-    ∙ ap (λ b. b || is_member same (named_groups entries) q) (fold_member entry.groups.names known q)
-    ∙ or_assoc (is_member same known q) (is_member same entry.groups.names q) (is_member same (named_groups entries) q)
-    ∙ ap (λ b. is_member same known q || b) (sym (list_any-append (same q) entry.groups.names (named_groups entries)))
+    mentions_member entries (fold mention known (group_names entry.groups)) q
+    ∙ ap (λ b. b || is_member same (named_groups entries) q) (fold_member (group_names entry.groups) known q)
+    ∙ or_assoc (is_member same known q) (is_member same (group_names entry.groups) q) (is_member same (named_groups entries) q)
+    ∙ ap (λ b. is_member same known q || b) (sym (list_any-append (same q) (group_names entry.groups) (named_groups entries)))
 
 none_distinct : IsDistinct same []
 unfolding IsDistinct
 none_distinct = tt
 
-mentions_counted : (entries : List StationEntry) → length (mentions [] entries) ≡ distinct_count same (named_groups entries)
+mentions_counted : (entries : List StationData) → length (mentions [] entries) ≡ distinct_count same (named_groups entries)
 mentions_counted entries =
     length-from_keys same_laws (mentions [] entries) (named_groups entries) (mentions_distinct entries [] none_distinct) (λ q. mentions_member entries [] q)
 
--- the place of a name in a list that goes on
-placed_within : {X : Type 0} (p : X → Bool) (xs ys : List X) → list_any p xs ≡ true → position_or_len p (xs ++ ys) < length xs
-placed_within p [] ys held = absurd (true_is_false (sym held))
-placed_within p (x ∷ xs) ys held =
+pub groups_counted : (file : FileData) → group_count (tables_of file) ≡ distinct_count same (named_groups file.stations)
+unfolding tables_of
+groups_counted file = mentions_counted file.stations
+
+-- no name is mentioned twice
+pub mentions_once : (entries : List StationData) → Once (mentions [] entries)
+mentions_once entries = once_distinct same same-itself (mentions [] entries) (mentions_distinct entries [] none_distinct)
+
+-- the place of a name that is there
+pub place_within : {X : Type 0} (p : X → Bool) (xs : List X) → list_any p xs ≡ true → position_or_len p xs < length xs
+place_within p [] held = absurd (true_is_false (sym held))
+place_within p (x ∷ xs) held =
     elim (cases_Bool (p x)) [
       | inl here ↦ rw here (omega arith)
-      | inr apart ↦ let more = placed_within p xs ys (rw apart at held) in rw apart (omega arith)
+      | inr apart ↦ let more = place_within p xs (rw apart at held) in rw apart (omega arith)
     ]
 
-placed_after : {X : Type 0} (p : X → Bool) (xs : List X) (y : X) (ys : List X) → list_any p xs ≡ false → p y ≡ true
-    → position_or_len p (xs ++ y ∷ ys) ≡ length xs
-placed_after p [] y ys none passes = rw passes refl
-placed_after p (x ∷ xs) y ys none passes =
-    elim (cases_Bool (p x)) [
-      | inl here ↦ absurd (true_is_false (rw here at none))
-      | inr apart ↦ let more = placed_after p xs y ys (rw apart at none) passes in rw apart (omega (arith, more))
+module _ (known : List (List ℕ)) where
+  groups_known : (groups : List GroupEntry) → ((q : List ℕ) → list_any (same q) (group_names groups) ≡ true → list_any (same q) known ≡ true)
+      → All (IsKnown known) groups
+  groups_known [] holds = All-nil (IsKnown known)
+  groups_known (group ∷ groups) holds =
+      All-cons (IsKnown known) group groups
+      (place_within (same group.name) known (holds group.name (rw (same-itself group.name) refl)))
+      (groups_known groups (λ q here. holds q (or_right (same q group.name) (list_any (same q) (group_names groups)) here)))
+
+  stations_known : (entries : List StationData) → ((q : List ℕ) → list_any (same q) (named_groups entries) ≡ true → list_any (same q) known ≡ true)
+      → All (AreKnown known) entries
+  stations_known [] holds = All-nil (AreKnown known)
+  stations_known (entry ∷ entries) holds =
+      All-cons (AreKnown known) entry entries
+      (groups_known entry.groups (λ q here. holds q
+      (list_any-append (same q) (group_names entry.groups) (named_groups entries)
+      ∙ or_left (list_any (same q) (group_names entry.groups)) (list_any (same q) (named_groups entries)) here)))
+      (stations_known entries (λ q here. holds q
+      (list_any-append (same q) (group_names entry.groups) (named_groups entries)
+      ∙ or_right (list_any (same q) (group_names entry.groups)) (list_any (same q) (named_groups entries)) here)))
+
+-- each group that a station names is among those mentioned
+pub all_known : (entries : List StationData) → All (AreKnown (mentions [] entries)) entries
+all_known entries = stations_known (mentions [] entries) entries (λ q here. mentions_member entries [] q ∙ here)
+
+not_true : (b : Bool) → not b ≡ true → b ≡ false
+not_true true e = absurd (true_is_false (sym e))
+not_true false e = refl
+
+module _ (known : List (List ℕ)) where
+  -- equal numbers are equal names
+  same_number : (a b : GroupEntry) → IsKnown known a → IsKnown known b → group_number known a.name ≡ group_number known b.name → a.name ≡ b.name
+  same_number a b first second is =
+      let one = same_is a.name _ (passes_at_first (same a.name) known [] first) in
+      let other = same_is b.name _ (passes_at_first (same b.name) known [] second) in
+      one ∙ ap (λ n. get_or known n []) is ∙ sym other
+
+  number_not_there : (group : GroupEntry) (others : List GroupEntry) → IsKnown known group → All (IsKnown known) others
+      → list_any (λ y. same_group y group) others ≡ false
+      → Contains (map (λ (m : Membership). m.group) (memberships_of known others)) (group_number known group.name) → ⊥
+  number_not_there group [] is_known all none here = in_none (group_number known group.name) here
+  number_not_there group (other ∷ others) is_known all none here =
+      elim (in_cases (group_number known other.name) (group_number known group.name) (map (λ (m : Membership). m.group) (memberships_of known others)) here) [
+        | inl is ↦
+            let alike = same_number other group (All-head (IsKnown known) other others all) is_known is in
+            let yes : same other.name group.name ≡ true = ap (same other.name) (sym alike) ∙ same-itself other.name in
+            let no = (or_parts (same_group other group) (list_any (λ y. same_group y group) others) none).0 in
+            true_is_false (sym yes ∙ no)
+        | inr rest ↦
+            number_not_there group others is_known (All-tail (IsKnown known) other others all)
+            (or_parts (same_group other group) (list_any (λ y. same_group y group) others) none).1 rest
+      ]
+
+  pub numbers_once : (groups : List GroupEntry) → All (IsKnown known) groups → all_differ same_group groups ≡ true
+      → Once (map (λ (m : Membership). m.group) (memberships_of known groups))
+  numbers_once [] all apart = once_none
+  numbers_once (group ∷ groups) all apart =
+      let both = and_parts (not (list_any (λ y. same_group y group) groups)) (all_differ same_group groups) apart in
+      let rest = All-tail (IsKnown known) group groups all in
+      once_cons (group_number known group.name) (map (λ (m : Membership). m.group) (memberships_of known groups))
+      (λ here. number_not_there group groups (All-head (IsKnown known) group groups all) rest (not_true (list_any (λ y. same_group y group) groups) both.0) here)
+      (numbers_once groups rest both.1)
+
+-- the same of the indexes
+index_not_there : (known : List (List ℕ)) (group : GroupEntry) (others : List GroupEntry) → list_any (λ y. same_index y group) others ≡ false
+    → Contains (map (λ (m : Membership). m.index) (memberships_of known others)) group.index → ⊥
+index_not_there known group [] none here = in_none group.index here
+index_not_there known group (other ∷ others) none here =
+    let parts = or_parts (same_index other group) (list_any (λ y. same_index y group) others) none in
+    elim (in_cases other.index group.index (map (λ (m : Membership). m.index) (memberships_of known others)) here) [
+      | inl is ↦
+          let yes : nat_eq other.index group.index ≡ true = eq-eqb other.index group.index is in
+          true_is_false (sym yes ∙ parts.0)
+      | inr rest ↦ index_not_there known group others parts.1 rest
     ]
 
-number_is : (known : List (List ℕ)) (name : List ℕ) → position_or_len (same name) known < length known
-    → group_number known name ≡ position_or_len (same name) known
-number_is known name within =
-    ap (λ b. unwrap_or (cond b (Some (position_or_len (same name) known)) None) 0) (lt-ltb (position_or_len (same name) known) (length known) within)
+pub indexes_once : (known : List (List ℕ)) (groups : List GroupEntry) → all_differ same_index groups ≡ true
+    → Once (map (λ (m : Membership). m.index) (memberships_of known groups))
+indexes_once known [] apart = once_none
+indexes_once known (group ∷ groups) apart =
+    let both = and_parts (not (list_any (λ y. same_index y group) groups)) (all_differ same_index groups) apart in
+    once_cons group.index (map (λ (m : Membership). m.index) (memberships_of known groups))
+    (λ here. index_not_there known group groups (not_true (list_any (λ y. same_index y group) groups) both.0) here)
+    (indexes_once known groups both.1)
 
--- the numbers reach just as far as the names that are known
-reached : (known more : List (List ℕ)) (name : List ℕ) → max (length known) (group_number (mention known name ++ more) name + 1) ≡ length (mention known name)
-reached known more name =
-    elim (cases_Bool (list_any (same name) known)) [
+-- an index that is found is one of them
+pub index_held : (known : List (List ℕ)) (groups : List GroupEntry) (index : ℕ) → list_any (λ (group : GroupEntry). nat_eq group.index index) groups ≡ true
+    → Contains (map (λ (m : Membership). m.index) (memberships_of known groups)) index
+index_held known [] index held = absurd (true_is_false (sym held))
+index_held known (group ∷ groups) index held =
+    elim (cases_Bool (nat_eq group.index index)) [
       | inl here ↦
-          let placed = placed_within (same name) known more here in
-          let within : position_or_len (same name) (known ++ more) < length (known ++ more) = omega (arith, placed, length-append known more) in
-          let is = number_is (known ++ more) name within in
-          let below : group_number (known ++ more) name + 1 ≤ length known = omega (arith, placed, is) in
-          rw here (max-eq_left below)
-      | inr absent ↦
-          let moved : known ++ name ∷ [] ++ more ≡ known ++ name ∷ more = append_assoc known (name ∷ []) more in
-          let placed = placed_after (same name) known name more absent (same-itself name) in
-          let within : position_or_len (same name) (known ++ name ∷ more) < length (known ++ name ∷ more) = omega (arith, placed, length-append known (name ∷ more)) in
-          let is : group_number (known ++ name ∷ [] ++ more) name ≡ length known = ap (λ l. group_number l name) moved ∙ number_is (known ++ name ∷ more) name within ∙ placed in
-          let above : length known ≤ group_number (known ++ name ∷ [] ++ more) name + 1 = omega (arith, is) in
-          let last : group_number (known ++ name ∷ [] ++ more) name + 1 ≡ length (known ++ name ∷ []) = omega (arith, is, length-append known (name ∷ [])) in
-          rw absent (max-eq_right above ∙ last)
+          let is : group.index ≡ index = eqb-true group.index index here in
+          subst (Contains (map (λ (m : Membership). m.index) (memberships_of known (group ∷ groups)))) is
+          (in_front group.index (map (λ (m : Membership). m.index) (memberships_of known groups)))
+      | inr apart ↦
+          in_rest group.index index (map (λ (m : Membership). m.index) (memberships_of known groups)) (index_held known groups index (rw apart at held))
     ]
 
--- what is known stays in front
-Extends : List (List ℕ) → List (List ℕ) → Type 0
-Extends known longer = (more : List (List ℕ)) × (longer ≡ known ++ more)
+-- each number is that of a name
+pub numbers_named : (known : List (List ℕ)) (groups : List GroupEntry) → All (IsKnown known) groups
+    → All (λ n. n < length known) (map (λ (m : Membership). m.group) (memberships_of known groups))
+numbers_named known [] all = All-nil (λ n. n < length known)
+numbers_named known (group ∷ groups) all =
+    All-cons (λ n. n < length known) (group_number known group.name) (map (λ (m : Membership). m.group) (memberships_of known groups))
+    (All-head (IsKnown known) group groups all) (numbers_named known groups (All-tail (IsKnown known) group groups all))
 
-further : (known longer longest : List (List ℕ)) → Extends known longer → Extends longer longest → Extends known longest
-unfolding Extends
-further known longer longest (more, is) (rest, this) = (more ++ rest, this ∙ ap (λ l. l ++ rest) is ∙ append_assoc known more rest)
-
-mention_extends : (known : List (List ℕ)) (name : List ℕ) → Extends known (mention known name)
-unfolding Extends
-mention_extends known name =
-    elim (cases_Bool (list_any (same name) known)) [
-      | inl here ↦ ([], rw here (sym (append-nil known)))
-      | inr absent ↦ (name ∷ [], rw absent refl)
-    ]
-
-fold_extends : (names known : List (List ℕ)) → Extends known (fold mention known names)
-unfolding Extends
-fold_extends [] known = ([], sym (append-nil known))
-fold_extends (name ∷ names) known =
-    further known (mention known name) (fold mention (mention known name) names) (mention_extends known name) (fold_extends names (mention known name))
-
-mentions_extends : (entries : List StationEntry) (known : List (List ℕ)) → Extends known (mentions known entries)
-unfolding Extends
-mentions_extends [] known = ([], sym (append-nil known))
-mentions_extends (entry ∷ entries) known =
-    let names = entry.groups.names in
-    further known (fold mention known names) (mentions (fold mention known names) entries) (fold_extends names known) (mentions_extends entries (fold mention known names))
-
-names_reached : (names known final : List (List ℕ)) → Extends (fold mention known names) final
-    → fold max (length known) (map (λ name. group_number final name + 1) names) ≡ length (fold mention known names)
-unfolding Extends
-names_reached [] known final extends = refl
-names_reached (name ∷ names) known final extends =
-    let (more, is) = further (mention known name) (fold mention (mention known name) names) final (fold_extends names (mention known name)) extends in
-    let here : max (length known) (group_number final name + 1) ≡ length (mention known name) =
-    ap (λ l. max (length known) (group_number l name + 1)) is ∙ reached known more name in
-    ap (λ most. fold max most (map (λ name. group_number final name + 1) names)) here ∙ names_reached names (mention known name) final extends
-
--- the numbers of a station's memberships are those of its groups' names
-numbers_held : (known names : List (List ℕ)) (indexes : List ℕ) (outgoing incoming : List Bool)
-    → length indexes ≡ length names → length outgoing ≡ length names → length incoming ≡ length names
-    → map (λ (held : Membership). held.group + 1) (membership_list known names indexes outgoing incoming) ≡ map (λ name. group_number known name + 1) names
-numbers_held known [] indexes outgoing incoming a b c = refl
-numbers_held known (name ∷ names) [] outgoing incoming a b c = absurd (omega (arith, a))
-numbers_held known (name ∷ names) (i ∷ indexes) [] incoming a b c = absurd (omega (arith, b))
-numbers_held known (name ∷ names) (i ∷ indexes) (o ∷ outgoing) [] a b c = absurd (omega (arith, c))
-numbers_held known (name ∷ names) (i ∷ indexes) (o ∷ outgoing) (p ∷ incoming) a b c =
-    ap (λ l. (group_number known name + 1) ∷ l) (numbers_held known names indexes outgoing incoming (omega (arith, a)) (omega (arith, b)) (omega (arith, c)))
-
-stations_reached : (entries : List StationEntry) (line : ℕ) (known final : List (List ℕ)) → All IsFitStation entries → Extends (mentions known entries) final
-    → groups_among (length known) (stations_from final line entries) ≡ length (mentions known entries)
-stations_reached [] line known final fit extends = refl
-stations_reached (entry ∷ entries) line known final fit extends =
-    let groups = entry.groups in
-    let even = (All-head IsFitStation entry entries fit).even_groups in
-    let next = fold mention known groups.names in
-    let held = numbers_held final groups.names groups.indexes groups.outgoing_barred groups.incoming_barred even.indexes even.outgoing_barred even.incoming_barred in
-    let here : fold max (length known) (map (λ (held : Membership). held.group + 1) (memberships_of final groups)) ≡ length next =
-    ap (fold max (length known)) held ∙ names_reached groups.names known final (further next (mentions next entries) final (mentions_extends entries next) extends) in
-    ap (λ least. groups_among least (stations_from final (line + length entry.lines.names) entries)) here
-    ∙ stations_reached entries (line + length entry.lines.names) next final (All-tail IsFitStation entry entries fit) extends
-
-itself : (known : List (List ℕ)) → Extends known known
-unfolding Extends
-itself known = ([], sym (append-nil known))
-
--- the groups are as many as the names that are known
-pub all_reached : (file : FileData) → IsFit file.stations → group_count (tables_of file) ≡ length (mentions [] file.stations)
-unfolding tables_of
-all_reached file fit = stations_reached file.stations 0 [] (mentions [] file.stations) fit.each (itself (mentions [] file.stations))
-
-pub groups_counted : (file : FileData) → IsFit file.stations → group_count (tables_of file) ≡ distinct_count same (named_groups file.stations)
-groups_counted file fit = all_reached file fit ∙ mentions_counted file.stations
+-- a station that is built has its groups as its own
+pub own_groups : (tables : Tables) (line : ℕ) (entry : StationData) → AreKnown tables.groups entry → has_own_indexes entry ≡ true
+    → HasOwnGroups tables (station_from tables.groups line entry)
+own_groups tables line entry all own =
+    let known = tables.groups in
+    let (apart, third) = and_parts (all_differ same_index entry.groups && all_differ same_group entry.groups) _ own in
+    let (indexes, names) = and_parts (all_differ same_index entry.groups) (all_differ same_group entry.groups) apart in
+    record {
+      indexes_once = indexes_once known entry.groups indexes;
+      groups_once = numbers_once known entry.groups all names;
+      groups_named = numbers_named known entry.groups all;
+      preferential = λ index is. index_held known entry.groups index (rw is at third);
+    }

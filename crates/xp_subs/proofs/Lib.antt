@@ -1,9 +1,13 @@
 pub mod Found
+pub mod OnceLemmas
 pub mod TableLemmas
 pub mod UsedLemmas
 pub mod FitLemmas
 pub mod PositionLemmas
 pub mod AgreeLemmas
+pub mod UsesLemmas
 pub mod EntersLemmas
-pub mod BuiltLemmas
 pub mod GroupLemmas
+pub mod BuiltLemmas
+pub mod ReadLemmas
+pub mod LawLemmas

@@ -4,3 +4,5 @@ pub mod Kept
 pub mod Passes
 pub mod Sound
 pub mod Tables
+pub mod Uses
+pub mod Laws

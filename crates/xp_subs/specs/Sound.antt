@@ -1,11 +1,13 @@
 -- What holds of all subscription tables.
-use Rattle.std.specs.Prelude.{◌≡◌, ℕ, ◌<◌, ◌≤◌, List, Option, None, Some, Contains, All, IsTrue}
+use Rattle.std.specs.Prelude.{◌≡◌, ℕ, ◌<◌, ◌≤◌, List, Option, None, Some, Contains, All, IsTrue, map}
 use Rattle.xp_file.specs.Entries.{AreLimits}
+use Rattle.xp_subs.specs.declared.line.Line.{Line}
 use Rattle.xp_subs.specs.declared.station.Membership.{Membership}
 use Rattle.xp_subs.specs.declared.station.Station.{Station}
 use Rattle.xp_subs.specs.declared.target.Target.{Target}
 use Rattle.xp_file.specs.Name.{is_line_name}
-use Rattle.xp_subs.specs.Tables.{Tables, station_count, line_count, station_at, line_at, station_of, target_of, line_named_of}
+use Rattle.xp_subs.specs.Tables.{Tables, station_count, line_count, station_at, line_at, station_of, target_of, line_named_of, group_count}
+use Rattle.xp_subs.specs.Uses.{Once}
 
 -- the line is one of the station's
 abbrev pub Lists : Tables → ℕ → ℕ → Type 0
@@ -28,6 +30,24 @@ HasAddress tables target address = one target.line where
 -- a station selects each of its groups by a number of at most four digits
 abbrev pub HasShortIndexes : Station → Type 0
 HasShortIndexes station = All (λ (membership : Membership). membership.index ≤ 9_999) station.memberships.items
+
+-- the indexes by which it selects its groups, and the groups
+abbrev pub indexes_of : Station → List ℕ
+indexes_of station = map (λ (membership : Membership). membership.index) station.memberships.items
+
+abbrev pub groups_of : Station → List ℕ
+groups_of station = map (λ (membership : Membership). membership.group) station.memberships.items
+
+-- it has no index and no group twice, each group has a name, and its preferential index is one of its indexes
+pub record HasOwnGroups (tables : Tables) (station : Station) : Type 0 where
+  pub indexes_once : Once (indexes_of station)
+  pub groups_once : Once (groups_of station)
+  pub groups_named : All (λ group. group < group_count tables) (groups_of station)
+  pub preferential : (index : ℕ) → station.preferential ≡ Some index → Contains (indexes_of station) index
+
+-- a port that there is
+abbrev pub IsPort : ℕ → Type 0
+IsPort port = (1 ≤ port) × (port ≤ 65_535)
 
 pub record IsSound (tables : Tables) : Type 0 where
   -- at least one line, at most 512, in at most 256 stations
@@ -53,6 +73,12 @@ pub record IsSound (tables : Tables) : Type 0 where
   pub name_held : (name : List ℕ) (line : ℕ) → line_named_of tables name ≡ Some line
       → (line < line_count tables) × ((line_at tables line).name ≡ name)
   pub indexes : (station : ℕ) → station < station_count tables → HasShortIndexes (station_at tables station)
+  -- of its own groups a station has each once; no two groups have one name, so that equal numbers are equal names
+  pub own_groups : (station : ℕ) → station < station_count tables → HasOwnGroups tables (station_at tables station)
+  pub names_of_groups : Once tables.groups
+  -- no two lines have one port
+  pub ports : (line : ℕ) → line < line_count tables → IsPort (line_at tables line).port
+  pub ports_once : Once (map (λ (line : Line). line.port) tables.lines)
   -- the limits to segments and entries are in their ranges
   pub limits : AreLimits tables.segment_limit tables.journal
   -- each name is one that a line may have

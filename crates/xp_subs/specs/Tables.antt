@@ -1,6 +1,6 @@
 -- The subscription tables, and what is read off them.
 pub use Rattle.xp_file.specs.Name.{same}
-use Rattle.std.specs.Prelude.{ℕ, ◌+◌, max, List, [], ◌∷◌, Bool, false, Option, None, Some, unwrap_or, map, fold, length, position, slice_index_or}
+use Rattle.std.specs.Prelude.{ℕ, List, [], Bool, false, Option, None, Some, unwrap_or, length, position, slice_index_or}
 use Rattle.xp_subs.specs.declared.line.Line.{Line}
 use Rattle.xp_subs.specs.declared.station.Station.{Station}
 use Rattle.xp_subs.specs.declared.target.Target.{Target}
@@ -8,6 +8,8 @@ use Rattle.xp_subs.specs.declared.target.Target.{Target}
 pub record Tables : Type 0 where
   pub stations : List Station
   pub lines : List Line
+  -- the names of the closed user groups, in the order of their numbers
+  pub groups : List (List ℕ)
   pub segment_limit : ℕ
   pub journal : ℕ
   pub host : List ℕ
@@ -84,12 +86,5 @@ target_of tables address =
     (whole_station (position (λ station. same address station.address) tables.stations))
     (one_line tables.lines (position (has_address address) tables.lines))
 
--- one more than the greatest number of a group, and at least so many
-abbrev pub groups_among : ℕ → List Station → ℕ
-groups_among least [] = least
-groups_among least (station ∷ stations) =
-    groups_among (fold max least (map (λ held. held.group + 1) station.memberships.items)) stations
-
--- the groups are numbered from 0
 abbrev pub group_count : Tables → ℕ
-group_count tables = groups_among 0 tables.stations
+group_count tables = length tables.groups

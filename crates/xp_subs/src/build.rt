@@ -1,7 +1,6 @@
 //! The tables that a subscription file sets up.
-ghost use Rattle.std.specs.Prelude.{◌≡◌, ◌≤◌, ◌<◌, ◌+◌, ◌++◌, [], IfOk, OnOk, length, fold};
-ghost use Rattle.xp_file.specs.Entries.{IsEvenLines, IsEvenGroups};
-ghost use Rattle.xp_subs.specs.Built.{numbers, lines_of, lines_from, line_in, mention, mentions, group_number, memberships_of, station_from, stations_from};
+ghost use Rattle.std.specs.Prelude.{◌≡◌, ◌≤◌, ◌<◌, ◌+◌, ◌++◌, [], All, IfOk, OnOk, length, fold};
+ghost use Rattle.xp_subs.specs.Built.{numbers, line_from, lines_of, lines_from, mention, mentions, group_names, group_number, membership_from, memberships_of, station_from, stations_from, IsKnown, AreKnown};
 ghost use Rattle.xp_subs.specs.Fit.{IsFit, IsFitStation};
 
 use crate::limits::{MAX_GROUPS_OF_STATION, MAX_LINES_OF_STATION};
@@ -11,35 +10,35 @@ use crate::{GroupNo, LineNo, StationNo};
 use arrayvec::ArrayVec;
 use indexmap::IndexSet;
 use std::alloc::{AllocError, Global};
-use xp_file::{GroupColumns, GroupName, LineColumns, StationEntry};
+use xp_file::{GroupEntry, LineEntry, Name, StationEntry};
 
 /// The names of the groups, each where it is first mentioned.
 pub(crate) fn group_names(
     alloc: Global,
     entries: &[StationEntry],
-) -> Result<IndexSet<GroupName>, AllocError>
+) -> Result<IndexSet<Name>, AllocError>
     requires { IsFit entries.now }
     ensures names { IfOk result (λ known. known.keys ≡ mentions [] entries.now) }
     ensures few { IfOk result (λ known. length known.keys ≤ 16384) }
 {
     let mut known = IndexSet::new(alloc);
     for entry in entries {
-        mention_all(&mut known, &entry.groups.names)?;
+        mention_all(&mut known, &entry.groups)?;
     }
     Ok(known)
 }
 
-fn mention_all(known: &mut IndexSet<GroupName>, names: &[GroupName]) -> Result<(), AllocError>
-    ensures names { OnOk result (known.new.keys ≡ fold mention known.old.keys names.now) }
-    ensures few { OnOk result (length known.new.keys ≤ length known.old.keys + length names.now) }
+fn mention_all(known: &mut IndexSet<Name>, groups: &[GroupEntry]) -> Result<(), AllocError>
+    ensures names { OnOk result (known.new.keys ≡ fold mention known.old.keys (group_names groups.now)) }
+    ensures few { OnOk result (length known.new.keys ≤ length known.old.keys + length groups.now) }
 {
-    for name in names {
-        mention(known, name)?;
+    for group in groups {
+        mention(known, &group.name)?;
     }
     Ok(())
 }
 
-fn mention(known: &mut IndexSet<GroupName>, name: &GroupName) -> Result<(), AllocError>
+fn mention(known: &mut IndexSet<Name>, name: &Name) -> Result<(), AllocError>
     ensures name { OnOk result (known.new.keys ≡ mention known.old.keys name.now) }
     ensures few { OnOk result (length known.new.keys ≤ length known.old.keys + 1) }
 {
@@ -51,31 +50,33 @@ fn mention(known: &mut IndexSet<GroupName>, name: &GroupName) -> Result<(), Allo
 pub(crate) fn stations(
     alloc: Global,
     entries: &[StationEntry],
-    known: &IndexSet<GroupName>,
+    known: &IndexSet<Name>,
 ) -> Result<Vec<Station>, AllocError>
     requires fit { IsFit entries.now }
     requires known { length known.now.keys ≤ 16384 }
+    requires mentioned { All (AreKnown known.now.keys) entries.now }
     ensures { IfOk result (λ stations. stations.items ≡ stations_from known.now.keys 0 entries.now) }
 {
     let mut stations = Vec::new(alloc);
     let mut first = 0;
     for entry in entries {
         stations.push(station(entry, first, known))?;
-        first += entry.lines.names.len() as LineNo;
+        first += entry.lines.len() as LineNo;
     }
     Ok(stations)
 }
 
-fn station(entry: &StationEntry, first: LineNo, known: &IndexSet<GroupName>) -> Station
+fn station(entry: &StationEntry, first: LineNo, known: &IndexSet<Name>) -> Station
     requires fit { IsFitStation entry.now }
-    requires lines { first + length entry.now.lines.names ≤ 512 }
+    requires lines { first + length entry.now.lines ≤ 512 }
     requires known { length known.now.keys ≤ 16384 }
+    requires mentioned { AreKnown known.now.keys entry.now }
     ensures { result ≡ station_from known.now.keys first entry.now }
 {
     let facilities = entry.facilities;
     Station {
         address: entry.address.copy(),
-        lines: line_numbers(first, entry.lines.names.len()),
+        lines: line_numbers(first, entry.lines.len()),
         outgoing_barred: facilities.outgoing_barred,
         incoming_barred: facilities.incoming_barred,
         reverse_charging: facilities.reverse_charging,
@@ -101,32 +102,41 @@ fn line_numbers(first: LineNo, count: usize) -> ArrayVec<LineNo, MAX_LINES_OF_ST
 }
 
 fn memberships(
-    groups: &GroupColumns,
-    known: &IndexSet<GroupName>,
+    groups: &[GroupEntry],
+    known: &IndexSet<Name>,
 ) -> ArrayVec<Membership, MAX_GROUPS_OF_STATION>
-    requires few { length groups.now.names ≤ 64 }
-    requires even { IsEvenGroups groups.now }
+    requires few { length groups.now ≤ 64 }
     requires known { length known.now.keys ≤ 16384 }
+    requires mentioned { All (IsKnown known.now.keys) groups.now }
     ensures { result.items ≡ memberships_of known.now.keys groups.now }
 {
     let mut memberships = ArrayVec::new();
-    for place in 0..groups.names.len() {
-        memberships.push(Membership {
-            group: group_number(known, &groups.names[place]),
-            index: groups.indexes[place],
-            outgoing_barred: groups.outgoing_barred[place],
-            incoming_barred: groups.incoming_barred[place],
-        });
+    for group in groups {
+        memberships.push(membership(group, known));
     }
     memberships
 }
 
+fn membership(group: &GroupEntry, known: &IndexSet<Name>) -> Membership
+    requires known { length known.now.keys ≤ 16384 }
+    requires mentioned { IsKnown known.now.keys group.now }
+    ensures { result ≡ membership_from known.now.keys group.now }
+{
+    Membership {
+        group: group_number(known, &group.name),
+        index: group.index,
+        outgoing_barred: group.outgoing_barred,
+        incoming_barred: group.incoming_barred,
+    }
+}
+
 /// The place of a group's name among those known, which have it.
-fn group_number(known: &IndexSet<GroupName>, name: &GroupName) -> GroupNo
-    requires { length known.now.keys ≤ 16384 }
+fn group_number(known: &IndexSet<Name>, name: &Name) -> GroupNo
+    requires few { length known.now.keys ≤ 16384 }
+    requires mentioned { group_number known.now.keys name.now < length known.now.keys }
     ensures { result ≡ group_number known.now.keys name.now }
 {
-    known.get_index_of(name).unwrap_or(0) as GroupNo
+    known.get_index_of(name).unwrap() as GroupNo
 }
 
 /// The lines of all stations in order.
@@ -146,28 +156,23 @@ pub(crate) fn lines(alloc: Global, entries: &[StationEntry]) -> Result<Vec<Line>
 fn push_lines(
     lines: &mut Vec<Line>,
     station: StationNo,
-    columns: &LineColumns,
+    entries: &[LineEntry],
 ) -> Result<(), AllocError>
-    requires { IsEvenLines columns.now }
-    ensures { OnOk result (lines.new.items ≡ lines.old.items ++ lines_of station columns.now) }
+    ensures { OnOk result (lines.new.items ≡ lines.old.items ++ lines_of station entries.now) }
 {
-    for place in 0..columns.names.len() {
-        lines.push(line(station, columns, place))?;
+    for entry in entries {
+        lines.push(line(station, entry))?;
     }
     Ok(())
 }
 
-fn line(station: StationNo, columns: &LineColumns, place: usize) -> Line
-    requires within { place < length columns.now.names }
-    requires even { IsEvenLines columns.now }
-    ensures { result ≡ line_in station columns.now place }
+fn line(station: StationNo, entry: &LineEntry) -> Line
+    ensures { result ≡ line_from station entry.now }
 {
     Line {
-        name: columns.names[place].copy(),
-        port: columns.ports[place],
-        address: columns.addresses[place]
-            .as_ref()
-            .map(|address| address.copy()),
+        name: entry.name.copy(),
+        port: entry.port,
+        address: entry.address.as_ref().map(|address| address.copy()),
         station,
     }
 }

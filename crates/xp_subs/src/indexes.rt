@@ -1,9 +1,10 @@
 //! The indexes by which a station selects its groups.
-ghost use Rattle.std.specs.Prelude.{◌≡◌};
-ghost use Rattle.std.specs.List.{list_all};
-ghost use Rattle.xp_subs.specs.Passes.{all_differ, has_own_indexes};
+ghost use Rattle.std.specs.Prelude.{◌≡◌, nat_eq};
+ghost use Rattle.std.specs.List.{list_all, list_any};
+ghost use Rattle.xp_file.specs.Name.{same};
+ghost use Rattle.xp_subs.specs.Passes.{all_differ, same_index, same_group, has_own_indexes};
 
-use xp_file::StationEntry;
+use xp_file::{GroupEntry, Name, StationEntry};
 
 /// Whether no station has an index or a group twice, or a preferential index that is none of its own.
 pub(crate) fn all_have_own_indexes(stations: &[StationEntry]) -> bool
@@ -15,20 +16,43 @@ pub(crate) fn all_have_own_indexes(stations: &[StationEntry]) -> bool
 fn has_own_indexes(station: &StationEntry) -> bool
     ensures { result ≡ has_own_indexes station.now }
 {
-    let groups = &station.groups;
-    all_differ(&groups.indexes)
-        && all_differ(&groups.names)
+    indexes_differ(&station.groups)
+        && names_differ(&station.groups)
         && station
             .preferential
-            .is_none_or(|index| groups.indexes.contains(&index))
+            .is_none_or(|index| has_index(&station.groups, index))
 }
 
-/// Whether no two are equal. A station has few enough groups for a search.
-fn all_differ<T: PartialEq>(items: &[T]) -> bool
-    ensures { result ≡ all_differ T.eq items.now }
+fn has_index(groups: &[GroupEntry], index: u16) -> bool
+    ensures { result ≡ list_any (λ group. nat_eq group.index index) groups.now }
 {
-    for (place, item) in items.iter().enumerate() {
-        if items[place + 1..].contains(item) {
+    groups.iter().any(|group| group.index == index)
+}
+
+/// Whether no two indexes are equal. A station has few enough groups for a search.
+fn indexes_differ(groups: &[GroupEntry]) -> bool
+    ensures { result ≡ all_differ same_index groups.now }
+{
+    for (place, group) in groups.iter().enumerate() {
+        if has_index(&groups[place + 1..], group.index) {
+            return false;
+        }
+    }
+    true
+}
+
+fn has_name(groups: &[GroupEntry], name: &Name) -> bool
+    ensures { result ≡ list_any (λ group. same group.name name.now) groups.now }
+{
+    groups.iter().any(|group| group.name == *name)
+}
+
+/// Whether no two names are equal.
+fn names_differ(groups: &[GroupEntry]) -> bool
+    ensures { result ≡ all_differ same_group groups.now }
+{
+    for (place, group) in groups.iter().enumerate() {
+        if has_name(&groups[place + 1..], &group.name) {
             return false;
         }
     }

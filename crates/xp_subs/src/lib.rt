@@ -3,21 +3,21 @@
 
 mod build;
 mod indexes;
+mod laws;
 mod limits;
 mod line;
 mod read;
 mod station;
 mod subs;
 mod target;
-#[cfg(test)]
-mod tests;
 mod used;
 
+pub use laws::one_answer;
 pub use line::Line;
 pub use station::{Membership, Station};
 pub use subs::Subs;
 pub use target::{Counts, Target};
-pub use xp_file::{Key, LineName, Redirection, SubsFault};
+pub use xp_file::{Facilities, Key, Name, Redirection, SubsFault};
 
 /// The number of a line, from 0 in the file's order.
 pub type LineNo = u16;

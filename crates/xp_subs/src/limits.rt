@@ -31,7 +31,7 @@ fn has_too_many_lines(stations: &[StationEntry]) -> bool
 {
     let mut total = 0;
     for station in stations {
-        total += station.lines.names.len();
+        total += station.lines.len();
         if total > MAX_LINES {
             return true;
         }
@@ -53,9 +53,9 @@ fn first_over(stations: &[StationEntry]) -> Option<Key>
 fn station_over(station: &StationEntry) -> Option<Key>
     ensures { result ≡ station_over station.now }
 {
-    if station.lines.names.len() > MAX_LINES_OF_STATION {
+    if station.lines.len() > MAX_LINES_OF_STATION {
         Some(Key::Line)
-    } else if station.groups.names.len() > MAX_GROUPS_OF_STATION {
+    } else if station.groups.len() > MAX_GROUPS_OF_STATION {
         Some(Key::Group)
     } else {
         None

@@ -1,11 +1,11 @@
 use crate::StationNo;
-use xp_file::LineName;
+use xp_file::Name;
 use xp_packets::Digits;
 
 /// One access line of a station.
 #[derive(Debug, Drop, PartialEq)]
 pub struct Line {
-    pub name: LineName,
+    pub name: Name,
     /// The port on which the exchange listens for this line, 1 to 65,535.
     pub port: u16,
     /// The line's own address, beside its station's.

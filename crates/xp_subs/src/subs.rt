@@ -6,9 +6,9 @@ use crate::line::Line;
 use crate::station::Station;
 use crate::target::{Counts, Target};
 use crate::{LineNo, StationNo};
-use indexmap::IndexMap;
+use indexmap::{IndexMap, IndexSet};
 use std::marker::Model;
-use xp_file::LineName;
+use xp_file::Name;
 use xp_packets::Digits;
 
 /// The subscriptions of an exchange: which stations there are, with which lines, facilities and groups.
@@ -16,12 +16,12 @@ use xp_packets::Digits;
 pub struct Subs {
     pub(crate) stations: Vec<Station>,
     pub(crate) lines: Vec<Line>,
-    pub(crate) groups: usize,
+    pub(crate) groups: IndexSet<Name>,
     pub(crate) segment_limit: u32,
     pub(crate) journal: u32,
     pub(crate) host: String,
     pub(crate) targets: IndexMap<Digits, Target>,
-    pub(crate) names: IndexMap<LineName, LineNo>,
+    pub(crate) names: IndexMap<Name, LineNo>,
 }
 
 impl Model for Subs {
@@ -49,7 +49,7 @@ impl Subs {
         ensures found { result ≡ line_named_of self.now name.now }
         ensures line { IfSome result (λ line. line < line_count self.now) }
     {
-        self.names.get(&LineName::read(name)?).copied()
+        self.names.get(&Name::of_line(name)?).copied()
     }
 
     /// A station with all to which it subscribes.
@@ -116,7 +116,7 @@ impl Subs {
         Counts {
             stations: self.stations.len(),
             lines: self.lines.len(),
-            groups: self.groups,
+            groups: self.groups.len(),
         }
     }
 

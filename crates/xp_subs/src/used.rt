@@ -7,14 +7,14 @@ use crate::{LineNo, StationNo};
 use indexmap::{IndexMap, IndexSet};
 use std::alloc::Global;
 use std::marker::Model;
-use xp_file::{Key, LineName, StationEntry, SubsFault};
+use xp_file::{Key, LineEntry, Name, StationEntry, SubsFault};
 use xp_packets::Digits;
 
 /// What is used so far.
 #[derive(Drop)]
 pub(crate) struct Uses {
     pub(crate) targets: IndexMap<Digits, Target>,
-    pub(crate) names: IndexMap<LineName, LineNo>,
+    pub(crate) names: IndexMap<Name, LineNo>,
     ports: IndexSet<u16>,
 }
 
@@ -54,7 +54,7 @@ impl Uses {
         Ok(())
     }
 
-    fn enter_name(&mut self, name: &LineName, line: LineNo) -> Result<(), SubsFault>
+    fn enter_name(&mut self, name: &Name, line: LineNo) -> Result<(), SubsFault>
         ensures ok { OnOk result (with_name line name.now self.old ≡ Ok self.new) }
         ensures refused { IfErr result (λ fault. fault ≢ OutOfMemory → with_name line name.now self.old ≡ Err fault) }
     {
@@ -74,25 +74,25 @@ impl Uses {
         Ok(())
     }
 
-    fn enter_names(&mut self, first: LineNo, names: &[LineName]) -> Result<(), SubsFault>
-        requires { first + length names.now ≤ 512 }
-        ensures ok { OnOk result (with_names first names.now self.old ≡ Ok self.new) }
-        ensures refused { IfErr result (λ fault. fault ≢ OutOfMemory → with_names first names.now self.old ≡ Err fault) }
+    fn enter_names(&mut self, first: LineNo, lines: &[LineEntry]) -> Result<(), SubsFault>
+        requires { first + length lines.now ≤ 512 }
+        ensures ok { OnOk result (with_names first lines.now self.old ≡ Ok self.new) }
+        ensures refused { IfErr result (λ fault. fault ≢ OutOfMemory → with_names first lines.now self.old ≡ Err fault) }
     {
         let mut line = first;
-        for name in names {
-            self.enter_name(name, line)?;
+        for entry in lines {
+            self.enter_name(&entry.name, line)?;
             line += 1;
         }
         Ok(())
     }
 
-    fn enter_ports(&mut self, ports: &[u16]) -> Result<(), SubsFault>
-        ensures ok { OnOk result (with_ports ports.now self.old ≡ Ok self.new) }
-        ensures refused { IfErr result (λ fault. fault ≢ OutOfMemory → with_ports ports.now self.old ≡ Err fault) }
+    fn enter_ports(&mut self, lines: &[LineEntry]) -> Result<(), SubsFault>
+        ensures ok { OnOk result (with_ports lines.now self.old ≡ Ok self.new) }
+        ensures refused { IfErr result (λ fault. fault ≢ OutOfMemory → with_ports lines.now self.old ≡ Err fault) }
     {
-        for port in ports {
-            self.enter_port(*port)?;
+        for entry in lines {
+            self.enter_port(entry.port)?;
         }
         Ok(())
     }
@@ -101,15 +101,15 @@ impl Uses {
         &mut self,
         station: StationNo,
         first: LineNo,
-        addresses: &[Option<Digits>],
+        lines: &[LineEntry],
     ) -> Result<(), SubsFault>
-        requires { first + length addresses.now ≤ 512 }
-        ensures ok { OnOk result (with_addresses station first addresses.now self.old ≡ Ok self.new) }
-        ensures refused { IfErr result (λ fault. fault ≢ OutOfMemory → with_addresses station first addresses.now self.old ≡ Err fault) }
+        requires { first + length lines.now ≤ 512 }
+        ensures ok { OnOk result (with_addresses station first lines.now self.old ≡ Ok self.new) }
+        ensures refused { IfErr result (λ fault. fault ≢ OutOfMemory → with_addresses station first lines.now self.old ≡ Err fault) }
     {
         let mut line = first;
-        for address in addresses {
-            self.enter_own(station, line, address)?;
+        for entry in lines {
+            self.enter_own(station, line, &entry.address)?;
             line += 1;
         }
         Ok(())
@@ -143,8 +143,7 @@ impl Uses {
         first: LineNo,
         station: &StationEntry,
     ) -> Result<(), SubsFault>
-        requires names { first + length station.now.lines.names ≤ 512 }
-        requires addresses { first + length station.now.lines.addresses ≤ 512 }
+        requires { first + length station.now.lines ≤ 512 }
         ensures ok { OnOk result (with_station number first station.now self.old ≡ Ok self.new) }
         ensures refused { IfErr result (λ fault. fault ≢ OutOfMemory → with_station number first station.now self.old ≡ Err fault) }
     {
@@ -153,9 +152,9 @@ impl Uses {
             line: None,
         };
         self.enter_address(&station.address, whole)?;
-        self.enter_names(first, &station.lines.names)?;
-        self.enter_ports(&station.lines.ports)?;
-        self.enter_addresses(number, first, &station.lines.addresses)
+        self.enter_names(first, &station.lines)?;
+        self.enter_ports(&station.lines)?;
+        self.enter_addresses(number, first, &station.lines)
     }
 
     /// What the stations use, the first refusal where an address, a name or a port is used twice.
@@ -170,7 +169,7 @@ impl Uses {
         for station in stations {
             uses.enter_station(number, line, station)?;
             number += 1;
-            line += station.lines.names.len() as LineNo;
+            line += station.lines.len() as LineNo;
         }
         Ok(uses)
     }

@@ -6,6 +6,3 @@ mod stations;
 
 pub use refusing::Refusing;
 pub use stations::THREE_STATIONS;
-
-#[cfg(test)]
-mod tests;

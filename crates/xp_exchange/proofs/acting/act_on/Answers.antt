@@ -1,5 +1,8 @@
 use Rattle.std.proofs.Common.{◌∙◌, ◌-◌, refl, sym, subst, arith, All, length}
+use Rattle.xp_subs.specs.Tables.{line_count}
 use Rattle.xp_core.specs.Writable.{AreWritable}
+use Rattle.xp_script.specs.Lines.{HasLines}
+use Rattle.xp_exchange.proofs.Named.{run_names}
 use Rattle.xp_exchange.proofs.Steps.{told_step, found_room, stopped, last_pushed, pushed_length}
 use Rattle.xp_exchange.proofs.acting.act_on.Goals as goal
 
@@ -9,12 +12,20 @@ overflow_sub-entries g c = omega (arith, pushed_length _ _ _ (c.history-entries.
 pub bounds-entries-entries : goal.bounds-entries-entries
 bounds-entries-entries g c = omega (arith, pushed_length _ _ _ (c.history-entries.ensures.entries ∙ c.in-Ok.ensures.ok.history))
 
-pub tell-requires : goal.tell-requires
-tell-requires g c =
+pub tell-requires-clause-writable : goal.tell-requires-clause-writable
+tell-requires-clause-writable g c =
     let writable = subst (All (λ entry. AreWritable entry.outputs)) (sym c.history-entries.ensures.entries) c.history-entries.ensures.writable in
     let pushed = pushed_length _ _ _ (c.history-entries.ensures.entries ∙ c.in-Ok.ensures.ok.history) in
     subst (λ entry. AreWritable entry.outputs) (sym c.index-entries-entries.is)
     (writable (length c.history-entries.result.now - 1) c.index-entries-entries.result (omega (arith, pushed)))
+
+pub tell-requires-clause-lines : goal.tell-requires-clause-lines
+tell-requires-clause-lines g c =
+    let named = subst (All (HasLines (line_count c.step.new.self.subs))) (sym c.history-entries.ensures.entries) (run_names _ _ _ c.history-entries.ensures.run) in
+    let pushed = pushed_length _ _ _ (c.history-entries.ensures.entries ∙ c.in-Ok.ensures.ok.history) in
+    subst (λ tables. HasLines (line_count tables) c.index-entries-entries.result) (sym c.subs.ensures)
+    (subst (HasLines (line_count c.step.new.self.subs)) (sym c.index-entries-entries.is)
+    (named (length c.history-entries.result.now - 1) c.index-entries-entries.result (omega (arith, pushed))))
 
 pub returns-in-Ok-clause-acted : goal.returns-in-Ok-clause-acted
 returns-in-Ok-clause-acted g c =
@@ -24,4 +35,4 @@ returns-in-Ok-clause-acted g c =
 pub returns-clause-acted : goal.returns-clause-acted
 returns-clause-acted g c =
     stopped c.args.core.now c.step.new.self c.args.event (g.W.Write.contents c.args.writer.now) c.in-Err.fault c.reason_of.result
-    c.reason_of.ensures c.in-Err.ensures.room
+    c.reason_of.ensures c.in-Err.ensures.err c.in-Err.ensures.room

@@ -29,7 +29,7 @@ returns-in_err-act_on-clause-acted g c =
     let p = err_from_is_err_and c.from_residual.result c.from_residual.ensures.1 in
     subst (λ result. (text : List ℕ) × Appends (g.W.Write.contents c.args.writer.now) (g.W.Write.contents c.act_on.new.writer) text × Acted c.args.core.now c.args.events.items result c.act_on.new.core text)
     (sym (p.1 ∙ ap Err p.2))
-    (so_far_broken c.args.core.now c.args.events.items _ _ c.in-Some.event _ c.act_on.new.core c.act_on.new.core _ _ _ c.in_err-act_on.field-0.0 c.loop-event.invariant.0 c.in-Some.ensures.steps.0 c.in_err-act_on.ensures.acted)
+    (so_far_broken c.args.core.now c.args.events.items _ _ c.in-Some.event _ c.act_on.new.core _ _ _ c.in_err-act_on.field-0.0 c.loop-event.invariant.0 c.in-Some.ensures.steps.0 c.in_err-act_on.ensures.acted)
 
 pub returns-clause-acted : goal.returns-clause-acted
 returns-clause-acted g c =

@@ -2,8 +2,7 @@ use Rattle.std.proofs.Common.{arith, length-append}
 use Rattle.std.proofs.lemmas.Result.{err_from_is_err_and}
 use Rattle.std.proofs.lemmas.List.Elements.{All-push}
 use Rattle.toml.specs.View.{table_view}
-use Rattle.xp_file.specs.declared.entry.StationEntry.{StationEntry}
-use Rattle.xp_file.specs.Entries.{IsEvenLines, IsEvenGroups}
+use Rattle.xp_file.specs.Entries.{StationData, IsStationEntry}
 use Rattle.xp_file.specs.File.{entry_of}
 use Rattle.xp_file.proofs.EachLemmas.{each_more, each_refused}
 use Rattle.xp_file.proofs.file.entries.Goals as goal
@@ -18,7 +17,6 @@ pub loop-table-preserved : goal.loop-table-preserved
 loop-table-preserved c = (
   rw c.in_ok-push.ensures.items (each_more entry_of (λ table. table_view table.now) c.args.tables.now c.loop-table.table-index
       c.table-item.result c.loop-table.entries.items _ c.loop-table-test.true c.table-item.is c.loop-table.invariant.0 c.in_ok-entry.ensures.ok),
-  rw c.in_ok-push.ensures.items (omega (arith, length-append {A = StationEntry})),
-  rw c.in_ok-push.ensures.items (All-push (λ entry. IsEvenLines entry.lines × IsEvenGroups entry.groups) c.loop-table.entries.items _
-      c.loop-table.invariant.2 (c.in_ok-entry.ensures.even_lines, c.in_ok-entry.ensures.even_groups)),
+  rw c.in_ok-push.ensures.items (omega (arith, length-append {A = StationData})),
+  rw c.in_ok-push.ensures.items (All-push IsStationEntry c.loop-table.entries.items _ c.loop-table.invariant.2 c.in_ok-entry.ensures.kept),
 )

@@ -1,8 +1,8 @@
 use Rattle.std.proofs.Common.{◌≡◌, ◌≤◌, ◌+◌, fold, length, drop}
-use Rattle.xp_subs.specs.Built.{mention}
+use Rattle.xp_subs.specs.Built.{mention, group_names}
 use Rattle.xp_subs.proofs.build.mention_all.Given as goal
 
-abbrev pub invariant-loop-name : goal.invariant-loop-name
-invariant-loop-name l =
-    (fold mention l.known.keys (drop l.name-index l.names) ≡ fold mention l.initial.known.keys l.names)
-    × (length l.known.keys ≤ length l.initial.known.keys + l.name-index)
+abbrev pub invariant-loop-group : goal.invariant-loop-group
+invariant-loop-group l =
+    (fold mention l.known.keys (group_names (drop l.group-index l.groups)) ≡ fold mention l.initial.known.keys (group_names l.groups))
+    × (length l.known.keys ≤ length l.initial.known.keys + l.group-index)

@@ -2,7 +2,7 @@ use Rattle.std.proofs.Common.{◌≡◌, ◌∙◌, rules, refl, sym, ap, codes,
 use Rattle.clap.specs.Words.{first_of, first_value, found_of, rows_of, subcommand_rows_of, Row, Text}
 use Rattle.clap.proofs.WalkLemmas.{first_value-rows}
 use Rattle.xp.specs.Commands.{AsksFor}
-use Rattle.xp.specs.declared.task.Task.{Task}
+use Rattle.xp_tasks.specs.declared.task.Task.{Task}
 use Rattle.xp.proofs.arguments.Arguments.named.Goals as goal
 
 -- what is read of the second of a pair

@@ -4,7 +4,7 @@ use Rattle.clap.specs.Words.{App, HasKind, HasMatchesOf, IsAmong, Text, fault_of
 use Rattle.clap.specs.declared.error.Error.{Error}
 use Rattle.clap.specs.declared.error.kind.ErrorKind.TheVariants.{OutOfMemory}
 use Rattle.clap.specs.declared.parser.matches.ArgMatches.{ArgMatches}
-use Rattle.xp.specs.declared.task.Task.{Task}
+use Rattle.xp_tasks.specs.declared.task.Task.{Task}
 use Rattle.xp.specs.Commands.{AreRight, AsksFor, program}
 use Rattle.xp.proofs.arguments.Arguments.read.Goals as goal
 

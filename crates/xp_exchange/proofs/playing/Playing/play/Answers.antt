@@ -2,23 +2,26 @@ use Rattle.std.proofs.Common.{◌≡◌, ◌∙◌, ap, sym, subst, Err, inl, re
 use Rattle.std.proofs.lemmas.Result.{err_from_is_err_and}
 use Rattle.std.specs.Io.KnownBytes.{Appends}
 use Rattle.xp_script.specs.Command.{said}
+use Rattle.xp_exchange.specs.declared.fault.ReplayFault.TheVariants.{Memory}
 use Rattle.xp_exchange.specs.Play.{Standing}
 use Rattle.xp_exchange.specs.Playing.{Played}
 use Rattle.xp_exchange.proofs.Bytes.{appends_nothing}
 use Rattle.xp_exchange.proofs.Played.{played}
-use Rattle.xp_exchange.proofs.Tellings.{told_nothing}
+use Rattle.xp_exchange.proofs.Tellings.{told_all_but_none, told_nothing}
 use Rattle.xp_exchange.proofs.playing.Playing.play.Goals as goal
 
 pub returns-in-Err-Memory : goal.returns-in-Err-Memory
-returns-in-Err-Memory g c = ([], appends_nothing _, (c.args.self.now.exchange, inl refl, told_nothing c.args.self.now.exchange))
+returns-in-Err-Memory g c = ([], appends_nothing _, (inl refl, told_all_but_none _ _ [] (told_nothing c.args.self.now.exchange)))
 
 pub returns-in_err-events : goal.returns-in_err-events
 returns-in_err-events g c =
     let p = err_from_is_err_and c.from_residual.result c.from_residual.ensures.1 in
+    let old : Standing _ = record { exchange = c.self.inside.core; unfinished = c.self.inside.streams } in
     let new : Standing _ = record { exchange = c.self.inside.core; unfinished = c.events_of.new.streams } in
     subst (λ result. (text : List ℕ) × Appends (g.W.Write.contents c.args.writer.now) (g.W.Write.contents c.args.writer.now) text × Played c.args.self.now c.args.number c.args.line.now result new text)
     (sym (p.1 ∙ ap Err p.2))
-    ([], appends_nothing _, (c.args.self.now.exchange, inl refl, told_nothing c.args.self.now.exchange))
+    (subst (λ first. (text : List ℕ) × Appends (g.W.Write.contents c.args.writer.now) (g.W.Write.contents c.args.writer.now) text × Played first c.args.number c.args.line.now (Err Memory) new text)
+    c.self.view_is ([], appends_nothing _, (inl refl, told_all_but_none old.exchange old.exchange [] (told_nothing old.exchange))))
 
 pub returns : goal.returns
 returns g c =

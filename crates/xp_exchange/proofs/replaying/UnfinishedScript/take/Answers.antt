@@ -7,7 +7,7 @@ use Rattle.xp_exchange.proofs.replaying.UnfinishedScript.take.Goals as goal
 use Rattle.xp_exchange.proofs.replaying.UnfinishedScript.take.Goals.{then-octet-eq-LINE_FEED+in_ok-end_line, else-octet-eq-LINE_FEED+in_ok-add}
 
 pub loop-octet-init : goal.loop-octet-init
-loop-octet-init g c = taken_none c.args.self.now c.args.octets.now _
+loop-octet-init g c = taken_none c.args.self.now c.args.octets.now _ c.requires.line
 
 pub returns-in_err-end_line-clause-took : goal.returns-in_err-end_line-clause-took
 returns-in_err-end_line-clause-took g c =
@@ -23,7 +23,7 @@ returns-in_err-add-clause-took g c =
     subst (λ result. (text : List ℕ) × Appends (g.W.Write.contents c.args.writer.now) (g.W.Write.contents c.loop-octet.writer) text × Took c.args.self.now c.args.octets.now result c.add.new.self text)
     (sym (p.1 ∙ ap Err p.2))
     (taken_overflows c.in_err-add.field-0.0 c.args.self.now c.loop-octet.self c.add.new.self c.args.octets.now c.loop-octet.octet-index _ _ _ c.loop-octet-test.true c.if-octet-eq-LINE_FEED.false
-    c.loop-octet.invariant c.in_err-add.ensures.line c.in_err-add.ensures.refused)
+    c.loop-octet.invariant c.in_err-add.ensures.line c.in_err-add.ensures.refused c.in_err-add.ensures.kept)
 
 pub loop-octet-preserved : goal.loop-octet-preserved
 loop-octet-preserved g c = elim c.if-octet-eq-LINE_FEED.branch [
@@ -33,5 +33,8 @@ loop-octet-preserved g c = elim c.if-octet-eq-LINE_FEED.branch [
       c.loop-octet.invariant w.in_ok-end_line.ensures.line w.in_ok-end_line.ensures.ended))
   | else-octet-eq-LINE_FEED+in_ok-add w ↦ rw w.self-is
       (rw w.writer-is
-      (taken_octet c.args.self.now c.loop-octet.self w.add.new.self c.args.octets.now c.loop-octet.octet-index _ _ _ c.loop-octet-test.true c.loop-octet.invariant w.in_ok-add.ensures.added))
+      (taken_octet c.args.self.now c.loop-octet.self w.add.new.self c.args.octets.now c.loop-octet.octet-index _ _ _ c.loop-octet-test.true w.if-octet-eq-LINE_FEED.false c.loop-octet.invariant w.in_ok-add.ensures.added))
 ]
+
+pub returns-clause-line : goal.returns-clause-line
+returns-clause-line g c = c.loop-octet.invariant.2

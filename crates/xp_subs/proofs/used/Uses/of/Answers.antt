@@ -1,16 +1,11 @@
 use Rattle.std.proofs.Common.{◌∙◌, arith}
 use Rattle.std.proofs.lemmas.Result.{err_from_is_err_and}
-use Rattle.xp_subs.proofs.FitLemmas.{fit_at, lines_at, stations_refused}
+use Rattle.xp_subs.proofs.FitLemmas.{lines_at, stations_refused}
 use Rattle.xp_subs.proofs.used.Uses.of.Goals as goal
 
-pub enter_station-requires-clause-names : goal.enter_station-requires-clause-names
-enter_station-requires-clause-names c =
+pub enter_station-requires : goal.enter_station-requires
+enter_station-requires c =
     omega (arith, lines_at c.args.stations.now c.loop-station.station-index c.station-item.result c.requires c.loop-station-test.true c.station-item.is)
-
-pub enter_station-requires-clause-addresses : goal.enter_station-requires-clause-addresses
-enter_station-requires-clause-addresses c =
-    let fit = fit_at c.args.stations.now c.loop-station.station-index c.station-item.result c.requires c.loop-station-test.true c.station-item.is in
-    omega (arith, fit.even_lines.addresses, lines_at c.args.stations.now c.loop-station.station-index c.station-item.result c.requires c.loop-station-test.true c.station-item.is)
 
 pub returns-in_err-enter_station-clause-refused : goal.returns-in_err-enter_station-clause-refused
 returns-in_err-enter_station-clause-refused c =

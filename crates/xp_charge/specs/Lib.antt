@@ -1,0 +1,5 @@
+pub mod Counted
+pub mod Lines
+pub mod Meter
+pub mod Segments
+pub mod Text

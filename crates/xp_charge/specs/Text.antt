@@ -1,0 +1,44 @@
+-- The text of a charging record.
+use Rattle.std.specs.Prelude.{ℕ, codes, decimal, List, [], ◌∷◌, ◌++◌, Option, None, Some}
+use Rattle.hex.specs.Hex.{encode_lower}
+use Rattle.xp_packets.specs.Digits.{text_of as text_of_digits}
+use Rattle.xp_packets.specs.declared.end.End.{End}
+use Rattle.xp_packets.specs.declared.end.End.TheVariants.{Caller, Called}
+use Rattle.xp_subs.specs.Tables.{Tables, line_at}
+use Rattle.xp_charge.specs.declared.record.Record.{Record}
+
+-- a space, then the field
+abbrev pub field : List ℕ → List ℕ
+field text = 32 ∷ text
+
+abbrev pub name_of : Tables → ℕ → List ℕ
+name_of tables line = (line_at tables line).name
+
+-- `-` where there is no called line
+abbrev pub called_text : Tables → Option ℕ → List ℕ
+called_text tables None = codes "-"
+called_text tables (Some line) = name_of tables line
+
+-- `-` where there are no digits
+abbrev pub digits_text : List ℕ → List ℕ
+digits_text [] = codes "-"
+digits_text (digit ∷ digits) = text_of_digits (digit ∷ digits)
+
+abbrev pub payer_text : End → List ℕ
+payer_text Caller = codes "caller"
+payer_text Called = codes "called"
+
+-- the charging record of an ended call
+abbrev pub record_text : Tables → Record → List ℕ
+record_text tables ended =
+    codes "record"
+    ++ field (decimal ended.number)
+    ++ field (name_of tables ended.caller)
+    ++ field (called_text tables ended.called)
+    ++ field (digits_text ended.dialled)
+    ++ field (payer_text ended.payer)
+    ++ field (decimal ended.from_caller)
+    ++ field (decimal ended.from_called)
+    ++ field (encode_lower (ended.cause ∷ []))
+    ++ field (decimal ended.diagnostic)
+    ++ 10 ∷ []

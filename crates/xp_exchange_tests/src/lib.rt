@@ -1,0 +1,11 @@
+//! Tests of the exchange's crates, a file for each: what no contract says, and no row of `xp_rows`.
+#![tactic(auto)]
+
+#[cfg(test)]
+mod replays;
+#[cfg(test)]
+mod scripts;
+#[cfg(test)]
+mod steps;
+#[cfg(test)]
+mod tasks;

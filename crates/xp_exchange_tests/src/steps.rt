@@ -1,0 +1,126 @@
+//! `xp_core`: steps of which each request for memory is refused in turn.
+
+ghost use Rattle.std.specs.Prelude.{IfOk};
+ghost use Rattle.xp_core.specs.Exchange.{IsReadable};
+
+use std::alloc::Allocator;
+use std::process::Abort;
+use std::test::Fail;
+use xp_core::{Core, Event, LineView, StepFault, Stepped, What};
+use xp_packets::{PacketFault, decode};
+use xp_subs::{LineNo, Subs};
+use xp_testing::{Refusing, THREE_STATIONS};
+
+const A1: LineNo = 0;
+
+const B1: LineNo = 1;
+
+/// A call from a1 to b1 that is accepted and then cleared by a1: on which line what packet comes, or where there are no
+/// octets a connection, and how many packets are put out.
+const CALL: [(LineNo, &[u8], usize); 6] = [
+    (A1, &[], 0),
+    (B1, &[], 0),
+    (
+        A1,
+        &[
+            0x10, 0x01, 0x0b, 0x07, 0x20, 0x80, 0x02, 0x00, 0x00, 0x01, 0x00, 0x00, 0x00,
+        ],
+        1,
+    ),
+    (B1, &[0x10, 0x01, 0x0f], 1),
+    (A1, &[0x10, 0x01, 0x13, 0x00, 0x00], 2),
+    (B1, &[0x10, 0x01, 0x17], 0),
+];
+
+fn event_of<A: Allocator + Copy>(
+    alloc: A,
+    line: LineNo,
+    packet: &[u8],
+) -> Result<Event<A>, PacketFault>
+    ensures { IfOk result (λ event. IsReadable event.what) }
+{
+    if packet.is_empty() {
+        return Ok(Event {
+            line,
+            what: What::Up,
+        });
+    }
+    let (identifier, packet) = decode(alloc, packet)?;
+    let what = What::Frame { identifier, packet };
+    Ok(Event { line, what })
+}
+
+/// Hands an event in.
+fn offer<A: Allocator + Copy>(
+    rt: &impl Abort,
+    core: &mut Core<A>,
+    event: Event<A>,
+) -> Result<Stepped<A>, StepFault<A>>
+    requires { IsReadable event.what }
+{
+    let lines = core.subs().counts().lines;
+    assert!(rt; usize::from(event.line) < lines);
+    core.step(event)
+}
+
+/// All that the exchange shows of two lines, and how long its lists are.
+fn shown<A: Allocator + Copy>(core: &Core<A>) -> (LineView, LineView, usize, usize) {
+    (
+        core.line(A1),
+        core.line(B1),
+        core.history().len(),
+        core.records().len(),
+    )
+}
+
+/// Hands an event in. Where that is refused for memory nothing has changed, and it is handed in again.
+fn offer_again<A: Allocator + Copy>(
+    rt: &impl Abort,
+    core: &mut Core<A>,
+    ample: A,
+    line: LineNo,
+    packet: &[u8],
+) -> Result<Option<Stepped<A>>, PacketFault> {
+    let before = shown(core);
+    let event = event_of(ample, line, packet)?;
+    match offer(rt, core, event) {
+        Ok(told) => Ok(Some(told)),
+        Err(StepFault::JournalFull(_)) => Ok(None),
+        Err(StepFault::Memory(_)) => {
+            assert_eq!(rt; shown(core), before);
+            let event = event_of(ample, line, packet)?;
+            Ok(offer(rt, core, event).ok())
+        }
+    }
+}
+
+/// Plays the call with scarce memory.
+fn play<A: Allocator + Copy>(rt: &impl Abort, subs: Subs, ample: A, scarce: A) -> Result<(), Fail> {
+    let Ok(mut core) = Core::new(scarce, subs) else {
+        return Ok(());
+    };
+    for (at, (line, packet, outputs)) in CALL.iter().enumerate() {
+        let told = offer_again(rt, &mut core, ample, *line, packet)?.ok_or("a second refusal")?;
+        assert_eq!(rt; told.entry, at as u64 + 1);
+        assert_eq!(rt; told.outputs.as_slice().len(), *outputs, "entry {at}");
+    }
+    assert_eq!(rt; core.records().len(), 1);
+    Ok(())
+}
+
+#[test]
+fn each_request_of_a_step_refused(rt: HostRuntime) -> Result<(), Fail> {
+    let ample = Refusing::new(rt.alloc(), 0);
+    let mut refused = 0u64;
+    for number in 1..200u64 {
+        let scarce = Refusing::new(rt.alloc(), number);
+        let subs = Subs::read(rt.alloc(), THREE_STATIONS)?;
+        play(&rt, subs, &ample, &scarce)?;
+        if scarce.is_pending() {
+            break;
+        }
+        refused = number;
+    }
+    assert!(rt; refused > 10 && refused < 199, "{refused} requests");
+    Ok(())
+}

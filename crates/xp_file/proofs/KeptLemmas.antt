@@ -1,0 +1,78 @@
+-- What holds of all lines and groups that are read of a file.
+use Rattle.std.proofs.Common.{◌≡◌, ℕ, ◌<◌, List, Bool, Option, Result, Ok, Err, All, length, map, ap, arith}
+use Rattle.std.proofs.lemmas.List.{length-map}
+use Rattle.toml.specs.Data.{Members}
+use Rattle.xp_file.specs.declared.entry.LineEntry.{LineEntry}
+use Rattle.xp_file.specs.declared.entry.GroupEntry.{GroupEntry}
+use Rattle.xp_file.specs.declared.fault.SubsFault.{SubsFault}
+use Rattle.xp_file.specs.declared.key.Key.TheVariants as keys
+use Rattle.xp_file.specs.Entries.{IsLineEntry, IsGroupEntry}
+use Rattle.xp_file.specs.File.{line_of, group_of, lines_of, groups_of}
+use Rattle.xp_file.specs.Reading.{◌>>=◌, line_name_in, group_name_in, number_in, address_in, required, optional, flag, each, examined}
+use Rattle.xp_file.proofs.Choices.{err_is_ok}
+use Rattle.xp_file.proofs.EachLemmas.{All-each, length-each, line_name_form}
+use Rattle.xp_file.proofs.Ranges.{required_range}
+
+line_parts : (name : Result (List ℕ) SubsFault) (port : Result ℕ SubsFault) (address : Result (Option (List ℕ)) SubsFault) (line : LineEntry)
+    → (name >>= λ n. port >>= λ p. address >>= λ a. Ok (record { name = n; port = p; address = a })) ≡ Ok line
+    → (name ≡ Ok line.name) × (port ≡ Ok line.port)
+line_parts (Ok n) (Ok p) (Ok a) line e =
+    let is : record { name = n; port = p; address = a } ≡ line = cc in
+    (ap (λ (l : LineEntry). let r : Result (List ℕ) SubsFault = Ok l.name in r) is, ap (λ (l : LineEntry). let r : Result ℕ SubsFault = Ok l.port in r) is)
+line_parts (Ok n) (Ok p) (Err fault) line e = absurd (err_is_ok e)
+line_parts (Ok n) (Err fault) address line e = absurd (err_is_ok e)
+line_parts (Err fault) port address line e = absurd (err_is_ok e)
+
+line_kept : (table : Members) (line : LineEntry) → line_of table ≡ Ok line → IsLineEntry line
+unfolding line_of
+line_kept table line e =
+    let (named, ported) = line_parts (required line_name_in keys.Name table) (required (number_in 1 65535) keys.Port table)
+    (optional address_in keys.Address table) line e in
+    let range = required_range 1 65535 keys.Port table line.port ported in
+    record { spelled = line_name_form table line.name named; least_port = range.0; most_port = range.1 }
+
+group_parts : (name : Result (List ℕ) SubsFault) (index : Result ℕ SubsFault) (outgoing incoming : Result Bool SubsFault) (group : GroupEntry)
+    → (name >>= λ n. index >>= λ i. outgoing >>= λ o. incoming >>= λ p. Ok (record { name = n; index = i; outgoing_barred = o; incoming_barred = p })) ≡ Ok group
+    → index ≡ Ok group.index
+group_parts (Ok n) (Ok i) (Ok o) (Ok p) group e =
+    let is : record { name = n; index = i; outgoing_barred = o; incoming_barred = p } ≡ group = cc in
+    ap (λ (g : GroupEntry). let r : Result ℕ SubsFault = Ok g.index in r) is
+group_parts (Ok n) (Ok i) (Ok o) (Err fault) group e = absurd (err_is_ok e)
+group_parts (Ok n) (Ok i) (Err fault) incoming group e = absurd (err_is_ok e)
+group_parts (Ok n) (Err fault) outgoing incoming group e = absurd (err_is_ok e)
+group_parts (Err fault) index outgoing incoming group e = absurd (err_is_ok e)
+
+group_kept : (table : Members) (group : GroupEntry) → group_of table ≡ Ok group → IsGroupEntry group
+unfolding group_of
+group_kept table group e =
+    (required_range 0 9999 keys.Index table group.index
+    (group_parts (required group_name_in keys.Name table) (required (number_in 0 9999) keys.Index table) (flag keys.OutgoingBarred table)
+    (flag keys.IncomingBarred table) group e)).1
+
+-- what comes after an examination
+after : {A B : Type 0} (r : Result A SubsFault) (next : Result B SubsFault) (y : B) → (r >>= λ x. next) ≡ Ok y → next ≡ Ok y
+after (Ok x) next y e = e
+after (Err fault) next y e = absurd (err_is_ok e)
+
+pub lines_kept : (tables : List Members) (lines : List LineEntry) → lines_of tables ≡ Ok lines → (length lines ≡ length tables) × All IsLineEntry lines
+unfolding lines_of
+lines_kept tables lines e =
+    let read = after (examined (required (number_in 1 65535) keys.Port) tables) (each line_of tables) lines
+    (after (examined (required line_name_in keys.Name) tables) _ lines e) in
+    (length-each line_of tables lines read, All-each IsLineEntry line_of line_kept tables lines read)
+
+pub groups_kept : (tables : List Members) (groups : List GroupEntry) → groups_of tables ≡ Ok groups → All IsGroupEntry groups
+unfolding groups_of
+groups_kept tables groups e =
+    let outgoing = examined (flag keys.OutgoingBarred) tables in
+    let indexed = after (examined (required (number_in 0 9999) keys.Index) tables) (outgoing >>= λ o. each group_of tables) groups
+    (after (examined (required group_name_in keys.Name) tables) _ groups e) in
+    All-each IsGroupEntry group_of group_kept tables groups (after outgoing (each group_of tables) groups indexed)
+
+-- as many values as tables, of which there is one
+pub as_many : {X Y B : Type 0} (shown : X → Y) (all tables : List X) (values : List B) → tables ≡ all → 0 < length all
+    → length values ≡ length (map shown tables) → 0 < length values
+as_many shown all tables values same_tables some long =
+    let shown_long : length (map shown tables) ≡ length tables = length-map tables shown in
+    let same_long : length tables ≡ length all = ap length same_tables in
+    omega arith

@@ -1,0 +1,24 @@
+ghost use Rattle.std.specs.Prelude.{◌≡◌, ◌+◌, length};
+ghost use mathlib.Core.List.{IsPrefix};
+
+use crate::put::PutEnd;
+use crate::rule::{Ends, Rest};
+use crate::take::TakeEnd;
+use std::alloc::Allocator;
+use std::sync::Wait;
+
+/// Puts the two ends of one outbox together, and tells how many items were put and not taken. What was taken is a front
+/// of what was put.
+pub fn settle<T: Drop, A: Allocator, R: Wait>(
+    rt: &R,
+    put: PutEnd<T, A>,
+    taken: TakeEnd<T, A>,
+) -> usize
+    requires { put.queue ≡ taken.queue }
+    ensures front { IsPrefix taken.taken put.put }
+    ensures rest { length taken.taken + result ≡ length put.put }
+{
+    let mut put = put;
+    put.queue.absorb::<Ends>(&mut put.pass, taken.pass);
+    put.queue.len_as::<Rest, R>(rt, &mut put.pass)
+}

@@ -1,0 +1,50 @@
+ghost use Rattle.std.specs.Prelude.{◌≡◌, [], ◌∷◌, ◌++◌, IfNone, IfSome};
+ghost use Rattle.std.specs.Arc.{arc_value};
+ghost use Rattle.crossbeam_queue.specs.Passes.{view, IsPassOf, ruled_capacity};
+ghost use Rattle.xp_outbox.specs.Rule.{HeldAtSomeMoment, taker};
+
+use crate::rule::{EndView, Queue, Takes};
+use crossbeam_queue::Pass;
+use std::alloc::Allocator;
+use std::marker::Model;
+use std::sync::{Arc, Wait};
+
+/// The end of an outbox that its line takes items from.
+#[derive(Drop)]
+pub struct TakeEnd<T, A: Allocator> {
+    queue: Arc<Queue<T, A>, A>,
+    pub(crate) pass: Pass<T, EndView<T>>,
+}
+
+impl<T, A: Allocator> Model for TakeEnd<T, A> {
+    ghost use Rattle.std.specs.Prelude.{◌≡◌};
+    ghost use Rattle.std.specs.Arc.{arc_value};
+    ghost use Rattle.crossbeam_queue.specs.Passes.{view as known, IsPassOf, ruled_capacity};
+    ghost use Rattle.xp_outbox.specs.Ends.{Taking};
+
+    ghost Value = { Taking T };
+
+    ghost use Rattle.xp_outbox.specs.Rule.{taker};
+
+    ghost view = { λ e. record { queue = e.pass.table_id; capacity = ruled_capacity (arc_value e.queue); taken = (known e.pass).taken } };
+
+    ghost invariant = { λ e. IsPassOf (arc_value e.queue) e.pass × (known e.pass ≡ taker (known e.pass).taken) };
+}
+
+impl<T, A: Allocator> TakeEnd<T, A> {
+    pub(crate) fn new(queue: Arc<Queue<T, A>, A>, pass: Pass<T, EndView<T>>) -> TakeEnd<T, A>
+        requires { IsPassOf (arc_value queue) pass × (view pass ≡ taker (view pass).taken) }
+        ensures { result ≡ record { queue = pass.table_id; capacity = ruled_capacity (arc_value queue); taken = (view pass).taken } }
+    {
+        TakeEnd { queue, pass }
+    }
+
+    /// Takes the oldest item.
+    pub fn take<R: Wait>(&mut self, rt: &R) -> Option<T>
+        ensures item { IfSome result (λ item. self.new ≡ record self.old { taken = self.old.taken ++ item ∷ [] }) }
+        ensures none { IfNone result (self.new ≡ self.old) }
+        ensures empty { IfNone result (HeldAtSomeMoment (taker self.old.taken) 0) }
+    {
+        self.queue.pop_as::<Takes, R>(rt, &mut self.pass)
+    }
+}

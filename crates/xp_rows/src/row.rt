@@ -1,0 +1,72 @@
+//! Rows, as their folders have them.
+
+use std::io::ErrorKind;
+use std::rt::Files;
+use std::{fs, io};
+use xp_tasks::Task;
+
+/// What is done, and what is to come of it.
+#[derive(Drop)]
+pub struct Row {
+    pub task: Task,
+    /// The name of the subscription file, which need not be there.
+    pub file: String,
+    pub script: Vec<u8>,
+    /// The text that is to be written.
+    pub text: Vec<u8>,
+    /// The exit status that the program ends with.
+    pub status: Vec<u8>,
+    /// What it tells on standard error, without the line feed.
+    pub told: Vec<u8>,
+}
+
+impl Row {
+    /// Reads the row of this folder. Without a file `script` nothing is read, without `status` it is 0, without `stderr`
+    /// nothing is told; a file `check` asks for the subscription file to be checked.
+    pub fn read<R: AllocGlobal + Files>(rt: &R, folder: &str) -> io::Result<Row> {
+        let alloc = rt.alloc();
+        Ok(Row {
+            task: match fs::exists(rt, format!(in alloc; "{folder}/check")?.as_str())? {
+                true => Task::Check,
+                false => Task::Replay,
+            },
+            file: format!(in alloc; "{folder}/subs.toml")?,
+            script: octets_of(rt, folder, "script")?.unwrap_or(Vec::new(alloc)),
+            text: fs::read(rt, format!(in alloc; "{folder}/expected")?.as_str())?,
+            status: line_of(rt, folder, "status", "0")?,
+            told: line_of(rt, folder, "stderr", "")?,
+        })
+    }
+}
+
+/// The octets of a file in a folder, if it is there.
+fn octets_of<R: AllocGlobal + Files>(
+    rt: &R,
+    folder: &str,
+    name: &str,
+) -> io::Result<Option<Vec<u8>>> {
+    let path = format!(in rt.alloc(); "{folder}/{name}")?;
+    match fs::read(rt, path.as_str()) {
+        Ok(octets) => Ok(Some(octets)),
+        Err(error) if error.kind() == ErrorKind::NotFound => Ok(None),
+        Err(error) => Err(error),
+    }
+}
+
+/// The one line of a file in a folder, without its line feed; this one if the file is not there.
+fn line_of<R: AllocGlobal + Files>(
+    rt: &R,
+    folder: &str,
+    name: &str,
+    absent: &str,
+) -> io::Result<Vec<u8>> {
+    match octets_of(rt, folder, name)? {
+        Some(mut octets) => {
+            if octets.last() == Some(&b'\n') {
+                octets.pop();
+            }
+            Ok(octets)
+        }
+        None => Ok(Vec::from_slice(rt.alloc(), absent.as_bytes())?),
+    }
+}

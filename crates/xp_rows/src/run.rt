@@ -1,0 +1,43 @@
+//! One run of a row.
+
+use crate::row::Row;
+use std::alloc::Allocator;
+use std::fs;
+use std::rt::Files;
+use xp_exchange::ReplayFault;
+use xp_tasks::{TaskFailure, perform, subscriptions};
+
+/// What was written, and how it ended.
+#[derive(Drop)]
+pub struct Outcome {
+    pub text: Vec<u8>,
+    pub ended: Result<(), TaskFailure>,
+}
+
+impl Outcome {
+    /// The exit status of the program.
+    pub fn status(&self) -> u8 {
+        match &self.ended {
+            Ok(()) => 0,
+            Err(failure) => failure.status(),
+        }
+    }
+
+    /// Whether memory was wanted.
+    pub fn wants_memory(&self) -> bool {
+        matches!(
+            self.ended,
+            Err(TaskFailure::Memory | TaskFailure::Replay(ReplayFault::Memory))
+        )
+    }
+}
+
+/// Does what the row asks for, with memory for the exchange from this allocator.
+pub fn run<R: AllocGlobal + Files, A: Allocator + Copy>(rt: &R, row: &Row, memory: A) -> Outcome {
+    let mut text = Vec::new(rt.alloc());
+    let ended = match subscriptions(rt.alloc(), fs::read_to_string(rt, row.file.as_str())) {
+        Ok(subs) => perform(memory, row.task, subs, row.script.as_slice(), &mut text),
+        Err(failure) => Err(failure),
+    };
+    Outcome { text, ended }
+}

@@ -1,0 +1,94 @@
+-- A text has one answer.
+use Rattle.std.proofs.Common.{◌≡◌, ℕ, List, [], ◌∷◌, ◌++◌, true, false, Result, Ok, Err, inl, inr, refl, sym, ap, subst, ◌∙◌}
+use Rattle.xp_file.specs.declared.fault.SubsFault.{SubsFault}
+use Rattle.xp_file.specs.declared.fault.SubsFault.TheVariants as faults
+use Rattle.xp_file.specs.Entries.{StationData}
+use Rattle.xp_file.specs.File.{FileData, file_in}
+use Rattle.xp_file.proofs.Choices.{none_is_some, err_is_ok}
+use Rattle.xp_subs.specs.Built.{Refuses, Accepts, SetsUp, tables_of}
+use Rattle.xp_subs.specs.Tables.{Tables}
+use Rattle.xp_subs.specs.Uses.{Use, key_of, uses_of, IsFirstAgain}
+
+true_is_false : true ≡ false → ⊥
+true_is_false e = cc
+
+-- where one list is cut twice, the cuts are the same or one comes first
+data Cuts {A : Type 0} (before other : List A) (x y : A) : Type 0 where
+  together : x ≡ y → Cuts before other x y
+  first : (rest : List A) → other ≡ before ++ x ∷ rest → Cuts before other x y
+  second : (rest : List A) → before ≡ other ++ y ∷ rest → Cuts before other x y
+
+cuts : {A : Type 0} (before after other more : List A) (x y : A) → before ++ x ∷ after ≡ other ++ y ∷ more → Cuts before other x y
+cuts [] after [] more x y e = together cc
+cuts [] after (z ∷ other) more x y e = let is : z ≡ x = cc in first other (ap (λ w. w ∷ other) is)
+cuts (z ∷ before) after [] more x y e = let is : z ≡ y = cc in second before (ap (λ w. w ∷ before) is)
+cuts (z ∷ before) after (w ∷ other) more x y e =
+    let is : z ≡ w = cc in
+    let rest : before ++ x ∷ after ≡ other ++ y ∷ more = cc in
+    elim (cuts before after other more x y rest) [
+      | together same ↦ together same
+      | first more_of is_more ↦ first more_of (ap (λ v. v ∷ other) (sym is) ∙ ap (λ l. z ∷ l) is_more)
+      | second more_of is_more ↦ second more_of (ap (λ v. v ∷ before) is ∙ ap (λ l. w ∷ l) is_more)
+    ]
+
+one_first : (uses : List Use) (u v : Use) → IsFirstAgain uses u → IsFirstAgain uses v → u ≡ v
+one_first uses u v one other =
+    elim (cuts one.before one.after other.before other.after u v (sym one.split ∙ other.split)) [
+      | together same ↦ same
+      | first rest is ↦ absurd (other.once one.before u rest is one.again)
+      | second rest is ↦ absurd (one.once other.before v rest is other.again)
+    ]
+
+refused_once : (stations : List StationData) (one other : SubsFault) → Refuses stations one → Refuses stations other → one ≡ other
+refused_once stations (faults.Limit k) (faults.Limit l) a b = let is : k ≡ l = (let e = sym a ∙ b in cc) in ap (λ x. faults.Limit x) is
+refused_once stations (faults.Limit k) (faults.TwiceUsed l) a b = absurd (none_is_some (sym b.0 ∙ a))
+refused_once stations (faults.Limit k) faults.Index a b = absurd (none_is_some (sym b.0 ∙ a))
+refused_once stations (faults.TwiceUsed k) (faults.Limit l) a b = absurd (none_is_some (sym a.0 ∙ b))
+refused_once stations (faults.TwiceUsed k) (faults.TwiceUsed l) a b =
+    let same = one_first (uses_of stations) a.1 b.1 a.2 b.2 in
+    ap (λ x. faults.TwiceUsed x) (a.3 ∙ ap key_of same ∙ sym b.3)
+refused_once stations (faults.TwiceUsed k) faults.Index a b = absurd (b.1 a.2.before a.1 a.2.after a.2.split a.2.again)
+refused_once stations faults.Index (faults.Limit l) a b = absurd (none_is_some (sym a.0 ∙ b))
+refused_once stations faults.Index (faults.TwiceUsed l) a b = absurd (a.1 b.2.before b.1 b.2.after b.2.split b.2.again)
+refused_once stations faults.Index faults.Index a b = refl
+refused_once stations faults.Toml other a b = absurd a
+refused_once stations (faults.Field k) other a b = absurd a
+refused_once stations faults.Memory other a b = absurd a
+refused_once stations (faults.Limit k) faults.Toml a b = absurd b
+refused_once stations (faults.Limit k) (faults.Field l) a b = absurd b
+refused_once stations (faults.Limit k) faults.Memory a b = absurd b
+refused_once stations (faults.TwiceUsed k) faults.Toml a b = absurd b
+refused_once stations (faults.TwiceUsed k) (faults.Field l) a b = absurd b
+refused_once stations (faults.TwiceUsed k) faults.Memory a b = absurd b
+refused_once stations faults.Index faults.Toml a b = absurd b
+refused_once stations faults.Index (faults.Field l) a b = absurd b
+refused_once stations faults.Index faults.Memory a b = absurd b
+
+accepted_or_refused : (stations : List StationData) (fault : SubsFault) → Accepts stations → Refuses stations fault → ⊥
+accepted_or_refused stations (faults.Limit k) a b = none_is_some (sym a.limits ∙ b)
+accepted_or_refused stations (faults.TwiceUsed k) a b = a.once b.2.before b.1 b.2.after b.2.split b.2.again
+accepted_or_refused stations faults.Index a b = true_is_false (sym a.indexes ∙ b.2)
+accepted_or_refused stations faults.Toml a b = b
+accepted_or_refused stations (faults.Field k) a b = b
+accepted_or_refused stations faults.Memory a b = b
+
+same_file : (text : List ℕ) (one other : FileData) → file_in text ≡ Ok one → file_in text ≡ Ok other → one ≡ other
+same_file text one other a b = let e : Ok one ≡ Ok other = sym a ∙ b in cc
+
+pub one_answer : (text : List ℕ) (one other : Result Tables SubsFault) → SetsUp text one → SetsUp text other → one ≡ other
+one_answer text (Ok one) (Ok other) (file, read, accepts, is) (file', read', accepts', is') =
+    ap (λ t. Ok t) (is ∙ ap tables_of (same_file text file file' read read') ∙ sym is')
+one_answer text (Ok one) (Err fault) (file, read, accepts, is) (inl refused) = absurd (err_is_ok (sym refused ∙ read))
+one_answer text (Ok one) (Err fault) (file, read, accepts, is) (inr (file', read', refuses)) =
+    absurd (accepted_or_refused file'.stations fault (subst (λ (f : FileData). Accepts f.stations) (same_file text file file' read read') accepts) refuses)
+one_answer text (Err fault) (Ok other) (inl refused) (file, read, accepts, is) = absurd (err_is_ok (sym refused ∙ read))
+one_answer text (Err fault) (Ok other) (inr (file', read', refuses)) (file, read, accepts, is) =
+    absurd (accepted_or_refused file'.stations fault (subst (λ (f : FileData). Accepts f.stations) (same_file text file file' read read') accepts) refuses)
+one_answer text (Err one) (Err other) (inl a) (inl b) =
+    let e = sym a ∙ b in
+    let is : one ≡ other = cc in
+    ap (λ f. Err f) is
+one_answer text (Err one) (Err other) (inl a) (inr (file, read, refuses)) = absurd (err_is_ok (sym a ∙ read))
+one_answer text (Err one) (Err other) (inr (file, read, refuses)) (inl b) = absurd (err_is_ok (sym b ∙ read))
+one_answer text (Err one) (Err other) (inr (file, read, refuses)) (inr (file', read', refuses')) =
+    ap (λ f. Err f) (refused_once file.stations one other refuses (subst (λ (f : FileData). Refuses f.stations other) (sym (same_file text file file' read read')) refuses'))

@@ -1,0 +1,34 @@
+-- What a text sets up, from the passes over its file.
+use Rattle.std.proofs.Common.{◌≡◌, ℕ, List, true, false, Option, None, Ok, Err, inr, refl, sym, ap, subst, ◌∙◌}
+use Rattle.std.specs.List.{list_all}
+use Rattle.xp_file.specs.declared.fault.SubsFault.{SubsFault}
+use Rattle.xp_file.specs.declared.fault.SubsFault.TheVariants as faults
+use Rattle.xp_file.specs.declared.key.Key.{Key}
+use Rattle.xp_file.specs.Entries.{StationData}
+use Rattle.xp_file.specs.File.{FileData, file_in}
+use Rattle.xp_subs.specs.Built.{Refuses, SetsUp, tables_of}
+use Rattle.xp_subs.specs.Passes.{Used, nothing_used, over_limit, with_stations, has_own_indexes}
+use Rattle.xp_subs.specs.Tables.{Tables}
+use Rattle.xp_subs.proofs.UsesLemmas.{all_once, first_again}
+
+module _ (text : List ℕ) (file : FileData) (read : file_in text ≡ Ok file) (first second third : List StationData)
+    (one : first ≡ file.stations) (two : second ≡ file.stations) (three : third ≡ file.stations)
+    (over : Option Key) (is : over ≡ over_limit first) (within : over ≡ None) where
+  limits : over_limit file.stations ≡ None
+  limits = ap over_limit (sym one) ∙ sym is ∙ within
+
+  pub refused_twice : (fault : SubsFault) → with_stations 0 0 second nothing_used ≡ Err fault → SetsUp text (Err fault)
+  refused_twice fault e =
+      let (again, this, told) = first_again file.stations fault (ap (λ l. with_stations 0 0 l nothing_used) (sym two) ∙ e) in
+      inr (file, read, let P : SubsFault → Type 0 = λ f. Refuses file.stations f in subst P (sym told) (limits, again, this, refl))
+
+  module _ (used : Used) (once : with_stations 0 0 second nothing_used ≡ Ok used) where
+    used_once : with_stations 0 0 file.stations nothing_used ≡ Ok used
+    used_once = ap (λ l. with_stations 0 0 l nothing_used) (sym two) ∙ once
+
+    pub refused_index : list_all has_own_indexes third ≡ false → SetsUp text (Err faults.Index)
+    refused_index e = inr (file, read, (limits, all_once file.stations used used_once, ap (list_all has_own_indexes) (sym three) ∙ e))
+
+    pub set_up : list_all has_own_indexes third ≡ true → (tables : Tables) → tables ≡ tables_of file → SetsUp text (Ok tables)
+    set_up e tables built =
+        (file, read, record { limits = limits; once = all_once file.stations used used_once; indexes = ap (list_all has_own_indexes) (sym three) ∙ e }, built)

@@ -1,0 +1,3 @@
+pub mod Failures
+pub mod SetUp
+pub mod Tasks

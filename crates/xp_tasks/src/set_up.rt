@@ -1,0 +1,25 @@
+ghost use Rattle.xp_tasks.specs.SetUp.{set_up_text};
+
+use std::fmt;
+use xp_subs::{Counts, Subs};
+
+/// What subscriptions set up, as it is told.
+#[derive(Clone, Copy)]
+pub struct SetUp<'a> {
+    pub subs: &'a Subs,
+}
+
+impl fmt::Display for SetUp<'_> {
+    ghost use Rattle.std.specs.Prelude.{Some};
+
+    ghost output = { λ set_up. Some (set_up_text set_up.subs.now) };
+
+    fn fmt<W: fmt::Write>(&self, f: &mut fmt::Formatter<W>) -> fmt::Result {
+        let Counts {
+            stations,
+            lines,
+            groups,
+        } = self.subs.counts();
+        write!(f, "stations {stations} lines {lines} groups {groups}")
+    }
+}
