@@ -20,10 +20,10 @@ use Rattle.xp_relay.specs.Direction.{Direction, IsSound, far, has_room, opening,
 use Rattle.xp_relay.specs.Judgement.{is_awaited, most_octets}
 use Rattle.xp_relay.specs.Runs.{Arrival, IsDelivered, Seen, data_to, nothing_seen, offered, resets, run, same_end, see, seen_over, turn_on, with_numbers}
 use Rattle.xp_relay.specs.Terms.{IsWithinTerms, IsWithinWay, numbers, way_from}
-use Rattle.xp_relay.specs.Turns.{Turn, carries, data_as, flow, flow_as, interrupting, is_idle, is_put_out, turn_of}
+use Rattle.xp_relay.specs.Turns.{Turn, carries, data_as, flow, flow_as, interrupting, interrupts, is_idle, is_put_out, turn_of}
 use Rattle.xp_relay.proofs.Runs.{length-with_numbers}
 use Rattle.xp_relay.proofs.Steps.{GoesOn, TakesOn, put_of}
-use Rattle.xp_relay.proofs.Takes.{takes_accepting, takes_acknowledging, takes_failing, takes_quiet, takes_resetting, takes_settling, takes_unchanged, told-range}
+use Rattle.xp_relay.proofs.Takes.{quiet_interrupts, takes_accepting, takes_acknowledging, takes_failing, takes_quiet, takes_resetting, takes_settling, takes_unchanged, told-range}
 
 -- a judgement, by its tests
 abbrev pub judged_by : Bool → Bool → Bool → Bool → Judged
@@ -87,9 +87,7 @@ module _ {A : Type 0} where
 
   takes_interrupting : (s r : Direction A) (here : End) (octets : List ℕ) → IsSound s → IsSound r → TakesOn s r here [] (interrupting here octets s r)
   takes_interrupting s r here octets hs hr =
-      either s r here [] s.owes _ _
-      (λ _. takes_quiet s r here (Held octets) r.interrupt [] hs hr (record { unreset = refl; none = λ e. refl }))
-      (λ _. takes_quiet s r here PutOut r.interrupt _ hs hr (record { unreset = refl; none = λ e. refl }))
+      takes_quiet s r here (cond s.owes (Held octets) PutOut) r.interrupt (interrupts (far here) (cond s.owes None (Some octets))) hs hr (quiet_interrupts (far here) (cond s.owes None (Some octets)))
 
   -- each packet takes both directions on; of data, what its sender may send is accepted
   takes_turn : (s r : Direction A) (here : End) (packet : Packet A) → IsSound s → IsSound r → TakesOn s r here (offered (not r.owes) packet) (turn_of here packet s r)

@@ -17,7 +17,7 @@ use Rattle.xp_relay.specs.Direction.{Direction, IsSound, far, is_open, numbered,
 use Rattle.xp_relay.specs.Judgement.{is_awaited, most_octets}
 use Rattle.xp_relay.specs.Runs.{Arrival, run, turn_on}
 use Rattle.xp_relay.specs.Terms.{IsWithinTerms, numbers}
-use Rattle.xp_relay.specs.Turns.{Turn, accepting, acknowledged_to, acknowledging, data_as, failing, flow, flow_as, held_interrupt, indicating, interrupts, is_idle, is_news, is_put_out, resetting, settled, settling, telling, telling_not_ready, turn_of, unchanged, with_data}
+use Rattle.xp_relay.specs.Turns.{Turn, accepting, acknowledged_to, acknowledging, data_as, failing, flow, flow_as, held_interrupt, indicating, interrupts, interrupting, is_idle, is_news, is_put_out, resetting, settled, settling, telling, telling_not_ready, turn_of, unchanged, with_data}
 use Rattle.xp_relay.proofs.Deliveries.{everything_is_delivered, judged_by, room_of, sound_run}
 
 length-interrupts : (A : Type 0) (side : End) (octets : Option (List ℕ)) → length (interrupts {A = A} side octets) ≤ 1
@@ -111,6 +111,9 @@ module _ {A : Type 0} where
   few_flow : (s r : Direction A) (here : End) (ready : Bool) (pr : ℕ) → IsSound r → IsFew s r (flow here ready pr s r)
   few_flow s r here ready pr hr = few_either s r r.owes _ _ (λ _. few_unchanged s r) (λ _. few_flow_as s r here ready (told pr r) hr)
 
+  few_interrupting : (s r : Direction A) (here : End) (octets : List ℕ) → IsFew s r (interrupting here octets s r)
+  few_interrupting s r here octets = record { few = omega (arith, length-interrupts A (far here) (cond s.owes None (Some octets))) }
+
   few_turn : (s r : Direction A) (here : End) (packet : Packet A) → IsSound s → IsSound r → IsFew s r (turn_of here packet s r)
   few_turn s r here (DataPacket q d more ps pr octets) hs hr =
       few_judged s r here (record { q = q; d = d; more = more; octets = octets }) ps pr hs r.owes (ltb (most_octets s.terms) (length octets)) (told pr r)
@@ -119,8 +122,7 @@ module _ {A : Type 0} where
   few_turn s r here (Reject pr) hs hr = few_either s r r.owes _ _ (λ _. few_unchanged s r) (λ _. few_failing s r here REJECT_NOT_SUBSCRIBED)
   few_turn s r here (Interrupt octets) hs hr =
       few_either s r r.owes _ _ (λ _. few_unchanged s r) (λ _.
-      few_either s r (is_idle s.interrupt) _ _
-      (λ _. few_either s r s.owes _ _ (λ _. record { few = omega arith }) (λ _. record { few = omega arith }))
+      few_either s r (is_idle s.interrupt) _ _ (λ _. few_interrupting s r here octets)
       (λ _. few_failing s r here UNAUTHORIZED_INTERRUPT))
   few_turn s r here InterruptConfirm hs hr =
       few_either s r r.owes _ _ (λ _. few_unchanged s r) (λ _.

@@ -114,7 +114,7 @@ module _ {A : Type 0} where
     received = goes_still r (record r { interrupt = back }) here made refl (record { terms = hr.terms; acknowledged = hr.acknowledged; put = hr.put; window = hr.window }) refl refl quiet.unreset (quiet.none here);
   }
 
-  quiet_interrupts : (side : End) (octets : Option (List ℕ)) → IsQuiet (interrupts {A = A} side octets)
+  pub quiet_interrupts : (side : End) (octets : Option (List ℕ)) → IsQuiet (interrupts {A = A} side octets)
   quiet_interrupts side None = quiet_none
   quiet_interrupts side (Some octets) = record { unreset = refl; none = λ e. refl }
 

@@ -146,11 +146,13 @@ module _ {A : Type 0} where
   abbrev pub reject : End → Direction A → Direction A → Turn A
   reject here s r = if r.owes then unchanged s r else failing here REJECT_NOT_SUBSCRIBED s r
 
-  -- an interrupt, which waits where its receiver owes a reset confirmation (clause 4.3.7)
+  -- an interrupt, which waits where its receiver owes a reset confirmation, and else goes out (clause 4.3.7)
   abbrev pub interrupting : End → List ℕ → Direction A → Direction A → Turn A
-  interrupting here octets s r =
-      if s.owes then record { sent = record s { interrupt = Held octets }; received = r; moves = [] }
-      else record { sent = record s { interrupt = PutOut }; received = r; moves = to (far here) (Interrupt octets) ∷ [] }
+  interrupting here octets s r = record {
+    sent = record s { interrupt = if s.owes then Held octets else PutOut };
+    received = r;
+    moves = interrupts (far here) (if s.owes then None else Some octets);
+  }
 
   -- an interrupt; there is at most one unconfirmed (clause 4.3.7)
   abbrev pub interrupt : End → List ℕ → Direction A → Direction A → Turn A
