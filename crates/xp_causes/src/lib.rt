@@ -10,5 +10,7 @@ mod refusal;
 pub mod resetting_cause;
 
 pub use dte::{DTE_CAUSES, DTE_ORIGINATED, cause_told, diagnostic_told};
-pub use laws::{causes_are_coded, diagnostics_are_coded, refusals_are_coded, refusals_are_tellable};
+pub use laws::{
+    causes_are_coded, diagnostics_are_coded, refusals_are_coded, refusals_are_tellable,
+};
 pub use refusal::Refusal;

@@ -4,3 +4,5 @@ pub mod Judgement
 pub mod Turns
 pub mod Kept
 pub mod Coupled
+pub mod Runs
+pub mod Bounds

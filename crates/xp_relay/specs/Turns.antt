@@ -1,8 +1,8 @@
 -- What each packet of one end does to the two directions of its call, and what is put out.
-use Rattle.std.specs.Prelude.{ℕ, ◌==◌, nat_le, Bool, true, false, not, ◌&&◌, ◌||◌, if◌then◌else◌, List, [], ◌∷◌, ◌++◌, length, Option, Some, None}
+use Rattle.std.specs.Prelude.{ℕ, ◌==◌, Bool, true, false, not, ◌&&◌, ◌||◌, if◌then◌else◌, List, [], ◌∷◌, ◌++◌, length, Option, Some, None}
 use Rattle.xp_packets.specs.declared.end.End.{End}
 use Rattle.xp_packets.specs.declared.packet.Packet.{Packet}
-use Rattle.xp_packets.specs.declared.packet.Packet.TheVariants.{Ready, NotReady, Interrupt, InterruptConfirm, Reset, ResetConfirm}
+use Rattle.xp_packets.specs.declared.packet.Packet.TheVariants.{DataPacket, Ready, NotReady, Reject, Interrupt, InterruptConfirm, Reset, ResetConfirm}
 use Rattle.xp_relay.specs.declared.data.Data.{Data}
 use Rattle.xp_relay.specs.declared.data.Interruption.{Interruption}
 use Rattle.xp_relay.specs.declared.data.Interruption.TheVariants.{Idle, Held, PutOut}
@@ -146,11 +146,13 @@ module _ {A : Type 0} where
   abbrev pub reject : End → Direction A → Direction A → Turn A
   reject here s r = if r.owes then unchanged s r else failing here REJECT_NOT_SUBSCRIBED s r
 
-  -- an interrupt, which waits where its receiver owes a reset confirmation (clause 4.3.7)
+  -- an interrupt, which waits where its receiver owes a reset confirmation, and else goes out (clause 4.3.7)
   abbrev pub interrupting : End → List ℕ → Direction A → Direction A → Turn A
-  interrupting here octets s r =
-      if s.owes then record { sent = record s { interrupt = Held octets }; received = r; moves = [] }
-      else record { sent = record s { interrupt = PutOut }; received = r; moves = to (far here) (Interrupt octets) ∷ [] }
+  interrupting here octets s r = record {
+    sent = record s { interrupt = if s.owes then Held octets else PutOut };
+    received = r;
+    moves = interrupts (far here) (if s.owes then None else Some octets);
+  }
 
   -- an interrupt; there is at most one unconfirmed (clause 4.3.7)
   abbrev pub interrupt : End → List ℕ → Direction A → Direction A → Turn A
@@ -199,3 +201,15 @@ module _ {A : Type 0} where
   abbrev pub reset_confirm : End → Direction A → Direction A → Turn A
   reset_confirm here s r =
       if r.owes then settling here s r else failing here INVALID_IN_D1 s r
+
+-- What a packet of this end leads to. The packets of call set-up and clearing are none of what a call carries.
+abbrev pub turn_of : {A : Type 0} → End → Packet A → Direction A → Direction A → Turn A
+turn_of here (DataPacket q d more ps pr octets) = carries here (record { q = q; d = d; more = more; octets = octets }) ps pr
+turn_of here (Ready pr) = flow here true pr
+turn_of here (NotReady pr) = flow here false pr
+turn_of here (Reject pr) = reject here
+turn_of here (Interrupt octets) = interrupt here octets
+turn_of here InterruptConfirm = interrupt_confirm here
+turn_of here (Reset cause diagnostic) = reset here cause diagnostic
+turn_of here ResetConfirm = reset_confirm here
+turn_of here _ = unchanged

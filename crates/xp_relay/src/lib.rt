@@ -4,6 +4,7 @@
 mod data;
 mod judged;
 mod lane;
+mod laws;
 mod moves;
 mod relay;
 mod state;
@@ -12,6 +13,9 @@ mod turns;
 
 pub use data::{Data, Interruption};
 pub use judged::Judged;
+pub use laws::{
+    a_turn_puts_out_few, everything_is_delivered, received_number_stands_for_the_count,
+};
 pub use moves::{Move, Moves};
 pub use relay::Relay;
 pub use state::FlowState;

@@ -5,12 +5,6 @@ use std::test::Fail;
 use xp_packets::{End, Packet, decode, encode};
 use xp_relay::{Agreed, Data, Modulus, Move, Moves, Relay, Terms};
 
-/// An end, and the octets of a packet from it or for it.
-pub type Passes = (End, &'static [u8]);
-
-/// A packet from an end, and what is put out for it.
-pub type Step = (Passes, &'static [Passes]);
-
 /// Packets of 128 octets and windows of this size, both ways, on lines of these numbers.
 pub fn terms(window: u8, caller: Modulus, called: Modulus) -> Terms {
     let agreed = Agreed { size: 7, window };
@@ -54,37 +48,54 @@ pub fn put<A: Allocator + Copy>(
     Ok(moves.into_vec())
 }
 
-/// Whether these are the packets put out, under the identifier 1.
-fn are<A: Allocator + Copy>(alloc: A, moves: &[Move<A>], wanted: &[Passes]) -> Result<bool, Fail> {
-    if moves.len() != wanted.len() {
-        return Ok(false);
-    }
-    for (made, (side, octets)) in moves.iter().zip(wanted) {
+/// Adds a line for each packet put out: its end, and its octets under the identifier 1.
+fn tell<A: Allocator + Copy>(
+    alloc: A,
+    told: &mut String<A>,
+    moves: &[Move<A>],
+) -> Result<(), Fail> {
+    for made in moves {
         let written = encode(alloc, 1, &made.packet).ok().ok_or("a packet")?;
-        if made.side != *side || written.as_slice() != *octets {
-            return Ok(false);
-        }
+        let end = match made.side {
+            End::Caller => "a ",
+            End::Called => "b ",
+        };
+        told.push_str(end)?;
+        told.push_str(hex::encode(alloc, written.as_slice())?.as_str())?;
+        told.push_str("\n")?;
     }
-    Ok(true)
+    Ok(())
 }
 
-/// The first step of a table that puts out something else, from a call with windows of this size.
-pub fn first_wrong<A: Allocator + Copy>(
+/// What a line `END DIGITS` makes the relay put out.
+fn take<A: Allocator + Copy>(
     alloc: A,
-    window: u8,
-    steps: &[Step],
-) -> Result<Option<usize>, Fail> {
+    relay: &mut Relay<A>,
+    line: &str,
+) -> Result<Vec<Move<A>, A>, Fail> {
+    let (end, digits) = line.split_once(' ').ok_or("a line")?;
+    let here = if end == "a" { End::Caller } else { End::Called };
+    let octets = hex::decode(alloc, digits).ok().ok_or("digits")?;
+    let (_, packet) = decode(alloc, octets.as_slice()).ok().ok_or("a packet")?;
+    Ok(put(alloc, relay, here, packet)?)
+}
+
+/// The packets of a table again, with what is put out now: the lines `> END DIGITS` of those that come from an end, and
+/// behind each a line `END DIGITS` for what is put out for it.
+pub fn played<A: Allocator + Copy>(alloc: A, window: u8, table: &str) -> Result<String<A>, Fail> {
     let terms = terms(window, Modulus::Eight, Modulus::Eight);
     if !terms.is_within() {
         return Err("the terms".into());
     }
     let mut relay = Relay::new(alloc, terms)?;
-    for (place, ((here, octets), wanted)) in steps.iter().enumerate() {
-        let (_, packet) = decode(alloc, octets).ok().ok_or("octets")?;
-        let moves = put(alloc, &mut relay, *here, packet)?;
-        if !are(alloc, moves.as_slice(), wanted)? {
-            return Ok(Some(place));
+    let mut told = String::new(alloc);
+    for line in table.lines() {
+        if let Some(arrived) = line.strip_prefix("> ") {
+            told.push_str(line)?;
+            told.push_str("\n")?;
+            let moves = take(alloc, &mut relay, arrived)?;
+            tell(alloc, &mut told, moves.as_slice())?;
         }
     }
-    Ok(None)
+    Ok(told)
 }

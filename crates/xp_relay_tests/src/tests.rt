@@ -1,4 +1,4 @@
-use crate::play::{first_wrong, put, terms};
+use crate::play::{played, put, terms};
 use crate::rows::{
     CROSSING_RESETS, FAULTS, NOT_READY, SECOND_INTERRUPT, WHAT_WAITS, WINDOW_OVERRUN,
 };
@@ -11,12 +11,16 @@ use xp_testing::Refusing;
 #[test]
 fn packets_and_what_is_put_out(rt: HostRuntime) -> Result<(), Fail> {
     let alloc = rt.alloc();
-    assert_eq!(rt; first_wrong(alloc, 7, &WINDOW_OVERRUN)?, None);
-    assert_eq!(rt; first_wrong(alloc, 2, &NOT_READY)?, None);
-    assert_eq!(rt; first_wrong(alloc, 2, &SECOND_INTERRUPT)?, None);
-    assert_eq!(rt; first_wrong(alloc, 2, &FAULTS)?, None);
-    assert_eq!(rt; first_wrong(alloc, 2, &CROSSING_RESETS)?, None);
-    assert_eq!(rt; first_wrong(alloc, 2, &WHAT_WAITS)?, None);
+    for (window, table) in [
+        (7, WINDOW_OVERRUN),
+        (2, NOT_READY),
+        (2, SECOND_INTERRUPT),
+        (2, FAULTS),
+        (2, CROSSING_RESETS),
+        (2, WHAT_WAITS),
+    ] {
+        assert_eq!(rt; played(alloc, window, table)?.as_str(), table);
+    }
     let terms = terms(2, Modulus::Eight, Modulus::Eight);
     if !terms.is_within() {
         return Err("the terms".into());

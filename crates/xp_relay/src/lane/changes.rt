@@ -1,10 +1,9 @@
 //! What changes a direction.
 
-ghost use Rattle.std.specs.Prelude.{◌≡◌, ◌+◌, ◌<◌, ◌≤◌, length};
+ghost use Rattle.std.specs.Prelude.{◌≡◌, ◌+◌, ◌<◌, ◌≤◌, if◌then◌else◌, length};
 ghost use Rattle.xp_relay.specs.Direction.{Direction, emptied};
 ghost use Rattle.xp_relay.specs.Kept.{Shows};
 ghost use Rattle.xp_relay.specs.Turns.{acknowledged_to, held_interrupt, settled, with_data};
-ghost use Rattle.xp_relay.specs.declared.data.Interruption.TheVariants.{Idle, Held, PutOut};
 
 use crate::data::{Data, Interruption};
 use crate::lane::Lane;
@@ -51,11 +50,25 @@ impl<A: Allocator> Lane<A> {
         self.owes = owes;
     }
 
-    /// The sender's interrupt is there, in this state.
-    pub(crate) fn set_interrupt(&mut self, interrupt: Interruption<A>)
-        ensures { (d : Direction A) → Shows self.old d → Shows self.new (record d { interrupt = interrupt }) }
+    /// The sender's interrupt is confirmed.
+    pub(crate) fn end_interrupt(&mut self)
+        ensures { (d : Direction A) → Shows self.old d → Shows self.new (record d { interrupt = Interruption.Idle }) }
     {
-        self.interrupt = interrupt;
+        self.interrupt = Interruption::Idle;
+    }
+
+    /// The sender has an interrupt: what goes out of it, unless it waits for a reset confirmation.
+    pub(crate) fn offer(&mut self, octets: Octets<A>) -> Option<Octets<A>>
+        ensures goes { result ≡ (if self.old.owes then None else Some octets) }
+        ensures shown { (d : Direction A) → Shows self.old d → Shows self.new (record d { interrupt = if d.owes then Interruption.Held octets else Interruption.PutOut }) }
+    {
+        if self.owes {
+            self.interrupt = Interruption::Held(octets);
+            None
+        } else {
+            self.interrupt = Interruption::PutOut;
+            Some(octets)
+        }
     }
 
     /// The receiver owes nothing any more: the interrupt that waited for that.

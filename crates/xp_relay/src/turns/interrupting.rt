@@ -5,11 +5,10 @@ ghost use Rattle.xp_relay.specs.Direction.{Direction};
 ghost use Rattle.xp_relay.specs.Kept.{Ends, Shows};
 ghost use Rattle.xp_relay.specs.Turns.{interrupt, interrupt_confirm, interrupting};
 
-use crate::data::Interruption;
 use crate::lane::Lane;
 use crate::moves::{Move, Moves};
 use crate::turns::resetting::fail;
-use crate::turns::telling::far;
+use crate::turns::telling::{far, interrupts};
 use std::alloc::Allocator;
 use xp_causes::diagnostic::{UNAUTHORIZED_INTERRUPT, UNAUTHORIZED_INTERRUPT_CONFIRMATION};
 use xp_packets::{End, Octets, Packet};
@@ -27,17 +26,8 @@ fn put<A: Allocator>(
     ensures { (s r : Direction A) → Shows sent.old s → Shows received.old r → Ends sent.new received.new result.moves (interrupting here octets s r) }
 {
     let _ = received;
-    let waits = sent.owes();
-    if waits {
-        sent.set_interrupt(Interruption::Held(octets));
-        room
-    } else {
-        sent.set_interrupt(Interruption::PutOut);
-        room.with(Move {
-            side: far(here),
-            packet: Packet::Interrupt { octets },
-        })
-    }
+    let goes = sent.offer(octets);
+    room.with_some(interrupts(far(here), goes))
 }
 
 /// An interrupt.
@@ -75,7 +65,7 @@ pub(crate) fn interrupt_confirm<A: Allocator>(
     if received.owes() {
         room
     } else if received.has_put_interrupt() {
-        received.set_interrupt(Interruption::Idle);
+        received.end_interrupt();
         room.with(Move {
             side: far(here),
             packet: Packet::InterruptConfirm,

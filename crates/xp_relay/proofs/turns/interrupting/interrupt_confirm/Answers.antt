@@ -11,7 +11,7 @@ pub returns-then-has_put_interrupt : goal.returns-then-has_put_interrupt
 returns-then-has_put_interrupt g c = λ s r hs hr.
     otherwise _ (seen (λ k. k.owes) hr c.owes.ensures c.if-owes.false)
     (when _ (seen (λ k. is_put_out k.interrupt) hr c.has_put_interrupt.ensures c.if-has_put_interrupt.true)
-    (record { sent = hs; received = c.set_interrupt.ensures r hr; moves = rw (c.with.ensures, c.requires.empty, c.far.ensures) refl }))
+    (record { sent = hs; received = c.end_interrupt.ensures r hr; moves = rw (c.with.ensures, c.requires.empty, c.far.ensures) refl }))
 
 pub returns-else-has_put_interrupt : goal.returns-else-has_put_interrupt
 returns-else-has_put_interrupt g c = λ s r hs hr.
