@@ -1,22 +1,20 @@
 -- The states in which the table has an action.
 use Rattle.std.proofs.Common.{◌≡◌, ℕ, None, refl}
-use Rattle.xp_core.specs.declared.channel.ChannelState.{ChannelState}
-use Rattle.xp_core.specs.declared.channel.ChannelState.TheVariants.{Off, Ready, Waiting, Ringing, Talking, Cleared}
+use Rattle.xp_core.specs.Channel.{State, Off, Ready, Waiting, Ringing, Talking, Cleared, call_of}
 use Rattle.xp_core.specs.declared.table.Action.{Action}
 use Rattle.xp_core.specs.declared.table.Action.TheVariants.{Rise, NewCall, Answer, Free}
 use Rattle.xp_core.specs.declared.table.Kind.{Kind}
 use Rattle.xp_core.specs.declared.table.Kind.TheVariants as kinds
-use Rattle.xp_core.specs.Channel.{call_of}
 use Rattle.xp_core.specs.Table.{cell}
 
-abbrev pub Suits : Action → ChannelState → Type 0
+abbrev pub Suits : Action → State → Type 0
 Suits Rise state = call_of state ≡ None
 Suits Free state = call_of state ≡ None
 Suits NewCall state = state ≡ Ready
 Suits Answer state = (number : ℕ) × (state ≡ Ringing number)
 Suits action state = Unit {0}
 
-pub suits : (state : ChannelState) (kind : Kind) → Suits (cell state kind) state
+pub suits : (state : State) (kind : Kind) → Suits (cell state kind) state
 suits Off kinds.Up = refl
 suits Off kind = tt
 suits Ready kinds.Down = tt

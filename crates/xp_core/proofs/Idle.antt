@@ -2,9 +2,8 @@
 use Rattle.std.proofs.Common.{◌≡◌, ◌≢◌, ℕ, ◌<◌, true, false, not, eqb, ◌==◌, length, refl, ap, sym, inl, inr}
 use Rattle.std.proofs.lemmas.Bool.{cases_lt, and_parts, both_ways, eq-eqb, not-true}
 use Rattle.std.proofs.lemmas.List.{get_or_past}
-use Rattle.xp_core.specs.declared.channel.ChannelState.{ChannelState}
-use Rattle.xp_core.specs.declared.channel.ChannelState.TheVariants.{Off, Ready, Waiting, Ringing, Talking, Cleared}
-use Rattle.xp_core.specs.Decision.{is_idle, is_ready}
+use Rattle.xp_core.specs.Channel.{State, Off, Ready, Waiting, Ringing, Talking, Cleared, is_ready}
+use Rattle.xp_core.specs.Decision.{is_idle}
 use Rattle.xp_core.specs.World.{World, off_line, state_at}
 
 pub idle_within : (world : World) (caller line : ℕ) → is_idle world caller line ≡ true → line < length world.lines
@@ -23,7 +22,7 @@ idle_ready world caller line idle =
       ready (state_at world line) parts.1,
     )
   where
-    ready : (state : ChannelState) → is_ready state ≡ true → state ≡ Ready
+    ready : (state : State) → is_ready state ≡ true → state ≡ Ready
     ready Ready is = refl
     ready Off is = absurd (cc)
     ready (Waiting number) is = absurd (cc)

@@ -1,123 +1,144 @@
--- No call number is used twice: neither by live calls, nor by records, nor by both.
-use Rattle.std.proofs.Common.{◌≡◌, ℕ, ◌+◌, ◌<◌, ◌≤◌, true, cond, eqb, not, Option, Some, List, [], ◌∷◌, ◌++◌, All, Contains, count_by, refl, ap, sym, subst, ◌∙◌, inl, inr, arith, append_assoc, append-nil}
-use Rattle.std.proofs.lemmas.Bool.{eq-eqb, ne_eqb, cases_eq, eqb-true}
+-- Each number given has one live call or one record.
+use Rattle.std.proofs.Common.{◌≡◌, ◌≢◌, ℕ, ◌+◌, ◌<◌, ◌≤◌, Bool, cond, eqb, is_some, Option, Some, None, List, [], ◌∷◌, ◌++◌, count_by, length, refl, ap, sym, subst, ◌∙◌, inl, inr, arith, append_assoc, append-nil}
+use Rattle.std.proofs.lemmas.Bool.{eq-eqb, ne_eqb, cases_eq, cases_lt}
 use Rattle.std.proofs.lemmas.List.Concat.{flat_map-append}
-use Rattle.std.proofs.lemmas.List.Elements.{All-nil, All-push, All-filter, All-weaker, All-same}
-use Rattle.xp_packets.specs.declared.block.Block.{Block}
+use Rattle.std.specs.FinMap.{get-empty}
+use Rattle.std.specs.Ordering.{nat_cmp}
 use Rattle.xp_subs.specs.Tables.{Tables, line_count}
-use Rattle.xp_core.specs.declared.call.LiveCall.{LiveCall}
 use Rattle.xp_core.specs.declared.entry.Entry.{Entry}
-use Rattle.xp_core.specs.declared.event.What.{What}
-use Rattle.xp_core.specs.declared.output.Output.{Output}
 use Rattle.xp_core.specs.declared.record.Record.{Record}
-use Rattle.xp_core.specs.declared.table.Action.{Action}
-use Rattle.xp_core.specs.Clearing.{record_of}
-use Rattle.xp_core.specs.Records.{Begins, Moment, count_of, holders, records_of}
+use Rattle.xp_core.specs.Changes.{Change, Rises, Leaves, Begins, IsRefused, Connects, Ends, all_changed, changed, recorded, recorded_by}
+use Rattle.xp_core.specs.Clearing.{record_of, refused_record}
+use Rattle.xp_core.specs.Records.{Begins as HasBegun, Moment, count_of, holders, records_of}
 use Rattle.xp_core.specs.Run.{Run}
-use Rattle.xp_core.specs.Step.{Step}
-use Rattle.xp_core.specs.Table.{cell, kind_of}
-use Rattle.xp_core.specs.World.{World, calls_without, edit, edited, opening, state_at}
-use Rattle.xp_core.specs.declared.edit.Edit.{Edit}
-use Rattle.xp_core.specs.declared.edit.Edit.TheVariants.{Number, Line, Begin, End}
-use Rattle.xp_core.proofs.Changes.{Change, still, ends, begins, refuses, new_call, refused_record, step_change}
-use Rattle.xp_core.proofs.Counts.{count_by-append, count_by-cons, count_by_contains, count_by-filter_same, count_by-filter_out}
+use Rattle.xp_core.specs.Setting.{setting}
+use Rattle.xp_core.specs.Step.{Step, action_at}
+use Rattle.xp_core.specs.Table.{CallRequest}
+use Rattle.xp_core.specs.World.{Call, World, call_numbered, opening}
+use Rattle.xp_core.proofs.Counts.{count_by-append, count_by-cons}
+use Rattle.xp_core.proofs.Coupled.{CanBe}
+use Rattle.xp_core.proofs.Maps.{get_gone, get_left, get_new, get_other, new_or_old, was_there}
 use Rattle.xp_core.proofs.RunLemmas.{run_keeps, run_push}
+use Rattle.xp_core.proofs.Shapes.{Shape, none, one, ComesOf, step_shape}
+use Rattle.xp_core.proofs.Sounds.{IsRight, run_right}
 
-abbrev pub live_of : ℕ → List LiveCall → ℕ
-live_of number calls = count_by (λ call. eqb call.number number) calls
+-- 1 for a live call, else 0
+abbrev pub live_of : World → ℕ → ℕ
+live_of world number = cond (is_some (call_numbered world number)) 1 0
 
--- 1 at the number itself, else 0
-abbrev pub one_at : ℕ → ℕ → ℕ
-one_at next number = cond (eqb next number) 1 0
+live_is : (world : World) (number : ℕ) (call : Call) → call_numbered world number ≡ Some call → live_of world number ≡ 1
+live_is world number call is = ap {A = Option Call} {B = ℕ} (λ found. cond (is_some found) 1 0) is
 
-records-edited : (edits : List Edit) (world : World) → (edited edits world).records ≡ world.records
-records-edited [] world = refl
-records-edited (Number ∷ edits) world = records-edited edits (edit Number world)
-records-edited (Line line becomes ∷ edits) world = records-edited edits (edit (Line line becomes) world)
-records-edited (Begin call ∷ edits) world = records-edited edits (edit (Begin call) world)
-records-edited (End number ∷ edits) world = records-edited edits (edit (End number) world)
+pub live_none : (world : World) (number : ℕ) → call_numbered world number ≡ None → live_of world number ≡ 0
+live_none world number is = ap {A = Option Call} {B = ℕ} (λ found. cond (is_some found) 1 0) is
+
+live_same : (world next : World) (number : ℕ) → call_numbered next number ≡ call_numbered world number → live_of next number ≡ live_of world number
+live_same world next number same = ap {A = Option Call} {B = ℕ} (λ found. cond (is_some found) 1 0) same
 
 count_of-append : (number : ℕ) (records more : List Record) → count_of number (records ++ more) ≡ count_of number records + count_of number more
 count_of-append number records more = count_by-append (λ charged. eqb charged.number number) records more
 
-pub count_of-one : (number : ℕ) (charged : Record) → count_of number (charged ∷ []) ≡ one_at charged.number number
-count_of-one number charged = omega (arith, count_by-cons (λ r. eqb r.number number) charged [])
+count_of-one : (number : ℕ) (charged : Record) → charged.number ≡ number → count_of number (charged ∷ []) ≡ 1
+count_of-one number charged same =
+    let one : ◌≡◌ {A = ℕ} (cond (eqb charged.number number) 1 0) 1 = ap (λ b. cond b 1 0) (eq-eqb charged.number number same) in
+    omega (arith, count_by-cons (λ r. eqb r.number number) charged [], one)
 
-live_of-push : (number : ℕ) (calls : List LiveCall) (call : LiveCall) → live_of number (calls ++ call ∷ []) ≡ live_of number calls + one_at call.number number
-live_of-push number calls call =
-    omega (arith, count_by-append (λ c. eqb c.number number) calls (call ∷ []), count_by-cons (λ c. eqb c.number number) call [])
+count_of-other : (number : ℕ) (charged : Record) → charged.number ≢ number → count_of number (charged ∷ []) ≡ 0
+count_of-other number charged other =
+    let no : ◌≡◌ {A = ℕ} (cond (eqb charged.number number) 1 0) 0 = ap (λ b. cond b 1 0) (ne_eqb charged.number number other) in
+    omega (arith, count_by-cons (λ r. eqb r.number number) charged [], no)
 
--- a call's record takes its place
-moved_over : (number : ℕ) (calls : List LiveCall) (call : LiveCall) → Contains calls call → live_of call.number calls ≤ 1
-    → one_at call.number number + live_of number (calls_without calls call.number) ≡ live_of number calls
-moved_over number calls call live few = elim (cases_eq call.number number) [
-  | inl same ↦
-      let one : one_at call.number number ≡ 1 = ap (λ b. cond b 1 0) (eq-eqb call.number number same) in
-      let none : live_of number (calls_without calls call.number) ≡ 0 =
-      subst (λ n. live_of n (calls_without calls call.number) ≡ 0) same (count_by-filter_out (λ c. eqb c.number call.number) calls) in
-      let most : live_of number calls ≤ 1 = subst (λ n. live_of n calls ≤ 1) same few in
-      omega (arith, one, none, most, count_by_contains (λ c. eqb c.number number) calls call live (eq-eqb call.number number same))
-  | inr other ↦
-      let none : one_at call.number number ≡ 0 = ap (λ b. cond b 1 0) (ne_eqb call.number number other) in
-      let through : (c : LiveCall) → eqb c.number number ≡ true → not (eqb c.number call.number) ≡ true =
-      λ c is. ap not (ne_eqb c.number call.number (λ e. other (sym e ∙ eqb-true c.number number is))) in
-      omega (arith, none, count_by-filter_same (λ c. eqb c.number number) (λ c. not (eqb c.number call.number)) through calls)
-]
+-- a number given before keeps its call or gets a record, and one given now has either
+pub record Tallies (world next : World) (records : List Record) : Type 0 where
+  pub grows : world.next ≤ next.next
+  pub old : (number : ℕ) → number < world.next → count_of number records + live_of next number ≡ live_of world number
+  pub new : (number : ℕ) → world.next ≤ number → number < next.next → count_of number records + live_of next number ≡ live_of world number + 1
+  pub beyond : (number : ℕ) → next.next ≤ number → count_of number records + live_of next number ≡ live_of world number
 
--- a step gives one number more, or none
-pub data Counted (world next : World) : Type 0 where
-  keeps : next.next ≡ world.next → ((number : ℕ) → holders next number ≡ holders world number) → Counted world next
-  adds : next.next ≡ world.next + 1 → ((number : ℕ) → holders next number ≡ holders world number + one_at world.next number) → Counted world next
+tallies_same : (world next : World) → next.next ≡ world.next → ((number : ℕ) → call_numbered next number ≡ call_numbered world number) → Tallies world next []
+tallies_same world next number same = record {
+  grows = omega (arith, number);
+  old = λ n below. omega (arith, live_same world next n (same n));
+  new = λ n past below. absurd (omega (arith, number, past, below));
+  beyond = λ n past. omega (arith, live_same world next n (same n));
+}
 
-pub once_kept : (world next : World) → Counted world next → ((number : ℕ) → holders world number ≤ 1) → ((number : ℕ) → world.next ≤ number → holders world number ≡ 0)
-    → (number : ℕ) → holders next number ≤ 1
-once_kept world next (keeps n t) once fresh number = omega (arith, t number, once number)
-once_kept world next (adds n t) once fresh number = elim (cases_eq world.next number) [
-  | inl is ↦
-      let one : one_at world.next number ≡ 1 = ap (λ b. cond b 1 0) (eq-eqb world.next number is) in
-      omega (arith, one, t number, fresh number (omega (arith, is)))
-  | inr other ↦
-      let none : one_at world.next number ≡ 0 = ap (λ b. cond b 1 0) (ne_eqb world.next number other) in
-      omega (arith, none, t number, once number)
-]
-
-pub fresh_kept : (world next : World) → Counted world next → ((number : ℕ) → world.next ≤ number → holders world number ≡ 0)
-    → (number : ℕ) → next.next ≤ number → holders next number ≡ 0
-fresh_kept world next (keeps n t) fresh number past = omega (arith, n, t number, fresh number (omega (arith, n, past)))
-fresh_kept world next (adds n t) fresh number past =
-    let other : world.next ≡ number → ⊥ = λ e. absurd (omega (arith, e, n, past)) in
-    let none : one_at world.next number ≡ 0 = ap (λ b. cond b 1 0) (ne_eqb world.next number other) in
-    omega (arith, none, t number, fresh number (omega (arith, n, past)))
-
-pub kept_on : (world next : World) → Counted world next → ((number : ℕ) → world.next ≤ number → holders world number ≡ 0)
-    → ((number : ℕ) → 1 ≤ number → number < world.next → holders world number ≡ 1)
-    → (number : ℕ) → 1 ≤ number → number < next.next → holders next number ≡ 1
-kept_on world next (keeps n t) fresh kept number from below = omega (arith, t number, kept number from (omega (arith, n, below)))
-kept_on world next (adds n t) fresh kept number from below = elim (cases_eq world.next number) [
-  | inl is ↦
-      let one : one_at world.next number ≡ 1 = ap (λ b. cond b 1 0) (eq-eqb world.next number is) in
-      omega (arith, one, t number, fresh number (omega (arith, is)))
-  | inr other ↦
-      let none : one_at world.next number ≡ 0 = ap (λ b. cond b 1 0) (ne_eqb world.next number other) in
-      omega (arith, none, t number, kept number from (omega (arith, n, below, other)))
-]
+pub changed_tallies : {A : Type 0} (world : World) (change : Change A) → ((number : ℕ) → world.next ≤ number → call_numbered world number ≡ None)
+    → CanBe world change → Tallies world (changed change world) (recorded world change)
+changed_tallies world (Rises line) fresh can = tallies_same world _ refl (λ number. refl)
+changed_tallies world (Leaves line way) fresh can = tallies_same world _ refl (λ number. refl)
+changed_tallies world (Connects number call packet) fresh can = tallies_same world _ refl (λ n. refl)
+changed_tallies {A} world (Begins line identifier called dialled packet) fresh can =
+    let change : Change A = Begins line identifier called dialled packet in
+    let next : World = changed change world in
+    let call : Call = record { caller = line; called = called; dialled = dialled } in
+    let other : (number : ℕ) → number ≢ world.next → live_of next number ≡ live_of world number =
+    λ number differs. live_same world next number (get_other world.calls world.next call number differs) in
+    record {
+      grows = omega arith;
+      old = λ number below. omega (arith, other number (λ same. absurd (omega (arith, same, below))));
+      new = λ number past below.
+          let same : world.next ≡ number = omega (arith, past, below) in
+          let P : ℕ → Type 0 = λ n. live_of next n ≡ live_of world n + 1 in
+          let here : P world.next = omega (arith, live_is next world.next call (get_new world.calls world.next call), live_none world world.next (fresh world.next (omega arith))) in
+          omega (arith, subst P same here);
+      beyond = λ number past. omega (arith, other number (λ same. absurd (omega (arith, same, past))));
+    }
+changed_tallies world (IsRefused line identifier dialled why) fresh can =
+    let charged : Record = refused_record world.next line dialled why in
+    record {
+      grows = omega arith;
+      old = λ number below. omega (arith, count_of-other number charged (λ same. absurd (omega (arith, same, below))));
+      new = λ number past below. omega (arith, count_of-one number charged (omega (arith, past, below)));
+      beyond = λ number past. omega (arith, count_of-other number charged (λ same. absurd (omega (arith, same, past))));
+    }
+changed_tallies {A} world (Ends number call line way cause diagnostic) fresh can =
+    let change : Change A = Ends number call line way cause diagnostic in
+    let next : World = changed change world in
+    let charged : Record = record_of number call cause diagnostic in
+    let all : (n : ℕ) → count_of n (charged ∷ []) + live_of next n ≡ live_of world n =
+    λ n. elim (cases_eq n number) [
+      | inl same ↦
+          let P : ℕ → Type 0 = λ m. live_of world m ≡ 1 in
+          omega (arith, count_of-one n charged (sym same), live_none next n (get_gone world.calls number n same), subst P (sym same) (live_is world number call can.live))
+      | inr other ↦ omega (arith, count_of-other n charged (λ same. other (sym same)), live_same world next n (get_left world.calls number n other))
+    ] in
+    record {
+      grows = omega arith;
+      old = λ n below. all n;
+      new = λ n past below. absurd (omega (arith, past, below));
+      beyond = λ n past. all n;
+    }
 
 module _ {A : Type 0} where
+  pub step_tallies : (tables : Tables) (before : List (Entry A)) (world : World) (entry : Entry A) (next : World) (entries : ℕ) → IsRight tables entries world
+      → (step : Step tables before world entry next) → Tallies world next entry.records.items
+  step_tallies tables before world entry next entries right step =
+      let P : World → List Record → Type 0 = λ w records. Tallies world w records in
+      let Q : World → Type 0 = λ w. P w entry.records.items in
+      subst Q (sym step.leads) (subst (P (all_changed step.changes world)) (sym step.records) (
+      let R : List (Change A) → Type 0 = λ changes. P (all_changed changes world) (recorded_by world changes) in
+      elim (step_shape tables before world entry next right.coupled step) [
+        | none is old ↦ subst R (sym is) (tallies_same world world refl (λ number. refl))
+        | one change is can from ↦
+            let tallies = changed_tallies world change right.sound.fresh can in
+            subst R (sym is) (subst (P (changed change world)) (sym (append-nil (recorded world change))) tallies)
+      ]))
+
   -- this live call was begun at a moment of the history
-  pub record IsBegun (tables : Tables) (history : List (Entry A)) (call : LiveCall) : Type 0 where
+  pub record IsBegun (tables : Tables) (history : List (Entry A)) (number : ℕ) (call : Call) : Type 0 where
     pub beginning : Moment tables history
-    pub block : Block A
-    pub begins : Begins beginning call.number block
+    pub request : CallRequest A
+    pub begins : HasBegun beginning number request
     pub caller : call.caller ≡ beginning.entry.event.line
     pub called : Some call.called ≡ beginning.entry.taken
-    pub dialled : call.dialled ≡ block.called
+    pub dialled : call.dialled ≡ request.block.called
 
   pub record IsBooked (tables : Tables) (before : List (Entry A)) (world : World) : Type 0 where
-    pub order : world.records ≡ records_of before
-    pub once : (number : ℕ) → holders world number ≤ 1
-    pub fresh : (number : ℕ) → world.next ≤ number → holders world number ≡ 0
-    pub kept : (number : ℕ) → 1 ≤ number → number < world.next → holders world number ≡ 1
-    pub begun : All (IsBegun tables before) world.calls
+    pub once : (number : ℕ) → holders before world number ≤ 1
+    pub fresh : (number : ℕ) → world.next ≤ number → holders before world number ≡ 0
+    pub kept : (number : ℕ) → 1 ≤ number → number < world.next → holders before world number ≡ 1
+    pub begun : (number : ℕ) (call : Call) → call_numbered world number ≡ Some call → IsBegun tables before number call
 
   -- a moment of the front of a history is one of the history
   abbrev pub lift : (tables : Tables) (front history more : List (Entry A)) → history ≡ front ++ more → Moment tables front → Moment tables history
@@ -132,54 +153,15 @@ module _ {A : Type 0} where
     step = moment.step;
   }
 
-  pub begun_still : (tables : Tables) (front history more : List (Entry A)) → history ≡ front ++ more → (call : LiveCall) → IsBegun tables front call → IsBegun tables history call
-  begun_still tables front history more is call begun = record {
+  pub begun_still : (tables : Tables) (front history more : List (Entry A)) → history ≡ front ++ more → (number : ℕ) (call : Call) → IsBegun tables front number call → IsBegun tables history number call
+  begun_still tables front history more is number call begun = record {
     beginning = lift tables front history more is begun.beginning;
-    block = begun.block;
-    begins = record {
-      identifier = begun.begins.identifier;
-      d = begun.begins.d;
-      request = begun.begins.request;
-      new = begun.begins.new;
-      numbered = begun.begins.numbered;
-    };
+    request = begun.request;
+    begins = record { asks = begun.begins.asks; new = begun.begins.new; numbered = begun.begins.numbered };
     caller = begun.caller;
     called = begun.called;
     dialled = begun.dialled;
   }
-
-  counted : (world next : World) (line : ℕ) (what : What A) (action : Action) (taken : Option ℕ) (outputs : List (Output A)) (records : List Record)
-      → next.records ≡ world.records ++ records → ((number : ℕ) → holders world number ≤ 1) → Change world next line what action taken outputs records → Counted world next
-  counted world next line what action taken outputs records grown once (still s) = keeps s.number (λ n.
-      let r : count_of n next.records ≡ count_of n world.records + count_of n records = ap (count_of n) grown ∙ count_of-append n world.records records in
-      let z : count_of n records ≡ 0 = ap (count_of n) s.none in
-      let l : live_of n next.calls ≡ live_of n world.calls = ap (live_of n) s.calls in
-      omega (arith, r, z, l))
-  counted world next line what action taken outputs records grown once (ends s) = keeps s.number (λ n.
-      let r : count_of n next.records ≡ count_of n world.records + count_of n records = ap (count_of n) grown ∙ count_of-append n world.records records in
-      let o : count_of n records ≡ one_at s.call.number n = ap (count_of n) s.one ∙ count_of-one n (record_of s.call s.cause s.diagnostic) in
-      let l : live_of n next.calls ≡ live_of n (calls_without world.calls s.call.number) = ap (live_of n) s.calls in
-      let few : live_of s.call.number world.calls ≤ 1 = omega (arith, once s.call.number) in
-      omega (arith, r, o, l, moved_over n world.calls s.call s.live few))
-  counted world next line what action taken outputs records grown once (begins s) = adds s.number (λ n.
-      let r : count_of n next.records ≡ count_of n world.records + count_of n records = ap (count_of n) grown ∙ count_of-append n world.records records in
-      let z : count_of n records ≡ 0 = ap (count_of n) s.none in
-      let l : live_of n next.calls ≡ live_of n world.calls + one_at world.next n =
-      ap (live_of n) s.calls ∙ live_of-push n world.calls (new_call world line s.called s.block.called) in
-      omega (arith, r, z, l))
-  counted world next line what action taken outputs records grown once (refuses s) = adds s.number (λ n.
-      let r : count_of n next.records ≡ count_of n world.records + count_of n records = ap (count_of n) grown ∙ count_of-append n world.records records in
-      let o : count_of n records ≡ one_at world.next n = ap (count_of n) s.one ∙ count_of-one n (refused_record world.next line s.block.called s.why) in
-      let l : live_of n next.calls ≡ live_of n world.calls = ap (live_of n) s.calls in
-      omega (arith, r, o, l))
-
-  -- what an entry records comes after the earlier records
-  grown_by : (tables : Tables) (before : List (Entry A)) (world : World) (entry : Entry A) (next : World) → Step tables before world entry next
-      → next.records ≡ world.records ++ entry.records.items
-  grown_by tables before world entry next step =
-      ap (λ w. w.records) step.leads
-      ∙ ap (λ records. records ++ step.move.records) (records-edited step.move.edits world)
-      ∙ ap (λ records. world.records ++ records) (sym step.records)
 
   abbrev pub here : (tables : Tables) (before : List (Entry A)) (world : World) (entry : Entry A) (next : World)
       → Run tables before world → Step tables before world entry next → Moment tables (before ++ entry ∷ [])
@@ -194,58 +176,83 @@ module _ {A : Type 0} where
     step = step;
   }
 
-  begun_next : (tables : Tables) (before : List (Entry A)) (world : World) (entry : Entry A) (next : World)
-      → Run tables before world → Step tables before world entry next → All (IsBegun tables (before ++ entry ∷ [])) world.calls
-      → Change world next entry.event.line entry.event.what (cell (state_at world entry.event.line) (kind_of entry.event.what)) entry.taken entry.outputs entry.records.items
-      → All (IsBegun tables (before ++ entry ∷ [])) next.calls
-  begun_next tables before world entry next run step all (still s) = All-same (IsBegun tables (before ++ entry ∷ [])) next.calls world.calls s.calls all
-  begun_next tables before world entry next run step all (ends s) =
-      All-same (IsBegun tables (before ++ entry ∷ [])) next.calls (calls_without world.calls s.call.number) s.calls
-      (All-filter (λ c. not (eqb c.number s.call.number)) (IsBegun tables (before ++ entry ∷ [])) world.calls all)
-  begun_next tables before world entry next run step all (begins s) =
-      let call : LiveCall = new_call world entry.event.line s.called s.block.called in
-      All-same (IsBegun tables (before ++ entry ∷ [])) next.calls (world.calls ++ call ∷ []) s.calls
-      (All-push (IsBegun tables (before ++ entry ∷ [])) world.calls call all (record {
-        beginning = here tables before world entry next run step;
-        block = s.block;
-        begins = record { identifier = s.identifier; d = s.d; request = s.request; new = s.new; numbered = refl };
-        caller = refl;
-        called = sym s.took;
-        dialled = refl;
-      }))
-  begun_next tables before world entry next run step all (refuses s) = All-same (IsBegun tables (before ++ entry ∷ [])) next.calls world.calls s.calls all
+  module _ (tables : Tables) (before : List (Entry A)) (world : World) (entry : Entry A) (next : World) (run : Run tables before world) (step : Step tables before world entry next)
+      (begun : (number : ℕ) (call : Call) → call_numbered world number ≡ Some call → IsBegun tables (before ++ entry ∷ []) number call) where
+    abbrev Begun : World → Type 0
+    Begun w = (number : ℕ) (call : Call) → call_numbered w number ≡ Some call → IsBegun tables (before ++ entry ∷ []) number call
+
+    begun_changed : (change : Change A) → CanBe world change → ComesOf (setting tables before world entry.event.line) entry.event.what (action_at world entry.event) entry.taken change
+        → Begun (changed change world)
+    begun_changed (Rises line) can from = begun
+    begun_changed (Leaves line way) can from = begun
+    begun_changed (IsRefused line identifier dialled why) can from = begun
+    begun_changed (Connects number call packet) can from = begun
+    begun_changed (Ends number call line way cause diagnostic) can from = λ n c is. begun n c (was_there world.calls number n c is).1
+    begun_changed (Begins line identifier called dialled packet) can from = λ n c is.
+        elim (new_or_old world.calls world.next (record { caller = line; called = called; dialled = dialled }) n c is) [
+          | inl new ↦ record {
+            beginning = here tables before world entry next run step;
+            request = from.asked.request;
+            begins = record { asks = from.asked.asks; new = from.asked.new; numbered = new.0 };
+            caller = sym (ap (λ x. x.caller) new.1) ∙ from.asked.line_is;
+            called = ap (λ x. Some x.called) (sym new.1) ∙ sym from.took;
+            dialled = sym (ap (λ x. x.dialled) new.1) ∙ from.asked.dialled_is;
+          }
+          | inr old ↦ begun n c old.1
+        ]
+
+    begun_next : IsRight tables (length before) world → Begun next
+    begun_next right =
+        let Q : World → Type 0 = λ w. Begun w in
+        elim (step_shape tables before world entry next right.coupled step) [
+          | none is old ↦ subst Q (sym (step.leads ∙ ap (λ changes. all_changed changes world) is)) begun
+          | one change is can from ↦ subst Q (sym (step.leads ∙ ap (λ changes. all_changed changes world) is)) (begun_changed change can from)
+        ]
 
   step_booked : (tables : Tables) (before : List (Entry A)) (world : World) (entry : Entry A) (next : World)
       → IsBooked tables before world × Run tables before world → Step tables before world entry next
       → IsBooked tables (before ++ entry ∷ []) next × Run tables (before ++ entry ∷ []) next
-  step_booked tables before world entry next booked step =
-      let change = step_change tables before world entry next step in
-      let grown : next.records ≡ world.records ++ entry.records.items = grown_by tables before world entry next step in
-      let count : Counted world next = counted world next _ _ _ _ _ _ grown booked.0.once change in (
+  step_booked tables before world entry next old step =
+      let right = run_right tables before world old.1 in
+      let tallies = step_tallies tables before world entry next _ right step in
+      let booked = old.0 in
+      let grown : records_of (before ++ entry ∷ []) ≡ records_of before ++ entry.records.items =
+      flat_map-append (λ e. e.records.items) before (entry ∷ []) ∙ ap (λ records. records_of before ++ records) (append-nil entry.records.items) in
+      let counted : (n : ℕ) → count_of n (records_of (before ++ entry ∷ [])) ≡ count_of n (records_of before) + count_of n entry.records.items =
+      λ n. ap (count_of n) grown ∙ count_of-append n (records_of before) entry.records.items in
+      let still : (n : ℕ) → n < world.next → holders (before ++ entry ∷ []) next n ≡ holders before world n = λ n below. omega (arith, counted n, tallies.old n below) in
+      let given : (n : ℕ) → world.next ≤ n → n < next.next → holders (before ++ entry ∷ []) next n ≡ 1 =
+      λ n past below. omega (arith, counted n, tallies.new n past below, booked.fresh n past) in
+      let none_yet : (n : ℕ) → next.next ≤ n → holders (before ++ entry ∷ []) next n ≡ 0 =
+      λ n past. omega (arith, counted n, tallies.beyond n past, booked.fresh n (omega (arith, past, tallies.grows))) in (
         record {
-          order =
-              grown
-              ∙ ap (λ records. records ++ entry.records.items) booked.0.order
-              ∙ ap (λ records. records_of before ++ records) (sym (append-nil entry.records.items))
-              ∙ sym (flat_map-append (λ e. e.records.items) before (entry ∷ []));
-          once = once_kept world next count booked.0.once booked.0.fresh;
-          fresh = fresh_kept world next count booked.0.fresh;
-          kept = kept_on world next count booked.0.fresh booked.0.kept;
-          begun = begun_next tables before world entry next booked.1 step
-              (All-weaker (IsBegun tables before) (IsBegun tables (before ++ entry ∷ [])) (begun_still tables before (before ++ entry ∷ []) (entry ∷ []) refl) world.calls booked.0.begun)
-              change;
+          once = λ n. elim (cases_lt n world.next) [
+            | inl below ↦ omega (arith, still n below, booked.once n)
+            | inr past ↦ elim (cases_lt n next.next) [
+              | inl below ↦ omega (arith, given n past below)
+              | inr beyond ↦ omega (arith, none_yet n beyond)
+            ]
+          ];
+          fresh = none_yet;
+          kept = λ n from below. elim (cases_lt n world.next) [
+            | inl earlier ↦ still n earlier ∙ booked.kept n from earlier
+            | inr past ↦ given n past below
+          ];
+          begun = begun_next tables before world entry next old.1 step
+              (λ n c is. begun_still tables before (before ++ entry ∷ []) (entry ∷ []) refl n c (booked.begun n c is)) right;
         },
-        run_push tables [] (opening (line_count tables)) before world entry next booked.1 step,
+        run_push tables [] (opening (line_count tables)) before world entry next old.1 step,
       )
 
   opening_booked : (tables : Tables) → IsBooked tables [] (opening (line_count tables))
-  opening_booked tables = record {
-    order = refl;
-    once = λ number. omega arith;
-    fresh = λ number past. refl;
-    kept = λ number from below. absurd (omega (arith, from, below));
-    begun = All-nil (IsBegun tables []);
-  }
+  opening_booked tables =
+      let none_live : (n : ℕ) → live_of (opening (line_count tables)) n ≡ 0 = λ n. live_none (opening (line_count tables)) n (get-empty nat_cmp n) in
+      record {
+        once = λ n. omega (arith, none_live n);
+        fresh = λ n past. omega (arith, none_live n);
+        kept = λ n from below. absurd (omega (arith, from, below));
+        begun = λ n c is. let none : call_numbered (opening (line_count tables)) n ≡ None = get-empty nat_cmp n in absurd (cc);
+      }
 
   pub run_booked : (tables : Tables) (history : List (Entry A)) (world : World) → Run tables history world → IsBooked tables history world
   run_booked tables history world run =

@@ -4,22 +4,21 @@ use Rattle.std.specs.Prelude.{is_none}
 use Rattle.std.specs.List.{list_any}
 use Rattle.std.proofs.lemmas.List.Folds.{list_any_at}
 use Rattle.xp_packets.specs.declared.block.Block.{Block}
-use Rattle.xp_packets.specs.declared.packet.Packet.TheVariants.{Call, Accepted, Clear}
 use Rattle.xp_subs.specs.Tables.{Tables}
 use Rattle.xp_core.specs.declared.entry.Entry.{Entry}
 use Rattle.xp_core.specs.declared.event.Event.{Event}
 use Rattle.xp_core.specs.declared.event.What.{What}
-use Rattle.xp_core.specs.declared.event.What.TheVariants.{Frame}
 use Rattle.xp_core.specs.declared.table.Action.{Action}
-use Rattle.xp_core.specs.declared.table.Action.TheVariants.{Nothing, Rise, Fall, NewCall, Answer, Confirm, Free}
+use Rattle.xp_core.specs.declared.table.Action.TheVariants.{NewCall}
 use Rattle.xp_core.specs.declared.verdict.Verdict.{Verdict}
 use Rattle.xp_core.specs.declared.verdict.Verdict.TheVariants.{Take, Refuse}
 use Rattle.xp_core.specs.Decision.{Decided, IsPlaced, is_idle, target_lines, why_none}
 use Rattle.xp_core.specs.Determined.{IsSameButLine}
-use Rattle.xp_core.specs.Moves.{Move, after, requests}
-use Rattle.xp_core.specs.Step.{Acts, Step, taken_by}
-use Rattle.xp_core.specs.Table.{cell, kind_of}
-use Rattle.xp_core.specs.World.{World, state_at}
+use Rattle.xp_core.specs.Changes.{Change, all_changed, outputs_of, recorded_by}
+use Rattle.xp_core.specs.Setting.{Setting, setting}
+use Rattle.xp_core.specs.Step.{Chooses, IsDecided, Step, action_at, does, requests, taken_by}
+use Rattle.xp_core.specs.Table.{CallRequest, request_in}
+use Rattle.xp_core.specs.World.{World}
 
 -- two verdicts of one request
 abbrev IsSameVerdict : Verdict → Verdict → Type 0
@@ -53,57 +52,64 @@ module _ {A : Type 0} (tables : Tables) (world : World) (line : ℕ) (block : Bl
       first.among.1 ∙ ap (λ target. why_none world (target_lines tables target)) (target_same (Refuse why) (Refuse why') first second) ∙ sym second.among.1
 
 module _ {A : Type 0} where
-  -- two moves, with the lines that they take
-  record IsSame (taken : Option ℕ) (move : Move A) (taken' : Option ℕ) (move' : Move A) : Type 0 where
+  -- two lists of changes, with the lines that they take
+  record IsSame (at : Setting A) (taken : Option ℕ) (changes : List (Change A)) (taken' : Option ℕ) (changes' : List (Change A)) : Type 0 where
     refused : is_none taken ≡ is_none taken'
-    records : move.records ≡ move'.records
-    does : taken ≡ taken' → move ≡ move'
+    records : recorded_by at.world changes ≡ recorded_by at.world changes'
+    does : taken ≡ taken' → changes ≡ changes'
 
-  -- a move that is not chosen
-  one_move : (taken taken' : Option ℕ) (move move' only : Move A) → (taken ≡ None) × (move ≡ only) → (taken' ≡ None) × (move' ≡ only) → IsSame taken move taken' move'
-  one_move taken taken' move move' only first second =
-      let same = first.1 ∙ sym second.1 in
-      record { refused = ap is_none (first.0 ∙ sym second.0); records = ap (λ m. m.records) same; does = λ line. same }
+  -- what is not chosen
+  unchosen : (at : Setting A) (choice choice' : Option Verdict) (changes : Option Verdict → List (Change A)) → choice ≡ None → choice' ≡ None
+      → IsSame at (taken_by choice) (changes choice) (taken_by choice') (changes choice')
+  unchosen at choice choice' changes first second =
+      let same : choice ≡ choice' = first ∙ sym second in
+      record {
+        refused = ap (λ c. is_none (taken_by c)) same;
+        records = ap (λ c. recorded_by at.world (changes c)) same;
+        does = λ line. ap changes same;
+      }
 
-  requests_same : (tables : Tables) (world : World) (line identifier : ℕ) (d : Bool) (block : Block A) (one other : Verdict)
-      → IsSameVerdict one other
-      → IsSame (taken_by one) (requests tables world line identifier d block one) (taken_by other) (requests tables world line identifier d block other)
-  requests_same tables world line identifier d block (Take called) (Take called') same = record {
+  requests_same : (at : Setting A) (request : CallRequest A) (one other : Verdict) → IsSameVerdict one other
+      → IsSame at (taken_by (Some one)) (requests at.tables at.line (Some request) (Some one)) (taken_by (Some other)) (requests at.tables at.line (Some request) (Some other))
+  requests_same at request (Take called) (Take called') same = record {
     refused = refl;
     records = refl;
-    does = λ is. let e : called ≡ called' = cc in ap (λ c. requests tables world line identifier d block (Take c)) e;
+    does = λ is. let e : called ≡ called' = cc in ap (λ c. requests at.tables at.line (Some request) (Some (Take c))) e;
   }
-  requests_same tables world line identifier d block (Refuse why) (Refuse why') same =
-      let move = ap (λ w. requests tables world line identifier d block (Refuse w)) same in
-      record { refused = refl; records = ap (λ m. m.records) move; does = λ is. move }
-  requests_same tables world line identifier d block (Take called) (Refuse why) same = absurd same
-  requests_same tables world line identifier d block (Refuse why) (Take called) same = absurd same
+  requests_same at request (Refuse why) (Refuse why') same =
+      let changes = ap (λ w. requests at.tables at.line (Some request) (Some (Refuse w))) same in
+      record { refused = refl; records = ap (recorded_by at.world) changes; does = λ is. changes }
+  requests_same at request (Take called) (Refuse why) same = absurd same
+  requests_same at request (Refuse why) (Take called) same = absurd same
 
-  acts_same : (tables : Tables) (world : World) (line : ℕ) (what : What A) (action : Action) (taken taken' : Option ℕ) (move move' : Move A)
-      → Acts tables world line what action taken move → Acts tables world line what action taken' move' → IsSame taken move taken' move'
-  acts_same tables world line what Nothing taken taken' move move' first second = one_move taken taken' move move' _ first second
-  acts_same tables world line what Rise taken taken' move move' first second = one_move taken taken' move move' _ first second
-  acts_same tables world line what Fall taken taken' move move' first second = one_move taken taken' move move' _ first second
-  acts_same tables world line what Free taken taken' move move' first second = one_move taken taken' move move' _ first second
-  acts_same tables world line (Frame identifier (Call d block)) NewCall taken taken' move move' first second =
-      let P : Option ℕ → Move A → Type 0 = λ t m. IsSame t m taken' move' in
-      let Q : Option ℕ → Move A → Type 0 = λ t m. IsSame (taken_by first.0) (requests tables world line identifier d block first.0) t m in
-      let same = requests_same tables world line identifier d block first.0 second.0 (decided_same tables world line block first.0 second.0 first.1 second.1) in
-      subst (λ t. P t move) (sym first.2) (subst (P (taken_by first.0)) (sym first.3) (subst (λ t. Q t move') (sym second.2) (subst (Q (taken_by second.0)) (sym second.3) same)))
-  acts_same tables world line (Frame identifier (Accepted d block)) Answer taken taken' move move' first second = one_move taken taken' move move' _ first second
-  acts_same tables world line (Frame identifier (Clear cause diagnostic block)) Confirm taken taken' move move' first second = one_move taken taken' move move' _ first second
-  acts_same tables world line what action taken taken' move move' first second = absurd first
+  asks_same : (at : Setting A) (asked : Option (CallRequest A)) (one other : Option Verdict) → IsDecided at asked one → IsDecided at asked other
+      → IsSame at (taken_by one) (requests at.tables at.line asked one) (taken_by other) (requests at.tables at.line asked other)
+  asks_same at None one other first second = unchosen at one other (requests at.tables at.line None) first second
+  asks_same at (Some request) None other first second = absurd first
+  asks_same at (Some request) (Some one) None first second = absurd second
+  asks_same at (Some request) (Some one) (Some other) first second =
+      requests_same at request one other (decided_same at.tables at.world at.line request.block one other first second)
+
+  does_alike : (at : Setting A) (what : What A) (action : Action) (one other : Option Verdict) → Chooses at what action one → Chooses at what action other
+      → IsSame at (taken_by one) (does at what action one) (taken_by other) (does at what action other)
+  does_alike at what NewCall one other first second = asks_same at (request_in what) one other first second
+  does_alike at what action one other first second = unchosen at one other (does at what action) first second
 
   pub steps_same : (tables : Tables) (history : List (Entry A)) (world : World) (one : Entry A) (next : World) (other : Entry A) (next' : World)
       → Step tables history world one next → Step tables history world other next' → one.event ≡ other.event
       → IsSameButLine one next other next'
   steps_same tables history world one next other next' first second event =
-      let P : Event A → Type 0 = λ e. Acts tables world e.line e.what (cell (state_at world e.line) (kind_of e.what)) one.taken first.move in
-      let same = acts_same tables world other.event.line other.event.what _ one.taken other.taken first.move second.move (subst P event first.acts) second.acts in
+      let C : Event A → Type 0 = λ e. Chooses (setting tables history world e.line) e.what (action_at world e) first.choice in
+      let D : Event A → List (Change A) = λ e. does (setting tables history world e.line) e.what (action_at world e) first.choice in
+      let same = does_alike (setting tables history world other.event.line) other.event.what (action_at world other.event) first.choice second.choice
+      (subst C event first.chosen) second.chosen in
+      let mine : first.changes ≡ D other.event = first.acts ∙ ap D event in
+      let taken : one.taken ≡ other.taken → taken_by first.choice ≡ taken_by second.choice = λ line. sym first.taken ∙ line ∙ second.taken in
+      let changes : one.taken ≡ other.taken → first.changes ≡ second.changes = λ line. mine ∙ same.does (taken line) ∙ sym second.acts in
       record {
         number = first.number ∙ sym second.number;
-        taken = same.refused;
-        records = first.records ∙ same.records ∙ sym second.records;
-        outputs = λ line. first.outputs ∙ ap (λ m. m.outputs) (same.does line) ∙ sym second.outputs;
-        world = λ line. first.leads ∙ ap (λ m. after m world) (same.does line) ∙ sym second.leads;
+        taken = ap is_none first.taken ∙ same.refused ∙ ap is_none (sym second.taken);
+        records = first.records ∙ ap (recorded_by world) mine ∙ same.records ∙ sym (ap (recorded_by world) second.acts) ∙ sym second.records;
+        outputs = λ line. first.outputs ∙ ap (outputs_of world) (changes line) ∙ sym second.outputs;
+        world = λ line. first.leads ∙ ap (λ c. all_changed c world) (changes line) ∙ sym second.leads;
       }

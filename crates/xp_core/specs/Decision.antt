@@ -6,8 +6,7 @@ use Rattle.xp_subs.specs.declared.target.Target.{Target}
 use Rattle.xp_subs.specs.Tables.{Tables, station_at, target_of}
 use Rattle.xp_core.specs.declared.cause.Refusal.{Refusal}
 use Rattle.xp_core.specs.Causes.{NUMBER_BUSY, INVALID_FACILITY_REQUEST, OUT_OF_ORDER, NOT_OBTAINABLE, LOCAL_PROCEDURE_ERROR, NO_ADDITIONAL_INFORMATION, PACKET_TOO_LONG, FACILITY_CODE_NOT_ALLOWED, INVALID_CALLED_ADDRESS, NO_LOGICAL_CHANNEL_AVAILABLE}
-use Rattle.xp_core.specs.declared.channel.ChannelState.{ChannelState}
-use Rattle.xp_core.specs.declared.channel.ChannelState.TheVariants.{Off, Ready, Waiting, Ringing, Talking, Cleared}
+use Rattle.xp_core.specs.Channel.{is_ready, is_off}
 use Rattle.xp_core.specs.declared.verdict.Verdict.{Verdict}
 use Rattle.xp_core.specs.declared.verdict.Verdict.TheVariants.{Take, Refuse}
 use Rattle.xp_core.specs.World.{World, state_at}
@@ -27,22 +26,6 @@ lines_of tables station None = (station_at tables station).lines.items
 
 abbrev pub target_lines : Tables → Target → List ℕ
 target_lines tables target = lines_of tables target.station target.line
-
-abbrev pub is_ready : ChannelState → Bool
-is_ready Ready = true
-is_ready Off = false
-is_ready (Waiting number) = false
-is_ready (Ringing number) = false
-is_ready (Talking number) = false
-is_ready Cleared = false
-
-abbrev pub is_off : ChannelState → Bool
-is_off Off = true
-is_off Ready = false
-is_off (Waiting number) = false
-is_off (Ringing number) = false
-is_off (Talking number) = false
-is_off Cleared = false
 
 -- ready (p1), and not the calling line, which counts as busy
 abbrev pub is_idle : World → ℕ → ℕ → Bool

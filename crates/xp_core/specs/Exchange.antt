@@ -6,15 +6,19 @@ use Rattle.xp_core.specs.declared.event.Event.{Event}
 use Rattle.xp_core.specs.declared.event.What.{What}
 use Rattle.xp_core.specs.declared.event.What.TheVariants.{Up, Down, Frame, WrongFrame, Expire, Stall}
 use Rattle.xp_core.specs.declared.stepped.Stepped.{Stepped}
+use Rattle.xp_core.specs.Run.{world_after}
 use Rattle.xp_core.specs.Step.{Step}
 use Rattle.xp_core.specs.World.{World}
 
 pub record Exchange (A : Type 0) : Type 0 where
   pub subs : Tables
   pub history : List (Entry A)
-  pub world : World
 
 module _ {A : Type 0} where
+  -- where its history led it
+  abbrev pub world_of : Exchange A → World
+  world_of exchange = world_after exchange.subs exchange.history
+
   -- a logical channel identifier has twelve bits (X.25 clauses 5.1.2 and 5.1.3)
   abbrev pub IsReadable : What A → Type 0
   IsReadable (Frame identifier packet) = identifier < 4096
@@ -28,7 +32,7 @@ module _ {A : Type 0} where
   pub record Advances (old : Exchange A) (event : Event A) (new : Exchange A) (told : Stepped A) : Type 0 where
     pub entry : Entry A
     pub event_is : entry.event ≡ event
-    pub step : Step old.subs old.history old.world entry new.world
+    pub step : Step old.subs old.history (world_of old) entry (world_of new)
     pub history : new.history ≡ old.history ++ entry ∷ []
     pub subs : new.subs ≡ old.subs
     pub number : told.entry ≡ entry.number

@@ -1,34 +1,27 @@
 -- The charging records of a history: one for each call that ended.
-use Rattle.std.specs.Prelude.{◌≡◌, ℕ, ◌+◌, ◌<◌, ◌≤◌, ◌==◌, ◌⊎◌, Bool, if◌then◌else◌, Option, None, Some, List, [], ◌∷◌, ◌++◌, All, Contains, count_by, flat_map, length}
-use Rattle.xp_packets.specs.declared.block.Block.{Block}
+use Rattle.std.specs.Prelude.{◌≡◌, ℕ, ◌+◌, ◌<◌, ◌≤◌, ◌==◌, ◌⊎◌, if◌then◌else◌, is_some, Option, None, Some, List, [], ◌∷◌, ◌++◌, All, count_by, flat_map, length}
 use Rattle.xp_packets.specs.declared.end.End.TheVariants.{Caller}
 use Rattle.xp_packets.specs.declared.packet.Packet.{Packet}
-use Rattle.xp_packets.specs.declared.packet.Packet.TheVariants.{Call, Clear}
+use Rattle.xp_packets.specs.declared.packet.Packet.TheVariants.{Clear}
 use Rattle.xp_subs.specs.Tables.{Tables}
-use Rattle.xp_core.specs.declared.call.LiveCall.{LiveCall}
 use Rattle.xp_core.specs.declared.entry.Entry.{Entry}
-use Rattle.xp_core.specs.declared.event.What.TheVariants.{Frame}
 use Rattle.xp_core.specs.declared.output.Output.{Output}
 use Rattle.xp_core.specs.declared.output.Put.{Put}
 use Rattle.xp_core.specs.declared.output.Put.TheVariants.{Send}
 use Rattle.xp_core.specs.declared.record.Record.{Record}
 use Rattle.xp_core.specs.declared.table.Action.TheVariants.{NewCall}
 use Rattle.xp_core.specs.Run.{Run}
-use Rattle.xp_core.specs.Step.{Step}
-use Rattle.xp_core.specs.Table.{cell, kind_of}
-use Rattle.xp_core.specs.World.{World, state_at}
+use Rattle.xp_core.specs.Step.{Step, action_at}
+use Rattle.xp_core.specs.Table.{CallRequest, request_in}
+use Rattle.xp_core.specs.World.{Call, World, call_numbered}
 
 -- a live call has this number
 abbrev pub IsLive : World → ℕ → Type 0
-IsLive world number = (call : LiveCall) × Contains world.calls call × (call.number ≡ number)
+IsLive world number = (call : Call) × (call_numbered world number ≡ Some call)
 
 -- how many of these records have this number
 abbrev pub count_of : ℕ → List Record → ℕ
 count_of number records = count_by (λ charged. charged.number == number) records
-
--- how many live calls and records have this number
-abbrev pub holders : World → ℕ → ℕ
-holders world number = count_of number world.records + count_by (λ call. call.number == number) world.calls
 
 -- the line that is told how the call ended: its end other than this line, or the caller where it was put to no line
 abbrev pub told_end : ℕ → Option ℕ → ℕ → ℕ
@@ -60,18 +53,21 @@ module _ {A : Type 0} where
   abbrev pub records_of : List (Entry A) → List Record
   records_of history = flat_map (λ entry. entry.records.items) history
 
+  -- how many records and live calls have this number
+  abbrev pub holders : List (Entry A) → World → ℕ → ℕ
+  holders history world number =
+      count_of number (records_of history) + (if is_some (call_numbered world number) then 1 else 0)
+
 module _ {A : Type 0} {tables : Tables} {history : List (Entry A)} where
-  -- the entry's call request, of this block, is a new call, and got this number
-  pub record Begins (moment : Moment tables history) (number : ℕ) (block : Block A) : Type 0 where
-    pub identifier : ℕ
-    pub d : Bool
-    pub request : moment.entry.event.what ≡ Frame identifier (Call d block)
-    pub new : cell (state_at moment.world moment.entry.event.line) (kind_of moment.entry.event.what) ≡ NewCall
+  -- the entry's call request is a new call, and got this number
+  pub record Begins (moment : Moment tables history) (number : ℕ) (request : CallRequest A) : Type 0 where
+    pub asks : request_in moment.entry.event.what ≡ Some request
+    pub new : action_at moment.world moment.entry.event ≡ NewCall
     pub numbered : number ≡ moment.world.next
 
   -- the call of this number was live or is begun here, and is not live afterwards
   pub record Ends (moment : Moment tables history) (number : ℕ) : Type 0 where
-    pub was : IsLive moment.world number ⊎ ((block : Block A) × Begins moment number block)
+    pub was : IsLive moment.world number ⊎ ((request : CallRequest A) × Begins moment number request)
     pub gone : IsLive moment.next number → ⊥
 
   -- the record of a call that this entry ends: of the entry that began it, and of the one clear indication in which
@@ -79,21 +75,19 @@ module _ {A : Type 0} {tables : Tables} {history : List (Entry A)} where
   pub record IsRecordOf (ending : Moment tables history) (charged : Record) : Type 0 where
     pub ends : Ends ending charged.number
     pub beginning : Moment tables history
-    pub block : Block A
-    pub begins : Begins beginning charged.number block
+    pub request : CallRequest A
+    pub begins : Begins beginning charged.number request
     pub caller : charged.caller ≡ beginning.entry.event.line
     pub called : charged.called ≡ beginning.entry.taken
-    pub dialled : charged.dialled ≡ block.called
+    pub dialled : charged.dialled ≡ request.block.called
     pub payer : charged.payer ≡ Caller
     pub from_caller : charged.from_caller ≡ 0
     pub from_called : charged.from_called ≡ 0
     pub told : clears_to (told_end charged.caller charged.called ending.entry.event.line) ending.entry.outputs
         ≡ Clear charged.cause (Some charged.diagnostic) None ∷ []
 
--- the records of this state are one for each call that ended, and nothing else
+-- the records of a history are one for each call that ended, and nothing else
 pub record OneRecordEach {A : Type 0} (tables : Tables) (history : List (Entry A)) (world : World) : Type 0 where
-  -- they are those of the entries, so they stand in the order of ending
-  pub order : world.records ≡ records_of history
   -- each place of the history is a moment
   pub places : (before : List (Entry A)) (entry : Entry A) (rest : List (Entry A)) → history ≡ before ++ entry ∷ rest
       → (moment : Moment tables history) × (moment.before ≡ before) × (moment.entry ≡ entry)
@@ -101,11 +95,11 @@ pub record OneRecordEach {A : Type 0} (tables : Tables) (history : List (Entry A
   pub each : (moment : Moment tables history) → All (IsRecordOf moment) moment.entry.records.items
   -- each call that an entry ends has one record there
   pub ended : (moment : Moment tables history) (number : ℕ) → Ends moment number → count_of number moment.entry.records.items ≡ 1
-  -- no number has two records, two live calls, or one of each
-  pub once : (number : ℕ) → holders world number ≤ 1
+  -- no number has two records, or a record and a live call
+  pub once : (number : ℕ) → holders history world number ≤ 1
   -- each number given so far has a record or a live call
-  pub kept : (number : ℕ) → 1 ≤ number → number < world.next → holders world number ≡ 1
+  pub kept : (number : ℕ) → 1 ≤ number → number < world.next → holders history world number ≡ 1
   -- none from the next on has any, so no number is given twice
-  pub fresh : (number : ℕ) → world.next ≤ number → holders world number ≡ 0
+  pub fresh : (number : ℕ) → world.next ≤ number → holders history world number ≡ 0
   -- an entry has at most one so far; there is room for call collision (clause 4.1.6), which has no effect yet
   pub few : (moment : Moment tables history) → length moment.entry.records.items ≤ 2

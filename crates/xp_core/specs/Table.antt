@@ -1,14 +1,20 @@
 -- The table of actions (X.25 Annex C): what an event of this kind does to a line in this state.
+use Rattle.std.specs.Prelude.{ℕ, Bool, Option, None, Some}
+use Rattle.xp_packets.specs.declared.block.Block.{Block}
 use Rattle.xp_packets.specs.declared.packet.Packet.{Packet}
 use Rattle.xp_packets.specs.declared.packet.Packet.TheVariants as packets
-use Rattle.xp_core.specs.declared.channel.ChannelState.{ChannelState}
-use Rattle.xp_core.specs.declared.channel.ChannelState.TheVariants.{Off, Ready, Waiting, Ringing, Talking, Cleared}
 use Rattle.xp_core.specs.declared.event.What.{What}
 use Rattle.xp_core.specs.declared.event.What.TheVariants as events
 use Rattle.xp_core.specs.declared.table.Kind.{Kind}
 use Rattle.xp_core.specs.declared.table.Kind.TheVariants as kinds
 use Rattle.xp_core.specs.declared.table.Action.{Action}
 use Rattle.xp_core.specs.declared.table.Action.TheVariants.{Nothing, Rise, Fall, NewCall, Answer, Confirm, Free}
+use Rattle.xp_core.specs.Channel.{State, Off, Ready, Waiting, Ringing, Talking, Cleared}
+
+pub record CallRequest (A : Type 0) : Type 0 where
+  pub identifier : ℕ
+  pub d : Bool
+  pub block : Block A
 
 module _ {A : Type 0} where
   abbrev pub packet_kind : Packet A → Kind
@@ -32,6 +38,21 @@ module _ {A : Type 0} where
   kind_of (events.WrongFrame wrong) = kinds.Wrong
   kind_of events.Expire = kinds.Expire
   kind_of events.Stall = kinds.Stall
+
+  -- the call request in an event
+  abbrev pub request_in : What A → Option (CallRequest A)
+  request_in (events.Frame identifier (packets.Call d block)) = Some (record { identifier = identifier; d = d; block = block })
+  request_in what = None
+
+  -- the D bit of the call accepted packet in it
+  abbrev pub accepted_in : What A → Option Bool
+  accepted_in (events.Frame identifier (packets.Accepted d block)) = Some d
+  accepted_in what = None
+
+  -- the cause and the diagnostic of the clear request in it
+  abbrev pub clear_in : What A → Option (ℕ × Option ℕ)
+  clear_in (events.Frame identifier (packets.Clear cause diagnostic block)) = Some (cause, diagnostic)
+  clear_in what = None
 
 -- one line of cells for each state
 abbrev pub cell_off : Kind → Action
@@ -66,7 +87,7 @@ cell_cleared kinds.Clear = Free
 cell_cleared kinds.ClearConfirm = Free
 cell_cleared kind = Nothing
 
-abbrev pub cell : ChannelState → Kind → Action
+abbrev pub cell : State → Kind → Action
 cell Off kind = cell_off kind
 cell Ready kind = cell_ready kind
 cell (Waiting number) kind = cell_waiting kind

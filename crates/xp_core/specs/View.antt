@@ -1,13 +1,11 @@
 -- What can be seen of a line.
-use Rattle.xp_core.specs.declared.channel.ChannelState.{ChannelState}
-use Rattle.xp_core.specs.declared.channel.ChannelState.TheVariants.{Off, Ready, Waiting, Ringing, Talking, Cleared}
-use Rattle.xp_core.specs.declared.channel.LogicalChannel.{LogicalChannel}
 use Rattle.xp_core.specs.declared.view.Channel.{Channel}
 use Rattle.xp_core.specs.declared.view.Channel.TheVariants as channels
 use Rattle.xp_core.specs.declared.view.LineView.{LineView}
-use Rattle.xp_core.specs.Channel.{call_of}
+use Rattle.xp_core.specs.Channel.{State, Off, Ready, Waiting, Ringing, Talking, Cleared, call_of}
+use Rattle.xp_core.specs.World.{Line}
 
-abbrev pub channel_of : ChannelState → Channel
+abbrev pub channel_of : State → Channel
 channel_of Off = channels.Off
 channel_of Ready = channels.P1
 channel_of (Waiting number) = channels.P2
@@ -15,7 +13,7 @@ channel_of (Ringing number) = channels.P3
 channel_of (Talking number) = channels.P4
 channel_of Cleared = channels.P7
 
-abbrev pub view_of : LogicalChannel → LineView
+abbrev pub view_of : Line → LineView
 view_of line = record {
   channel = channel_of line.state;
   identifier = line.identifier;

@@ -1,61 +1,79 @@
--- The state of the exchange, and the single changes of it.
-use Rattle.std.specs.Prelude.{ℕ, ◌+◌, ◌==◌, not, Option, List, [], ◌∷◌, ◌++◌, filter, find, option_and_then, replicate, slice_index_or, slice_set}
-use Rattle.xp_core.specs.declared.call.LiveCall.{LiveCall}
-use Rattle.xp_core.specs.declared.channel.ChannelState.{ChannelState}
-use Rattle.xp_core.specs.declared.channel.ChannelState.TheVariants.{Off}
-use Rattle.xp_core.specs.declared.channel.LogicalChannel.{LogicalChannel}
-use Rattle.xp_core.specs.declared.edit.Edit.{Edit}
-use Rattle.xp_core.specs.declared.edit.Edit.TheVariants.{Number, Line, Begin, End}
-use Rattle.xp_core.specs.declared.record.Record.{Record}
-use Rattle.xp_core.specs.Channel.{call_of}
+-- The state of the exchange.
+use Rattle.std.specs.Prelude.{ℕ, ◌==◌, if◌then◌else◌, Option, None, Some, List, refl, option_map, replicate, slice_index_or, slice_set}
+use Rattle.std.specs.Coded.{Coded, coded_ℕ, coded_list, coded×, code_by}
+use Rattle.std.specs.FinMap as map
+use Rattle.std.specs.Ordering.{nat_cmp}
+use Rattle.xp_core.specs.Channel.{State, Off, call_of}
+
+pub record Line : Type 0 where
+  pub state : State
+  -- the logical channel identifier that every packet to the line carries
+  pub identifier : ℕ
+  -- how often it came into service
+  pub connection : ℕ
+
+-- a virtual call, from its call request to its clearing
+pub record Call : Type 0 where
+  -- the line that asked for it
+  pub caller : ℕ
+  -- the line that it was put to
+  pub called : ℕ
+  -- the called address as the caller gave it
+  pub dialled : List ℕ
 
 pub record World : Type 0 where
   -- by line
-  pub lines : List LogicalChannel
-  -- in the order of their numbers
-  pub calls : List LiveCall
-  -- in the order in which the calls ended
-  pub records : List Record
+  pub lines : List Line
+  -- the live calls, by number
+  pub calls : map.FinMap nat_cmp Call
   -- the number of the next call
   pub next : ℕ
 
-abbrev pub world_of : List LogicalChannel → List LiveCall → List Record → ℕ → World
-world_of lines calls records next = record { lines = lines; calls = calls; records = records; next = next }
+-- a call is stored as its fields, and the live calls as a map of such
+abbrev call_code : Coded Call
+call_code =
+    code_by (ℕ × (ℕ × List ℕ)) (coded× coded_ℕ (coded× coded_ℕ (coded_list coded_ℕ))) (λ call. (call.caller, (call.called, call.dialled)))
+    (λ fields. record { caller = fields.0; called = fields.1.0; dialled = fields.1.1 }) (λ _. refl)
+
+abbrev pub calls_code : Coded (map.FinMap nat_cmp Call)
+calls_code = map.code coded_ℕ call_code
 
 -- a line that never was in service
-abbrev pub off_line : LogicalChannel
+abbrev pub off_line : Line
 off_line = record { state = Off; identifier = 0; connection = 0 }
 
 -- all lines are off, and no call was ever made
 abbrev pub opening : ℕ → World
-opening count = record { lines = replicate count off_line; calls = []; records = []; next = 1 }
+opening count = record { lines = replicate count off_line; calls = map.empty; next = 1 }
 
-abbrev pub line_at : World → ℕ → LogicalChannel
+abbrev pub line_at : World → ℕ → Line
 line_at world line = slice_index_or world.lines line off_line
 
-abbrev pub state_at : World → ℕ → ChannelState
+abbrev pub state_at : World → ℕ → State
 state_at world line = (line_at world line).state
 
-abbrev pub call_numbered : List LiveCall → ℕ → Option LiveCall
-call_numbered calls number = find (λ call. call.number == number) calls
+-- the live call of this number
+abbrev pub call_numbered : World → ℕ → Option Call
+call_numbered world number = map.get world.calls number
 
-abbrev pub calls_without : List LiveCall → ℕ → List LiveCall
-calls_without calls number = filter (λ call. not (call.number == number)) calls
+-- the live call of this number, if there is a number, with it
+abbrev pub numbered : World → Option ℕ → Option (ℕ × Call)
+numbered world None = None
+numbered world (Some number) = option_map (λ call. (number, call)) (call_numbered world number)
 
--- the call that a line is in
-abbrev pub call_on : World → ℕ → Option LiveCall
-call_on world line = option_and_then (call_numbered world.calls) (call_of (state_at world line))
+-- the call that a line is in, with its number
+abbrev pub call_on : World → ℕ → Option (ℕ × Call)
+call_on world line = numbered world (call_of (state_at world line))
 
-abbrev pub edit : Edit → World → World
-edit Number world = record world { next = world.next + 1 }
-edit (Line line becomes) world = record world { lines = slice_set world.lines line becomes }
-edit (Begin call) world = record world { calls = world.calls ++ call ∷ [] }
-edit (End number) world = record world { calls = calls_without world.calls number }
+-- the other line of a call
+abbrev pub far_end : Call → ℕ → ℕ
+far_end call line = if call.caller == line then call.called else call.caller
 
--- the changes one after another
-abbrev pub edited : List Edit → World → World
-edited [] world = world
-edited (first ∷ edits) world = edited edits (edit first world)
+-- these lines, with one of the world's come to this state, under this identifier; its connection stays
+abbrev pub moved_as : World → ℕ → ℕ → State → List Line → List Line
+moved_as world line identifier state lines =
+    slice_set lines line (record (line_at world line) { state = state; identifier = identifier })
 
-abbrev pub add_records : List Record → World → World
-add_records records world = record world { records = world.records ++ records }
+-- under its own identifier
+abbrev pub moved : World → ℕ → State → List Line → List Line
+moved world line state lines = moved_as world line (line_at world line).identifier state lines

@@ -1,14 +1,11 @@
 -- Every packet that is put out has a spelling.
 use Rattle.std.specs.Prelude.{◌≡◌, None, List, All}
 use Rattle.xp_packets.specs.Fitness.{unfit}
-use Rattle.xp_subs.specs.Tables.{Tables}
 use Rattle.xp_core.specs.declared.entry.Entry.{Entry}
 use Rattle.xp_core.specs.declared.output.Output.{Output}
 use Rattle.xp_core.specs.declared.output.Put.{Put}
 use Rattle.xp_core.specs.declared.output.Put.TheVariants.{Send, Close}
 use Rattle.xp_core.specs.Exchange.{IsReadable}
-use Rattle.xp_core.specs.Run.{Run}
-use Rattle.xp_core.specs.World.{World}
 
 module _ {A : Type 0} where
   -- nothing but want of memory keeps its packet from being encoded
@@ -22,8 +19,3 @@ module _ {A : Type 0} where
   -- the logical channel identifiers that came in have twelve bits
   abbrev pub AreReadable : List (Entry A) → Type 0
   AreReadable history = All (λ entry. IsReadable entry.event.what) history
-
-  -- a history of such events leads from the opening world to this one
-  pub record LeadsTo (tables : Tables) (history : List (Entry A)) (world : World) : Type 0 where
-    pub run : Run tables history world
-    pub readable : AreReadable history

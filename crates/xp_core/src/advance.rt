@@ -1,10 +1,9 @@
 //! Entering one event.
 
-ghost use Rattle.std.specs.Prelude.{◌≡◌, ◌<◌, ◌^◌, IfOk, IfErr, OnOk, OnErr, length, vec_len, vec_capacity};
+ghost use Rattle.std.specs.Prelude.{◌≡◌, ◌+◌, ◌<◌, ◌≤◌, ◌^◌, ◌++◌, IfOk, IfErr, OnOk, OnErr, length, vec_len, vec_capacity};
 ghost use Rattle.xp_subs.specs.Tables.{line_count};
-ghost use Rattle.xp_core.specs.Exchange.{Advances};
 ghost use Rattle.xp_core.specs.Sound.{IsSound};
-ghost use Rattle.xp_core.specs.Work.{Works};
+ghost use Rattle.xp_core.specs.Work.{Enters, Works};
 
 use crate::entry::Entry;
 use crate::event::Event;
@@ -12,7 +11,7 @@ use crate::fault::StepFault;
 use crate::machine::Machine;
 use crate::output::Outputs;
 use crate::plan::{Plan, plan_of};
-use crate::record::Records;
+use crate::record::{Record, Records};
 use crate::stepped::Stepped;
 use std::alloc::{AllocError, Allocator};
 use xp_subs::{LineNo, Subs};
@@ -27,23 +26,25 @@ pub struct Work<A: Allocator> {
     pub records: Records,
 }
 
-/// Enters one event: makes all growths, and then changes the state and the history.
+/// Enters one event: makes all growths, and then changes the state, the history and the records.
 pub fn advance<A: Allocator + Copy>(
     alloc: A,
     subs: &Subs,
     machine: &mut Machine<A>,
     history: &mut Vec<Entry<A>, A>,
+    charged: &mut Vec<Record, A>,
     event: Event<A>,
 ) -> Result<Stepped<A>, StepFault<A>>
     requires line { event.line < line_count subs.now }
     requires sound { IsSound subs.now (length history.old.items) machine.old }
     requires few { length history.old.items < 2 ^ 32 }
-    ensures ok { IfOk result (λ told. Advances (record { subs = subs.now; history = history.old.items; world = machine.old }) event (record { subs = subs.now; history = history.new.items; world = machine.new }) told) }
+    ensures ok { IfOk result (λ told. Enters subs.now machine.old history.old.items charged.old.items event machine.new history.new.items charged.new.items told) }
     ensures memory { IfErr result (λ fault. fault ≡ StepFault.Memory event) }
     ensures machine { OnErr result (machine.new ≡ machine.old) }
     ensures history { OnErr result (history.new.items ≡ history.old.items) }
+    ensures records { OnErr result (charged.new.items ≡ charged.old.items) }
 {
-    let Ok(work) = work_out(alloc, subs, machine, history, &event) else {
+    let Ok(work) = work_out(alloc, subs, machine, history, charged, &event) else {
         return Err(StepFault::Memory(event));
     };
     let Work {
@@ -52,6 +53,7 @@ pub fn advance<A: Allocator + Copy>(
         told,
         records,
     } = work;
+    add_all(charged, records.as_slice());
     let number = history.len() as u64 + 1;
     history.push_reserved(Entry {
         number,
@@ -72,30 +74,44 @@ fn work_out<A: Allocator + Copy>(
     subs: &Subs,
     machine: &mut Machine<A>,
     history: &mut Vec<Entry<A>, A>,
+    charged: &mut Vec<Record, A>,
     event: &Event<A>,
 ) -> Result<Work<A>, AllocError>
     requires line { event.now.line < line_count subs.now }
     requires sound { IsSound subs.now (length history.old.items) machine.old }
     requires few { length history.old.items < 2 ^ 32 }
-    ensures ok { IfOk result (λ work. Works subs.now machine.old event.now work machine.new) }
+    ensures ok { IfOk result (λ work. Works subs.now history.old.items machine.old event.now work machine.new) }
     ensures room { OnOk result (vec_len history.new < vec_capacity history.new) }
+    ensures places { IfOk result (λ work. vec_len charged.new + length work.records.items ≤ vec_capacity charged.new) }
     ensures items { history.new.items ≡ history.old.items }
+    ensures records { charged.new.items ≡ charged.old.items }
     ensures err { OnErr result (machine.new ≡ machine.old) }
 {
     let Plan {
         taken,
         outputs,
-        edits,
+        change,
         records,
-    } = plan_of(alloc, subs, machine, event)?;
+    } = plan_of(alloc, subs, machine, history.as_slice(), event)?;
     let outputs = outputs.into_outputs();
     let told = outputs.copy()?;
     history.reserve(1)?;
-    machine.apply(edits.as_slice(), records.as_slice())?;
+    charged.reserve(records.len())?;
+    machine.apply(change)?;
     Ok(Work {
         taken,
         outputs,
         told,
         records,
     })
+}
+
+/// Adds copies of these records.
+fn add_all<A: Allocator>(charged: &mut Vec<Record, A>, more: &[Record])
+    requires { vec_len charged.old + length more.now ≤ vec_capacity charged.old }
+    ensures { charged.new.items ≡ charged.old.items ++ more.now }
+{
+    for record in more {
+        charged.push_reserved(record.copy());
+    }
 }

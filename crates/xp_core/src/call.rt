@@ -1,10 +1,8 @@
-ghost use Rattle.std.specs.Prelude.{◌≡◌};
-
 use xp_packets::Digits;
 use xp_subs::LineNo;
 
 /// A virtual call between two lines, from its call request to its clearing.
-#[derive(Debug, Default, Drop, PartialEq)]
+#[derive(Debug, Drop, PartialEq)]
 pub struct LiveCall {
     /// The call's number, from 1.
     pub number: u64,
@@ -14,18 +12,4 @@ pub struct LiveCall {
     pub called: LineNo,
     /// The called address as the caller gave it.
     pub dialled: Digits,
-}
-
-impl LiveCall {
-    /// An equal copy.
-    pub fn copy(&self) -> LiveCall
-        ensures { result ≡ self.now }
-    {
-        LiveCall {
-            number: self.number,
-            caller: self.caller,
-            called: self.called,
-            dialled: self.dialled.copy(),
-        }
-    }
 }

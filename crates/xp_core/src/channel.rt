@@ -1,5 +1,6 @@
 ghost use Rattle.std.specs.Prelude.{◌≡◌};
 ghost use Rattle.xp_core.specs.Channel.{call_of};
+ghost use Rattle.xp_core.specs.Kept.{state_of};
 
 /// The state of a line's logical channel (X.25 Annex B).
 #[derive(Clone, Copy, Debug, Default, PartialEq, Eq)]
@@ -22,7 +23,7 @@ pub enum ChannelState {
 impl ChannelState {
     /// The number of the call that the line is in.
     pub fn call(self) -> Option<u64>
-        ensures { result ≡ call_of self }
+        ensures { result ≡ call_of (state_of self) }
     {
         match self {
             ChannelState::Waiting(number)

@@ -2,8 +2,9 @@
 
 ghost use Rattle.std.specs.Prelude.{◌≡◌, ◌+◌, ◌<◌, ◌≤◌, [], All, IfOk, IfErr, OnErr, Err, length};
 ghost use Rattle.xp_subs.specs.Tables.{line_count};
+ghost use Rattle.xp_core.specs.Exchange.{world_of};
 ghost use Rattle.xp_core.specs.View.{view_of};
-ghost use Rattle.xp_core.specs.World.{opening, line_at};
+ghost use Rattle.xp_core.specs.World.{line_at};
 
 use crate::advance::advance;
 use crate::entry::Entry;
@@ -28,6 +29,7 @@ pub struct Core<A: Allocator = Global> {
     subs: Subs,
     machine: Machine<A>,
     history: Vec<Entry<A>, A>,
+    records: Vec<Record, A>,
 }
 
 impl<A: Allocator> Model for Core<A> {
@@ -35,11 +37,11 @@ impl<A: Allocator> Model for Core<A> {
 
     ghost Value = { Exchange A };
 
-    ghost use Rattle.xp_core.specs.Writable.{LeadsTo};
+    ghost use Rattle.xp_core.specs.Shown.{Shows};
 
-    ghost view = { λ c. record { subs = c.subs; history = c.history.items; world = c.machine } };
+    ghost view = { λ c. record { subs = c.subs; history = c.history.items } };
 
-    ghost invariant = { λ c. LeadsTo c.subs c.history.items c.machine };
+    ghost invariant = { λ c. Shows c.subs c.history.items c.machine c.records.items };
 }
 
 impl<A: Allocator + Copy> Core<A> {
@@ -48,7 +50,7 @@ impl<A: Allocator + Copy> Core<A> {
 
     /// The exchange of these subscriptions: all lines off, no call made yet, an empty history.
     pub fn new(alloc: A, subs: Subs) -> Result<Core<A>, AllocError>
-        ensures { IfOk result (λ core. core ≡ record { subs = subs; history = []; world = opening (line_count subs) }) }
+        ensures { IfOk result (λ core. core ≡ record { subs = subs; history = [] }) }
     {
         let machine = Machine::new(alloc, subs.counts().lines)?;
         Ok(Core {
@@ -56,6 +58,7 @@ impl<A: Allocator + Copy> Core<A> {
             subs,
             machine,
             history: Vec::new(alloc),
+            records: Vec::new(alloc),
         })
     }
 
@@ -83,40 +86,44 @@ impl<A: Allocator + Copy> Core<A> {
             subs,
             machine,
             history,
+            records,
         } = self;
-        advance(*alloc, subs, machine, history, event)
+        advance(*alloc, subs, machine, history, records, event)
     }
 }
 
 impl<A: Allocator> Core<A> {
     ghost use Rattle.xp_core.specs.Coupling.{AreCoupled};
-    ghost use Rattle.xp_core.specs.Records.{OneRecordEach};
+    ghost use Rattle.xp_core.specs.Lines.{HasLines};
+    ghost use Rattle.xp_core.specs.Records.{OneRecordEach, records_of};
     ghost use Rattle.xp_core.specs.Run.{Run};
     ghost use Rattle.xp_core.specs.Writable.{AreWritable};
 
     /// What can be seen of a line. In p2, p3 and p4 it is one of the two lines of the live call that it shows. A line
     /// that there is not shows as out of service.
     pub fn line(&self, line: LineNo) -> LineView
-        ensures view { result ≡ view_of (line_at self.now.world line) }
+        ensures view { result ≡ view_of (line_at (world_of self.now) line) }
         ensures identifier { result.identifier < 4096 }
-        ensures coupled { AreCoupled self.now.subs self.now.world }
+        ensures coupled { AreCoupled self.now.subs (world_of self.now) }
     {
         self.machine.line(line).view()
     }
 
     /// The records of the ended calls, in the order in which they ended: one for each of them, and no other.
     pub fn records(&self) -> &[Record]
-        ensures records { result.now ≡ self.now.world.records }
-        ensures one_each { OneRecordEach self.now.subs self.now.history self.now.world }
+        ensures records { result.now ≡ records_of self.now.history }
+        ensures one_each { OneRecordEach self.now.subs self.now.history (world_of self.now) }
     {
-        self.machine.records()
+        self.records.as_slice()
     }
 
-    /// All entries, which lead to the present state. Each packet that they put out can be encoded.
+    /// All entries, which lead to the present state. Each packet that they put out can be encoded, and each line that
+    /// they put something out to or record is one of the subscriptions'.
     pub fn history(&self) -> &[Entry<A>]
         ensures entries { result.now ≡ self.now.history }
-        ensures run { Run self.now.subs self.now.history self.now.world }
+        ensures run { Run self.now.subs self.now.history (world_of self.now) }
         ensures writable { All (λ entry. AreWritable entry.outputs) self.now.history }
+        ensures lines { All (HasLines (line_count self.now.subs)) self.now.history }
     {
         self.history.as_slice()
     }

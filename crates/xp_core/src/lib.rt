@@ -4,8 +4,8 @@
 mod advance;
 mod call;
 mod cause;
+mod change;
 mod channel;
-mod edit;
 mod entry;
 mod event;
 mod exchange;
@@ -24,7 +24,7 @@ pub use entry::Entry;
 pub use event::{Event, What};
 pub use exchange::Core;
 pub use fault::StepFault;
-pub use laws::step_is_determined_but_the_line;
+pub use laws::{every_event_has_a_step, step_is_determined_but_the_line};
 pub use output::{Outgoing, Output, Outputs, Put};
 pub use record::{Record, Records};
 pub use stepped::Stepped;

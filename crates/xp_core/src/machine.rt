@@ -1,39 +1,39 @@
-ghost use Rattle.std.specs.Prelude.{◌≡◌, ◌+◌, ◌<◌, ◌≤◌, ◌^◌, ◌++◌, List, IfOk, OnOk, OnErr, length, vec_len, vec_capacity};
+ghost use Rattle.std.specs.Prelude.{ℕ, ◌≡◌, ◌+◌, ◌<◌, ◌^◌, ◌==◌, not, None, IfOk, OnOk, OnErr, filter, find, option_map, slice_set};
+ghost use Rattle.std.specs.FinMap as finite;
 ghost use Rattle.std.specs.Option.{option_copied};
-ghost use Rattle.xp_core.specs.Channel.{call_of};
-ghost use Rattle.xp_core.specs.Decision.{is_idle, is_off};
-ghost use Rattle.xp_core.specs.World.{state_at, opening, line_at, call_on, call_numbered, calls_without, edit as edit_world, edited, add_records, world_of};
-ghost use Rattle.xp_core.specs.declared.record.Record.{Record};
+ghost use Rattle.xp_core.specs.Channel.{is_off as is_off_state, INITIAL_IDENTIFIER, Ready, Ringing, Talking, Waiting, Cleared};
+ghost use Rattle.xp_core.specs.Decision.{is_idle};
+ghost use Rattle.xp_core.specs.Kept.{entry_of, line_of, state_of, way_of, calls_of};
+ghost use Rattle.xp_core.specs.Plan.{applied, applied_if_any};
+ghost use Rattle.xp_core.specs.World.{state_at, opening, line_at, call_on, call_numbered};
 
 use crate::call::LiveCall;
+use crate::change::{Change, Way};
 use crate::channel::{ChannelState, LogicalChannel};
-use crate::edit::Edit;
-use crate::record::Record;
 use std::alloc::{AllocError, Allocator, Global};
 use std::marker::Model;
+use xp_packets::Digits;
 use xp_subs::LineNo;
 
-/// The state of the exchange: its lines, its live calls and its records.
+/// The state of the exchange: its lines and its live calls.
 #[derive(Debug, Drop)]
 pub struct Machine<A: Allocator = Global> {
     lines: Vec<LogicalChannel, A>,
     calls: Vec<LiveCall, A>,
-    records: Vec<Record, A>,
     next: u64,
 }
 
 impl<A: Allocator> Model for Machine<A> {
-    ghost use Rattle.xp_core.specs.Decision.{is_idle, is_off};
-    ghost use Rattle.xp_core.specs.World.{state_at, World};
+    ghost use Rattle.std.specs.Coded.{codes};
+    ghost use Rattle.xp_core.specs.World.{World, calls_code};
 
     ghost Value = { World };
 
-    ghost view = { λ m. record {
-      lines = m.lines.items;
-      calls = m.calls.items;
-      records = m.records.items;
-      next = m.next;
-    } };
+    ghost coded = { Prim.hlevel (codes, calls_code) };
+
+    ghost use Rattle.xp_core.specs.Kept.{world_kept};
+
+    ghost view = { λ m. world_kept m.lines.items m.calls.items m.next };
 }
 
 impl<A: Allocator + Copy> Machine<A> {
@@ -45,7 +45,6 @@ impl<A: Allocator + Copy> Machine<A> {
         Ok(Machine {
             lines,
             calls: Vec::new(alloc),
-            records: Vec::new(alloc),
             next: 1,
         })
     }
@@ -54,7 +53,8 @@ impl<A: Allocator + Copy> Machine<A> {
 impl<A: Allocator> Machine<A> {
     /// What is kept of a line.
     pub fn line(&self, line: LineNo) -> LogicalChannel
-        ensures { result ≡ line_at self.now line }
+        ensures line { line_of result ≡ line_at self.now line }
+        ensures state { state_of result.state ≡ state_at self.now line }
     {
         self.lines
             .get(usize::from(line))
@@ -71,7 +71,7 @@ impl<A: Allocator> Machine<A> {
 
     /// The call that a line is in.
     pub fn call_on(&self, line: LineNo) -> Option<&LiveCall>
-        ensures { option_copied result ≡ call_on self.now line }
+        ensures { option_map entry_of (option_copied result) ≡ call_on self.now line }
     {
         let number = self.line(line).state.call()?;
         numbered(self.calls.as_slice(), number)
@@ -86,98 +86,213 @@ impl<A: Allocator> Machine<A> {
 
     /// Whether a line is out of service.
     pub fn is_off(&self, line: LineNo) -> bool
-        ensures { result ≡ is_off (state_at self.now line) }
+        ensures { result ≡ is_off_state (state_at self.now line) }
     {
         matches!(self.line(line).state, ChannelState::Off)
     }
 
-    /// The records of the ended calls, in the order in which they ended.
-    pub fn records(&self) -> &[Record]
-        ensures { result.now ≡ self.now.records }
-    {
-        self.records.as_slice()
-    }
-
-    /// Makes all growths, and then changes the state.
-    pub fn apply(&mut self, edits: &[Edit], records: &[Record]) -> Result<(), AllocError>
-        requires { self.old.next + length edits.now < 2 ^ 64 }
-        ensures ok { OnOk result (self.new ≡ add_records records.now (edited edits.now self.old)) }
+    /// Makes a change, if there is one.
+    pub fn apply(&mut self, change: Option<Change>) -> Result<(), AllocError>
+        requires fresh { call_numbered self.old self.old.next ≡ None }
+        requires next { self.old.next + 1 < 2 ^ 64 }
+        requires connection { (line : ℕ) → (line_at self.old line).connection + 1 < 2 ^ 64 }
+        ensures ok { OnOk result (self.new ≡ applied_if_any change self.old) }
         ensures err { OnErr result (self.new ≡ self.old) }
     {
-        self.calls.reserve(edits.len())?;
-        self.records.reserve(records.len())?;
-        make_all(&mut self.lines, &mut self.calls, &mut self.next, edits);
-        add_all(&mut self.records, records);
+        match change {
+            None => Ok(()),
+            Some(change) => self.make(change),
+        }
+    }
+
+    fn make(&mut self, change: Change) -> Result<(), AllocError>
+        requires fresh { call_numbered self.old self.old.next ≡ None }
+        requires next { self.old.next + 1 < 2 ^ 64 }
+        requires connection { (line : ℕ) → (line_at self.old line).connection + 1 < 2 ^ 64 }
+        ensures ok { OnOk result (self.new ≡ applied change self.old) }
+        ensures err { OnErr result (self.new ≡ self.old) }
+    {
+        match change {
+            Change::Rise { line } => self.rise(line),
+            Change::Leave { line, way } => self.leave(line, way),
+            Change::Begin {
+                caller,
+                identifier,
+                called,
+                dialled,
+            } => return self.begin(caller, identifier, called, dialled),
+            Change::Refuse { line, identifier } => self.refuse(line, identifier),
+            Change::Connect {
+                number,
+                caller,
+                called,
+            } => self.connect(number, caller, called),
+            Change::End {
+                number,
+                line,
+                way,
+                far,
+            } => self.end(number, line, way, far),
+        }
         Ok(())
     }
-}
 
-/// Makes these changes, one after another.
-fn make_all<A: Allocator>(
-    lines: &mut Vec<LogicalChannel, A>,
-    calls: &mut Vec<LiveCall, A>,
-    next: &mut u64,
-    edits: &[Edit],
-)
-    requires room { vec_len calls.old + length edits.now ≤ vec_capacity calls.old }
-    requires fits { next.old + length edits.now < 2 ^ 64 }
-    ensures { (records : List Record) → world_of lines.new.items calls.new.items records next.new
-        ≡ edited edits.now (world_of lines.old.items calls.old.items records next.old) }
-{
-    for edit in edits {
-        make(lines, calls, next, edit);
+    fn rise(&mut self, line: LineNo)
+        requires { (line_at self.old line).connection + 1 < 2 ^ 64 }
+        ensures { self.new ≡ applied (Change.Rise line) self.old }
+    {
+        let becomes = LogicalChannel {
+            state: ChannelState::Ready,
+            identifier: LogicalChannel::INITIAL_IDENTIFIER,
+            connection: self.line(line).connection + 1,
+        };
+        self.set(line, becomes);
     }
-}
 
-/// Adds copies of these records.
-fn add_all<A: Allocator>(records: &mut Vec<Record, A>, more: &[Record])
-    requires { vec_len records.old + length more.now ≤ vec_capacity records.old }
-    ensures { records.new.items ≡ records.old.items ++ more.now }
-{
-    for record in more {
-        records.push_reserved(record.copy());
+    fn leave(&mut self, line: LineNo, way: Way)
+        ensures { self.new ≡ applied (Change.Leave line way) self.old }
+    {
+        let becomes = self.moved(line, way.state());
+        self.set(line, becomes);
+    }
+
+    fn begin(
+        &mut self,
+        caller: LineNo,
+        identifier: u16,
+        called: LineNo,
+        dialled: Digits,
+    ) -> Result<(), AllocError>
+        requires fresh { call_numbered self.old self.old.next ≡ None }
+        requires next { self.old.next + 1 < 2 ^ 64 }
+        ensures ok { OnOk result (self.new ≡ applied (Change.Begin caller identifier called dialled) self.old) }
+        ensures err { OnErr result (self.new ≡ self.old) }
+    {
+        let number = self.next;
+        self.add(caller, called, dialled)?;
+        let waits = self.moved_as(caller, identifier, ChannelState::Waiting(number));
+        let rings = self.moved_as(
+            called,
+            LogicalChannel::INITIAL_IDENTIFIER,
+            ChannelState::Ringing(number),
+        );
+        self.set(caller, waits);
+        self.set(called, rings);
+        Ok(())
+    }
+
+    fn refuse(&mut self, line: LineNo, identifier: u16)
+        requires { self.old.next + 1 < 2 ^ 64 }
+        ensures { self.new ≡ applied (Change.Refuse line identifier) self.old }
+    {
+        let becomes = self.moved_as(line, identifier, ChannelState::Cleared);
+        self.set(line, becomes);
+        self.next += 1;
+    }
+
+    fn connect(&mut self, number: u64, caller: LineNo, called: LineNo)
+        ensures { self.new ≡ applied (Change.Connect number caller called) self.old }
+    {
+        let talking = ChannelState::Talking(number);
+        let near = self.moved(called, talking);
+        let far = self.moved(caller, talking);
+        self.set(called, near);
+        self.set(caller, far);
+    }
+
+    fn end(&mut self, number: u64, line: LineNo, way: Way, far: LineNo)
+        ensures { self.new ≡ applied (Change.End number line way far) self.old }
+    {
+        let cleared = self.moved(far, ChannelState::Cleared);
+        let becomes = self.moved(line, way.state());
+        self.set(far, cleared);
+        self.set(line, becomes);
+        self.remove(number);
+    }
+
+    /// What becomes of a line in this state, under this identifier; its connection stays.
+    fn moved_as(&self, line: LineNo, identifier: u16, state: ChannelState) -> LogicalChannel
+        ensures { line_of result ≡ record (line_at self.now line) { state = state_of state; identifier = identifier } }
+    {
+        LogicalChannel {
+            state,
+            identifier,
+            connection: self.line(line).connection,
+        }
+    }
+
+    /// The same, under its own identifier.
+    fn moved(&self, line: LineNo, state: ChannelState) -> LogicalChannel
+        ensures { line_of result ≡ record (line_at self.now line) { state = state_of state } }
+    {
+        self.moved_as(line, self.line(line).identifier, state)
+    }
+
+    /// A line becomes this.
+    fn set(&mut self, line: LineNo, becomes: LogicalChannel)
+        ensures { self.new ≡ record self.old { lines = slice_set self.old.lines line (line_of becomes) } }
+    {
+        set_line(&mut self.lines, line, becomes);
+    }
+
+    /// One more live call, of the next number.
+    fn add(&mut self, caller: LineNo, called: LineNo, dialled: Digits) -> Result<(), AllocError>
+        requires fresh { call_numbered self.old self.old.next ≡ None }
+        requires next { self.old.next + 1 < 2 ^ 64 }
+        ensures ok { OnOk result (self.new ≡ record self.old { calls = finite.insert self.old.calls self.old.next (record { caller = caller; called = called; dialled = dialled }); next = self.old.next + 1 }) }
+        ensures err { OnErr result (self.new ≡ self.old) }
+    {
+        let number = self.next;
+        self.calls.push(LiveCall {
+            number,
+            caller,
+            called,
+            dialled,
+        })?;
+        self.next = number + 1;
+        Ok(())
+    }
+
+    /// The call of this number is none any more.
+    fn remove(&mut self, number: u64)
+        ensures { self.new ≡ record self.old { calls = finite.remove self.old.calls number } }
+    {
+        remove_numbered(&mut self.calls, number);
     }
 }
 
 /// The call of this number.
 fn numbered(calls: &[LiveCall], number: u64) -> Option<&LiveCall>
-    ensures { option_copied result ≡ call_numbered calls.now number }
+    ensures { option_copied result ≡ find (λ call. call.number == number) calls.now }
 {
     calls.iter().find(|call| call.number == number)
 }
 
-/// Makes one change.
-fn make<A: Allocator>(
-    lines: &mut Vec<LogicalChannel, A>,
-    calls: &mut Vec<LiveCall, A>,
-    next: &mut u64,
-    edit: &Edit,
-)
-    requires room { vec_len calls.old < vec_capacity calls.old }
-    requires fits { next.old + 1 < 2 ^ 64 }
-    ensures made { (records : List Record) → world_of lines.new.items calls.new.items records next.new
-        ≡ edit_world edit.now (world_of lines.old.items calls.old.items records next.old) }
-    ensures capacity { vec_capacity calls.new ≡ vec_capacity calls.old }
-    ensures count { vec_len calls.new ≤ vec_len calls.old + 1 }
-    ensures next { next.new ≤ next.old + 1 }
+fn set_line<A: Allocator>(lines: &mut Vec<LogicalChannel, A>, line: LineNo, becomes: LogicalChannel)
+    ensures { lines.new.items ≡ slice_set lines.old.items line becomes }
 {
-    match edit {
-        Edit::Number => *next += 1,
-        Edit::Line { line, becomes } => {
-            if let Some(channel) = lines.get_mut(usize::from(*line)) {
-                *channel = *becomes;
-            }
-        }
-        Edit::Begin(call) => calls.push_reserved(call.copy()),
-        Edit::End(number) => end(calls, *number),
+    if let Some(channel) = lines.get_mut(usize::from(line)) {
+        *channel = becomes;
     }
 }
 
 /// Takes the call of this number off the list.
-fn end<A: Allocator>(calls: &mut Vec<LiveCall, A>, number: u64)
-    ensures ended { calls.new.items ≡ calls_without calls.old.items number }
-    ensures capacity { vec_capacity calls.new ≡ vec_capacity calls.old }
-    ensures count { vec_len calls.new ≤ vec_len calls.old }
+fn remove_numbered<A: Allocator>(calls: &mut Vec<LiveCall, A>, number: u64)
+    ensures { calls.new.items ≡ filter (λ call. not (call.number == number)) calls.old.items }
 {
     calls.retain(|call| call.number != number);
+}
+
+impl Way {
+    ghost use Rattle.xp_core.specs.Changes.{state_after};
+
+    /// The state that a line comes to.
+    fn state(self) -> ChannelState
+        ensures { state_of result ≡ state_after (way_of self) }
+    {
+        match self {
+            Way::GoesOut => ChannelState::Off,
+            Way::IsConfirmed | Way::IsFree => ChannelState::Ready,
+        }
+    }
 }

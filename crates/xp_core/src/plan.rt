@@ -9,10 +9,9 @@ mod send;
 
 ghost use Rattle.std.specs.Prelude.{◌≡◌, ◌+◌, ◌<◌, [], ◌∷◌, ◌++◌, None, Some};
 ghost use Rattle.arrayvec.specs.ArrayVec.{array_vec_len};
-ghost use Rattle.xp_core.specs.declared.edit.TheConstants.{MOST_EDITS};
 ghost use Rattle.xp_core.specs.declared.record.TheConstants.{MOST_RECORDS};
 
-use crate::edit::{Edit, Edits};
+use crate::change::Change;
 use crate::output::Buffer;
 use crate::record::{Record, Records};
 use arrayvec::ArrayVec;
@@ -25,7 +24,7 @@ use xp_subs::LineNo;
 pub struct Plan<A: Allocator = Global> {
     pub taken: Option<LineNo>,
     pub outputs: Buffer<A>,
-    pub edits: Edits,
+    pub change: Option<Change>,
     pub records: Records,
 }
 
@@ -34,15 +33,14 @@ impl<A: Allocator> Plan<A> {
     pub fn of(outputs: Buffer<A>) -> Plan<A>
         ensures takes { result.taken ≡ None }
         ensures outputs { result.outputs ≡ outputs }
-        ensures edits { result.edits.items ≡ [] }
+        ensures change { result.change ≡ None }
         ensures records { result.records.items ≡ [] }
-        ensures no_edits { array_vec_len result.edits ≡ 0 }
         ensures no_records { array_vec_len result.records ≡ 0 }
     {
         Plan {
             taken: None,
             outputs,
-            edits: ArrayVec::new(),
+            change: None,
             records: ArrayVec::new(),
         }
     }
@@ -57,17 +55,14 @@ impl<A: Allocator> Plan<A> {
         }
     }
 
-    /// The plan with one more change, after the others.
-    pub fn with_edit(mut self, edit: Edit) -> Plan<A>
-        requires { array_vec_len self.edits < MOST_EDITS }
-        ensures takes { result.taken ≡ self.taken }
-        ensures outputs { result.outputs ≡ self.outputs }
-        ensures edits { result.edits.items ≡ self.edits.items ++ edit ∷ [] }
-        ensures count { array_vec_len result.edits ≡ array_vec_len self.edits + 1 }
-        ensures records { result.records ≡ self.records }
+    /// The plan with this change.
+    pub fn changing(self, change: Change) -> Plan<A>
+        ensures { result ≡ record self { change = Some change } }
     {
-        self.edits.push(edit);
-        self
+        Plan {
+            change: Some(change),
+            ..self
+        }
     }
 
     /// The plan with one more record, after the others.
@@ -75,7 +70,7 @@ impl<A: Allocator> Plan<A> {
         requires { array_vec_len self.records < MOST_RECORDS }
         ensures takes { result.taken ≡ self.taken }
         ensures outputs { result.outputs ≡ self.outputs }
-        ensures edits { result.edits ≡ self.edits }
+        ensures change { result.change ≡ self.change }
         ensures records { result.records.items ≡ self.records.items ++ charged ∷ [] }
         ensures count { array_vec_len result.records ≡ array_vec_len self.records + 1 }
     {

@@ -1,6 +1,7 @@
 //! The table of actions (X.25 Annex C).
 
 ghost use Rattle.std.specs.Prelude.{◌≡◌};
+ghost use Rattle.xp_core.specs.Kept.{state_of};
 ghost use Rattle.xp_core.specs.Table.{cell, kind_of, packet_kind};
 
 use crate::channel::ChannelState;
@@ -81,7 +82,7 @@ impl Kind {
 impl ChannelState {
     /// The cell of the table for this state and an event of this kind.
     pub fn action(self, kind: Kind) -> Action
-        ensures { result ≡ cell self kind }
+        ensures { result ≡ cell (state_of self) kind }
     {
         match (self, kind) {
             (ChannelState::Off, Kind::Up) => Action::Rise,

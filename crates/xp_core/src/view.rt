@@ -1,4 +1,5 @@
 ghost use Rattle.std.specs.Prelude.{◌≡◌};
+ghost use Rattle.xp_core.specs.Kept.{line_of, state_of};
 ghost use Rattle.xp_core.specs.View.{channel_of, view_of};
 
 use crate::channel::{ChannelState, LogicalChannel};
@@ -33,7 +34,7 @@ pub struct LineView {
 
 impl ChannelState {
     fn channel(self) -> Channel
-        ensures { result ≡ channel_of self }
+        ensures { result ≡ channel_of (state_of self) }
     {
         match self {
             ChannelState::Off => Channel::Off,
@@ -49,7 +50,7 @@ impl ChannelState {
 impl LogicalChannel {
     /// What can be seen of the line.
     pub fn view(self) -> LineView
-        ensures { result ≡ view_of self }
+        ensures { result ≡ view_of (line_of self) }
     {
         LineView {
             channel: self.state.channel(),

@@ -98,9 +98,9 @@ module _ {A : Type 0} (tables : Tables) (from : ℕ) (block : Block A) where
 
   data StandsAgainst (asked : Asked A) (refusal : Refusal) : Type 0 where
     no_room : HasNoRoom block asked → refusal ≡ USER_DATA_TOO_LONG → StandsAgainst asked refusal
-    outgoing_barred : HasRoom block asked → (station_of_line tables from).outgoing_barred ≡ true → refusal ≡ ACCESS_BARRED
+    outgoing_barred : HasRoom block asked → (station_of_line tables from).facilities.outgoing_barred ≡ true → refusal ≡ ACCESS_BARRED
         → StandsAgainst asked refusal
-    not_intended : HasRoom block asked → (station_of_line tables from).outgoing_barred ≡ false
+    not_intended : HasRoom block asked → (station_of_line tables from).facilities.outgoing_barred ≡ false
         → Intends (station_of_line tables from) asked.selection (Err refusal) → StandsAgainst asked refusal
 
   record IsAgainst (refusal : Refusal) : Type 0 where

@@ -21,11 +21,11 @@ means_of block field asked same means = let P : List ℕ → Type 0 = λ f. Mean
 
 module _ {A : Type 0} (tables : Tables) (from : ℕ) (block : Block A) (asked : Asked A) (station : Station)
     (same : station ≡ station_of_line tables from) (means : Means block.facilities asked) (room : HasRoom block asked) where
-  pub barred : station.outgoing_barred ≡ true → MayNotAsk tables from block ACCESS_BARRED
-  barred is = asks.outgoing_barred asked means room (sym (ap (λ (s : Station). s.outgoing_barred) same) ∙ is) refl
+  pub barred : station.facilities.outgoing_barred ≡ true → MayNotAsk tables from block ACCESS_BARRED
+  barred is = asks.outgoing_barred asked means room (sym (ap (λ (s : Station). s.facilities.outgoing_barred) same) ∙ is) refl
 
-  pub not_intended : (refusal : Refusal) → station.outgoing_barred ≡ false → Intends station asked.selection (Err refusal)
+  pub not_intended : (refusal : Refusal) → station.facilities.outgoing_barred ≡ false → Intends station asked.selection (Err refusal)
       → MayNotAsk tables from block refusal
   not_intended refusal is intends =
       let P : Station → Type 0 = λ s. Intends s asked.selection (Err refusal) in
-      asks.not_intended asked means room (sym (ap (λ (s : Station). s.outgoing_barred) same) ∙ is) (subst P same intends)
+      asks.not_intended asked means room (sym (ap (λ (s : Station). s.facilities.outgoing_barred) same) ∙ is) (subst P same intends)

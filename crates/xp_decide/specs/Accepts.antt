@@ -8,23 +8,23 @@ use Rattle.xp_subs.specs.declared.station.Station.{Station}
 use Rattle.xp_decide.specs.declared.acceptance.Wanted.{Wanted}
 
 pub record Accepts (wanted : Wanted) (station : Station) (admission : Admission) : Type 0 where
-  pub incoming : station.incoming_barred ≡ false
+  pub incoming : station.facilities.incoming_barred ≡ false
   pub admitted : Admits wanted.intent station (Ok admission)
-  pub reverse : wanted.reverse ≡ true → station.reverse_charging ≡ true
-  pub fast : wanted.fast ≡ true → station.fast_select ≡ true
+  pub reverse : wanted.reverse ≡ true → station.facilities.reverse_charging ≡ true
+  pub fast : wanted.fast ≡ true → station.facilities.fast_select ≡ true
 
 -- the first refusal, in order
 pub data Declines (wanted : Wanted) (station : Station) (refusal : Refusal) : Type 0 where
-  incoming_barred : station.incoming_barred ≡ true
+  incoming_barred : station.facilities.incoming_barred ≡ true
       → refusal ≡ INCOMING_CALLS_BARRED → Declines wanted station refusal
-  not_admitted : station.incoming_barred ≡ false → Admits wanted.intent station (Err refusal)
+  not_admitted : station.facilities.incoming_barred ≡ false → Admits wanted.intent station (Err refusal)
       → Declines wanted station refusal
-  reverse_charging : (admission : Admission) → station.incoming_barred ≡ false → Admits wanted.intent station (Ok admission)
-      → wanted.reverse ≡ true → station.reverse_charging ≡ false
+  reverse_charging : (admission : Admission) → station.facilities.incoming_barred ≡ false → Admits wanted.intent station (Ok admission)
+      → wanted.reverse ≡ true → station.facilities.reverse_charging ≡ false
       → refusal ≡ REVERSE_CHARGING_NOT_ACCEPTED → Declines wanted station refusal
-  fast_select : (admission : Admission) → station.incoming_barred ≡ false → Admits wanted.intent station (Ok admission)
-      → (wanted.reverse ≡ true → station.reverse_charging ≡ true)
-      → wanted.fast ≡ true → station.fast_select ≡ false
+  fast_select : (admission : Admission) → station.facilities.incoming_barred ≡ false → Admits wanted.intent station (Ok admission)
+      → (wanted.reverse ≡ true → station.facilities.reverse_charging ≡ true)
+      → wanted.fast ≡ true → station.facilities.fast_select ≡ false
       → refusal ≡ FAST_SELECT_NOT_ACCEPTED → Declines wanted station refusal
 
 abbrev pub Examines : Wanted → Station → Result Admission Refusal → Type 0

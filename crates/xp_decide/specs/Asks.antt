@@ -49,7 +49,7 @@ module _ {A : Type 0} where
   pub record Asks (tables : Tables) (from : ℕ) (block : Block A) (request : Request A) : Type 0 where
     pub means : Means block.facilities request.asked
     pub room : HasRoom block request.asked
-    pub outgoing : (station_of_line tables from).outgoing_barred ≡ false
+    pub outgoing : (station_of_line tables from).facilities.outgoing_barred ≡ false
     pub intends : Intends (station_of_line tables from) request.asked.selection (Ok request.intent)
 
   -- the first refusal, in order
@@ -63,10 +63,10 @@ module _ {A : Type 0} where
     user_data : (asked : Asked A) → Means block.facilities asked → HasNoRoom block asked
         → refusal ≡ USER_DATA_TOO_LONG → MayNotAsk tables from block refusal
     outgoing_barred : (asked : Asked A) → Means block.facilities asked → HasRoom block asked
-        → (station_of_line tables from).outgoing_barred ≡ true
+        → (station_of_line tables from).facilities.outgoing_barred ≡ true
         → refusal ≡ ACCESS_BARRED → MayNotAsk tables from block refusal
     not_intended : (asked : Asked A) → Means block.facilities asked → HasRoom block asked
-        → (station_of_line tables from).outgoing_barred ≡ false
+        → (station_of_line tables from).facilities.outgoing_barred ≡ false
         → Intends (station_of_line tables from) asked.selection (Err refusal) → MayNotAsk tables from block refusal
 
   abbrev pub Opens : Tables → ℕ → Block A → Result (Request A) CallFault → Type 0

@@ -24,14 +24,14 @@ pub struct Wanted {
 pub fn accept(wanted: &Wanted, station: &Station) -> Result<Admission, Refusal>
     ensures { Examines wanted.now station.now result }
 {
-    if station.incoming_barred {
+    if station.facilities.incoming_barred {
         return Err(Refusal::INCOMING_CALLS_BARRED);
     }
     let admission = admit(&wanted.intent, station)?;
-    if wanted.reverse && !station.reverse_charging {
+    if wanted.reverse && !station.facilities.reverse_charging {
         return Err(Refusal::REVERSE_CHARGING_NOT_ACCEPTED);
     }
-    if wanted.fast && !station.fast_select {
+    if wanted.fast && !station.facilities.fast_select {
         return Err(Refusal::FAST_SELECT_NOT_ACCEPTED);
     }
     Ok(admission)

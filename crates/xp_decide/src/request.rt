@@ -54,7 +54,7 @@ pub fn open<A: Allocator + Copy>(
         return Err(CallFault::Refused(Refusal::USER_DATA_TOO_LONG));
     }
     let caller = subs.station(subs.station_of(from));
-    if caller.outgoing_barred {
+    if caller.facilities.outgoing_barred {
         return Err(CallFault::Refused(Refusal::ACCESS_BARRED));
     }
     let intent = intent(caller, asked.selection)?;

@@ -5,7 +5,7 @@ use Rattle.xp_subs.specs.Tables.{Tables}
 use Rattle.xp_core.specs.declared.entry.Entry.{Entry}
 use Rattle.xp_core.specs.declared.event.Event.{Event}
 use Rattle.xp_core.specs.declared.stepped.Stepped.{Stepped}
-use Rattle.xp_core.specs.Exchange.{Exchange, Advances}
+use Rattle.xp_core.specs.Exchange.{Exchange, Advances, world_of}
 use Rattle.xp_core.specs.Run.{RunFrom}
 use Rattle.xp_core.specs.World.{World}
 use Rattle.xp_script.specs.Text.{entry_text}
@@ -44,11 +44,11 @@ module _ {A : Type 0} where
 
   pub acts_on_both : (old between new : Exchange A) (events more : List (Event A)) → ActsOn old events between → ActsOn between more new → ActsOn old (events ++ more) new
   acts_on_both old between new events more first second =
-      let P : Tables → Type 0 = λ tables. RunFrom tables between.history between.world second.entries new.world in
-      let Q : List (Entry A) → Type 0 = λ front. RunFrom old.subs front between.world second.entries new.world in
+      let P : Tables → Type 0 = λ tables. RunFrom tables between.history (world_of between) second.entries (world_of new) in
+      let Q : List (Entry A) → Type 0 = λ front. RunFrom old.subs front (world_of between) second.entries (world_of new) in
       record {
         entries = first.entries ++ second.entries;
-        run = run_both old.subs old.history old.world first.entries between.world second.entries new.world first.run
+        run = run_both old.subs old.history (world_of old) first.entries (world_of between) second.entries (world_of new) first.run
             (subst Q first.history (subst P first.subs second.run));
         of_events = map-append (λ entry. entry.event) first.entries second.entries
             ∙ ap (λ front. front ++ map (λ entry. entry.event) second.entries) first.of_events
@@ -62,7 +62,7 @@ module _ {A : Type 0} where
   pub acts_on_one : (old : Exchange A) (event : Event A) (new : Exchange A) (told : Stepped A) → Advances old event new told → length old.history + 4 ≤ old.subs.journal → ActsOn old (event ∷ []) new
   acts_on_one old event new told advances room = record {
     entries = advances.entry ∷ [];
-    run = (new.world, advances.step, refl);
+    run = (world_of new, advances.step, refl);
     of_events = ap (λ first. first ∷ []) advances.event_is;
     history = advances.history;
     subs = advances.subs;

@@ -4,7 +4,6 @@ pub mod Heard
 pub mod Idle
 pub mod Lines
 pub mod Octets
-pub mod Named
 pub mod Played
 pub mod Script
 pub mod SoFar

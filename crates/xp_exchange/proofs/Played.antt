@@ -2,7 +2,7 @@
 use Rattle.std.proofs.Common.{◌≡◌, ◌⊎◌, ℕ, List, [], Option, Some, Result, Ok, Err, inl, inr, sym, subst, append-nil}
 use Rattle.std.specs.Io.KnownBytes.{Appends, Keeps}
 use Rattle.xp_core.specs.declared.event.Event.{Event}
-use Rattle.xp_core.specs.Exchange.{Exchange}
+use Rattle.xp_core.specs.Exchange.{Exchange, world_of}
 use Rattle.xp_script.specs.declared.command.Command.{Command}
 use Rattle.xp_script.specs.Command.{said}
 use Rattle.xp_exchange.specs.declared.fault.ReplayFault.{ReplayFault}
@@ -15,7 +15,7 @@ use Rattle.xp_exchange.proofs.Tellings.{told_whole}
 
 module _ {A : Type 0} where
   abbrev begins : (old : Standing A) (line : List ℕ) (command : Command A) (events : List (Event A)) (after : List (List ℕ)) (now : Exchange A)
-      → said old.exchange.subs line ≡ Some command → Plays old.exchange.world old.unfinished command events after
+      → said old.exchange.subs line ≡ Some command → Plays (world_of old.exchange) old.unfinished command events after
       → ActsOnFirst old.exchange events now → BeginsLine old line now
   begins old line command events after now says plays acted = record {
     command = command;
@@ -31,7 +31,7 @@ module _ {A : Type 0} where
 
   -- what came of its events is what came of the line
   pub played : (result : Result (Unit {0}) ReplayFault) (old new : Standing A) (number : ℕ) (line : List ℕ) (command : Command A) (events : List (Event A)) (text : List ℕ)
-      → said old.exchange.subs line ≡ Some command → Plays old.exchange.world old.unfinished command events new.unfinished
+      → said old.exchange.subs line ≡ Some command → Plays (world_of old.exchange) old.unfinished command events new.unfinished
       → Acted old.exchange events result new.exchange text → Played old number line result new text
   played (Ok done) old new number line command events text says plays acted =
       (record { command = command; says = says; events = events; plays = plays; acts = acted.0 }, acted.1)

@@ -5,10 +5,10 @@ use Rattle.xp_core.specs.declared.entry.Entry.{Entry}
 use Rattle.xp_core.specs.declared.event.Event.{Event}
 use Rattle.xp_core.specs.declared.event.What.{What}
 use Rattle.xp_core.specs.declared.event.What.TheVariants.{Up, Down, Expire as TimerExpires}
-use Rattle.xp_core.specs.Decision.{is_off}
-use Rattle.xp_core.specs.Exchange.{Exchange}
+use Rattle.xp_core.specs.Channel.{is_off}
+use Rattle.xp_core.specs.Exchange.{Exchange, world_of}
 use Rattle.xp_core.specs.Run.{RunFrom}
-use Rattle.xp_core.specs.World.{World, opening, state_at}
+use Rattle.xp_core.specs.World.{World, state_at}
 use Rattle.xp_script.specs.declared.command.Command.{Command}
 use Rattle.xp_script.specs.declared.command.Command.TheVariants as commands
 use Rattle.xp_script.specs.Command.{said}
@@ -58,7 +58,7 @@ pub record Standing (A : Type 0) : Type 0 where
 module _ {A : Type 0} where
   -- an exchange to which nothing was done yet
   abbrev pub opened : Tables → Exchange A
-  opened tables = record { subs = tables; history = []; world = opening (line_count tables) }
+  opened tables = record { subs = tables; history = [] }
 
   -- a script begins: no frame is unfinished
   abbrev pub start : Exchange A → Standing A
@@ -67,7 +67,7 @@ module _ {A : Type 0} where
   -- The exchange acts on these events in turn: one entry for each.
   pub record ActsOn (old : Exchange A) (events : List (Event A)) (new : Exchange A) : Type 0 where
     pub entries : List (Entry A)
-    pub run : RunFrom old.subs old.history old.world entries new.world
+    pub run : RunFrom old.subs old.history (world_of old) entries (world_of new)
     pub of_events : map (λ entry. entry.event) entries ≡ events
     pub history : new.history ≡ old.history ++ entries
     pub subs : new.subs ≡ old.subs
@@ -79,7 +79,7 @@ module _ {A : Type 0} where
     pub command : Command A
     pub says : said old.exchange.subs line ≡ Some command
     pub events : List (Event A)
-    pub plays : Plays old.exchange.world old.unfinished command events new.unfinished
+    pub plays : Plays (world_of old.exchange) old.unfinished command events new.unfinished
     pub acts : ActsOn old.exchange events new.exchange
 
   -- At most its first events were acted on.
@@ -88,7 +88,7 @@ module _ {A : Type 0} where
     pub says : said old.exchange.subs line ≡ Some command
     pub events : List (Event A)
     pub after : List (List ℕ)
-    pub plays : Plays old.exchange.world old.unfinished command events after
+    pub plays : Plays (world_of old.exchange) old.unfinished command events after
     pub first : List (Event A)
     pub later : List (Event A)
     pub in_order : events ≡ first ++ later

@@ -2,7 +2,7 @@
 
 ghost use Rattle.std.specs.Prelude.{◌≡◌, ◌+◌, ◌<◌, ◌^◌, ℕ, List, [], ◌∷◌, All, IfErr, IfOk, OnOk, length};
 ghost use Rattle.std.specs.Io.KnownBytes.{Appends};
-ghost use Rattle.xp_core.specs.Exchange.{IsReadable};
+ghost use Rattle.xp_core.specs.Exchange.{IsReadable, world_of};
 ghost use Rattle.xp_exchange.specs.Play.{Plays, is_off_at};
 ghost use Rattle.xp_exchange.specs.Playing.{Played};
 ghost use Rattle.xp_script.specs.Command.{HasLine};
@@ -91,7 +91,7 @@ fn events_of<A: Allocator + Copy>(
 ) -> Result<Vec<Event<A>, A>, AllocError>
     requires line { HasLine (line_count core.now.subs) command }
     requires lines { length streams.old ≡ line_count core.now.subs }
-    ensures plays { IfOk result (λ events. Plays core.now.world streams.old command events.items streams.new) }
+    ensures plays { IfOk result (λ events. Plays (world_of core.now) streams.old command events.items streams.new) }
     ensures fit { IfOk result (λ events. All (λ event. (event.line < line_count core.now.subs) × IsReadable event.what) events.items) }
     ensures lines { length streams.new ≡ length streams.old }
 {
@@ -116,7 +116,7 @@ fn events_of<A: Allocator + Copy>(
 
 /// Whether a line is out of service.
 fn is_off<A: Allocator>(core: &Core<A>, line: LineNo) -> bool
-    ensures { result ≡ is_off_at core.now.world line }
+    ensures { result ≡ is_off_at (world_of core.now) line }
 {
     matches!(core.line(line).channel, Channel::Off)
 }

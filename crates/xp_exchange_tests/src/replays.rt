@@ -1,5 +1,6 @@
 //! `xp_exchange`: readers and writers that fail at each of their calls, and what was entered then.
 
+ghost use Rattle.xp_core.specs.Exchange.{world_of};
 ghost use Rattle.xp_core.specs.Run.{Run};
 
 use std::alloc::{AllocError, Allocator, Global};
@@ -21,7 +22,7 @@ const INCOMING: &[u8] = b"out b1 0000001610010b772080020208001006420707430202010
 /// The entries of an exchange, which are a run of the machine to what it shows. A crate above knows it with no proof of
 /// its own.
 fn entries<A: Allocator + Copy>(core: &Core<A>) -> &[Entry<A>]
-    ensures { Run core.now.subs core.now.history core.now.world }
+    ensures { Run core.now.subs core.now.history (world_of core.now) }
 {
     core.history()
 }

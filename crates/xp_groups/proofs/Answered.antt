@@ -13,7 +13,7 @@ use Rattle.xp_groups.specs.Intends.{Intends, preferential, preferential_open}
 use Rattle.xp_groups.specs.Admits.{Admits, EntersNone, from_outside}
 use Rattle.xp_groups.specs.Admits as admits
 
-pub prefers : (station : Station) (held : Membership) (made : Intent) (access : Bool) → station.outgoing_access ≡ access
+pub prefers : (station : Station) (held : Membership) (made : Intent) (access : Bool) → station.facilities.outgoing_access ≡ access
     → HasGroups station → preferred station ≡ Some held → held.outgoing_barred ≡ false
     → made ≡ record { group = Some held.group; outside = access } → Intends station Nothing (Ok made)
 prefers station held made true access groups is not_barred e = preferential_open held groups refl (is, not_barred) access (ap Ok e)

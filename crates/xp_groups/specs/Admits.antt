@@ -18,7 +18,7 @@ EntersNone intent station = (held : Membership) → part_in station intent.group
 
 -- an open call to a station that takes such calls
 abbrev pub from_outside : Intent → Station → Bool
-from_outside intent station = intent.outside && station.incoming_access
+from_outside intent station = intent.outside && station.facilities.incoming_access
 
 pub data Admits (intent : Intent) (station : Station) (result : Result Admission Refusal) : Type 0 where
   -- a station without groups

@@ -44,27 +44,27 @@ pub data Intends (station : Station) (selection : Selection) (result : Result In
       → result ≡ Err GROUP_NOT_KNOWN → Intends station selection result
   -- the selection of a group with outgoing access
   no_outgoing_access : (index : ℕ) → HasGroups station → selection ≡ AlsoOpen index
-      → station.outgoing_access ≡ false
+      → station.facilities.outgoing_access ≡ false
       → result ≡ Err FACILITY_NOT_ALLOWED → Intends station selection result
   also_open_not_known : (index : ℕ) → HasGroups station → selection ≡ AlsoOpen index
-      → station.outgoing_access ≡ true → selected station index ≡ None
+      → station.facilities.outgoing_access ≡ true → selected station index ≡ None
       → result ≡ Err GROUP_NOT_KNOWN → Intends station selection result
   also_open_barred : (index : ℕ) (held : Membership) → HasGroups station → selection ≡ AlsoOpen index
-      → station.outgoing_access ≡ true → selected station index ≡ Some held → held.outgoing_barred ≡ true
+      → station.facilities.outgoing_access ≡ true → selected station index ≡ Some held → held.outgoing_barred ≡ true
       → result ≡ Ok outside_only → Intends station selection result
   also_open : (index : ℕ) (held : Membership) → HasGroups station → selection ≡ AlsoOpen index
-      → station.outgoing_access ≡ true → selected station index ≡ Some held → held.outgoing_barred ≡ false
+      → station.facilities.outgoing_access ≡ true → selected station index ≡ Some held → held.outgoing_barred ≡ false
       → result ≡ Ok (within_or_outside held) → Intends station selection result
   -- no selection
   preferential : (held : Membership) → HasGroups station → selection ≡ Nothing
-      → Prefers station held → station.outgoing_access ≡ false
+      → Prefers station held → station.facilities.outgoing_access ≡ false
       → result ≡ Ok (within held) → Intends station selection result
   preferential_open : (held : Membership) → HasGroups station → selection ≡ Nothing
-      → Prefers station held → station.outgoing_access ≡ true
+      → Prefers station held → station.facilities.outgoing_access ≡ true
       → result ≡ Ok (within_or_outside held) → Intends station selection result
   outgoing_access : HasGroups station → selection ≡ Nothing
-      → PrefersNone station → station.outgoing_access ≡ true
+      → PrefersNone station → station.facilities.outgoing_access ≡ true
       → result ≡ Ok outside_only → Intends station selection result
   no_way_out : HasGroups station → selection ≡ Nothing
-      → PrefersNone station → station.outgoing_access ≡ false
+      → PrefersNone station → station.facilities.outgoing_access ≡ false
       → result ≡ Err ACCESS_BARRED → Intends station selection result

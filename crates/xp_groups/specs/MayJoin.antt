@@ -16,10 +16,10 @@ pub record ShareGroup (caller called : Station) : Type 0 where
 
 -- the station may call stations outside of its groups, and be called by them
 abbrev pub ReachesOutside : Station → Type 0
-ReachesOutside station = HasNoGroups station ⊎ (station.outgoing_access ≡ true)
+ReachesOutside station = HasNoGroups station ⊎ (station.facilities.outgoing_access ≡ true)
 
 abbrev pub ReachedFromOutside : Station → Type 0
-ReachedFromOutside station = HasNoGroups station ⊎ (station.incoming_access ≡ true)
+ReachedFromOutside station = HasNoGroups station ⊎ (station.facilities.incoming_access ≡ true)
 
 abbrev pub MayJoin : Station → Station → Type 0
 MayJoin caller called = ShareGroup caller called ⊎ (ReachesOutside caller × ReachedFromOutside called)

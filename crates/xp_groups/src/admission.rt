@@ -40,7 +40,7 @@ fn comes_from_outside(intent: &Intent, station: &Station) -> bool
     ensures no_groups { HasNoGroups station.now → result ≡ intent.now.outside }
     ensures groups { HasGroups station.now → result ≡ from_outside intent.now station.now }
 {
-    intent.outside && (station.memberships.is_empty() || station.incoming_access)
+    intent.outside && (station.memberships.is_empty() || station.facilities.incoming_access)
 }
 
 /// What tells the called station its part in the group of the call, which may be open.

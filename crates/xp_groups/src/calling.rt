@@ -38,8 +38,8 @@ fn unselected(station: &Station) -> Result<Intent, Refusal>
     ensures { Intends station.now Nothing result }
 {
     match preferential(station) {
-        Some(held) if !held.outgoing_barred => Ok(within(held, station.outgoing_access)),
-        _ if station.outgoing_access => Ok(Intent::OUTSIDE),
+        Some(held) if !held.outgoing_barred => Ok(within(held, station.facilities.outgoing_access)),
+        _ if station.facilities.outgoing_access => Ok(Intent::OUTSIDE),
         _ => Err(Refusal::ACCESS_BARRED),
     }
 }
@@ -61,7 +61,7 @@ fn also_open(station: &Station, index: u16) -> Result<Intent, Refusal>
     requires { HasGroups station.now }
     ensures { Intends station.now (AlsoOpen index) result }
 {
-    if !station.outgoing_access {
+    if !station.facilities.outgoing_access {
         return Err(Refusal::FACILITY_NOT_ALLOWED);
     }
     match membership(station, index) {

@@ -256,12 +256,12 @@ fn station_text(alloc: Global, station: &Station) -> Result<String, AllocError> 
         write!(text, " {line}")?;
     }
     let flags = [
-        station.outgoing_barred,
-        station.incoming_barred,
-        station.reverse_charging,
-        station.fast_select,
-        station.outgoing_access,
-        station.incoming_access,
+        station.facilities.outgoing_barred,
+        station.facilities.incoming_barred,
+        station.facilities.reverse_charging,
+        station.facilities.fast_select,
+        station.facilities.outgoing_access,
+        station.facilities.incoming_access,
     ];
     write!(text, " {flags:?} {:?}", station.preferential)?;
     for held in &station.memberships {

@@ -76,12 +76,7 @@ abbrev pub station_from : List (List ℕ) → ℕ → StationData → Station
 station_from known line entry = record {
   address = entry.address;
   lines = record { items = numbers line (length entry.lines) };
-  outgoing_barred = entry.facilities.outgoing_barred;
-  incoming_barred = entry.facilities.incoming_barred;
-  reverse_charging = entry.facilities.reverse_charging;
-  fast_select = entry.facilities.fast_select;
-  outgoing_access = entry.facilities.outgoing_access;
-  incoming_access = entry.facilities.incoming_access;
+  facilities = entry.facilities;
   preferential = entry.preferential;
   memberships = record { items = memberships_of known entry.groups };
   redirect = entry.redirect;

@@ -25,12 +25,14 @@ abbrev pub no_station : Station
 no_station = record {
   address = [];
   lines = record { items = [] };
-  outgoing_barred = false;
-  incoming_barred = false;
-  reverse_charging = false;
-  fast_select = false;
-  outgoing_access = false;
-  incoming_access = false;
+  facilities = record {
+    outgoing_barred = false;
+    incoming_barred = false;
+    reverse_charging = false;
+    fast_select = false;
+    outgoing_access = false;
+    incoming_access = false;
+  };
   preferential = None;
   memberships = record { items = [] };
   redirect = None;

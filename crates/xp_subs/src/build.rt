@@ -73,16 +73,10 @@ fn station(entry: &StationEntry, first: LineNo, known: &IndexSet<Name>) -> Stati
     requires mentioned { AreKnown known.now.keys entry.now }
     ensures { result ≡ station_from known.now.keys first entry.now }
 {
-    let facilities = entry.facilities;
     Station {
         address: entry.address.copy(),
         lines: line_numbers(first, entry.lines.len()),
-        outgoing_barred: facilities.outgoing_barred,
-        incoming_barred: facilities.incoming_barred,
-        reverse_charging: facilities.reverse_charging,
-        fast_select: facilities.fast_select,
-        outgoing_access: facilities.outgoing_access,
-        incoming_access: facilities.incoming_access,
+        facilities: entry.facilities,
         preferential: entry.preferential,
         memberships: memberships(&entry.groups, known),
         redirect: entry.redirect.as_ref().map(|redirect| redirect.copy()),

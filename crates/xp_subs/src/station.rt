@@ -1,7 +1,7 @@
 use crate::limits::{MAX_GROUPS_OF_STATION, MAX_LINES_OF_STATION};
 use crate::{GroupNo, LineNo};
 use arrayvec::ArrayVec;
-use xp_file::Redirection;
+use xp_file::{Facilities, Redirection};
 use xp_packets::Digits;
 
 /// A station's membership of a closed user group, with the calls that are barred to it there (X.25 clauses 6.14.1,
@@ -24,18 +24,8 @@ pub struct Station {
     pub address: Digits,
     /// Its lines in order, at least one.
     pub lines: ArrayVec<LineNo, MAX_LINES_OF_STATION>,
-    /// Outgoing calls barred (X.25 clause 6.6).
-    pub outgoing_barred: bool,
-    /// Incoming calls barred (X.25 clause 6.5).
-    pub incoming_barred: bool,
-    /// Reverse charging acceptance (X.25 clause 6.19).
-    pub reverse_charging: bool,
-    /// Fast select acceptance (X.25 clause 6.17).
-    pub fast_select: bool,
-    /// Closed user group with outgoing access (X.25 clause 6.14.2).
-    pub outgoing_access: bool,
-    /// Closed user group with incoming access (X.25 clause 6.14.3).
-    pub incoming_access: bool,
+    /// The facilities to which it subscribes.
+    pub facilities: Facilities,
     /// The index of the preferential group, one of the memberships'.
     pub preferential: Option<u16>,
     /// Its closed user groups.

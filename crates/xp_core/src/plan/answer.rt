@@ -1,14 +1,16 @@
 //! An incoming call is answered.
 
-ghost use Rattle.std.specs.Prelude.{◌≡◌, ◌<◌, List, [], ℕ, IfOk, None, if◌then◌else◌};
+ghost use Rattle.std.specs.Prelude.{◌≡◌, ◌<◌, List, [], ℕ, IfOk, None, Some, if◌then◌else◌};
 ghost use Rattle.xp_subs.specs.Tables.{line_count, address_of as line_address, same};
-ghost use Rattle.xp_core.specs.Moves.{answers, connected as connected_packet};
+ghost use Rattle.xp_core.specs.Packets.{connected as connected_packet};
 ghost use Rattle.xp_core.specs.Plan.{IsPlan};
+ghost use Rattle.xp_core.specs.Step.{answers};
+ghost use Rattle.xp_core.specs.World.{call_on};
 
 use super::Plan;
 use super::request::standard_facilities;
-use super::send::{moved, send};
-use crate::channel::ChannelState;
+use super::send::send;
+use crate::change::Change;
 use crate::machine::Machine;
 use crate::output::Buffer;
 use std::alloc::{AllocError, Allocator};
@@ -24,18 +26,19 @@ pub fn answer<A: Allocator + Copy>(
     d: bool,
 ) -> Result<Plan<A>, AllocError>
     requires { line < line_count subs.now }
-    ensures { IfOk result (λ plan. IsPlan plan None (answers subs.now machine.now line d)) }
+    ensures { IfOk result (λ plan. IsPlan plan machine.now None (answers subs.now line (Some d) (call_on machine.now line))) }
 {
     let outputs = Buffer::with_room(alloc, 1)?;
     let Some(call) = machine.call_on(line) else {
         return Ok(Plan::of(outputs));
     };
     let packet = connected(alloc, subs, line, &call.dialled, d)?;
-    let talking = ChannelState::Talking(call.number);
-    let plan = Plan::of(outputs.with(send(machine, call.caller, packet)))
-        .with_edit(moved(machine, line, talking))
-        .with_edit(moved(machine, call.caller, talking));
-    Ok(plan)
+    let change = Change::Connect {
+        number: call.number,
+        caller: call.caller,
+        called: call.called,
+    };
+    Ok(Plan::of(outputs.with(send(machine, call.caller, packet))).changing(change))
 }
 
 /// The call connected packet (X.25 clause 5.2.3).

@@ -1,18 +1,19 @@
 //! What ends a call: a clear request, or a line that goes out of service.
 
-ghost use Rattle.std.specs.Prelude.{◌≡◌, ◌+◌, ◌<◌, ◌≤◌, ◌^◌, ◌++◌, IfOk, None};
-ghost use Rattle.arrayvec.specs.ArrayVec.{array_vec_len};
+ghost use Rattle.std.specs.Prelude.{◌≡◌, ◌∷◌, ◌++◌, ◌<◌, [], IfOk, None};
+ghost use Rattle.xp_core.specs.Changes.{Rises, Leaves, Ends, GoesOut, IsConfirmed, IsFree, told_on_way};
 ghost use Rattle.xp_core.specs.Clearing.{cause_told as told_cause, diagnostic_told as told_diagnostic, record_of as recorded};
-ghost use Rattle.xp_core.specs.Moves.{ending as ending_move, rises, falls, confirms, frees};
+ghost use Rattle.xp_core.specs.Causes.{OUT_OF_ORDER as GONE_OUT, NO_ADDITIONAL_INFORMATION as NO_INFORMATION};
+ghost use Rattle.xp_core.specs.Kept.{entry_of, call_of_kept, way_of};
 ghost use Rattle.xp_core.specs.Plan.{IsPlan};
-ghost use Rattle.xp_core.specs.World.{line_at};
+ghost use Rattle.xp_core.specs.Step.{leaves};
+ghost use Rattle.xp_core.specs.World.{call_on, line_at};
 
 use super::Plan;
-use super::send::{clear_indication, moved, send};
+use super::send::{clear_indication, send};
 use crate::call::LiveCall;
 use crate::cause::{DTE_CAUSES, NO_ADDITIONAL_INFORMATION, OUT_OF_ORDER};
-use crate::channel::{ChannelState, LogicalChannel};
-use crate::edit::Edit;
+use crate::change::{Change, Way};
 use crate::machine::Machine;
 use crate::output::Buffer;
 use crate::record::Record;
@@ -20,31 +21,60 @@ use std::alloc::{AllocError, Allocator};
 use xp_packets::{End, Packet};
 use xp_subs::LineNo;
 
-/// Ends the call that a line is in, if it is in one, after these outputs.
-fn ending<A: Allocator>(
+/// A line leaves the call that it is in, if it is in one, and that call ends.
+fn leave<A: Allocator>(
+    alloc: A,
     machine: &Machine<A>,
     line: LineNo,
+    way: Way,
+    cause: u8,
+    diagnostic: u8,
+) -> Result<Plan<A>, AllocError>
+    ensures { IfOk result (λ plan. IsPlan plan machine.now None (leaves line (way_of way) cause diagnostic (call_on machine.now line) ∷ [])) }
+{
+    let outputs = tell(machine, line, way, Buffer::with_room(alloc, 2)?);
+    match machine.call_on(line) {
+        None => Ok(Plan::of(outputs).changing(Change::Leave { line, way })),
+        Some(call) => Ok(end_call(machine, call, line, way, cause, diagnostic, outputs)),
+    }
+}
+
+/// A call ends by a line of it: its far line is cleared.
+fn end_call<A: Allocator>(
+    machine: &Machine<A>,
+    call: &LiveCall,
+    line: LineNo,
+    way: Way,
     cause: u8,
     diagnostic: u8,
     outputs: Buffer<A>,
 ) -> Plan<A>
-    requires { 0 < outputs.room }
-    ensures takes { result.taken ≡ None }
-    ensures outputs { result.outputs.outputs ≡ outputs.outputs ++ (ending_move machine.now line cause diagnostic).outputs }
-    ensures edits { result.edits.items ≡ (ending_move {A = A} machine.now line cause diagnostic).edits }
-    ensures records { result.records.items ≡ (ending_move {A = A} machine.now line cause diagnostic).records }
-    ensures few { array_vec_len result.edits ≤ 2 }
+    requires told { outputs.outputs ≡ told_on_way machine.now line (way_of way) }
+    requires room { 0 < outputs.room }
+    ensures { IsPlan result machine.now None (Ends call.now.number (call_of_kept call.now) line (way_of way) cause diagnostic ∷ []) }
 {
-    match machine.call_on(line) {
-        None => Plan::of(outputs),
-        Some(call) => {
-            let far = call.far_end(line);
-            let indication = send(machine, far, clear_indication(cause, diagnostic));
-            Plan::of(outputs.with(indication))
-                .with_edit(Edit::End(call.number))
-                .with_edit(moved(machine, far, ChannelState::Cleared))
-                .with_record(call.record(cause, diagnostic))
-        }
+    let far = call.far_end(line);
+    let indication = send(machine, far, clear_indication(cause, diagnostic));
+    Plan::of(outputs.with(indication))
+        .changing(Change::End {
+            number: call.number,
+            line,
+            way,
+            far,
+        })
+        .with_record(call.record(cause, diagnostic))
+}
+
+/// What the line itself is told as it leaves its call.
+fn tell<A: Allocator>(machine: &Machine<A>, line: LineNo, way: Way, outputs: Buffer<A>) -> Buffer<A>
+    requires { 1 < outputs.room }
+    ensures outputs { result.outputs ≡ outputs.outputs ++ told_on_way machine.now line (way_of way) }
+    ensures room { 0 < result.room }
+{
+    match way {
+        Way::IsConfirmed => outputs.with(send(machine, line, Packet::ClearConfirm { block: None })),
+        Way::GoesOut => outputs,
+        Way::IsFree => outputs,
     }
 }
 
@@ -54,16 +84,9 @@ pub fn rise<A: Allocator>(
     machine: &Machine<A>,
     line: LineNo,
 ) -> Result<Plan<A>, AllocError>
-    requires { (line_at machine.now line).connection + 1 < 2 ^ 64 }
-    ensures { IfOk result (λ plan. IsPlan plan None (rises machine.now line)) }
+    ensures { IfOk result (λ plan. IsPlan plan machine.now None (Rises line ∷ [])) }
 {
-    let outputs = Buffer::with_room(alloc, 0)?;
-    let becomes = LogicalChannel {
-        state: ChannelState::Ready,
-        identifier: LogicalChannel::INITIAL_IDENTIFIER,
-        connection: machine.line(line).connection + 1,
-    };
-    Ok(Plan::of(outputs).with_edit(Edit::Line { line, becomes }))
+    Ok(Plan::of(Buffer::with_room(alloc, 0)?).changing(Change::Rise { line }))
 }
 
 /// A line goes out of service: its call ends as out of order.
@@ -72,12 +95,10 @@ pub fn fall<A: Allocator>(
     machine: &Machine<A>,
     line: LineNo,
 ) -> Result<Plan<A>, AllocError>
-    ensures { IfOk result (λ plan. IsPlan plan None (falls machine.now line)) }
+    ensures { IfOk result (λ plan. IsPlan plan machine.now None (leaves line GoesOut GONE_OUT NO_INFORMATION (call_on machine.now line) ∷ [])) }
 {
-    let outputs = Buffer::with_room(alloc, 1)?;
-    let off = moved(machine, line, ChannelState::Off);
     let (cause, diagnostic) = (OUT_OF_ORDER, NO_ADDITIONAL_INFORMATION);
-    Ok(ending(machine, line, cause, diagnostic, outputs).with_edit(off))
+    leave(alloc, machine, line, Way::GoesOut, cause, diagnostic)
 }
 
 /// A clear request is confirmed at once (X.25 clause 4.1.7), and the line's call ends.
@@ -88,13 +109,10 @@ pub fn confirm<A: Allocator>(
     cause: u8,
     diagnostic: Option<u8>,
 ) -> Result<Plan<A>, AllocError>
-    ensures { IfOk result (λ plan. IsPlan plan None (confirms machine.now line cause diagnostic)) }
+    ensures { IfOk result (λ plan. IsPlan plan machine.now None (leaves line IsConfirmed (told_cause cause) (told_diagnostic diagnostic) (call_on machine.now line) ∷ [])) }
 {
-    let confirmation = send(machine, line, Packet::ClearConfirm { block: None });
-    let outputs = Buffer::with_room(alloc, 2)?.with(confirmation);
-    let ready = moved(machine, line, ChannelState::Ready);
     let (cause, diagnostic) = (cause_told(cause), diagnostic_told(diagnostic));
-    Ok(ending(machine, line, cause, diagnostic, outputs).with_edit(ready))
+    leave(alloc, machine, line, Way::IsConfirmed, cause, diagnostic)
 }
 
 /// A cleared line is free again.
@@ -103,10 +121,10 @@ pub fn free<A: Allocator>(
     machine: &Machine<A>,
     line: LineNo,
 ) -> Result<Plan<A>, AllocError>
-    ensures { IfOk result (λ plan. IsPlan plan None (frees machine.now line)) }
+    ensures { IfOk result (λ plan. IsPlan plan machine.now None (Leaves line IsFree ∷ [])) }
 {
-    let outputs = Buffer::with_room(alloc, 0)?;
-    Ok(Plan::of(outputs).with_edit(moved(machine, line, ChannelState::Ready)))
+    let way = Way::IsFree;
+    Ok(Plan::of(Buffer::with_room(alloc, 0)?).changing(Change::Leave { line, way }))
 }
 
 /// The cause that the other end is told: that of a DTE (80 to FF) as it is, every other as 00.
@@ -124,11 +142,11 @@ fn diagnostic_told(diagnostic: Option<u8>) -> u8
 }
 
 impl LiveCall {
-    ghost use Rattle.xp_core.specs.Clearing.{far_end as other_line};
+    ghost use Rattle.xp_core.specs.World.{far_end as other_line};
 
     /// The other line of the call.
     fn far_end(&self, line: LineNo) -> LineNo
-        ensures { result ≡ other_line self.now line }
+        ensures { result ≡ other_line (call_of_kept self.now) line }
     {
         if self.caller == line {
             self.called
@@ -139,7 +157,7 @@ impl LiveCall {
 
     /// The record of the call, ended with this cause and diagnostic.
     fn record(&self, cause: u8, diagnostic: u8) -> Record
-        ensures { result ≡ recorded self.now cause diagnostic }
+        ensures { result ≡ recorded self.now.number (call_of_kept self.now) cause diagnostic }
     {
         Record {
             number: self.number,

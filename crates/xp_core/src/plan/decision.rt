@@ -2,7 +2,8 @@
 
 ghost use Rattle.std.specs.Prelude.{◌≡◌, find, length};
 ghost use Rattle.std.specs.List.{list_all};
-ghost use Rattle.xp_core.specs.Decision.{Decided, Chosen, is_idle, is_off, refusal, why_none};
+ghost use Rattle.xp_core.specs.Channel.{is_off};
+ghost use Rattle.xp_core.specs.Decision.{Decided, Chosen, is_idle, refusal, why_none};
 ghost use Rattle.xp_core.specs.Plan.{IsWithin};
 ghost use Rattle.xp_core.specs.World.{state_at};
 

@@ -1,21 +1,20 @@
 //! A call request: it is put to a line as an incoming call, or cleared.
 
-ghost use Rattle.std.specs.Prelude.{◌≡◌, ◌<◌, [], Some, None, IfOk, length};
-ghost use Rattle.xp_packets.specs.declared.packet.Packet.TheVariants.{Call};
+ghost use Rattle.std.specs.Prelude.{◌≡◌, ◌<◌, [], ◌∷◌, Some, None, IfOk, length};
 ghost use Rattle.xp_subs.specs.Tables.{line_count};
-ghost use Rattle.xp_core.specs.declared.event.What.TheVariants.{Frame};
-ghost use Rattle.xp_core.specs.declared.table.Action.TheVariants.{NewCall};
-ghost use Rattle.xp_core.specs.Moves.{incoming as incoming_packet, put_request, refused_request, standard_facilities as standard};
-ghost use Rattle.xp_core.specs.Plan.{IsPlan, move_of};
-ghost use Rattle.xp_core.specs.Step.{Acts};
+ghost use Rattle.xp_core.specs.Changes.{Begins, IsRefused};
+ghost use Rattle.xp_core.specs.Packets.{incoming as incoming_packet, standard_facilities as standard};
+ghost use Rattle.xp_core.specs.Kept.{request_of};
+ghost use Rattle.xp_core.specs.Plan.{IsPlan, PlansRequest};
+ghost use Rattle.xp_core.specs.Setting.{setting};
 
 use super::Plan;
 use super::decision::decide;
-use super::send::{clear_indication, moved_as, send_as};
-use crate::call::LiveCall;
+use super::send::{clear_indication, send_as};
 use crate::cause::Refusal;
-use crate::channel::{ChannelState, LogicalChannel};
-use crate::edit::Edit;
+use crate::change::Change;
+use crate::channel::LogicalChannel;
+use crate::entry::Entry;
 use crate::machine::Machine;
 use crate::output::Buffer;
 use crate::record::Record;
@@ -37,27 +36,9 @@ pub fn standard_facilities<A: Allocator + Copy>(alloc: A) -> Result<Octets<A>, A
 /// A call request as it came.
 #[derive(Drop)]
 pub struct CallRequest<'a, A: Allocator> {
-    pub caller: LineNo,
     pub identifier: u16,
     pub d: bool,
     pub block: &'a Block<A>,
-}
-
-impl<'a, A: Allocator> CallRequest<'a, A> {
-    /// The call request that a line makes by this packet.
-    pub fn of(caller: LineNo, identifier: u16, d: bool, block: &'a Block<A>) -> CallRequest<'a, A>
-        ensures caller { result.caller ≡ caller }
-        ensures identifier { result.identifier ≡ identifier }
-        ensures d { result.d ≡ d }
-        ensures block { result.block.now ≡ block.now }
-    {
-        CallRequest {
-            caller,
-            identifier,
-            d,
-            block,
-        }
-    }
 }
 
 /// Decides a call request: it is put to the line that is taken, or cleared.
@@ -65,18 +46,20 @@ pub fn request<A: Allocator + Copy>(
     alloc: A,
     subs: &Subs,
     machine: &Machine<A>,
+    _before: &[Entry<A>],
+    caller: LineNo,
     request: &CallRequest<'_, A>,
 ) -> Result<Plan<A>, AllocError>
-    requires caller { request.now.caller < line_count subs.now }
+    requires caller { caller < line_count subs.now }
     requires lines { length machine.now.lines ≡ line_count subs.now }
-    ensures { IfOk result (λ plan. Acts subs.now machine.now request.now.caller (Frame request.now.identifier (Call request.now.d request.now.block.now)) NewCall plan.taken (move_of plan)) }
+    ensures { IfOk result (λ plan. PlansRequest (setting subs.now _before.now machine.now caller) (request_of request.now) plan) }
 {
     let outputs = Buffer::with_room(alloc, 1)?;
-    match decide(subs, machine, request.caller, request.block) {
-        Verdict::Refuse(why) => Ok(refused(machine, request, why, outputs)),
+    match decide(subs, machine, caller, request.block) {
+        Verdict::Refuse(why) => Ok(refused(machine, caller, request, why, outputs)),
         Verdict::Take(called) => {
-            let packet = incoming(alloc, subs, request, called)?;
-            Ok(put(machine, request, called, packet, outputs))
+            let packet = incoming(alloc, subs, caller, request, called)?;
+            Ok(put(machine, caller, request, called, packet, outputs))
         }
     }
 }
@@ -85,12 +68,13 @@ pub fn request<A: Allocator + Copy>(
 fn incoming<A: Allocator + Copy>(
     alloc: A,
     subs: &Subs,
+    caller: LineNo,
     request: &CallRequest<'_, A>,
     called: LineNo,
 ) -> Result<Packet<A>, AllocError>
-    requires caller { request.now.caller < line_count subs.now }
+    requires caller { caller < line_count subs.now }
     requires called { called < line_count subs.now }
-    ensures { IfOk result (λ packet. packet ≡ incoming_packet subs.now request.now.caller called request.now.d request.now.block.now) }
+    ensures { IfOk result (λ packet. packet ≡ incoming_packet subs.now caller called request.now.d request.now.block.now) }
 {
     let facilities = standard_facilities(alloc)?;
     let user = request.block.user.copy()?;
@@ -98,7 +82,7 @@ fn incoming<A: Allocator + Copy>(
         d: request.d,
         block: Block {
             called: subs.address_of(called).copy(),
-            calling: subs.address_of(request.caller).copy(),
+            calling: subs.address_of(caller).copy(),
             facilities,
             user,
         },
@@ -108,6 +92,7 @@ fn incoming<A: Allocator + Copy>(
 /// The call is put to a line.
 fn put<A: Allocator>(
     machine: &Machine<A>,
+    caller: LineNo,
     request: &CallRequest<'_, A>,
     called: LineNo,
     packet: Packet<A>,
@@ -115,39 +100,32 @@ fn put<A: Allocator>(
 ) -> Plan<A>
     requires empty { outputs.outputs ≡ [] }
     requires room { 0 < outputs.room }
-    ensures { IsPlan result (Some called) (put_request machine.now request.now.caller request.now.identifier request.now.block.now called packet) }
+    ensures { IsPlan result machine.now (Some called) (Begins caller request.now.identifier called request.now.block.now.called packet ∷ []) }
 {
-    let number = machine.next();
-    let caller = request.caller;
-    let call = LiveCall {
-        number,
+    let change = Change::Begin {
         caller,
+        identifier: request.identifier,
         called,
         dialled: request.block.called.copy(),
     };
-    let waiting = ChannelState::Waiting(number);
-    let ringing = ChannelState::Ringing(number);
     let identifier = LogicalChannel::INITIAL_IDENTIFIER;
     Plan::of(outputs.with(send_as(machine, called, identifier, packet)))
         .taking(called)
-        .with_edit(Edit::Number)
-        .with_edit(Edit::Begin(call))
-        .with_edit(moved_as(machine, caller, request.identifier, waiting))
-        .with_edit(moved_as(machine, called, identifier, ringing))
+        .changing(change)
 }
 
 /// The call is cleared at once.
 fn refused<A: Allocator>(
     machine: &Machine<A>,
+    caller: LineNo,
     request: &CallRequest<'_, A>,
     why: Refusal,
     outputs: Buffer<A>,
 ) -> Plan<A>
     requires empty { outputs.outputs ≡ [] }
     requires room { 0 < outputs.room }
-    ensures { IsPlan result None (refused_request machine.now request.now.caller request.now.identifier request.now.block.now why) }
+    ensures { IsPlan result machine.now None (IsRefused caller request.now.identifier request.now.block.now.called why ∷ []) }
 {
-    let caller = request.caller;
     let identifier = request.identifier;
     let indication = clear_indication(why.cause, why.diagnostic);
     let record = Record {
@@ -162,7 +140,9 @@ fn refused<A: Allocator>(
         diagnostic: why.diagnostic,
     };
     Plan::of(outputs.with(send_as(machine, caller, identifier, indication)))
-        .with_edit(Edit::Number)
-        .with_edit(moved_as(machine, caller, identifier, ChannelState::Cleared))
+        .changing(Change::Refuse {
+            line: caller,
+            identifier,
+        })
         .with_record(record)
 }

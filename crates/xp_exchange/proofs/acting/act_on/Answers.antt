@@ -2,7 +2,6 @@ use Rattle.std.proofs.Common.{◌∙◌, ◌-◌, refl, sym, subst, arith, All, 
 use Rattle.xp_subs.specs.Tables.{line_count}
 use Rattle.xp_core.specs.Writable.{AreWritable}
 use Rattle.xp_script.specs.Lines.{HasLines}
-use Rattle.xp_exchange.proofs.Named.{run_names}
 use Rattle.xp_exchange.proofs.Steps.{told_step, found_room, stopped, last_pushed, pushed_length}
 use Rattle.xp_exchange.proofs.acting.act_on.Goals as goal
 
@@ -21,7 +20,7 @@ tell-requires-clause-writable g c =
 
 pub tell-requires-clause-lines : goal.tell-requires-clause-lines
 tell-requires-clause-lines g c =
-    let named = subst (All (HasLines (line_count c.step.new.self.subs))) (sym c.history-entries.ensures.entries) (run_names _ _ _ c.history-entries.ensures.run) in
+    let named = subst (All (HasLines (line_count c.step.new.self.subs))) (sym c.history-entries.ensures.entries) c.history-entries.ensures.lines in
     let pushed = pushed_length _ _ _ (c.history-entries.ensures.entries ∙ c.in-Ok.ensures.ok.history) in
     subst (λ tables. HasLines (line_count tables) c.index-entries-entries.result) (sym c.subs.ensures)
     (subst (HasLines (line_count c.step.new.self.subs)) (sym c.index-entries-entries.is)

@@ -1,8 +1,9 @@
 use Rattle.std.proofs.Common.{ap, ◌∙◌}
 use Rattle.xp_core.specs.World.{opening}
-use Rattle.xp_core.proofs.Fitting.{opening_leads}
+use Rattle.xp_core.proofs.Showing.{opening_shows}
 use Rattle.xp_core.proofs.exchange.Core.new.Goals as goal
 
 pub invariant_of-result : goal.invariant_of-result
 invariant_of-result g c =
-    opening_leads c.args.subs c.new-2.result.items c.in_ok-machine.machine c.new-2.ensures.items (c.in_ok-machine.ensures ∙ ap opening c.counts.ensures.lines)
+    opening_shows c.args.subs c.new-2.result.items c.in_ok-machine.machine c.new-3.result.items c.new-2.ensures.items
+    (c.in_ok-machine.ensures ∙ ap opening c.counts.ensures.lines) c.new-3.ensures.items

@@ -1,0 +1,74 @@
+-- What follows from the rules of answering and of clearing.
+use Rattle.std.specs.Prelude.{◌≡◌, ℕ, ◌≤◌, Bool, List, length, Option}
+use Rattle.xp_decide.specs.Written.{CanBeWritten}
+use Rattle.xp_decide.specs.declared.verdict.Ring.{Ring}
+use Rattle.xp_facilities.specs.declared.fast_select.FastSelect.{FastSelect}
+use Rattle.xp_facilities.specs.declared.segment_counts.SegmentCounts.{SegmentCounts}
+use Rattle.xp_packets.specs.declared.block.Block.{Block}
+use Rattle.xp_packets.specs.declared.packet.Packet.{Packet}
+use Rattle.xp_answer.specs.Answered.{Answered}
+use Rattle.xp_answer.specs.Blocks.{user_in}
+use Rattle.xp_answer.specs.CarriedOn.{AreCounts, CarriedOn}
+use Rattle.xp_answer.specs.Fields.{CanBeSent}
+use Rattle.xp_answer.specs.Incoming.{IsIncomingCall}
+use Rattle.xp_answer.specs.Terms.{AreTerms, AreSettled}
+use Rattle.xp_answer.specs.declared.answer.Answer.{Answer}
+use Rattle.xp_answer.specs.declared.answer.Answer.TheVariants.{Connected}
+use Rattle.xp_answer.specs.declared.connection.Connection.{Connection}
+use Rattle.xp_answer.specs.declared.setup.Setup.{Setup}
+
+-- ---- a call that is put to a line
+
+-- its packet is one
+abbrev pub IncomingCallIsOne : Type 0 → Type 0
+IncomingCallIsOne A =
+    (ring : Ring A) (called calling : List ℕ) (d : Bool) (block : Block A) (one other : Packet A)
+    → IsIncomingCall ring called calling d block one → IsIncomingCall ring called calling d block other → one ≡ other
+
+abbrev pub IncomingCallCanBeSent : Type 0 → Type 0
+IncomingCallCanBeSent A =
+    (ring : Ring A) (called calling : List ℕ) (d : Bool) (block : Block A) (packet : Packet A)
+    → CanBeWritten ring.told → length block.user ≤ 128 → IsIncomingCall ring called calling d block packet
+    → CanBeSent packet
+
+-- ---- its answer
+
+-- an answer is accepted or refused, in one way
+pub record HasOneAnswer (A : Type 0) (setup : Setup) (address dialled : List ℕ) (d : Bool) (block : Option (Block A)) : Type 0 where
+  pub some : (answer : Answer A) × Answered setup address dialled d block answer
+  pub same : (one other : Answer A) → Answered setup address dialled d block one → Answered setup address dialled d block other → one ≡ other
+
+abbrev pub EveryAnswerHasOne : Type 0 → Type 0
+EveryAnswerHasOne A =
+    (setup : Setup) (address dialled : List ℕ) (d : Bool) (block : Option (Block A))
+    → AreTerms setup.indicated → HasOneAnswer A setup address dialled d block
+
+abbrev pub ConnectionsSettleTerms : Type 0 → Type 0
+ConnectionsSettleTerms A =
+    (setup : Setup) (address dialled : List ℕ) (d : Bool) (block : Option (Block A)) (connection : Connection A)
+    → AreTerms setup.indicated → Answered setup address dialled d block (Connected connection)
+    → AreSettled setup.indicated connection.terms
+
+abbrev pub ConnectedCanBeSent : Type 0 → Type 0
+ConnectedCanBeSent A =
+    (setup : Setup) (address dialled : List ℕ) (d : Bool) (block : Option (Block A)) (connection : Connection A)
+    → length (user_in block) ≤ 128 → Answered setup address dialled d block (Connected connection)
+    → CanBeSent connection.packet
+
+-- ---- a clear request
+
+-- the far end is told one thing
+pub record HasOneIndication (A : Type 0) (fast : FastSelect) (cause : ℕ) (diagnostic : Option ℕ) (block : Option (Block A)) (segments : Option SegmentCounts) : Type 0 where
+  pub some : (packet : Packet A) × CarriedOn fast cause diagnostic block segments packet
+  pub same : (one other : Packet A) → CarriedOn fast cause diagnostic block segments one → CarriedOn fast cause diagnostic block segments other → one ≡ other
+
+abbrev pub EveryClearHasOneIndication : Type 0 → Type 0
+EveryClearHasOneIndication A =
+    (fast : FastSelect) (cause : ℕ) (diagnostic : Option ℕ) (block : Option (Block A)) (segments : Option SegmentCounts)
+    → AreCounts segments → HasOneIndication A fast cause diagnostic block segments
+
+abbrev pub CarriedOnCanBeSent : Type 0 → Type 0
+CarriedOnCanBeSent A =
+    (fast : FastSelect) (cause : ℕ) (diagnostic : Option ℕ) (block : Option (Block A)) (segments : Option SegmentCounts) (packet : Packet A)
+    → length (user_in block) ≤ 128 → CarriedOn fast cause diagnostic block segments packet
+    → CanBeSent packet

@@ -1,0 +1,9 @@
+pub mod Blocks
+pub mod Terms
+pub mod Setup
+pub mod Fields
+pub mod Incoming
+pub mod Answered
+pub mod Examined
+pub mod CarriedOn
+pub mod Laws

@@ -1,0 +1,26 @@
+//! How an incoming call is put to a line, what its answer settles, and what the far end is told of a clear request
+//! (X.25 clauses 4.1 and 6).
+#![tactic(auto)]
+
+mod answer;
+mod block;
+mod clear;
+mod connection;
+mod fault;
+mod field;
+mod incoming;
+mod laws;
+mod setup;
+mod terms;
+
+pub use answer::{Answer, examine};
+pub use clear::carry_clear;
+pub use connection::Connection;
+pub use incoming::incoming_call;
+pub use laws::{
+    carried_on_can_be_sent, connected_can_be_sent, connections_settle_terms,
+    every_answer_has_one_outcome, every_clear_has_one_indication, incoming_call_can_be_sent,
+    incoming_call_is_one,
+};
+pub use setup::Setup;
+pub use terms::Terms;

@@ -1,0 +1,53 @@
+ghost use Rattle.std.specs.Prelude.{◌≡◌};
+ghost use Rattle.xp_decide.specs.Indicated.{IndicatesSizes};
+ghost use Rattle.xp_answer.specs.Setup.{payer_of, setup_of};
+ghost use Rattle.xp_answer.specs.Terms.{AreTerms};
+
+use crate::terms::Terms;
+use std::alloc::Allocator;
+use xp_decide::Ring;
+use xp_facilities::{FastSelect, Reason};
+use xp_packets::End;
+
+/// What the exchange keeps of the set-up of a call.
+#[derive(Clone, Copy, Debug, Default, PartialEq, Eq)]
+pub struct Setup {
+    /// The sizes that the incoming call indicated.
+    pub indicated: Terms,
+    /// Fast select.
+    pub fast: FastSelect,
+    /// The throughput class that the caller asked for.
+    pub throughput: Option<u8>,
+    /// Why the call was first redirected, if it was.
+    pub reason: Option<Reason>,
+    /// Who pays.
+    pub payer: End,
+    /// The caller asks for charging information.
+    pub charging: bool,
+}
+
+impl Setup {
+    /// What is kept of a call that is put to a line.
+    pub fn of<A: Allocator>(ring: &Ring<A>) -> Setup
+        ensures kept { result ≡ setup_of ring.now }
+
+        // Sizes that may be indicated are those of a call.
+        ensures terms { IndicatesSizes ring.now.told → AreTerms result.indicated }
+    {
+        Setup {
+            indicated: Terms::indicated_by(&ring.told),
+            fast: ring.asked.fast,
+            throughput: ring.asked.throughput,
+            reason: ring.reason,
+            payer: payer(ring.asked.reverse),
+            charging: ring.asked.charging,
+        }
+    }
+}
+
+/// Who pays for a call with or without reverse charging (X.25 clause 6.18).
+fn payer(reverse: bool) -> End
+    ensures { result ≡ payer_of reverse }
+{
+    if reverse { End::Called } else { End::Caller }
+}

@@ -1,0 +1,195 @@
+-- As an event is entered, what is kept goes on to show where the history leads.
+use Rattle.std.proofs.Common.{◌≡◌, ◌∙◌, ℕ, ◌+◌, ◌<◌, IfOk, OnErr, Result, Ok, Err, Option, Some, None, List, [], ◌∷◌, ◌++◌, All, length, refl, ap, sym, subst, append-nil}
+use Rattle.std.proofs.lemmas.List.Concat.{flat_map-append}
+use Rattle.std.proofs.lemmas.List.Elements.{All-nil, All-pop, All-push}
+use Rattle.xp_subs.specs.Tables.{Tables, line_count}
+use Rattle.xp_core.specs.declared.advance.Work.{Work}
+use Rattle.xp_core.specs.declared.entry.Entry.{Entry}
+use Rattle.xp_core.specs.declared.event.Event.{Event}
+use Rattle.xp_core.specs.declared.event.What.{What}
+use Rattle.xp_core.specs.declared.plan.Plan.{Plan}
+use Rattle.xp_core.specs.declared.record.Record.{Record}
+use Rattle.xp_core.specs.declared.stepped.Stepped.{Stepped}
+use Rattle.xp_core.specs.declared.table.Action.{Action}
+use Rattle.xp_core.specs.declared.table.Action.TheVariants.{NewCall}
+use Rattle.xp_core.specs.declared.verdict.Verdict.{Verdict}
+use Rattle.xp_core.specs.Exchange.{Advances, Exchange, IsReadable, world_of}
+use Rattle.xp_core.specs.Plan.{IsPlan, Plans, PlansCall, applied_if_any}
+use Rattle.xp_core.specs.Records.{records_of}
+use Rattle.xp_core.specs.Run.{Run, world_after}
+use Rattle.xp_core.specs.Setting.{Setting, setting}
+use Rattle.xp_core.specs.Shown.{Shows}
+use Rattle.xp_core.specs.Step.{Chooses, IsDecided, Step, action_at, does, requests, taken_by}
+use Rattle.xp_core.specs.Table.{CallRequest, request_in}
+use Rattle.xp_core.specs.Work.{Enters, Works}
+use Rattle.xp_core.specs.World.{World, opening}
+use Rattle.xp_core.specs.Writable.{AreReadable, AreWritable}
+use Rattle.xp_core.proofs.Fitting.{run_fits}
+use Rattle.xp_core.proofs.RunLemmas.{run_push}
+use Rattle.xp_core.proofs.Worlds.{run_world}
+
+module _ {A : Type 0} where
+  record IsPlanned (at : Setting A) (what : What A) (action : Action) (plan : Plan A) : Type 0 where
+    choice : Option Verdict
+    chosen : Chooses at what action choice
+    planned : IsPlan plan at.world (taken_by choice) (does at what action choice)
+
+  planned_call : (at : Setting A) (what : What A) (asked : Option (CallRequest A)) (plan : Plan A) → request_in what ≡ asked → PlansCall at asked plan
+      → IsPlanned at what NewCall plan
+  planned_call at what None plan is plans =
+      let P : Option (CallRequest A) → Type 0 = λ a. IsDecided at a None in
+      let Q : Option (CallRequest A) → Type 0 = λ a. IsPlan plan at.world None (requests at.tables at.line a None) in
+      record { choice = None; chosen = subst P (sym is) refl; planned = subst Q (sym is) plans }
+  planned_call at what (Some request) plan is plans =
+      let P : Option (CallRequest A) → Type 0 = λ a. IsDecided at a (Some plans.verdict) in
+      let Q : Option (CallRequest A) → Type 0 = λ a. IsPlan plan at.world (taken_by (Some plans.verdict)) (requests at.tables at.line a (Some plans.verdict)) in
+      record { choice = Some plans.verdict; chosen = subst P (sym is) plans.decided; planned = subst Q (sym is) plans.planned }
+
+  planned_for : (at : Setting A) (what : What A) (action : Action) (plan : Plan A) → Plans at what action plan → IsPlanned at what action plan
+  planned_for at what NewCall plan plans = planned_call at what (request_in what) plan refl plans
+  planned_for at what action plan plans = record { choice = None; chosen = refl; planned = plans }
+
+  -- what was planned and applied
+  pub works_out : (tables : Tables) (before : List (Entry A)) (old : World) (event : Event A) (plan : Plan A) (work : Work A) (new : World)
+      → Plans (setting tables before old event.line) event.what (action_at old event) plan
+      → work.taken ≡ plan.taken → work.outputs ≡ plan.outputs.outputs → work.told ≡ work.outputs → work.records ≡ plan.records
+      → new ≡ applied_if_any plan.change old → Works tables before old event work new
+  works_out tables before old event plan work new plans taken outputs told records applied =
+      let it = planned_for (setting tables before old event.line) event.what (action_at old event) plan plans in
+      record {
+        choice = it.choice;
+        chosen = it.chosen;
+        taken = taken ∙ it.planned.takes;
+        changes = does (setting tables before old event.line) event.what (action_at old event) it.choice;
+        acts = refl;
+        outputs = outputs ∙ it.planned.outputs;
+        told = told ∙ outputs ∙ it.planned.outputs;
+        records = ap (λ r. r.items) records ∙ it.planned.records;
+        leads = applied ∙ it.planned.does;
+      }
+
+  -- and entered
+  pub enters : (tables : Tables) (old : World) (history : List (Entry A)) (records : List Record) (event : Event A) (work : Work A)
+      (new : World) (entries : List (Entry A)) (charged : List Record) (told : Stepped A) (entry : Entry A)
+      → Works tables history old event work new
+      → entry ≡ record { number = length history + 1; event = event; taken = work.taken; outputs = work.outputs; records = work.records }
+      → event.line < length old.lines
+      → entries ≡ history ++ entry ∷ [] → charged ≡ records ++ work.records.items → told.entry ≡ length history + 1 → told.outputs ≡ work.told
+      → Enters tables old history records event new entries charged told
+  enters tables old history records event work new entries charged told entry works is line grown recorded number outputs =
+      let made : Entry A = record { number = length history + 1; event = event; taken = work.taken; outputs = work.outputs; records = work.records } in
+      record {
+        entry = made;
+        event_is = refl;
+        step = record {
+          number = refl;
+          line = line;
+          choice = works.choice;
+          chosen = works.chosen;
+          taken = works.taken;
+          changes = works.changes;
+          acts = works.acts;
+          outputs = works.outputs;
+          records = works.records;
+          leads = works.leads;
+        };
+        grown = grown ∙ ap (λ e. history ++ e ∷ []) is;
+        recorded = recorded;
+        number = number;
+        outputs = outputs ∙ works.told ∙ sym works.outputs;
+      }
+
+  module _ (tables : Tables) (history : List (Entry A)) (machine : World) (records : List Record) (shows : Shows tables history machine records)
+      (event : Event A) (readable : IsReadable event.what) (new : World) (entries : List (Entry A)) (charged : List Record) (told : Stepped A)
+      (done : Enters tables machine history records event new entries charged told) where
+    led : Run tables (history ++ done.entry ∷ []) new
+    led =
+        let P : World → Type 0 = λ w. Run tables history w in
+        run_push tables [] (opening (line_count tables)) history machine done.entry new (subst P (sym shows.shown) shows.run) done.step
+
+    entered : Shows tables (history ++ done.entry ∷ []) new charged
+    entered =
+        let P : World → Type 0 = λ w. Run tables (history ++ done.entry ∷ []) w in
+        let E : Event A → Type 0 = λ e. IsReadable e.what in
+        record {
+          run = subst P (run_world tables (history ++ done.entry ∷ []) new led) led;
+          readable = All-push (λ e. IsReadable e.event.what) history done.entry shows.readable (subst E (sym done.event_is) readable);
+          shown = run_world tables (history ++ done.entry ∷ []) new led;
+          charged = done.recorded ∙ ap (λ r. r ++ done.entry.records.items) shows.charged
+              ∙ ap (λ r. records_of history ++ r) (sym (append-nil done.entry.records.items))
+              ∙ sym (flat_map-append (λ e. e.records.items) history (done.entry ∷ []));
+        }
+
+    pub shows_next : Shows tables entries new charged
+    shows_next = let P : List (Entry A) → Type 0 = λ h. Shows tables h new charged in subst P (sym done.grown) entered
+
+    abbrev before : Exchange A
+    before = record { subs = tables; history = history }
+
+    abbrev after : Exchange A
+    after = record { subs = tables; history = entries }
+
+    pub advances : Advances before event after told
+    advances =
+        let P : World → Type 0 = λ w. Step tables history w done.entry (world_of after) in
+        let Q : World → Type 0 = λ w. Step tables history machine done.entry w in
+        record {
+          entry = done.entry;
+          event_is = done.event_is;
+          step = subst P shows.shown (subst Q shows_next.shown done.step);
+          history = done.grown;
+          subs = refl;
+          number = done.number;
+          outputs = done.outputs;
+        }
+
+    pub told_fits : AreWritable told.outputs
+    told_fits =
+        let W : List _ → Type 0 = λ outputs. AreWritable outputs in
+        subst W (sym done.outputs)
+        (All-pop (λ e. AreWritable e.outputs) entries history (Some done.entry) done.grown (run_fits tables entries _ shows_next.run shows_next.readable)).1
+
+  -- a call that hands on its outcome
+  pub outcome_shows : {E : Type 0} (tables : Tables) (history : List (Entry A)) (machine : World) (records : List Record) (event : Event A) (new : World) (entries : List (Entry A))
+      (charged : List Record) (outcome : Result (Stepped A) E) → Shows tables history machine records → IsReadable event.what
+      → IfOk outcome (λ told. Enters tables machine history records event new entries charged told)
+      → OnErr outcome (new ≡ machine) → OnErr outcome (entries ≡ history) → OnErr outcome (charged ≡ records) → Shows tables entries new charged
+  outcome_shows tables history machine records event new entries charged (Ok told) shows readable done same_world same_history same_records =
+      shows_next tables history machine records shows event readable new entries charged told done
+  outcome_shows tables history machine records event new entries charged (Err fault) shows readable done same_world same_history same_records =
+      let P : World → Type 0 = λ w. Shows tables entries w charged in
+      let Q : List (Entry A) → Type 0 = λ h. Shows tables h machine charged in
+      let R : List Record → Type 0 = λ r. Shows tables history machine r in
+      subst P (sym same_world) (subst Q (sym same_history) (subst R (sym same_records) shows))
+
+  abbrev pub exchange_of : Tables → List (Entry A) → Exchange A
+  exchange_of subs history = record { subs = subs; history = history }
+
+  pub outcome_advances : {E : Type 0} (tables : Tables) (history : List (Entry A)) (machine : World) (records : List Record) (event : Event A) (new : World) (entries : List (Entry A))
+      (charged : List Record) (outcome : Result (Stepped A) E) (old : Exchange A) → Shows tables history machine records → IsReadable event.what
+      → IfOk outcome (λ told. Enters tables machine history records event new entries charged told) → exchange_of tables history ≡ old
+      → IfOk outcome (λ told. Advances old event (exchange_of tables entries) told)
+  outcome_advances tables history machine records event new entries charged (Ok told) old shows readable done is =
+      let P : Exchange A → Type 0 = λ e. Advances e event (exchange_of tables entries) told in
+      subst P is (advances tables history machine records shows event readable new entries charged told done)
+  outcome_advances tables history machine records event new entries charged (Err fault) old shows readable done is = tt
+
+  pub outcome_fits : {E : Type 0} (tables : Tables) (history : List (Entry A)) (machine : World) (records : List Record) (event : Event A) (new : World) (entries : List (Entry A))
+      (charged : List Record) (outcome : Result (Stepped A) E) → Shows tables history machine records → IsReadable event.what
+      → IfOk outcome (λ told. Enters tables machine history records event new entries charged told) → IfOk outcome (λ told. AreWritable told.outputs)
+  outcome_fits tables history machine records event new entries charged (Ok told) shows readable done =
+      told_fits tables history machine records shows event readable new entries charged told done
+  outcome_fits tables history machine records event new entries charged (Err fault) shows readable done = tt
+
+  -- a call that hands on a failure has changed nothing
+  pub outcome_keeps : {E : Type 0} (subs : Tables) (history entries : List (Entry A)) (outcome : Result (Stepped A) E) (old : Exchange A)
+      → OnErr outcome (entries ≡ history) → exchange_of subs history ≡ old → OnErr outcome (exchange_of subs entries ≡ old)
+  outcome_keeps subs history entries (Ok told) old same shown = tt
+  outcome_keeps subs history entries (Err fault) old same shown = ap (exchange_of subs) same ∙ shown
+
+  -- nothing was entered yet
+  pub opening_shows : (tables : Tables) (history : List (Entry A)) (machine : World) (records : List Record) → history ≡ [] → machine ≡ opening (line_count tables) → records ≡ []
+      → Shows tables history machine records
+  opening_shows tables history machine records none at nothing =
+      let P : List (Entry A) → Type 0 = λ entries. Shows tables entries machine records in
+      subst P (sym none) (record { run = refl; readable = All-nil (λ e. IsReadable e.event.what); shown = at; charged = nothing })

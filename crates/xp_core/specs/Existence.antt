@@ -1,0 +1,21 @@
+-- The machine is stuck in no state that a history leads to.
+use Rattle.std.specs.Prelude.{◌≡◌, ◌<◌, List}
+use Rattle.xp_subs.specs.Tables.{Tables, line_count}
+use Rattle.xp_core.specs.declared.entry.Entry.{Entry}
+use Rattle.xp_core.specs.declared.event.Event.{Event}
+use Rattle.xp_core.specs.Run.{Run}
+use Rattle.xp_core.specs.Step.{Step}
+use Rattle.xp_core.specs.World.{World}
+
+-- an entry of this event, and where it leads
+pub record HasStep {A : Type 0} (tables : Tables) (history : List (Entry A)) (world : World) (event : Event A) : Type 0 where
+  pub entry : Entry A
+  pub next : World
+  pub event_is : entry.event ≡ event
+  pub step : Step tables history world entry next
+
+-- every event of a line of the subscriptions has a step, from every state that a history leads to
+abbrev pub EveryEventHasStep : Type 0 → Type 0
+EveryEventHasStep A =
+    (tables : Tables) (history : List (Entry A)) (world : World) (event : Event A)
+    → Run tables history world → event.line < line_count tables → HasStep tables history world event
