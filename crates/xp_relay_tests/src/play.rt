@@ -38,12 +38,12 @@ pub fn put<A: Allocator + Copy>(
         }
         Packet::Ready { pr } => relay.flow(here, true, pr, room),
         Packet::NotReady { pr } => relay.flow(here, false, pr, room),
-        Packet::Reject { .. } => relay.reject(here, room),
+        Packet::Reject { pr: _pr } => relay.reject(here, room),
         Packet::Interrupt { octets } => relay.interrupt(here, octets, room),
         Packet::InterruptConfirm => relay.interrupt_confirm(here, room),
         Packet::Reset { cause, diagnostic } => relay.reset(here, cause, diagnostic, room),
         Packet::ResetConfirm => relay.reset_confirm(here, room),
-        _ => room,
+        _other => room,
     };
     Ok(moves.into_vec())
 }
