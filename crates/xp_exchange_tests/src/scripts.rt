@@ -1,13 +1,7 @@
-//! `xp_script`: what lines of scripts say, and the texts of entries.
+//! `xp_script`: what lines of scripts say.
 
-ghost use Rattle.std.specs.Prelude.{◌≡◌, None, Some, [], ◌∷◌};
-
-use std::alloc::Global;
-use std::process::Abort;
 use std::test::Fail;
-use xp_core::{Entry, Event, Outputs, Record, Records, What};
-use xp_packets::{Digits, End};
-use xp_script::{Command, LineFault, write_entry};
+use xp_script::{Command, LineFault};
 use xp_subs::{LineNo, Subs};
 use xp_testing::THREE_STATIONS;
 
@@ -106,82 +100,5 @@ fn lines_of_scripts(rt: HostRuntime) -> Result<(), Fail> {
         let read = Command::read(rt.alloc(), &subs, line);
         assert_eq!(rt; said_by(&read), *said, "line {at}");
     }
-    Ok(())
-}
-
-/// A record of a call from a1, with a value of its own for each field.
-fn full_record() -> Record
-    ensures caller { result.caller ≡ 0 }
-    ensures called { result.called ≡ Some 4 }
-{
-    let mut dialled = Digits::new();
-    for digit in [9, 8, 7, 6, 5, 4, 3, 2, 1, 0, 9, 8, 7, 6, 5u8] {
-        if dialled.len() < Digits::MOST && digit < 10 {
-            dialled.push(digit);
-        }
-    }
-    Record {
-        number: u64::MAX,
-        caller: 0,
-        called: Some(4),
-        dialled,
-        payer: End::Called,
-        from_caller: 99_999_999,
-        from_called: 40,
-        cause: 0x85,
-        diagnostic: 255,
-    }
-}
-
-/// A record of a call of a1 that was refused, without dialled digits.
-fn refused_record() -> Record
-    ensures caller { result.caller ≡ 0 }
-    ensures called { result.called ≡ None }
-{
-    Record {
-        number: 10,
-        caller: 0,
-        called: None,
-        dialled: Digits::new(),
-        payer: End::Caller,
-        from_caller: 0,
-        from_called: 0,
-        cause: 0x0d,
-        diagnostic: 67,
-    }
-}
-
-/// The entry that ended both calls, and put nothing out.
-fn entry_of(alloc: Global, first: Record, second: Record) -> Entry
-    ensures outputs { result.outputs ≡ [] }
-    ensures records { result.records.items ≡ first ∷ second ∷ [] }
-{
-    let mut records = Records::new();
-    records.push(first);
-    records.push(second);
-    Entry {
-        number: 9,
-        event: Event {
-            line: 0,
-            what: What::Down,
-        },
-        taken: None,
-        outputs: Outputs::new(alloc),
-        records,
-    }
-}
-
-#[test]
-fn every_field_of_a_record(rt: HostRuntime) -> Result<(), Fail> {
-    let subs = Subs::read(rt.alloc(), THREE_STATIONS)?;
-    assert!(rt; subs.counts().lines == 5);
-    let entry = entry_of(rt.alloc(), full_record(), refused_record());
-    let mut text = Vec::from_slice(rt.alloc(), b"before\n")?;
-    write_entry(rt.alloc(), &subs, &entry, &mut text)?;
-    let expected = "before
-record 18446744073709551615 a1 h3 987654321098765 called 99999999 40 85 255
-record 10 a1 - - caller 0 0 0d 67
-";
-    assert_eq!(rt; text.as_slice(), expected.as_bytes());
     Ok(())
 }
