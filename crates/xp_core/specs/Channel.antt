@@ -1,5 +1,9 @@
 -- The states of a logical channel (X.25 Annex B).
 use Rattle.std.specs.Prelude.{ℕ, Option, Some, None, Bool, true, false}
+use Rattle.xp_channel.specs.declared.channel.Channel.{Channel}
+use Rattle.xp_channel.specs.declared.channel.Channel.TheVariants as channels
+use Rattle.xp_hunt.specs.declared.lines.LineState.{LineState}
+use Rattle.xp_hunt.specs.declared.lines.LineState.TheVariants as seen
 
 -- with the number of the call that the line is in
 pub data State : Type 0 where
@@ -29,14 +33,6 @@ call_of Off = None
 call_of Ready = None
 call_of Cleared = None
 
-abbrev pub is_ready : State → Bool
-is_ready Ready = true
-is_ready Off = false
-is_ready (Waiting number) = false
-is_ready (Ringing number) = false
-is_ready (Talking number) = false
-is_ready Cleared = false
-
 abbrev pub is_off : State → Bool
 is_off Off = true
 is_off Ready = false
@@ -44,3 +40,21 @@ is_off (Waiting number) = false
 is_off (Ringing number) = false
 is_off (Talking number) = false
 is_off Cleared = false
+
+-- the state in the table of actions
+abbrev pub channel_of : State → Channel
+channel_of Off = channels.Off
+channel_of Ready = channels.P1
+channel_of (Waiting number) = channels.P2
+channel_of (Ringing number) = channels.P3
+channel_of (Talking number) = channels.P4
+channel_of Cleared = channels.P7
+
+-- what a call request finds: only a line in p1 can be put a call
+abbrev pub seen_as : State → LineState
+seen_as Off = seen.Off
+seen_as Ready = seen.Idle
+seen_as (Waiting number) = seen.Busy
+seen_as (Ringing number) = seen.Busy
+seen_as (Talking number) = seen.Busy
+seen_as Cleared = seen.Busy

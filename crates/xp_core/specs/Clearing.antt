@@ -1,18 +1,9 @@
--- What the clearing of a call tells (X.25 clauses 4.1.7 and 5.2.4).
-use Rattle.std.specs.Prelude.{ℕ, Option, None, Some, List, unwrap_or, nat_le, if◌then◌else◌}
-use Rattle.xp_core.specs.declared.cause.Refusal.{Refusal}
-use Rattle.xp_core.specs.declared.record.Record.{Record}
-use Rattle.xp_core.specs.Causes.{DTE_CAUSES, NO_ADDITIONAL_INFORMATION}
-use Rattle.xp_core.specs.World.{Call}
+-- What is recorded of a call as it ends (X.25 clauses 4.1.7 and 5.2.4).
+use Rattle.std.specs.Prelude.{ℕ, None, Some, List}
+use Rattle.xp_causes.specs.declared.refusal.Refusal.{Refusal}
+use Rattle.xp_charge.specs.declared.record.Record.{Record}
 use Rattle.xp_packets.specs.declared.end.End.TheVariants.{Caller}
-
--- a cause of 80 to FF reaches the other end, every other does as 00
-abbrev pub cause_told : ℕ → ℕ
-cause_told cause = if nat_le DTE_CAUSES cause then cause else 0
-
--- no diagnostic is told as 0
-abbrev pub diagnostic_told : Option ℕ → ℕ
-diagnostic_told diagnostic = unwrap_or diagnostic NO_ADDITIONAL_INFORMATION
+use Rattle.xp_core.specs.World.{Call}
 
 -- the record of a call that was put to a line
 abbrev pub record_of : ℕ → Call → ℕ → ℕ → Record
@@ -21,7 +12,7 @@ record_of number call cause diagnostic = record {
   caller = call.caller;
   called = Some call.called;
   dialled = call.dialled;
-  payer = Caller;
+  payer = call.setup.payer;
   from_caller = 0;
   from_called = 0;
   cause = cause;

@@ -1,5 +1,6 @@
 -- What a serial exchange shows, and what one step of it does.
-use Rattle.std.specs.Prelude.{◌≡◌, ◌<◌, List, [], ◌∷◌, ◌++◌}
+use Rattle.std.specs.Prelude.{◌≡◌, ℕ, Bool, true, false, List, [], ◌∷◌, ◌++◌, if◌then◌else◌}
+use Rattle.xp_packets.specs.Fitness.{CanBeEncoded}
 use Rattle.xp_subs.specs.Tables.{Tables}
 use Rattle.xp_core.specs.declared.entry.Entry.{Entry}
 use Rattle.xp_core.specs.declared.event.Event.{Event}
@@ -19,9 +20,9 @@ module _ {A : Type 0} where
   abbrev pub world_of : Exchange A → World
   world_of exchange = world_after exchange.subs exchange.history
 
-  -- a logical channel identifier has twelve bits (X.25 clauses 5.1.2 and 5.1.3)
+  -- some octets spell the identifier and the packet of a frame
   abbrev pub IsReadable : What A → Type 0
-  IsReadable (Frame identifier packet) = identifier < 4096
+  IsReadable (Frame identifier packet) = CanBeEncoded identifier packet
   IsReadable Up = Unit {0}
   IsReadable Down = Unit {0}
   IsReadable (WrongFrame wrong) = Unit {0}

@@ -1,8 +1,10 @@
 -- The machine is stuck in no state that a history leads to.
 use Rattle.std.specs.Prelude.{◌≡◌, ◌<◌, List}
+use Rattle.xp_subs.specs.Sound.{IsSound}
 use Rattle.xp_subs.specs.Tables.{Tables, line_count}
 use Rattle.xp_core.specs.declared.entry.Entry.{Entry}
 use Rattle.xp_core.specs.declared.event.Event.{Event}
+use Rattle.xp_core.specs.Exchange.{IsReadable}
 use Rattle.xp_core.specs.Run.{Run}
 use Rattle.xp_core.specs.Step.{Step}
 use Rattle.xp_core.specs.World.{World}
@@ -18,4 +20,5 @@ pub record HasStep {A : Type 0} (tables : Tables) (history : List (Entry A)) (wo
 abbrev pub EveryEventHasStep : Type 0 → Type 0
 EveryEventHasStep A =
     (tables : Tables) (history : List (Entry A)) (world : World) (event : Event A)
-    → Run tables history world → event.line < line_count tables → HasStep tables history world event
+    → IsSound tables → Run tables history world → event.line < line_count tables → IsReadable event.what
+    → HasStep tables history world event

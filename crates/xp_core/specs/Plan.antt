@@ -1,27 +1,36 @@
--- A plan is the changes of a step, in the terms of the code.
-use Rattle.std.specs.Prelude.{◌≡◌, ℕ, ◌+◌, ◌<◌, Option, None, Some, List, [], slice_set}
+-- A plan is what an event settles, puts out, records and changes, in the terms of the code.
+use Rattle.std.specs.Prelude.{◌≡◌, ℕ, ◌+◌, Option, None, Some, List, [], ◌++◌, option_to_list, slice_set}
 use Rattle.std.specs.FinMap as map
+use Rattle.std.specs.Ordering.{nat_cmp}
+use Rattle.xp_answer.specs.CarriedOn.{CarriedOn}
+use Rattle.xp_channel.specs.declared.action.Action.{Action}
+use Rattle.xp_packets.specs.declared.packet.Packet.{Packet}
 use Rattle.xp_core.specs.declared.change.Change.{Change as KeptChange}
 use Rattle.xp_core.specs.declared.change.Change.TheVariants as kept
 use Rattle.xp_core.specs.declared.event.What.{What}
-use Rattle.xp_core.specs.declared.table.Action.{Action}
-use Rattle.xp_core.specs.declared.table.Action.TheVariants.{NewCall}
+use Rattle.xp_core.specs.declared.outcome.Agreement.{Agreement}
+use Rattle.xp_core.specs.declared.outcome.Outcome.TheVariants.{Plain}
+use Rattle.xp_core.specs.declared.output.Output.{Output}
 use Rattle.xp_core.specs.declared.plan.Plan.{Plan}
-use Rattle.xp_core.specs.declared.verdict.Verdict.{Verdict}
-use Rattle.xp_core.specs.declared.verdict.Verdict.TheVariants.{Take, Refuse}
-use Rattle.xp_core.specs.Changes.{Change, all_changed, outputs_of, recorded_by, state_after}
+use Rattle.xp_core.specs.declared.plan.clearing.Withdrawal.{Withdrawal}
+use Rattle.xp_core.specs.declared.plan.request.Cancelled.{Cancelled}
+use Rattle.xp_subs.specs.Tables.{Tables}
+use Rattle.xp_core.specs.Acts.{Acts, Answers, IsConfirmed, IsRequested}
+use Rattle.xp_core.specs.Changes.{Change, all_changed, changed, recorded, recorded_by, state_after}
 use Rattle.xp_core.specs.Channel.{Ready, Waiting, Ringing, Talking, Cleared, INITIAL_IDENTIFIER}
-use Rattle.xp_core.specs.Decision.{Decided}
 use Rattle.xp_core.specs.Kept.{way_of}
 use Rattle.xp_core.specs.Setting.{Setting}
-use Rattle.xp_core.specs.Step.{does, requests, taken_by}
-use Rattle.xp_core.specs.Table.{CallRequest, request_in}
-use Rattle.xp_core.specs.World.{World, line_at, moved, moved_as}
+use Rattle.xp_core.specs.Step.{answers, confirms, does, requests}
+use Rattle.xp_core.specs.Table.{CallAccepted, CallRequest, ClearRequest}
+use Rattle.xp_core.specs.Told.{Told, outputs_of, send_far}
+use Rattle.xp_core.specs.World.{Call, World, call_on, line_at, moved, moved_as}
 
--- a line taken is one of so many
-abbrev pub IsWithin : Verdict → ℕ → Type 0
-IsWithin (Take line) count = line < count
-IsWithin (Refuse why) count = Unit {0}
+-- these calls, with this one accepted
+abbrev pub with_agreement : map.FinMap nat_cmp Call → ℕ → Agreement → map.FinMap nat_cmp Call
+with_agreement calls number agreement = accept (map.get calls number) where
+  accept : Option Call → map.FinMap nat_cmp Call
+  accept None = calls
+  accept (Some call) = map.insert calls number (record call { agreed = Some agreement })
 
 -- what a change of the machine does
 abbrev pub applied : KeptChange → World → World
@@ -29,15 +38,17 @@ applied (kept.Rise line) world = record world {
   lines = slice_set world.lines line (record { state = Ready; identifier = INITIAL_IDENTIFIER; connection = (line_at world line).connection + 1 });
 }
 applied (kept.Leave line way) world = record world { lines = moved world line (state_after (way_of way)) world.lines }
-applied (kept.Begin caller identifier called dialled) world = record {
+applied (kept.Begin caller identifier called dialled setup) world = record {
   lines = moved_as world called INITIAL_IDENTIFIER (Ringing world.next) (moved_as world caller identifier (Waiting world.next) world.lines);
-  calls = map.insert world.calls world.next (record { caller = caller; called = called; dialled = dialled });
+  calls = map.insert world.calls world.next (record { caller = caller; called = called; dialled = dialled; setup = setup; agreed = None });
   next = world.next + 1;
 }
 applied (kept.Refuse line identifier) world =
     record world { lines = moved_as world line identifier Cleared world.lines; next = world.next + 1 }
-applied (kept.Connect number caller called) world =
-    record world { lines = moved world caller (Talking number) (moved world called (Talking number) world.lines) }
+applied (kept.Connect number caller called agreement) world = record world {
+  lines = moved world caller (Talking number) (moved world called (Talking number) world.lines);
+  calls = with_agreement world.calls number agreement;
+}
 applied (kept.End number line way far) world = record world {
   lines = moved world line (state_after (way_of way)) (moved world far Cleared world.lines);
   calls = map.remove world.calls number;
@@ -47,24 +58,60 @@ abbrev pub applied_if_any : Option KeptChange → World → World
 applied_if_any None world = world
 applied_if_any (Some change) world = applied change world
 
+-- a line that leaves its call, and the record of the call, if it is in one
+pub record IsWithdrawal (withdrawal : Withdrawal) (world : World) (change : Change) : Type 0 where
+  pub does : applied withdrawal.change world ≡ changed change world
+  pub records : option_to_list withdrawal.charged ≡ recorded world change
+
 module _ {A : Type 0} where
-  pub record IsPlan (plan : Plan A) (world : World) (taken : Option ℕ) (changes : List (Change A)) : Type 0 where
-    pub takes : plan.taken ≡ taken
-    pub outputs : plan.outputs.outputs ≡ outputs_of world changes
+  -- the call that a collision cancels, if there is one, and what its caller is told
+  pub record IsCancelled (cancelled : Cancelled A) (world : World) (ended : List Change) (far : List (Output A)) : Type 0 where
+    pub does : applied_if_any cancelled.change world ≡ all_changed ended world
+    pub next : (all_changed ended world).next ≡ world.next
+    pub records : option_to_list cancelled.charged ≡ recorded_by world ended
+    pub told : option_to_list cancelled.told ≡ far
+
+  -- the call that is cancelled ends first
+  abbrev pub applied_by : Plan A → World → World
+  applied_by plan world = applied_if_any plan.change (applied_if_any plan.cancelled world)
+
+  pub record IsPlan (plan : Plan A) (world : World) (told : Told A) (changes : List Change) : Type 0 where
+    pub outputs : plan.outputs.outputs ≡ outputs_of told
     pub records : plan.records.items ≡ recorded_by world changes
-    pub does : applied_if_any plan.change world ≡ all_changed changes world
+    pub does : applied_by plan world ≡ all_changed changes world
 
-  -- what is planned for a call request is what it is decided to be
-  pub record PlansRequest (at : Setting A) (request : CallRequest A) (plan : Plan A) : Type 0 where
-    pub verdict : Verdict
-    pub decided : Decided at.tables at.world at.line request.block verdict
-    pub planned : IsPlan plan at.world (taken_by (Some verdict)) (requests at.tables at.line (Some request) (Some verdict))
+  -- where nothing is settled
+  pub record IsPlainPlan (plan : Plan A) (world : World) (told : Told A) (changes : List Change) : Type 0 where
+    pub plain : plan.outcome ≡ Plain
+    pub planned : IsPlan plan world told changes
 
-  abbrev pub PlansCall : Setting A → Option (CallRequest A) → Plan A → Type 0
-  PlansCall at None plan = IsPlan plan at.world None []
-  PlansCall at (Some request) plan = PlansRequest at request plan
+  -- what the far end is told of a clear request
+  abbrev pub IsToldOn : World → ℕ → ClearRequest A → Option (ℕ × Call) → List (Output A) → Type 0
+  IsToldOn world line clear None far = far ≡ []
+  IsToldOn world line clear (Some found) far =
+      (packet : Packet A) × CarriedOn found.1.setup.fast clear.cause clear.diagnostic clear.block None packet
+      × (far ≡ send_far world line (Some found) packet)
+
+  -- what is planned for a clear request
+  pub record PlansClear (world : World) (line : ℕ) (clear : ClearRequest A) (plan : Plan A) : Type 0 where
+    pub told : Told A
+    pub acts : IsConfirmed world line clear (call_on world line) plan.outcome told
+    pub planned : IsPlan plan world told (confirms line (Some clear) (call_on world line))
+
+  -- for an answer
+  pub record PlansAnswer (tables : Tables) (world : World) (line : ℕ) (answer : CallAccepted A) (plan : Plan A) : Type 0 where
+    pub told : Told A
+    pub acts : Answers tables world line (Some answer) (call_on world line) plan.outcome told
+    pub planned : IsPlan plan world told (answers line (call_on world line) plan.outcome)
+
+  -- for a call request, with the end of the call that it cancels and what its caller is told
+  pub record PlansRequest (tables : Tables) (world : World) (line : ℕ) (request : CallRequest A) (ended : List Change) (far : List (Output A)) (plan : Plan A) : Type 0 where
+    pub told : Told A
+    pub acts : IsRequested tables world line far request plan.outcome told
+    pub planned : IsPlan plan world told (ended ++ requests line (Some request) plan.outcome)
 
   -- what is planned for an event is what the table of actions has for it
-  abbrev pub Plans : Setting A → What A → Action → Plan A → Type 0
-  Plans at what NewCall plan = PlansCall at (request_in what) plan
-  Plans at what action plan = IsPlan plan at.world None (does at what action None)
+  pub record Plans (at : Setting A) (what : What A) (action : Action) (plan : Plan A) : Type 0 where
+    pub told : Told A
+    pub acts : Acts at what action plan.outcome told
+    pub planned : IsPlan plan at.world told (does at what action plan.outcome)

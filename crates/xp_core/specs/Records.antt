@@ -1,6 +1,8 @@
 -- The charging records of a history: one for each call that ended.
 use Rattle.std.specs.Prelude.{◌≡◌, ℕ, ◌+◌, ◌<◌, ◌≤◌, ◌==◌, ◌⊎◌, if◌then◌else◌, is_some, Option, None, Some, List, [], ◌∷◌, ◌++◌, All, count_by, flat_map, length}
-use Rattle.xp_packets.specs.declared.end.End.TheVariants.{Caller}
+use Rattle.xp_channel.specs.declared.action.Action.TheVariants.{Collision, NewCall}
+use Rattle.xp_charge.specs.declared.record.Record.{Record}
+use Rattle.xp_packets.specs.declared.block.Block.{Block}
 use Rattle.xp_packets.specs.declared.packet.Packet.{Packet}
 use Rattle.xp_packets.specs.declared.packet.Packet.TheVariants.{Clear}
 use Rattle.xp_subs.specs.Tables.{Tables}
@@ -8,11 +10,10 @@ use Rattle.xp_core.specs.declared.entry.Entry.{Entry}
 use Rattle.xp_core.specs.declared.output.Output.{Output}
 use Rattle.xp_core.specs.declared.output.Put.{Put}
 use Rattle.xp_core.specs.declared.output.Put.TheVariants.{Send}
-use Rattle.xp_core.specs.declared.record.Record.{Record}
-use Rattle.xp_core.specs.declared.table.Action.TheVariants.{NewCall}
 use Rattle.xp_core.specs.Run.{Run}
-use Rattle.xp_core.specs.Step.{Step, action_at}
-use Rattle.xp_core.specs.Table.{CallRequest, request_in}
+use Rattle.xp_core.specs.Outcomes.{payer_of, taken_by}
+use Rattle.xp_core.specs.Step.{Step}
+use Rattle.xp_core.specs.Table.{CallRequest, action_at, request_in}
 use Rattle.xp_core.specs.World.{Call, World, call_numbered}
 
 -- a live call has this number
@@ -59,10 +60,10 @@ module _ {A : Type 0} where
       count_of number (records_of history) + (if is_some (call_numbered world number) then 1 else 0)
 
 module _ {A : Type 0} {tables : Tables} {history : List (Entry A)} where
-  -- the entry's call request is a new call, and got this number
+  -- the entry's call request is a new call, or one that collides with an incoming call, and got this number
   pub record Begins (moment : Moment tables history) (number : ℕ) (request : CallRequest A) : Type 0 where
     pub asks : request_in moment.entry.event.what ≡ Some request
-    pub new : action_at moment.world moment.entry.event ≡ NewCall
+    pub new : (action_at moment.world moment.entry.event ≡ NewCall) ⊎ (action_at moment.world moment.entry.event ≡ Collision)
     pub numbered : number ≡ moment.world.next
 
   -- the call of this number was live or is begun here, and is not live afterwards
@@ -78,13 +79,14 @@ module _ {A : Type 0} {tables : Tables} {history : List (Entry A)} where
     pub request : CallRequest A
     pub begins : Begins beginning charged.number request
     pub caller : charged.caller ≡ beginning.entry.event.line
-    pub called : charged.called ≡ beginning.entry.taken
+    pub called : charged.called ≡ taken_by beginning.entry.outcome
     pub dialled : charged.dialled ≡ request.block.called
-    pub payer : charged.payer ≡ Caller
+    pub payer : charged.payer ≡ payer_of beginning.entry.outcome
     pub from_caller : charged.from_caller ≡ 0
     pub from_called : charged.from_called ≡ 0
+    pub block : Option (Block A)
     pub told : clears_to (told_end charged.caller charged.called ending.entry.event.line) ending.entry.outputs
-        ≡ Clear charged.cause (Some charged.diagnostic) None ∷ []
+        ≡ Clear charged.cause (Some charged.diagnostic) block ∷ []
 
 -- the records of a history are one for each call that ended, and nothing else
 pub record OneRecordEach {A : Type 0} (tables : Tables) (history : List (Entry A)) (world : World) : Type 0 where
@@ -101,5 +103,5 @@ pub record OneRecordEach {A : Type 0} (tables : Tables) (history : List (Entry A
   pub kept : (number : ℕ) → 1 ≤ number → number < world.next → holders history world number ≡ 1
   -- none from the next on has any, so no number is given twice
   pub fresh : (number : ℕ) → world.next ≤ number → holders history world number ≡ 0
-  -- an entry has at most one so far; there is room for call collision (clause 4.1.6), which has no effect yet
+  -- an entry has two at most: that of a call that was cancelled in a collision, and then that of the call refused there
   pub few : (moment : Moment tables history) → length moment.entry.records.items ≤ 2

@@ -2,7 +2,7 @@
 use Rattle.std.specs.Prelude.{◌≡◌, List}
 use Rattle.xp_subs.specs.Tables.{Tables}
 use Rattle.xp_core.specs.declared.entry.Entry.{Entry}
-use Rattle.xp_core.specs.declared.record.Record.{Record}
+use Rattle.xp_charge.specs.declared.record.Record.{Record}
 use Rattle.xp_core.specs.Records.{records_of}
 use Rattle.xp_core.specs.Run.{Run, world_after}
 use Rattle.xp_core.specs.World.{World}

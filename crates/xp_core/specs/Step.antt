@@ -1,86 +1,85 @@
--- One step of the exchange: the event of one line, what is put out and recorded, and the state after it.
-use Rattle.std.specs.Prelude.{◌≡◌, ℕ, ◌+◌, ◌<◌, Bool, Option, None, Some, List, [], ◌∷◌, length}
+-- One step of the exchange: the event of one line, what is settled, put out and recorded, and the state after it.
+use Rattle.std.specs.Prelude.{◌≡◌, ℕ, ◌+◌, ◌<◌, Option, None, Some, List, [], ◌∷◌, ◌++◌, length}
+use Rattle.xp_causes.specs.Told.{cause_told, diagnostic_told}
+use Rattle.xp_causes.specs.declared.clearing_cause.TheConstants.{NUMBER_BUSY, OUT_OF_ORDER, REMOTE_PROCEDURE_ERROR}
+use Rattle.xp_causes.specs.declared.diagnostic.TheConstants.{CALL_COLLISION, NO_ADDITIONAL_INFORMATION, TIMER_EXPIRED_FOR_INCOMING_CALL}
+use Rattle.xp_channel.specs.declared.action.Action.{Action}
+use Rattle.xp_channel.specs.declared.action.Action.TheVariants.{Nothing, Rise, Fall, NewCall, Collision, Answer, Confirm, Free, Error, Relayed, Expired}
 use Rattle.xp_subs.specs.Tables.{Tables}
 use Rattle.xp_core.specs.declared.entry.Entry.{Entry}
-use Rattle.xp_core.specs.declared.event.Event.{Event}
 use Rattle.xp_core.specs.declared.event.What.{What}
-use Rattle.xp_core.specs.declared.table.Action.{Action}
-use Rattle.xp_core.specs.declared.table.Action.TheVariants.{Nothing, Rise, Fall, NewCall, Answer, Confirm, Free}
-use Rattle.xp_core.specs.declared.verdict.Verdict.{Verdict}
-use Rattle.xp_core.specs.declared.verdict.Verdict.TheVariants.{Take, Refuse}
-use Rattle.xp_core.specs.Causes.{OUT_OF_ORDER, NO_ADDITIONAL_INFORMATION}
-use Rattle.xp_core.specs.Changes.{Change, Rises, Leaves, Begins, IsRefused, Connects, Ends, Way, GoesOut, IsConfirmed, IsFree, all_changed, outputs_of, recorded_by}
-use Rattle.xp_core.specs.Clearing.{cause_told, diagnostic_told}
-use Rattle.xp_core.specs.Decision.{Decided}
-use Rattle.xp_core.specs.Packets.{incoming, connected}
+use Rattle.xp_core.specs.declared.outcome.Outcome.{Outcome}
+use Rattle.xp_core.specs.declared.outcome.Outcome.TheVariants.{Plain, Put, Refused, Connected, Declined}
+use Rattle.xp_core.specs.Acts.{Acts}
+use Rattle.xp_core.specs.Changes.{Change, Rises, Leaves, Begins, IsRefused, Connects, Ends, Way, GoesOut, IsFree, IsCleared, all_changed, recorded_by}
 use Rattle.xp_core.specs.Setting.{Setting, setting}
-use Rattle.xp_core.specs.Table.{CallRequest, accepted_in, cell, clear_in, kind_of, request_in}
-use Rattle.xp_core.specs.World.{Call, World, call_on, state_at}
+use Rattle.xp_core.specs.Table.{CallRequest, ClearRequest, action_at, clear_in, request_in}
+use Rattle.xp_core.specs.Told.{Told, outputs_of}
+use Rattle.xp_core.specs.World.{Call, World, call_on}
 
--- the line that a decision takes
-abbrev pub taken_by : Option Verdict → Option ℕ
-taken_by None = None
-taken_by (Some (Take line)) = Some line
-taken_by (Some (Refuse why)) = None
+-- the line leaves the call that it is in, if it is in one, and that call ends
+abbrev pub leaves : ℕ → Way → ℕ → ℕ → Option (ℕ × Call) → Change
+leaves line way cause diagnostic None = Leaves line way
+leaves line way cause diagnostic (Some found) = Ends found.0 found.1 line way cause diagnostic
+
+-- the call that was put to the line is cancelled
+abbrev pub cancels : ℕ → Option (ℕ × Call) → List Change
+cancels line None = []
+cancels line (Some found) = Ends found.0 found.1 line IsFree NUMBER_BUSY CALL_COLLISION ∷ []
+
+-- an incoming call is answered as was settled
+abbrev pub answers : ℕ → Option (ℕ × Call) → Outcome → List Change
+answers line None outcome = []
+answers line (Some found) (Connected agreement) = Connects found.0 found.1 agreement ∷ []
+answers line (Some found) (Declined diagnostic) = leaves line IsCleared REMOTE_PROCEDURE_ERROR diagnostic (Some found) ∷ []
+answers line (Some found) Plain = []
+answers line (Some found) (Put called setup) = []
+answers line (Some found) (Refused why) = []
 
 module _ {A : Type 0} where
-  -- the line leaves the call that it is in, if it is in one, and that call ends
-  abbrev pub leaves : ℕ → Way → ℕ → ℕ → Option (ℕ × Call) → Change A
-  leaves line way cause diagnostic None = Leaves line way
-  leaves line way cause diagnostic (Some found) = Ends found.0 found.1 line way cause diagnostic
+  -- a call request is put to a line, or refused, as was settled
+  abbrev pub requests : ℕ → Option (CallRequest A) → Outcome → List Change
+  requests line None outcome = []
+  requests line (Some request) (Put called setup) = Begins line request.identifier called request.block.called setup ∷ []
+  requests line (Some request) (Refused why) = IsRefused line request.identifier request.block.called why ∷ []
+  requests line (Some request) Plain = []
+  requests line (Some request) (Connected agreement) = []
+  requests line (Some request) (Declined diagnostic) = []
+
+  -- the call that was put to the line is cancelled, and its own request put to a line, or refused
+  abbrev pub collides : ℕ → Option (CallRequest A) → Option (ℕ × Call) → Outcome → List Change
+  collides line None found outcome = []
+  collides line (Some request) found outcome = cancels line found ++ requests line (Some request) outcome
 
   -- a clear request: the line leaves the call that it is in, if it is in one
-  abbrev pub confirms : ℕ → Option (ℕ × Option ℕ) → Option (ℕ × Call) → List (Change A)
+  abbrev pub confirms : ℕ → Option (ClearRequest A) → Option (ℕ × Call) → List Change
   confirms line None found = []
-  confirms line (Some clear) found = leaves line IsConfirmed (cause_told clear.0) (diagnostic_told clear.1) found ∷ []
+  confirms line (Some clear) found = leaves line IsFree (cause_told clear.cause) (diagnostic_told clear.diagnostic) found ∷ []
 
-  -- the incoming call at the line is accepted (clause 4.1.4); there always is one: Coupling
-  abbrev pub answers : Tables → ℕ → Option Bool → Option (ℕ × Call) → List (Change A)
-  answers tables line None found = []
-  answers tables line (Some d) None = []
-  answers tables line (Some d) (Some found) = Connects found.0 found.1 (connected tables line found.1.dialled d) ∷ []
+  -- the changes that an action is, by its event and by what was settled
+  abbrev pub does : Setting A → What A → Action → Outcome → List Change
+  does at what Nothing outcome = []
+  does at what Rise outcome = Rises at.line ∷ []
+  does at what Fall outcome = leaves at.line GoesOut OUT_OF_ORDER NO_ADDITIONAL_INFORMATION (call_on at.world at.line) ∷ []
+  does at what NewCall outcome = requests at.line (request_in what) outcome
+  does at what Collision outcome = collides at.line (request_in what) (call_on at.world at.line) outcome
+  does at what Answer outcome = answers at.line (call_on at.world at.line) outcome
+  does at what Confirm outcome = confirms at.line (clear_in what) (call_on at.world at.line)
+  does at what Free outcome = Leaves at.line IsFree ∷ []
+  does at what (Error diagnostic) outcome = leaves at.line IsCleared REMOTE_PROCEDURE_ERROR diagnostic (call_on at.world at.line) ∷ []
+  does at what Relayed outcome = []
+  does at what Expired outcome = leaves at.line IsCleared REMOTE_PROCEDURE_ERROR TIMER_EXPIRED_FOR_INCOMING_CALL (call_on at.world at.line) ∷ []
 
-  -- a call request as it is decided
-  abbrev pub requests : Tables → ℕ → Option (CallRequest A) → Option Verdict → List (Change A)
-  requests tables line None choice = []
-  requests tables line (Some request) None = []
-  requests tables line (Some request) (Some (Take called)) =
-      Begins line request.identifier called request.block.called (incoming tables line called request.d request.block) ∷ []
-  requests tables line (Some request) (Some (Refuse why)) = IsRefused line request.identifier request.block.called why ∷ []
-
-  -- The changes that an action is, by its event, and by the decision where it is a new call. The table has a new call,
-  -- an answer and a confirmation for their own packets alone
-  abbrev pub does : Setting A → What A → Action → Option Verdict → List (Change A)
-  does at what Nothing choice = []
-  does at what Rise choice = Rises at.line ∷ []
-  does at what Fall choice = leaves at.line GoesOut OUT_OF_ORDER NO_ADDITIONAL_INFORMATION (call_on at.world at.line) ∷ []
-  does at what NewCall choice = requests at.tables at.line (request_in what) choice
-  does at what Answer choice = answers at.tables at.line (accepted_in what) (call_on at.world at.line)
-  does at what Confirm choice = confirms at.line (clear_in what) (call_on at.world at.line)
-  does at what Free choice = Leaves at.line IsFree ∷ []
-
-  abbrev pub IsDecided : Setting A → Option (CallRequest A) → Option Verdict → Type 0
-  IsDecided at None choice = choice ≡ None
-  IsDecided at (Some request) None = ⊥
-  IsDecided at (Some request) (Some verdict) = Decided at.tables at.world at.line request.block verdict
-
-  -- a call request is decided, and nothing else is
-  abbrev pub Chooses : Setting A → What A → Action → Option Verdict → Type 0
-  Chooses at what NewCall choice = IsDecided at (request_in what) choice
-  Chooses at what action choice = choice ≡ None
-
-  -- what the table of actions has for an event
-  abbrev pub action_at : World → Event A → Action
-  action_at world event = cell (state_at world event.line) (kind_of event.what)
+  -- the changes of an entry, as it tells them
+  abbrev pub changes_of : Tables → List (Entry A) → World → Entry A → List Change
+  changes_of tables before world entry =
+      does (setting tables before world entry.event.line) entry.event.what (action_at world entry.event) entry.outcome
 
   pub record Step (tables : Tables) (before : List (Entry A)) (world : World) (entry : Entry A) (next : World) : Type 0 where
     pub number : entry.number ≡ length before + 1
     pub line : entry.event.line < length world.lines
-    pub choice : Option Verdict
-    pub chosen : Chooses (setting tables before world entry.event.line) entry.event.what (action_at world entry.event) choice
-    pub taken : entry.taken ≡ taken_by choice
-    pub changes : List (Change A)
-    pub acts : changes ≡ does (setting tables before world entry.event.line) entry.event.what (action_at world entry.event) choice
-    pub outputs : entry.outputs ≡ outputs_of world changes
-    pub records : entry.records.items ≡ recorded_by world changes
-    pub leads : next ≡ all_changed changes world
+    pub told : Told A
+    pub acts : Acts (setting tables before world entry.event.line) entry.event.what (action_at world entry.event) entry.outcome told
+    pub outputs : entry.outputs ≡ outputs_of told
+    pub records : entry.records.items ≡ recorded_by world (changes_of tables before world entry)
+    pub leads : next ≡ all_changed (changes_of tables before world entry) world

@@ -1,28 +1,27 @@
 -- What is made of an event before it is entered.
-use Rattle.std.specs.Prelude.{◌≡◌, List, [], ◌∷◌, ◌++◌, Option}
+use Rattle.std.specs.Prelude.{◌≡◌, List, [], ◌∷◌, ◌++◌}
+use Rattle.xp_charge.specs.declared.record.Record.{Record}
 use Rattle.xp_subs.specs.Tables.{Tables}
 use Rattle.xp_core.specs.declared.advance.Work.{Work}
 use Rattle.xp_core.specs.declared.entry.Entry.{Entry}
 use Rattle.xp_core.specs.declared.event.Event.{Event}
 use Rattle.xp_core.specs.declared.stepped.Stepped.{Stepped}
-use Rattle.xp_core.specs.declared.record.Record.{Record}
-use Rattle.xp_core.specs.declared.verdict.Verdict.{Verdict}
-use Rattle.xp_core.specs.Changes.{Change, all_changed, outputs_of, recorded_by}
+use Rattle.xp_core.specs.Acts.{Acts}
+use Rattle.xp_core.specs.Changes.{all_changed, recorded_by}
 use Rattle.xp_core.specs.Setting.{setting}
-use Rattle.xp_core.specs.Step.{Chooses, Step, action_at, does, taken_by}
+use Rattle.xp_core.specs.Step.{Step, does}
+use Rattle.xp_core.specs.Table.{action_at}
+use Rattle.xp_core.specs.Told.{Told, outputs_of}
 use Rattle.xp_core.specs.World.{World}
 
 module _ {A : Type 0} where
   pub record Works (tables : Tables) (before : List (Entry A)) (old : World) (event : Event A) (work : Work A) (new : World) : Type 0 where
-    pub choice : Option Verdict
-    pub chosen : Chooses (setting tables before old event.line) event.what (action_at old event) choice
-    pub taken : work.taken ≡ taken_by choice
-    pub changes : List (Change A)
-    pub acts : changes ≡ does (setting tables before old event.line) event.what (action_at old event) choice
-    pub outputs : work.outputs ≡ outputs_of old changes
-    pub told : work.told ≡ outputs_of old changes
-    pub records : work.records.items ≡ recorded_by old changes
-    pub leads : new ≡ all_changed changes old
+    pub told : Told A
+    pub acts : Acts (setting tables before old event.line) event.what (action_at old event) work.outcome told
+    pub outputs : work.outputs ≡ outputs_of told
+    pub copied : work.told ≡ work.outputs
+    pub records : work.records.items ≡ recorded_by old (does (setting tables before old event.line) event.what (action_at old event) work.outcome)
+    pub leads : new ≡ all_changed (does (setting tables before old event.line) event.what (action_at old event) work.outcome) old
 
   -- what is kept of an exchange, before and after an event is entered
   pub record Enters (tables : Tables) (old : World) (history : List (Entry A)) (records : List Record) (event : Event A)

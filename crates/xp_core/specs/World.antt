@@ -1,8 +1,9 @@
 -- The state of the exchange.
-use Rattle.std.specs.Prelude.{ℕ, ◌==◌, if◌then◌else◌, Option, None, Some, List, refl, option_map, replicate, slice_index_or, slice_set}
-use Rattle.std.specs.Coded.{Coded, coded_ℕ, coded_list, coded×, code_by}
+use Rattle.std.specs.Prelude.{ℕ, ◌==◌, if◌then◌else◌, Option, None, Some, List, option_map, replicate, slice_index_or, slice_set}
 use Rattle.std.specs.FinMap as map
 use Rattle.std.specs.Ordering.{nat_cmp}
+use Rattle.xp_answer.specs.declared.setup.Setup.{Setup}
+use Rattle.xp_core.specs.declared.outcome.Agreement.{Agreement}
 use Rattle.xp_core.specs.Channel.{State, Off, call_of}
 
 pub record Line : Type 0 where
@@ -20,6 +21,10 @@ pub record Call : Type 0 where
   pub called : ℕ
   -- the called address as the caller gave it
   pub dialled : List ℕ
+  -- what was asked and indicated as it was put to the called line
+  pub setup : Setup
+  -- what its answer settled; None until it is accepted
+  pub agreed : Option Agreement
 
 pub record World : Type 0 where
   -- by line
@@ -28,15 +33,6 @@ pub record World : Type 0 where
   pub calls : map.FinMap nat_cmp Call
   -- the number of the next call
   pub next : ℕ
-
--- a call is stored as its fields, and the live calls as a map of such
-abbrev call_code : Coded Call
-call_code =
-    code_by (ℕ × (ℕ × List ℕ)) (coded× coded_ℕ (coded× coded_ℕ (coded_list coded_ℕ))) (λ call. (call.caller, (call.called, call.dialled)))
-    (λ fields. record { caller = fields.0; called = fields.1.0; dialled = fields.1.1 }) (λ _. refl)
-
-abbrev pub calls_code : Coded (map.FinMap nat_cmp Call)
-calls_code = map.code coded_ℕ call_code
 
 -- a line that never was in service
 abbrev pub off_line : Line

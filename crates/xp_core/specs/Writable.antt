@@ -16,6 +16,6 @@ module _ {A : Type 0} where
   abbrev pub AreWritable : List (Output A) → Type 0
   AreWritable outputs = All (λ output. IsWritable output.outgoing.put) outputs
 
-  -- the logical channel identifiers that came in have twelve bits
+  -- some octets spell each packet that came in
   abbrev pub AreReadable : List (Entry A) → Type 0
   AreReadable history = All (λ entry. IsReadable entry.event.what) history

@@ -2,6 +2,7 @@
 
 ghost use Rattle.std.specs.Prelude.{◌≡◌, ◌+◌, ◌<◌, ◌≤◌, ◌^◌, ◌++◌, IfOk, IfErr, OnOk, OnErr, length, vec_len, vec_capacity};
 ghost use Rattle.xp_subs.specs.Tables.{line_count};
+ghost use Rattle.xp_core.specs.Agreed.{AllHaveTerms};
 ghost use Rattle.xp_core.specs.Sound.{IsSound};
 ghost use Rattle.xp_core.specs.Work.{Enters, Works};
 
@@ -11,15 +12,17 @@ use crate::fault::StepFault;
 use crate::machine::Machine;
 use crate::output::Outputs;
 use crate::plan::{Plan, plan_of};
-use crate::record::{Record, Records};
+use crate::outcome::Outcome;
+use crate::records::Records;
 use crate::stepped::Stepped;
 use std::alloc::{AllocError, Allocator};
-use xp_subs::{LineNo, Subs};
+use xp_charge::Record;
+use xp_subs::Subs;
 
 /// What is made of an event before it is entered.
 #[derive(Drop)]
 pub struct Work<A: Allocator> {
-    pub taken: Option<LineNo>,
+    pub outcome: Outcome,
     pub outputs: Outputs<A>,
     /// The copy that is told.
     pub told: Outputs<A>,
@@ -37,6 +40,7 @@ pub fn advance<A: Allocator + Copy>(
 ) -> Result<Stepped<A>, StepFault<A>>
     requires line { event.line < line_count subs.now }
     requires sound { IsSound subs.now (length history.old.items) machine.old }
+    requires terms { AllHaveTerms machine.old }
     requires few { length history.old.items < 2 ^ 32 }
     ensures ok { IfOk result (λ told. Enters subs.now machine.old history.old.items charged.old.items event machine.new history.new.items charged.new.items told) }
     ensures memory { IfErr result (λ fault. fault ≡ StepFault.Memory event) }
@@ -48,7 +52,7 @@ pub fn advance<A: Allocator + Copy>(
         return Err(StepFault::Memory(event));
     };
     let Work {
-        taken,
+        outcome,
         outputs,
         told,
         records,
@@ -58,7 +62,7 @@ pub fn advance<A: Allocator + Copy>(
     history.push_reserved(Entry {
         number,
         event,
-        taken,
+        outcome,
         outputs,
         records,
     });
@@ -79,6 +83,7 @@ fn work_out<A: Allocator + Copy>(
 ) -> Result<Work<A>, AllocError>
     requires line { event.now.line < line_count subs.now }
     requires sound { IsSound subs.now (length history.old.items) machine.old }
+    requires terms { AllHaveTerms machine.old }
     requires few { length history.old.items < 2 ^ 32 }
     ensures ok { IfOk result (λ work. Works subs.now history.old.items machine.old event.now work machine.new) }
     ensures room { OnOk result (vec_len history.new < vec_capacity history.new) }
@@ -88,8 +93,9 @@ fn work_out<A: Allocator + Copy>(
     ensures err { OnErr result (machine.new ≡ machine.old) }
 {
     let Plan {
-        taken,
+        outcome,
         outputs,
+        cancelled,
         change,
         records,
     } = plan_of(alloc, subs, machine, history.as_slice(), event)?;
@@ -97,9 +103,9 @@ fn work_out<A: Allocator + Copy>(
     let told = outputs.copy()?;
     history.reserve(1)?;
     charged.reserve(records.len())?;
-    machine.apply(change)?;
+    machine.apply(cancelled, change)?;
     Ok(Work {
-        taken,
+        outcome,
         outputs,
         told,
         records,

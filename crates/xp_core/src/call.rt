@@ -1,3 +1,11 @@
+ghost use Rattle.std.specs.Prelude.{◌≡◌};
+ghost use Rattle.xp_core.specs.Clearing.{record_of};
+ghost use Rattle.xp_core.specs.Kept.{call_of_kept};
+ghost use Rattle.xp_core.specs.World.{far_end as other_line};
+
+use crate::outcome::Agreement;
+use xp_answer::Setup;
+use xp_charge::Record;
 use xp_packets::Digits;
 use xp_subs::LineNo;
 
@@ -12,4 +20,38 @@ pub struct LiveCall {
     pub called: LineNo,
     /// The called address as the caller gave it.
     pub dialled: Digits,
+    /// What was asked and indicated as it was put to the called line.
+    pub setup: Setup,
+    /// What its answer settled; None until it is accepted.
+    pub agreed: Option<Agreement>,
+}
+
+impl LiveCall {
+    /// The other line of the call.
+    pub fn far_end(&self, line: LineNo) -> LineNo
+        ensures { result ≡ other_line (call_of_kept self.now) line }
+    {
+        if self.caller == line {
+            self.called
+        } else {
+            self.caller
+        }
+    }
+
+    /// The record of the call, ended with this cause and diagnostic.
+    pub fn record(&self, cause: u8, diagnostic: u8) -> Record
+        ensures { result ≡ record_of self.now.number (call_of_kept self.now) cause diagnostic }
+    {
+        Record {
+            number: self.number,
+            caller: self.caller,
+            called: Some(self.called),
+            dialled: self.dialled.copy(),
+            payer: self.setup.payer,
+            from_caller: 0,
+            from_called: 0,
+            cause,
+            diagnostic,
+        }
+    }
 }

@@ -1,3 +1,5 @@
+use crate::outcome::Agreement;
+use xp_answer::Setup;
 use xp_packets::Digits;
 use xp_subs::LineNo;
 
@@ -6,10 +8,10 @@ use xp_subs::LineNo;
 pub enum Way {
     /// It goes out of service.
     GoesOut,
-    /// Its clear request is confirmed at once.
-    IsConfirmed,
-    /// It confirmed its clear indication, or asked for clearing itself.
+    /// It is free for a call.
     IsFree,
+    /// It has a clear indication to confirm.
+    IsCleared,
 }
 
 /// One change of the exchange's state.
@@ -30,6 +32,7 @@ pub enum Change {
         identifier: u16,
         called: LineNo,
         dialled: Digits,
+        setup: Setup,
     },
     /// A call is refused: it uses its number, and its line is cleared.
     Refuse {
@@ -41,6 +44,7 @@ pub enum Change {
         number: u64,
         caller: LineNo,
         called: LineNo,
+        agreement: Agreement,
     },
     /// A call ends by a line of it, and its far line is cleared.
     End {

@@ -1,6 +1,9 @@
 ghost use Rattle.std.specs.Prelude.{◌≡◌};
-ghost use Rattle.xp_core.specs.Channel.{call_of};
+ghost use Rattle.xp_core.specs.Channel.{call_of, channel_of, seen_as};
 ghost use Rattle.xp_core.specs.Kept.{state_of};
+
+use xp_channel::Channel;
+use xp_hunt::LineState;
 
 /// The state of a line's logical channel (X.25 Annex B).
 #[derive(Clone, Copy, Debug, Default, PartialEq, Eq)]
@@ -30,6 +33,34 @@ impl ChannelState {
             | ChannelState::Ringing(number)
             | ChannelState::Talking(number) => Some(number),
             ChannelState::Off | ChannelState::Ready | ChannelState::Cleared => None,
+        }
+    }
+
+    /// The state in the table of actions.
+    pub fn channel(self) -> Channel
+        ensures { result ≡ channel_of (state_of self) }
+    {
+        match self {
+            ChannelState::Off => Channel::Off,
+            ChannelState::Ready => Channel::P1,
+            ChannelState::Waiting(_) => Channel::P2,
+            ChannelState::Ringing(_) => Channel::P3,
+            ChannelState::Talking(_) => Channel::P4,
+            ChannelState::Cleared => Channel::P7,
+        }
+    }
+
+    /// What a call request finds: only a line in p1 can be put a call.
+    pub fn seen(self) -> LineState
+        ensures { result ≡ seen_as (state_of self) }
+    {
+        match self {
+            ChannelState::Off => LineState::Off,
+            ChannelState::Ready => LineState::Idle,
+            ChannelState::Waiting(_)
+            | ChannelState::Ringing(_)
+            | ChannelState::Talking(_)
+            | ChannelState::Cleared => LineState::Busy,
         }
     }
 }

@@ -1,8 +1,8 @@
 use crate::event::Event;
+use crate::outcome::Outcome;
 use crate::output::Outputs;
-use crate::record::Records;
+use crate::records::Records;
 use std::alloc::{Allocator, Global};
-use xp_subs::LineNo;
 
 /// What one event did: one entry of the history.
 #[derive(Debug, Drop)]
@@ -11,8 +11,8 @@ pub struct Entry<A: Allocator = Global> {
     pub number: u64,
     /// The event itself.
     pub event: Event<A>,
-    /// The line that a new call was put to; None for every other event, and where the call was refused.
-    pub taken: Option<LineNo>,
+    /// What it settled.
+    pub outcome: Outcome,
     /// What is put out, in order.
     pub outputs: Outputs<A>,
     /// The records of the calls that the event ended or refused.

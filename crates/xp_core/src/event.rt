@@ -24,6 +24,6 @@ pub enum What<A: Allocator = Global> {
     WrongFrame(Wrong),
     /// The line did not answer an incoming call in time (T11, X.25 Annex D).
     Expire,
-    /// The line takes its packets too slowly. This is not raised yet.
+    /// The line takes its packets too slowly, and is given up: its connection is closed. Nothing raises it yet.
     Stall,
 }

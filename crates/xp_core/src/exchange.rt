@@ -11,11 +11,11 @@ use crate::entry::Entry;
 use crate::event::Event;
 use crate::fault::StepFault;
 use crate::machine::Machine;
-use crate::record::Record;
 use crate::stepped::Stepped;
 use crate::view::LineView;
 use std::alloc::{AllocError, Allocator, Global};
 use std::marker::Model;
+use xp_charge::Record;
 use xp_subs::{LineNo, Subs};
 
 /// How many places of the history have to be left for an event: one for its entry, and three for stalls that may

@@ -3,7 +3,6 @@
 
 mod advance;
 mod call;
-mod cause;
 mod change;
 mod channel;
 mod entry;
@@ -12,12 +11,12 @@ mod exchange;
 mod fault;
 mod laws;
 mod machine;
+mod outcome;
 mod output;
 mod plan;
-mod record;
+mod records;
 mod stepped;
 mod table;
-mod verdict;
 mod view;
 
 pub use entry::Entry;
@@ -26,6 +25,7 @@ pub use exchange::Core;
 pub use fault::StepFault;
 pub use laws::{every_event_has_a_step, step_is_determined_but_the_line};
 pub use output::{Outgoing, Output, Outputs, Put};
-pub use record::{Record, Records};
+pub use outcome::{Agreement, Outcome};
+pub use records::Records;
 pub use stepped::Stepped;
-pub use view::{Channel, LineView};
+pub use view::LineView;

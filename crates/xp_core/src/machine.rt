@@ -1,10 +1,10 @@
-ghost use Rattle.std.specs.Prelude.{ℕ, ◌≡◌, ◌+◌, ◌<◌, ◌^◌, ◌==◌, not, None, IfOk, OnOk, OnErr, filter, find, option_map, slice_set};
+ghost use Rattle.std.specs.Prelude.{ℕ, ◌≡◌, ◌+◌, ◌<◌, ◌^◌, ◌==◌, not, None, IfOk, OnOk, OnErr, filter, find, map, option_map, slice_set};
 ghost use Rattle.std.specs.FinMap as finite;
 ghost use Rattle.std.specs.Option.{option_copied};
-ghost use Rattle.xp_core.specs.Channel.{is_off as is_off_state, INITIAL_IDENTIFIER, Ready, Ringing, Talking, Waiting, Cleared};
-ghost use Rattle.xp_core.specs.Decision.{is_idle};
-ghost use Rattle.xp_core.specs.Kept.{entry_of, line_of, state_of, way_of, calls_of};
-ghost use Rattle.xp_core.specs.Plan.{applied, applied_if_any};
+ghost use Rattle.xp_core.specs.Acts.{lines_seen};
+ghost use Rattle.xp_core.specs.Channel.{INITIAL_IDENTIFIER, Ready, Ringing, Talking, Waiting, Cleared};
+ghost use Rattle.xp_core.specs.Kept.{accepted, entry_of, line_of, state_of, way_of, calls_of};
+ghost use Rattle.xp_core.specs.Plan.{applied, applied_if_any, with_agreement};
 ghost use Rattle.xp_core.specs.World.{state_at, opening, line_at, call_on, call_numbered};
 
 use crate::call::LiveCall;
@@ -12,6 +12,9 @@ use crate::change::{Change, Way};
 use crate::channel::{ChannelState, LogicalChannel};
 use std::alloc::{AllocError, Allocator, Global};
 use std::marker::Model;
+use crate::outcome::Agreement;
+use xp_answer::Setup;
+use xp_hunt::{LineState, Lines};
 use xp_packets::Digits;
 use xp_subs::LineNo;
 
@@ -50,6 +53,14 @@ impl<A: Allocator + Copy> Machine<A> {
     }
 }
 
+impl<A: Allocator> Lines for Machine<A> {
+    ghost states = { lines_seen };
+
+    fn state(&self, line: LineNo) -> LineState {
+        self.line(line).state.seen()
+    }
+}
+
 impl<A: Allocator> Machine<A> {
     /// What is kept of a line.
     pub fn line(&self, line: LineNo) -> LogicalChannel
@@ -77,22 +88,19 @@ impl<A: Allocator> Machine<A> {
         numbered(self.calls.as_slice(), number)
     }
 
-    /// Whether a line can be put a call by this caller: ready, and another line.
-    pub fn is_idle(&self, caller: LineNo, line: LineNo) -> bool
-        ensures { result ≡ is_idle self.now caller line }
+    /// Makes the end of a call that is cancelled, if there is one, and then a change, if there is one.
+    pub fn apply(&mut self, cancelled: Option<Change>, change: Option<Change>) -> Result<(), AllocError>
+        requires fresh { call_numbered self.old self.old.next ≡ None }
+        requires next { self.old.next + 1 < 2 ^ 64 }
+        requires connection { (line : ℕ) → (line_at self.old line).connection + 1 < 2 ^ 64 }
+        ensures ok { OnOk result (self.new ≡ applied_if_any change (applied_if_any cancelled self.old)) }
+        ensures err { OnErr result (self.new ≡ self.old) }
     {
-        line != caller && matches!(self.line(line).state, ChannelState::Ready)
+        self.apply_one(cancelled)?;
+        self.apply_one(change)
     }
 
-    /// Whether a line is out of service.
-    pub fn is_off(&self, line: LineNo) -> bool
-        ensures { result ≡ is_off_state (state_at self.now line) }
-    {
-        matches!(self.line(line).state, ChannelState::Off)
-    }
-
-    /// Makes a change, if there is one.
-    pub fn apply(&mut self, change: Option<Change>) -> Result<(), AllocError>
+    fn apply_one(&mut self, change: Option<Change>) -> Result<(), AllocError>
         requires fresh { call_numbered self.old self.old.next ≡ None }
         requires next { self.old.next + 1 < 2 ^ 64 }
         requires connection { (line : ℕ) → (line_at self.old line).connection + 1 < 2 ^ 64 }
@@ -120,13 +128,15 @@ impl<A: Allocator> Machine<A> {
                 identifier,
                 called,
                 dialled,
-            } => return self.begin(caller, identifier, called, dialled),
+                setup,
+            } => return self.begin(caller, identifier, called, dialled, setup),
             Change::Refuse { line, identifier } => self.refuse(line, identifier),
             Change::Connect {
                 number,
                 caller,
                 called,
-            } => self.connect(number, caller, called),
+                agreement,
+            } => self.connect(number, caller, called, agreement),
             Change::End {
                 number,
                 line,
@@ -162,14 +172,15 @@ impl<A: Allocator> Machine<A> {
         identifier: u16,
         called: LineNo,
         dialled: Digits,
+        setup: Setup,
     ) -> Result<(), AllocError>
         requires fresh { call_numbered self.old self.old.next ≡ None }
         requires next { self.old.next + 1 < 2 ^ 64 }
-        ensures ok { OnOk result (self.new ≡ applied (Change.Begin caller identifier called dialled) self.old) }
+        ensures ok { OnOk result (self.new ≡ applied (Change.Begin caller identifier called dialled setup) self.old) }
         ensures err { OnErr result (self.new ≡ self.old) }
     {
         let number = self.next;
-        self.add(caller, called, dialled)?;
+        self.add(caller, called, dialled, setup)?;
         let waits = self.moved_as(caller, identifier, ChannelState::Waiting(number));
         let rings = self.moved_as(
             called,
@@ -190,14 +201,15 @@ impl<A: Allocator> Machine<A> {
         self.next += 1;
     }
 
-    fn connect(&mut self, number: u64, caller: LineNo, called: LineNo)
-        ensures { self.new ≡ applied (Change.Connect number caller called) self.old }
+    fn connect(&mut self, number: u64, caller: LineNo, called: LineNo, agreement: Agreement)
+        ensures { self.new ≡ applied (Change.Connect number caller called agreement) self.old }
     {
         let talking = ChannelState::Talking(number);
         let near = self.moved(called, talking);
         let far = self.moved(caller, talking);
         self.set(called, near);
         self.set(caller, far);
+        self.accept(number, agreement);
     }
 
     fn end(&mut self, number: u64, line: LineNo, way: Way, far: LineNo)
@@ -236,10 +248,16 @@ impl<A: Allocator> Machine<A> {
     }
 
     /// One more live call, of the next number.
-    fn add(&mut self, caller: LineNo, called: LineNo, dialled: Digits) -> Result<(), AllocError>
+    fn add(
+        &mut self,
+        caller: LineNo,
+        called: LineNo,
+        dialled: Digits,
+        setup: Setup,
+    ) -> Result<(), AllocError>
         requires fresh { call_numbered self.old self.old.next ≡ None }
         requires next { self.old.next + 1 < 2 ^ 64 }
-        ensures ok { OnOk result (self.new ≡ record self.old { calls = finite.insert self.old.calls self.old.next (record { caller = caller; called = called; dialled = dialled }); next = self.old.next + 1 }) }
+        ensures ok { OnOk result (self.new ≡ record self.old { calls = finite.insert self.old.calls self.old.next (record { caller = caller; called = called; dialled = dialled; setup = setup; agreed = None }); next = self.old.next + 1 }) }
         ensures err { OnErr result (self.new ≡ self.old) }
     {
         let number = self.next;
@@ -248,9 +266,18 @@ impl<A: Allocator> Machine<A> {
             caller,
             called,
             dialled,
+            setup,
+            agreed: None,
         })?;
         self.next = number + 1;
         Ok(())
+    }
+
+    /// The call of this number, if there is one, is accepted.
+    fn accept(&mut self, number: u64, agreement: Agreement)
+        ensures { self.new ≡ record self.old { calls = with_agreement self.old.calls number agreement } }
+    {
+        accept_numbered(&mut self.calls, number, agreement);
     }
 
     /// The call of this number is none any more.
@@ -276,6 +303,17 @@ fn set_line<A: Allocator>(lines: &mut Vec<LogicalChannel, A>, line: LineNo, beco
     }
 }
 
+/// The call of this number, if there is one, is accepted.
+fn accept_numbered<A: Allocator>(calls: &mut Vec<LiveCall, A>, number: u64, agreement: Agreement)
+    ensures { calls.new.items ≡ map (λ call. accepted number agreement call) calls.old.items }
+{
+    for call in calls.iter_mut() {
+        if call.number == number {
+            call.agreed = Some(agreement);
+        }
+    }
+}
+
 /// Takes the call of this number off the list.
 fn remove_numbered<A: Allocator>(calls: &mut Vec<LiveCall, A>, number: u64)
     ensures { calls.new.items ≡ filter (λ call. not (call.number == number)) calls.old.items }
@@ -292,7 +330,8 @@ impl Way {
     {
         match self {
             Way::GoesOut => ChannelState::Off,
-            Way::IsConfirmed | Way::IsFree => ChannelState::Ready,
+            Way::IsFree => ChannelState::Ready,
+            Way::IsCleared => ChannelState::Cleared,
         }
     }
 }

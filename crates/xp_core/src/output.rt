@@ -1,4 +1,4 @@
-ghost use Rattle.std.specs.Prelude.{◌≡◌, ◌-◌, ◌<◌, [], ◌∷◌, ◌++◌, IfOk};
+ghost use Rattle.std.specs.Prelude.{◌≡◌, ◌+◌, ◌-◌, ◌<◌, ◌≤◌, [], ◌∷◌, ◌++◌, IfOk, option_to_list};
 
 use std::alloc::{AllocError, Allocator, Global};
 use std::marker::Model;
@@ -10,7 +10,7 @@ use xp_subs::LineNo;
 pub enum Put<A: Allocator = Global> {
     /// A packet, under this logical channel identifier, 0 to 4,095 (X.25 clauses 5.1.2 and 5.1.3).
     Send { identifier: u16, packet: Packet<A> },
-    /// The connection is to be closed. This is not put out yet.
+    /// The connection is to be closed: its line was given up as too slow.
     Close,
 }
 
@@ -124,6 +124,18 @@ impl<A: Allocator> Buffer<A> {
         self.outputs.push_reserved(output);
         self.room -= 1;
         self
+    }
+
+    /// The buffer with this output, if there is one.
+    pub fn with_some(self, output: Option<Output<A>>) -> Buffer<A>
+        requires { 0 < self.room }
+        ensures outputs { result.outputs ≡ self.outputs ++ option_to_list output }
+        ensures room { self.room ≤ result.room + 1 }
+    {
+        match output {
+            None => self,
+            Some(output) => self.with(output),
+        }
     }
 
     /// The outputs put so far.

@@ -1,29 +1,33 @@
 //! What an event will do, worked out before anything changes.
 
 mod answer;
+mod asked;
 mod clearing;
-mod decision;
 mod event;
 mod request;
 mod send;
 
-ghost use Rattle.std.specs.Prelude.{◌≡◌, ◌+◌, ◌<◌, [], ◌∷◌, ◌++◌, None, Some};
+ghost use Rattle.std.specs.Prelude.{◌≡◌, ◌+◌, ◌<◌, ◌≤◌, [], ◌∷◌, ◌++◌, None, Some, option_to_list};
 ghost use Rattle.arrayvec.specs.ArrayVec.{array_vec_len};
-ghost use Rattle.xp_core.specs.declared.record.TheConstants.{MOST_RECORDS};
+ghost use Rattle.xp_core.specs.declared.records.TheConstants.{MOST_RECORDS};
 
+use self::clearing::Withdrawal;
 use crate::change::Change;
+use crate::outcome::Outcome;
 use crate::output::Buffer;
-use crate::record::{Record, Records};
+use crate::records::Records;
 use arrayvec::ArrayVec;
 pub use event::plan_of;
 use std::alloc::{Allocator, Global};
-use xp_subs::LineNo;
+use xp_charge::Record;
 
-/// The line taken, and what is put out, changed and recorded, in order.
+/// What is settled, put out, changed and recorded, in order.
 #[derive(Drop)]
 pub struct Plan<A: Allocator = Global> {
-    pub taken: Option<LineNo>,
+    pub outcome: Outcome,
     pub outputs: Buffer<A>,
+    /// The end of the call that a collision cancels, made before the other change.
+    pub cancelled: Option<Change>,
     pub change: Option<Change>,
     pub records: Records,
 }
@@ -31,28 +35,34 @@ pub struct Plan<A: Allocator = Global> {
 impl<A: Allocator> Plan<A> {
     /// These outputs alone.
     pub fn of(outputs: Buffer<A>) -> Plan<A>
-        ensures takes { result.taken ≡ None }
+        ensures outcome { result.outcome ≡ Outcome.Plain }
         ensures outputs { result.outputs ≡ outputs }
+        ensures cancelled { result.cancelled ≡ None }
         ensures change { result.change ≡ None }
         ensures records { result.records.items ≡ [] }
         ensures no_records { array_vec_len result.records ≡ 0 }
     {
         Plan {
-            taken: None,
+            outcome: Outcome::Plain,
             outputs,
+            cancelled: None,
             change: None,
             records: ArrayVec::new(),
         }
     }
 
-    /// The plan with this line taken.
-    pub fn taking(self, line: LineNo) -> Plan<A>
-        ensures { result ≡ record self { taken = Some line } }
+    /// The plan with this outcome.
+    pub fn settling(self, outcome: Outcome) -> Plan<A>
+        ensures { result ≡ record self { outcome = outcome } }
     {
-        Plan {
-            taken: Some(line),
-            ..self
-        }
+        Plan { outcome, ..self }
+    }
+
+    /// The plan with the end of a call that is cancelled, if there is one.
+    pub fn cancelling(self, cancelled: Option<Change>) -> Plan<A>
+        ensures { result ≡ record self { cancelled = cancelled } }
+    {
+        Plan { cancelled, ..self }
     }
 
     /// The plan with this change.
@@ -65,11 +75,41 @@ impl<A: Allocator> Plan<A> {
         }
     }
 
+    /// The plan with a line that leaves its call.
+    pub fn withdrawing(self, withdrawal: Withdrawal) -> Plan<A>
+        requires { array_vec_len self.records < MOST_RECORDS }
+        ensures outcome { result.outcome ≡ self.outcome }
+        ensures outputs { result.outputs ≡ self.outputs }
+        ensures cancelled { result.cancelled ≡ self.cancelled }
+        ensures change { result.change ≡ Some withdrawal.change }
+        ensures records { result.records.items ≡ self.records.items ++ option_to_list withdrawal.charged }
+    {
+        let Withdrawal { change, charged } = withdrawal;
+        self.changing(change).with_some_record(charged)
+    }
+
+    /// The plan with this record, if there is one, after the others.
+    pub fn with_some_record(self, charged: Option<Record>) -> Plan<A>
+        requires { array_vec_len self.records < MOST_RECORDS }
+        ensures outcome { result.outcome ≡ self.outcome }
+        ensures outputs { result.outputs ≡ self.outputs }
+        ensures cancelled { result.cancelled ≡ self.cancelled }
+        ensures change { result.change ≡ self.change }
+        ensures records { result.records.items ≡ self.records.items ++ option_to_list charged }
+        ensures count { array_vec_len result.records ≤ array_vec_len self.records + 1 }
+    {
+        match charged {
+            None => self,
+            Some(charged) => self.with_record(charged),
+        }
+    }
+
     /// The plan with one more record, after the others.
     pub fn with_record(mut self, charged: Record) -> Plan<A>
         requires { array_vec_len self.records < MOST_RECORDS }
-        ensures takes { result.taken ≡ self.taken }
+        ensures outcome { result.outcome ≡ self.outcome }
         ensures outputs { result.outputs ≡ self.outputs }
+        ensures cancelled { result.cancelled ≡ self.cancelled }
         ensures change { result.change ≡ self.change }
         ensures records { result.records.items ≡ self.records.items ++ charged ∷ [] }
         ensures count { array_vec_len result.records ≡ array_vec_len self.records + 1 }

@@ -1,98 +1,33 @@
-//! The table of actions (X.25 Annex C).
+//! The table of actions (X.25 Annex C), asked for a line and an event.
 
 ghost use Rattle.std.specs.Prelude.{◌≡◌};
+ghost use Rattle.xp_channel.specs.Table.{cell};
+ghost use Rattle.xp_core.specs.Channel.{channel_of};
 ghost use Rattle.xp_core.specs.Kept.{state_of};
-ghost use Rattle.xp_core.specs.Table.{cell, kind_of, packet_kind};
+ghost use Rattle.xp_core.specs.Table.{kind_of};
 
 use crate::channel::ChannelState;
 use crate::event::What;
 use std::alloc::Allocator;
-use xp_packets::Packet;
+use xp_channel::{Action, Kind};
 
-/// The kinds of events that the table tells apart.
-#[derive(Clone, Copy, Debug, PartialEq, Eq)]
-pub enum Kind {
-    Up,
-    Down,
-    Call,
-    Accepted,
-    Clear,
-    ClearConfirm,
-    /// Data, flow control, interrupts and resets.
-    Relayed,
-    Expire,
-    /// A frame that is no packet.
-    Wrong,
-    Stall,
+/// What the table has for an event on a line in this state.
+pub fn action_of<A: Allocator>(state: ChannelState, what: &What<A>) -> Action
+    ensures { result ≡ cell (channel_of (state_of state)) (kind_of what.now) }
+{
+    let mut channel = state.channel();
+    channel.on_packet(kind(what))
 }
 
-/// What an event does to its line.
-#[derive(Clone, Copy, Debug, PartialEq, Eq)]
-pub enum Action {
-    Nothing,
-    /// The line comes into service.
-    Rise,
-    /// The line goes out of service, and its call ends.
-    Fall,
-    /// A call request is decided.
-    NewCall,
-    /// The incoming call is answered.
-    Answer,
-    /// The clear request is confirmed, and the line's call ends.
-    Confirm,
-    /// The line is free again.
-    Free,
-}
-
-impl Kind {
-    /// The kind of an event.
-    pub fn of<A: Allocator>(what: &What<A>) -> Kind
-        ensures { result ≡ kind_of what.now }
-    {
-        match what {
-            What::Up => Kind::Up,
-            What::Down => Kind::Down,
-            What::Frame { packet, .. } => Kind::of_packet(packet),
-            What::WrongFrame(_) => Kind::Wrong,
-            What::Expire => Kind::Expire,
-            What::Stall => Kind::Stall,
-        }
-    }
-
-    fn of_packet<A: Allocator>(packet: &Packet<A>) -> Kind
-        ensures { result ≡ packet_kind packet.now }
-    {
-        match packet {
-            Packet::Call { .. } => Kind::Call,
-            Packet::Accepted { .. } => Kind::Accepted,
-            Packet::Clear { .. } => Kind::Clear,
-            Packet::ClearConfirm { .. } => Kind::ClearConfirm,
-            Packet::DataPacket { .. }
-            | Packet::Ready { .. }
-            | Packet::NotReady { .. }
-            | Packet::Reject { .. }
-            | Packet::Interrupt { .. }
-            | Packet::InterruptConfirm
-            | Packet::Reset { .. }
-            | Packet::ResetConfirm => Kind::Relayed,
-        }
-    }
-}
-
-impl ChannelState {
-    /// The cell of the table for this state and an event of this kind.
-    pub fn action(self, kind: Kind) -> Action
-        ensures { result ≡ cell (state_of self) kind }
-    {
-        match (self, kind) {
-            (ChannelState::Off, Kind::Up) => Action::Rise,
-            (ChannelState::Off, _) => Action::Nothing,
-            (_, Kind::Down) => Action::Fall,
-            (ChannelState::Ready, Kind::Call) => Action::NewCall,
-            (ChannelState::Ringing(_), Kind::Accepted) => Action::Answer,
-            (ChannelState::Cleared, Kind::Clear | Kind::ClearConfirm) => Action::Free,
-            (_, Kind::Clear) => Action::Confirm,
-            (_, _) => Action::Nothing,
-        }
+/// The kind of an event. A line that is given up as too slow goes out of service as one whose connection goes.
+fn kind<A: Allocator>(what: &What<A>) -> Kind
+    ensures { result ≡ kind_of what.now }
+{
+    match what {
+        What::Up => Kind::Up,
+        What::Down | What::Stall => Kind::Down,
+        What::Frame { packet, .. } => Kind::of(packet),
+        What::WrongFrame(wrong) => Kind::of_wrong(*wrong),
+        What::Expire => Kind::Expire,
     }
 }

@@ -1,24 +1,9 @@
 ghost use Rattle.std.specs.Prelude.{◌≡◌};
-ghost use Rattle.xp_core.specs.Kept.{line_of, state_of};
-ghost use Rattle.xp_core.specs.View.{channel_of, view_of};
+ghost use Rattle.xp_core.specs.Kept.{line_of};
+ghost use Rattle.xp_core.specs.View.{view_of};
 
-use crate::channel::{ChannelState, LogicalChannel};
-
-/// The state of a line's channel in X.25's terms (Annex B).
-#[derive(Clone, Copy, Debug, PartialEq, Eq)]
-pub enum Channel {
-    Off,
-    /// Ready.
-    P1,
-    /// DTE waiting.
-    P2,
-    /// DCE waiting.
-    P3,
-    /// Data transfer.
-    P4,
-    /// DCE clear indication.
-    P7,
-}
+use crate::channel::LogicalChannel;
+use xp_channel::Channel;
 
 /// What can be seen of a line.
 #[derive(Clone, Copy, Debug, PartialEq, Eq)]
@@ -30,21 +15,6 @@ pub struct LineView {
     pub call: Option<u64>,
     /// How often the line came into service.
     pub connection: u64,
-}
-
-impl ChannelState {
-    fn channel(self) -> Channel
-        ensures { result ≡ channel_of (state_of self) }
-    {
-        match self {
-            ChannelState::Off => Channel::Off,
-            ChannelState::Ready => Channel::P1,
-            ChannelState::Waiting(_) => Channel::P2,
-            ChannelState::Ringing(_) => Channel::P3,
-            ChannelState::Talking(_) => Channel::P4,
-            ChannelState::Cleared => Channel::P7,
-        }
-    }
 }
 
 impl LogicalChannel {

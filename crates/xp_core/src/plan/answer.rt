@@ -1,78 +1,82 @@
 //! An incoming call is answered.
 
-ghost use Rattle.std.specs.Prelude.{◌≡◌, ◌<◌, List, [], ℕ, IfOk, None, Some, if◌then◌else◌};
-ghost use Rattle.xp_subs.specs.Tables.{line_count, address_of as line_address, same};
-ghost use Rattle.xp_core.specs.Packets.{connected as connected_packet};
-ghost use Rattle.xp_core.specs.Plan.{IsPlan};
-ghost use Rattle.xp_core.specs.Step.{answers};
-ghost use Rattle.xp_core.specs.World.{call_on};
+ghost use Rattle.std.specs.Prelude.{◌≡◌, ◌<◌, [], ◌∷◌, Some, IfOk};
+ghost use Rattle.xp_core.specs.Acts.{agreement_of, told_connected};
+ghost use Rattle.xp_core.specs.Agreed.{AllHaveTerms};
+ghost use Rattle.xp_core.specs.Asked.{answer_of};
+ghost use Rattle.xp_core.specs.Kept.{call_of_kept};
+ghost use Rattle.xp_core.specs.Changes.{Connects};
+ghost use Rattle.xp_core.specs.Plan.{IsPlan, PlansAnswer};
+ghost use Rattle.xp_core.specs.World.{call_numbered};
+ghost use Rattle.xp_subs.specs.Tables.{line_count};
 
 use super::Plan;
-use super::request::standard_facilities;
+use super::asked::CallAccepted;
+use super::clearing::clear_both;
 use super::send::send;
+use crate::call::LiveCall;
 use crate::change::Change;
 use crate::machine::Machine;
+use crate::outcome::{Agreement, Outcome};
 use crate::output::Buffer;
 use std::alloc::{AllocError, Allocator};
-use xp_packets::{Block, Digits, Octets, Packet};
+use xp_answer::{Answer, Connection, examine};
 use xp_subs::{LineNo, Subs};
 
-/// The call is connected: both lines are in data transfer, and the caller is told so (X.25 clause 4.1.5).
+/// An answer connects the call, and the caller is told so (X.25 clause 4.1.5); a fault of it is a procedure error.
 pub fn answer<A: Allocator + Copy>(
     alloc: A,
     subs: &Subs,
     machine: &Machine<A>,
     line: LineNo,
-    d: bool,
+    answer: &CallAccepted<'_, A>,
 ) -> Result<Plan<A>, AllocError>
-    requires { line < line_count subs.now }
-    ensures { IfOk result (λ plan. IsPlan plan machine.now None (answers subs.now line (Some d) (call_on machine.now line))) }
+    requires line { line < line_count subs.now }
+    requires terms { AllHaveTerms machine.now }
+    ensures { IfOk result (PlansAnswer subs.now machine.now line (answer_of answer.now)) }
 {
-    let outputs = Buffer::with_room(alloc, 1)?;
     let Some(call) = machine.call_on(line) else {
-        return Ok(Plan::of(outputs));
+        return Ok(Plan::of(Buffer::with_room(alloc, 0)?));
     };
-    let packet = connected(alloc, subs, line, &call.dialled, d)?;
+    let address = subs.address_of(line);
+    match examine(alloc, &call.setup, address, &call.dialled, answer.d, answer.block)? {
+        Answer::Connected(connection) => {
+            let outputs = Buffer::with_room(alloc, 1)?;
+            Ok(connect(machine, call, connection, outputs))
+        }
+        Answer::Refused(diagnostic) => {
+            let plan = clear_both(alloc, machine, line, diagnostic)?;
+            Ok(plan.settling(Outcome::Declined(diagnostic)))
+        }
+    }
+}
+
+/// The call is connected: both lines are in data transfer.
+fn connect<A: Allocator>(
+    machine: &Machine<A>,
+    call: &LiveCall,
+    connection: Connection<A>,
+    outputs: Buffer<A>,
+) -> Plan<A>
+    requires empty { outputs.outputs ≡ [] }
+    requires room { 0 < outputs.room }
+    ensures outcome { result.outcome ≡ Outcome.Connected (agreement_of connection) }
+    ensures planned { call_numbered machine.now call.now.number ≡ Some (call_of_kept call.now)
+        → IsPlan result machine.now (told_connected machine.now call.now.caller connection.packet) (Connects call.now.number (call_of_kept call.now) (agreement_of connection) ∷ []) }
+{
+    let Connection {
+        packet,
+        terms,
+        charging,
+    } = connection;
+    let agreement = Agreement { terms, charging };
     let change = Change::Connect {
         number: call.number,
         caller: call.caller,
         called: call.called,
+        agreement,
     };
-    Ok(Plan::of(outputs.with(send(machine, call.caller, packet))).changing(change))
-}
-
-/// The call connected packet (X.25 clause 5.2.3).
-fn connected<A: Allocator + Copy>(
-    alloc: A,
-    subs: &Subs,
-    called: LineNo,
-    dialled: &Digits,
-    d: bool,
-) -> Result<Packet<A>, AllocError>
-    requires { called < line_count subs.now }
-    ensures { IfOk result (λ packet. packet ≡ connected_packet subs.now called dialled.now d) }
-{
-    let facilities = standard_facilities(alloc)?;
-    Ok(Packet::Accepted {
-        d,
-        block: Some(Block {
-            called: address_told(subs, called, dialled),
-            calling: Digits::new(),
-            facilities,
-            user: Octets::new(alloc),
-        }),
-    })
-}
-
-/// The called line's address where the caller dialled something else.
-fn address_told(subs: &Subs, called: LineNo, dialled: &Digits) -> Digits
-    requires { called < line_count subs.now }
-    ensures { result ≡ (if same (line_address subs.now called) dialled.now then [] else line_address subs.now called) }
-{
-    let address = subs.address_of(called);
-    if address == dialled {
-        Digits::new()
-    } else {
-        address.copy()
-    }
+    Plan::of(outputs.with(send(machine, call.caller, packet)))
+        .settling(Outcome::Connected(agreement))
+        .changing(change)
 }

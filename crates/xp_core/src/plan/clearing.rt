@@ -1,80 +1,66 @@
-//! What ends a call: a clear request, or a line that goes out of service.
+//! What takes a line out of its call: a clear request, an error, or the line that goes out of service.
 
-ghost use Rattle.std.specs.Prelude.{◌≡◌, ◌∷◌, ◌++◌, ◌<◌, [], IfOk, None};
-ghost use Rattle.xp_core.specs.Changes.{Rises, Leaves, Ends, GoesOut, IsConfirmed, IsFree, told_on_way};
-ghost use Rattle.xp_core.specs.Clearing.{cause_told as told_cause, diagnostic_told as told_diagnostic, record_of as recorded};
-ghost use Rattle.xp_core.specs.Causes.{OUT_OF_ORDER as GONE_OUT, NO_ADDITIONAL_INFORMATION as NO_INFORMATION};
-ghost use Rattle.xp_core.specs.Kept.{entry_of, call_of_kept, way_of};
-ghost use Rattle.xp_core.specs.Plan.{IsPlan};
+ghost use Rattle.std.specs.Prelude.{◌≡◌, ◌<◌, ◌∷◌, [], IfOk, OnOk, None, option_to_list};
+ghost use Rattle.xp_answer.specs.CarriedOn.{CarriedOn};
+ghost use Rattle.xp_causes.specs.declared.clearing_cause.TheConstants.{OUT_OF_ORDER as GONE_OUT, REMOTE_PROCEDURE_ERROR as REMOTE_ERROR};
+ghost use Rattle.xp_causes.specs.declared.diagnostic.TheConstants.{NO_ADDITIONAL_INFORMATION as NO_INFORMATION};
+ghost use Rattle.xp_core.specs.Acts.{closed, told_of_error, told_of_fall};
+ghost use Rattle.xp_core.specs.Asked.{clear_of};
+ghost use Rattle.xp_core.specs.Changes.{Rises, Leaves, IsCleared, IsFree, GoesOut};
+ghost use Rattle.xp_core.specs.Kept.{way_of};
+ghost use Rattle.xp_core.specs.Plan.{IsPlan, IsPlainPlan, IsToldOn, IsWithdrawal, PlansClear};
 ghost use Rattle.xp_core.specs.Step.{leaves};
-ghost use Rattle.xp_core.specs.World.{call_on, line_at};
+ghost use Rattle.xp_core.specs.Told.{nothing_told};
+ghost use Rattle.xp_core.specs.World.{call_on};
 
 use super::Plan;
-use super::send::{clear_indication, send};
-use crate::call::LiveCall;
-use crate::cause::{DTE_CAUSES, NO_ADDITIONAL_INFORMATION, OUT_OF_ORDER};
+use super::asked::ClearRequest;
+use super::send::{clear_indication, close, send, send_far};
 use crate::change::{Change, Way};
+use crate::event::What;
 use crate::machine::Machine;
-use crate::output::Buffer;
-use crate::record::Record;
+use crate::output::{Buffer, Output};
 use std::alloc::{AllocError, Allocator};
-use xp_packets::{End, Packet};
+use xp_answer::carry_clear;
+use xp_causes::clearing_cause::{LOCAL_PROCEDURE_ERROR, OUT_OF_ORDER, REMOTE_PROCEDURE_ERROR};
+use xp_causes::diagnostic::NO_ADDITIONAL_INFORMATION;
+use xp_causes::{cause_told, diagnostic_told};
+use xp_charge::Record;
+use xp_packets::Packet;
 use xp_subs::LineNo;
 
-/// A line leaves the call that it is in, if it is in one, and that call ends.
-fn leave<A: Allocator>(
-    alloc: A,
+/// A line that leaves the call that it is in, and the record of that call; or a line in no call.
+#[derive(Drop)]
+pub struct Withdrawal {
+    pub change: Change,
+    pub charged: Option<Record>,
+}
+
+/// A line leaves the call that it is in, if it is in one, and that call ends: its far end is told this cause and
+/// diagnostic.
+pub fn withdraw<A: Allocator>(
     machine: &Machine<A>,
     line: LineNo,
     way: Way,
     cause: u8,
     diagnostic: u8,
-) -> Result<Plan<A>, AllocError>
-    ensures { IfOk result (λ plan. IsPlan plan machine.now None (leaves line (way_of way) cause diagnostic (call_on machine.now line) ∷ [])) }
+) -> Withdrawal
+    ensures { IsWithdrawal result machine.now (leaves line (way_of way) cause diagnostic (call_on machine.now line)) }
 {
-    let outputs = tell(machine, line, way, Buffer::with_room(alloc, 2)?);
     match machine.call_on(line) {
-        None => Ok(Plan::of(outputs).changing(Change::Leave { line, way })),
-        Some(call) => Ok(end_call(machine, call, line, way, cause, diagnostic, outputs)),
-    }
-}
-
-/// A call ends by a line of it: its far line is cleared.
-fn end_call<A: Allocator>(
-    machine: &Machine<A>,
-    call: &LiveCall,
-    line: LineNo,
-    way: Way,
-    cause: u8,
-    diagnostic: u8,
-    outputs: Buffer<A>,
-) -> Plan<A>
-    requires told { outputs.outputs ≡ told_on_way machine.now line (way_of way) }
-    requires room { 0 < outputs.room }
-    ensures { IsPlan result machine.now None (Ends call.now.number (call_of_kept call.now) line (way_of way) cause diagnostic ∷ []) }
-{
-    let far = call.far_end(line);
-    let indication = send(machine, far, clear_indication(cause, diagnostic));
-    Plan::of(outputs.with(indication))
-        .changing(Change::End {
-            number: call.number,
-            line,
-            way,
-            far,
-        })
-        .with_record(call.record(cause, diagnostic))
-}
-
-/// What the line itself is told as it leaves its call.
-fn tell<A: Allocator>(machine: &Machine<A>, line: LineNo, way: Way, outputs: Buffer<A>) -> Buffer<A>
-    requires { 1 < outputs.room }
-    ensures outputs { result.outputs ≡ outputs.outputs ++ told_on_way machine.now line (way_of way) }
-    ensures room { 0 < result.room }
-{
-    match way {
-        Way::IsConfirmed => outputs.with(send(machine, line, Packet::ClearConfirm { block: None })),
-        Way::GoesOut => outputs,
-        Way::IsFree => outputs,
+        None => Withdrawal {
+            change: Change::Leave { line, way },
+            charged: None,
+        },
+        Some(call) => Withdrawal {
+            change: Change::End {
+                number: call.number,
+                line,
+                way,
+                far: call.far_end(line),
+            },
+            charged: Some(call.record(cause, diagnostic)),
+        },
     }
 }
 
@@ -84,35 +70,9 @@ pub fn rise<A: Allocator>(
     machine: &Machine<A>,
     line: LineNo,
 ) -> Result<Plan<A>, AllocError>
-    ensures { IfOk result (λ plan. IsPlan plan machine.now None (Rises line ∷ [])) }
+    ensures { IfOk result (λ plan. IsPlainPlan plan machine.now nothing_told (Rises line ∷ [])) }
 {
     Ok(Plan::of(Buffer::with_room(alloc, 0)?).changing(Change::Rise { line }))
-}
-
-/// A line goes out of service: its call ends as out of order.
-pub fn fall<A: Allocator>(
-    alloc: A,
-    machine: &Machine<A>,
-    line: LineNo,
-) -> Result<Plan<A>, AllocError>
-    ensures { IfOk result (λ plan. IsPlan plan machine.now None (leaves line GoesOut GONE_OUT NO_INFORMATION (call_on machine.now line) ∷ [])) }
-{
-    let (cause, diagnostic) = (OUT_OF_ORDER, NO_ADDITIONAL_INFORMATION);
-    leave(alloc, machine, line, Way::GoesOut, cause, diagnostic)
-}
-
-/// A clear request is confirmed at once (X.25 clause 4.1.7), and the line's call ends.
-pub fn confirm<A: Allocator>(
-    alloc: A,
-    machine: &Machine<A>,
-    line: LineNo,
-    cause: u8,
-    diagnostic: Option<u8>,
-) -> Result<Plan<A>, AllocError>
-    ensures { IfOk result (λ plan. IsPlan plan machine.now None (leaves line IsConfirmed (told_cause cause) (told_diagnostic diagnostic) (call_on machine.now line) ∷ [])) }
-{
-    let (cause, diagnostic) = (cause_told(cause), diagnostic_told(diagnostic));
-    leave(alloc, machine, line, Way::IsConfirmed, cause, diagnostic)
 }
 
 /// A cleared line is free again.
@@ -121,54 +81,91 @@ pub fn free<A: Allocator>(
     machine: &Machine<A>,
     line: LineNo,
 ) -> Result<Plan<A>, AllocError>
-    ensures { IfOk result (λ plan. IsPlan plan machine.now None (Leaves line IsFree ∷ [])) }
+    ensures { IfOk result (λ plan. IsPlainPlan plan machine.now nothing_told (Leaves line IsFree ∷ [])) }
 {
     let way = Way::IsFree;
     Ok(Plan::of(Buffer::with_room(alloc, 0)?).changing(Change::Leave { line, way }))
 }
 
-/// The cause that the other end is told: that of a DTE (80 to FF) as it is, every other as 00.
-fn cause_told(cause: u8) -> u8
-    ensures { result ≡ told_cause cause }
+/// A line goes out of service: its call ends as out of order.
+pub fn fall<A: Allocator>(
+    alloc: A,
+    machine: &Machine<A>,
+    line: LineNo,
+    what: &What<A>,
+) -> Result<Plan<A>, AllocError>
+    ensures { IfOk result (λ plan. IsPlainPlan plan machine.now (told_of_fall machine.now line what.now) (leaves line GoesOut GONE_OUT NO_INFORMATION (call_on machine.now line) ∷ [])) }
 {
-    if cause >= DTE_CAUSES { cause } else { 0 }
+    let (cause, diagnostic) = (OUT_OF_ORDER, NO_ADDITIONAL_INFORMATION);
+    let own = closing(machine, line, what);
+    let far = send_far(machine, line, clear_indication(cause, diagnostic));
+    let outputs = Buffer::with_room(alloc, 2)?.with_some(own).with_some(far);
+    let withdrawal = withdraw(machine, line, Way::GoesOut, cause, diagnostic);
+    Ok(Plan::of(outputs).withdrawing(withdrawal))
 }
 
-/// The diagnostic that the other end is told.
-fn diagnostic_told(diagnostic: Option<u8>) -> u8
-    ensures { result ≡ told_diagnostic diagnostic }
+/// A line that is given up as too slow has its connection closed.
+fn closing<A: Allocator>(machine: &Machine<A>, line: LineNo, what: &What<A>) -> Option<Output<A>>
+    ensures { option_to_list result ≡ closed machine.now line what.now }
 {
-    diagnostic.unwrap_or(NO_ADDITIONAL_INFORMATION)
+    match what {
+        What::Stall => Some(close(machine, line)),
+        What::Up
+        | What::Down
+        | What::Frame { .. }
+        | What::WrongFrame(_)
+        | What::Expire => None,
+    }
 }
 
-impl LiveCall {
-    ghost use Rattle.xp_core.specs.World.{far_end as other_line};
+/// A procedure error clears both ends of the line's call, or the line alone (X.25 clause 4.1 and Annex C).
+pub fn clear_both<A: Allocator>(
+    alloc: A,
+    machine: &Machine<A>,
+    line: LineNo,
+    diagnostic: u8,
+) -> Result<Plan<A>, AllocError>
+    ensures { IfOk result (λ plan. IsPlainPlan plan machine.now (told_of_error machine.now line diagnostic) (leaves line IsCleared REMOTE_ERROR diagnostic (call_on machine.now line) ∷ [])) }
+{
+    let own = send(machine, line, clear_indication(LOCAL_PROCEDURE_ERROR, diagnostic));
+    let indication = clear_indication(REMOTE_PROCEDURE_ERROR, diagnostic);
+    let far = send_far(machine, line, indication);
+    let outputs = Buffer::with_room(alloc, 2)?.with(own).with_some(far);
+    let withdrawal = withdraw(machine, line, Way::IsCleared, REMOTE_PROCEDURE_ERROR, diagnostic);
+    Ok(Plan::of(outputs).withdrawing(withdrawal))
+}
 
-    /// The other line of the call.
-    fn far_end(&self, line: LineNo) -> LineNo
-        ensures { result ≡ other_line (call_of_kept self.now) line }
-    {
-        if self.caller == line {
-            self.called
-        } else {
-            self.caller
-        }
-    }
+/// A clear request is confirmed at once (X.25 clause 4.1.7), and the line's call ends.
+pub fn confirm<A: Allocator + Copy>(
+    alloc: A,
+    machine: &Machine<A>,
+    line: LineNo,
+    clear: &ClearRequest<'_, A>,
+) -> Result<Plan<A>, AllocError>
+    ensures { IfOk result (PlansClear machine.now line (clear_of clear.now)) }
+{
+    let own = send(machine, line, Packet::ClearConfirm { block: None });
+    let far = carry_on(alloc, machine, line, clear)?;
+    let outputs = Buffer::with_room(alloc, 2)?.with(own).with_some(far);
+    let cause = cause_told(clear.cause);
+    let diagnostic = diagnostic_told(clear.diagnostic);
+    let withdrawal = withdraw(machine, line, Way::IsFree, cause, diagnostic);
+    Ok(Plan::of(outputs).withdrawing(withdrawal))
+}
 
-    /// The record of the call, ended with this cause and diagnostic.
-    fn record(&self, cause: u8, diagnostic: u8) -> Record
-        ensures { result ≡ recorded self.now.number (call_of_kept self.now) cause diagnostic }
-    {
-        Record {
-            number: self.number,
-            caller: self.caller,
-            called: Some(self.called),
-            dialled: self.dialled.copy(),
-            payer: End::Caller,
-            from_caller: 0,
-            from_called: 0,
-            cause,
-            diagnostic,
-        }
-    }
+/// What the far end of the line's call, if it is in one, is told of a clear request.
+fn carry_on<A: Allocator + Copy>(
+    alloc: A,
+    machine: &Machine<A>,
+    line: LineNo,
+    clear: &ClearRequest<'_, A>,
+) -> Result<Option<Output<A>>, AllocError>
+    ensures { IfOk result (λ far. IsToldOn machine.now line (clear_of clear.now) (call_on machine.now line) (option_to_list far)) }
+{
+    let Some(call) = machine.call_on(line) else {
+        return Ok(None);
+    };
+    let fast = call.setup.fast;
+    let packet = carry_clear(alloc, fast, clear.cause, clear.diagnostic, clear.block, None)?;
+    Ok(Some(send(machine, call.far_end(line), packet)))
 }

@@ -1,44 +1,72 @@
 //! A call request: it is put to a line as an incoming call, or cleared.
 
-ghost use Rattle.std.specs.Prelude.{◌≡◌, ◌<◌, [], ◌∷◌, Some, None, IfOk, length};
+ghost use Rattle.std.specs.Prelude.{◌≡◌, ◌<◌, [], ◌∷◌, ◌++◌, List, IfOk, IfOk};
+ghost use Rattle.xp_core.specs.Acts.{cancelled_told};
+ghost use Rattle.xp_core.specs.Asked.{request_of};
+ghost use Rattle.xp_core.specs.Changes.{Change as Changing, Begins, IsRefused};
+ghost use Rattle.xp_core.specs.Plan.{IsCancelled, IsPlan, PlansRequest};
+ghost use Rattle.xp_core.specs.Step.{cancels};
+ghost use Rattle.xp_core.specs.Told.{refused_told, taken_told};
+ghost use Rattle.xp_core.specs.World.{World, call_on};
+ghost use Rattle.xp_core.specs.declared.output.Output.{Output as Sent};
+ghost use Rattle.xp_answer.specs.Setup.{setup_of};
 ghost use Rattle.xp_subs.specs.Tables.{line_count};
-ghost use Rattle.xp_core.specs.Changes.{Begins, IsRefused};
-ghost use Rattle.xp_core.specs.Packets.{incoming as incoming_packet, standard_facilities as standard};
-ghost use Rattle.xp_core.specs.Kept.{request_of};
-ghost use Rattle.xp_core.specs.Plan.{IsPlan, PlansRequest};
-ghost use Rattle.xp_core.specs.Setting.{setting};
 
 use super::Plan;
-use super::decision::decide;
-use super::send::{clear_indication, send_as};
-use crate::cause::Refusal;
-use crate::change::Change;
+use super::asked::CallRequest;
+use super::clearing::{Withdrawal, withdraw};
+use super::send::{clear_indication, send_as, send_far};
+use crate::change::{Change, Way};
 use crate::channel::LogicalChannel;
-use crate::entry::Entry;
 use crate::machine::Machine;
-use crate::output::Buffer;
-use crate::record::Record;
-use crate::verdict::Verdict;
+use crate::outcome::Outcome;
+use crate::output::{Buffer, Output};
 use std::alloc::{AllocError, Allocator};
-use xp_packets::{Block, End, Octets, Packet};
+use xp_answer::{Setup, incoming_call};
+use xp_causes::Refusal;
+use xp_causes::clearing_cause::NUMBER_BUSY;
+use xp_causes::diagnostic::CALL_COLLISION;
+use xp_charge::Record;
+use xp_decide::{Verdict, decide};
+use xp_packets::{End, Packet};
 use xp_subs::{LineNo, Subs};
 
-/// Packet size 128 and window size 2 in both directions (X.25 clauses 7.2.2.1.1 and 7.2.2.1.2).
-const STANDARD_FACILITIES: [u8; 6] = [0x42, 7, 7, 0x43, 2, 2];
-
-/// The facilities of every call: the standard packet and window sizes.
-pub fn standard_facilities<A: Allocator + Copy>(alloc: A) -> Result<Octets<A>, AllocError>
-    ensures { IfOk result (λ facilities. facilities ≡ standard) }
-{
-    Octets::from_slice(alloc, &STANDARD_FACILITIES)
+/// The incoming call that a call request from its line cancels (X.25 clause 4.1.6), if it cancels one.
+#[derive(Drop)]
+pub struct Cancelled<A: Allocator> {
+    pub change: Option<Change>,
+    pub charged: Option<Record>,
+    /// What its caller is told.
+    pub told: Option<Output<A>>,
 }
 
-/// A call request as it came.
-#[derive(Drop)]
-pub struct CallRequest<'a, A: Allocator> {
-    pub identifier: u16,
-    pub d: bool,
-    pub block: &'a Block<A>,
+impl<A: Allocator> Cancelled<A> {
+    /// No call is cancelled.
+    pub fn none() -> Cancelled<A>
+        ensures { (world : World) → IsCancelled result world [] [] }
+    {
+        Cancelled {
+            change: None,
+            charged: None,
+            told: None,
+        }
+    }
+
+    /// The call that was put to the line.
+    pub fn by(machine: &Machine<A>, line: LineNo) -> Cancelled<A>
+        ensures { IsCancelled result machine.now (cancels line (call_on machine.now line)) (cancelled_told machine.now line) }
+    {
+        if machine.call_on(line).is_none() {
+            return Cancelled::none();
+        }
+        let Withdrawal { change, charged } =
+            withdraw(machine, line, Way::IsFree, NUMBER_BUSY, CALL_COLLISION);
+        Cancelled {
+            change: Some(change),
+            charged,
+            told: send_far(machine, line, clear_indication(NUMBER_BUSY, CALL_COLLISION)),
+        }
+    }
 }
 
 /// Decides a call request: it is put to the line that is taken, or cleared.
@@ -46,47 +74,25 @@ pub fn request<A: Allocator + Copy>(
     alloc: A,
     subs: &Subs,
     machine: &Machine<A>,
-    _before: &[Entry<A>],
     caller: LineNo,
     request: &CallRequest<'_, A>,
+    cancelled: Cancelled<A>,
 ) -> Result<Plan<A>, AllocError>
-    requires caller { caller < line_count subs.now }
-    requires lines { length machine.now.lines ≡ line_count subs.now }
-    ensures { IfOk result (λ plan. PlansRequest (setting subs.now _before.now machine.now caller) (request_of request.now) plan) }
+    requires { caller < line_count subs.now }
+    ensures { (ended : List Changing) (far : List (Sent A)) → IsCancelled cancelled machine.now ended far
+        → IfOk result (PlansRequest subs.now machine.now caller (request_of request.now) ended far) }
 {
-    let outputs = Buffer::with_room(alloc, 1)?;
-    match decide(subs, machine, caller, request.block) {
-        Verdict::Refuse(why) => Ok(refused(machine, caller, request, why, outputs)),
-        Verdict::Take(called) => {
-            let packet = incoming(alloc, subs, caller, request, called)?;
-            Ok(put(machine, caller, request, called, packet, outputs))
+    let outputs = Buffer::with_room(alloc, 2)?;
+    match decide(alloc, subs, machine, caller, request.block)? {
+        Verdict::Refuse(why) => Ok(refused(machine, caller, request, why, cancelled, outputs)),
+        Verdict::Take(ring) => {
+            let (called, calling) = (subs.address_of(ring.line), subs.address_of(caller));
+            let packet = incoming_call(alloc, &ring, called, calling, request.d, request.block)?;
+            let setup = Setup::of(&ring);
+            let line = ring.line;
+            Ok(put(machine, caller, request, line, setup, packet, cancelled, outputs))
         }
     }
-}
-
-/// The incoming call packet (X.25 clause 5.2.2).
-fn incoming<A: Allocator + Copy>(
-    alloc: A,
-    subs: &Subs,
-    caller: LineNo,
-    request: &CallRequest<'_, A>,
-    called: LineNo,
-) -> Result<Packet<A>, AllocError>
-    requires caller { caller < line_count subs.now }
-    requires called { called < line_count subs.now }
-    ensures { IfOk result (λ packet. packet ≡ incoming_packet subs.now caller called request.now.d request.now.block.now) }
-{
-    let facilities = standard_facilities(alloc)?;
-    let user = request.block.user.copy()?;
-    Ok(Packet::Call {
-        d: request.d,
-        block: Block {
-            called: subs.address_of(called).copy(),
-            calling: subs.address_of(caller).copy(),
-            facilities,
-            user,
-        },
-    })
 }
 
 /// The call is put to a line.
@@ -95,23 +101,39 @@ fn put<A: Allocator>(
     caller: LineNo,
     request: &CallRequest<'_, A>,
     called: LineNo,
+    setup: Setup,
     packet: Packet<A>,
+    cancelled: Cancelled<A>,
     outputs: Buffer<A>,
 ) -> Plan<A>
     requires empty { outputs.outputs ≡ [] }
-    requires room { 0 < outputs.room }
-    ensures { IsPlan result machine.now (Some called) (Begins caller request.now.identifier called request.now.block.now.called packet ∷ []) }
+    requires room { 1 < outputs.room }
+    ensures outcome { result.outcome ≡ Outcome.Put called setup }
+    ensures planned { (ended : List Changing) (far : List (Sent A)) → IsCancelled cancelled machine.now ended far
+        → IsPlan result machine.now (taken_told machine.now far called packet)
+            (ended ++ Begins caller request.now.identifier called request.now.block.now.called setup ∷ []) }
 {
-    let change = Change::Begin {
+    let begins = Change::Begin {
         caller,
         identifier: request.identifier,
         called,
         dialled: request.block.called.copy(),
+        setup,
     };
-    let identifier = LogicalChannel::INITIAL_IDENTIFIER;
-    Plan::of(outputs.with(send_as(machine, called, identifier, packet)))
-        .taking(called)
-        .changing(change)
+    let ring = send_as(machine, called, LogicalChannel::INITIAL_IDENTIFIER, packet);
+    let Cancelled {
+        change,
+        charged,
+        told,
+    } = cancelled;
+    Plan::of(outputs.with_some(told).with(ring))
+        .settling(Outcome::Put {
+            line: called,
+            setup,
+        })
+        .cancelling(change)
+        .changing(begins)
+        .with_some_record(charged)
 }
 
 /// The call is cleared at once.
@@ -120,14 +142,19 @@ fn refused<A: Allocator>(
     caller: LineNo,
     request: &CallRequest<'_, A>,
     why: Refusal,
+    cancelled: Cancelled<A>,
     outputs: Buffer<A>,
 ) -> Plan<A>
     requires empty { outputs.outputs ≡ [] }
-    requires room { 0 < outputs.room }
-    ensures { IsPlan result machine.now None (IsRefused caller request.now.identifier request.now.block.now.called why ∷ []) }
+    requires room { 1 < outputs.room }
+    ensures outcome { result.outcome ≡ Outcome.Refused why }
+    ensures planned { (ended : List Changing) (far : List (Sent A)) → IsCancelled cancelled machine.now ended far
+        → IsPlan result machine.now (refused_told machine.now far caller request.now.identifier why)
+            (ended ++ IsRefused caller request.now.identifier request.now.block.now.called why ∷ []) }
 {
     let identifier = request.identifier;
     let indication = clear_indication(why.cause, why.diagnostic);
+    let own = send_as(machine, caller, identifier, indication);
     let record = Record {
         number: machine.next(),
         caller,
@@ -139,10 +166,18 @@ fn refused<A: Allocator>(
         cause: why.cause,
         diagnostic: why.diagnostic,
     };
-    Plan::of(outputs.with(send_as(machine, caller, identifier, indication)))
+    let Cancelled {
+        change,
+        charged,
+        told,
+    } = cancelled;
+    Plan::of(outputs.with(own).with_some(told))
+        .settling(Outcome::Refused(why))
+        .cancelling(change)
         .changing(Change::Refuse {
             line: caller,
             identifier,
         })
+        .with_some_record(charged)
         .with_record(record)
 }

@@ -1,6 +1,6 @@
-ghost use Rattle.std.specs.Prelude.{◌≡◌};
-ghost use Rattle.xp_core.specs.Changes.{send_as as output_as, send as output_to};
-ghost use Rattle.xp_core.specs.Packets.{clear_indication as indication};
+ghost use Rattle.std.specs.Prelude.{◌≡◌, option_to_list};
+ghost use Rattle.xp_core.specs.Told.{clear_indication as indication, close as output_closing, send as output_to, send_as as output_as, send_far as output_far};
+ghost use Rattle.xp_core.specs.World.{call_on};
 
 use crate::machine::Machine;
 use crate::output::{Outgoing, Output, Put};
@@ -31,6 +31,31 @@ pub fn send<A: Allocator>(machine: &Machine<A>, line: LineNo, packet: Packet<A>)
     ensures { result ≡ output_to machine.now line packet }
 {
     send_as(machine, line, machine.line(line).identifier, packet)
+}
+
+/// A packet to the far end of the call that a line is in, if it is in one.
+pub fn send_far<A: Allocator>(
+    machine: &Machine<A>,
+    line: LineNo,
+    packet: Packet<A>,
+) -> Option<Output<A>>
+    ensures { option_to_list result ≡ output_far machine.now line (call_on machine.now line) packet }
+{
+    let call = machine.call_on(line)?;
+    Some(send(machine, call.far_end(line), packet))
+}
+
+/// A line's connection is to be closed.
+pub fn close<A: Allocator>(machine: &Machine<A>, line: LineNo) -> Output<A>
+    ensures { result ≡ output_closing machine.now line }
+{
+    Output {
+        line,
+        outgoing: Outgoing {
+            connection: machine.line(line).connection,
+            put: Put::Close,
+        },
+    }
 }
 
 /// A clear indication (X.25 clause 5.2.4).
