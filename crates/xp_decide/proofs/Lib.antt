@@ -10,3 +10,6 @@ pub mod Refused
 pub mod Determined
 pub mod Once
 pub mod Written
+pub mod AtAddress
+pub mod Exists
+pub mod Seeing

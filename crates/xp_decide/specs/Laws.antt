@@ -98,3 +98,20 @@ abbrev pub IsDeterminedButLine : Type 0 → Type 0
 IsDeterminedButLine A =
     (tables : Tables) (states : ℕ → LineState) (from : ℕ) (block : Block A) (one other : Verdict A)
     → Decided tables states from block one → Decided tables states from block other → IsSameButLine one other
+
+-- a verdict that the rules give
+pub record HasVerdict {A : Type 0} (tables : Tables) (states : ℕ → LineState) (from : ℕ) (block : Block A) : Type 0 where
+  pub verdict : Verdict A
+  pub decided : Decided tables states from block verdict
+
+-- a call request has an answer, whatever it asks
+abbrev pub EveryRequestIsDecided : Type 0 → Type 0
+EveryRequestIsDecided A =
+    (tables : Tables) (states : ℕ → LineState) (from : ℕ) (block : Block A) → HasVerdict tables states from block
+
+-- the state of the caller's own line is of no account
+abbrev pub DecisionIsByOtherLines : Type 0 → Type 0
+DecisionIsByOtherLines A =
+    (tables : Tables) (states others : ℕ → LineState) (from : ℕ) (block : Block A) (verdict : Verdict A)
+    → Decided tables states from block verdict → ((line : ℕ) → line ≢ from → states line ≡ others line)
+    → Decided tables others from block verdict

@@ -1,4 +1,4 @@
-ghost use Rattle.xp_decide.specs.Laws.{TakenMayJoin, TakenIsFree, ToldCanBeWritten, ToldSizesAreIndicated, RefusalsAreKnown, RefusesWithoutIdleLine, IsDeterminedButLine};
+ghost use Rattle.xp_decide.specs.Laws.{TakenMayJoin, TakenIsFree, ToldCanBeWritten, ToldSizesAreIndicated, RefusalsAreKnown, RefusesWithoutIdleLine, IsDeterminedButLine, EveryRequestIsDecided, DecisionIsByOtherLines};
 
 use std::alloc::Allocator;
 
@@ -36,4 +36,14 @@ pub fn refusals_are_known<A: Allocator>()
 /// A call request has one answer, but for which idle line rings.
 pub fn decision_is_determined_but_the_line<A: Allocator>()
     ensures { IsDeterminedButLine A }
+{}
+
+/// Every call request has an answer: want of memory hides no case.
+pub fn every_request_is_decided<A: Allocator>()
+    ensures { EveryRequestIsDecided A }
+{}
+
+/// The answer is by the states of the lines but the caller's, which the call itself makes busy.
+pub fn decision_is_by_the_other_lines<A: Allocator>()
+    ensures { DecisionIsByOtherLines A }
 {}

@@ -19,7 +19,7 @@ pub prefers : (station : Station) (held : Membership) (made : Intent) (access : 
 prefers station held made true access groups is not_barred e = preferential_open held groups refl (is, not_barred) access (ap Ok e)
 prefers station held made false access groups is not_barred e = preferential held groups refl (is, not_barred) access (ap Ok e)
 
-grouped : (station : Station) → HasNoGroups station ⊎ HasGroups station
+pub grouped : (station : Station) → HasNoGroups station ⊎ HasGroups station
 grouped station = by station.memberships.items refl where
   by : (held : List Membership) → station.memberships.items ≡ held → HasNoGroups station ⊎ HasGroups station
   by [] none = inl none

@@ -19,6 +19,14 @@ abbrev pub AdmissionIsDetermined : Type 0
 AdmissionIsDetermined = (intent : Intent) (station : Station) (one other : Result Admission Refusal)
     → Admits intent station one → Admits intent station other → one ≡ other
 
+-- a station and a selection have a result
+abbrev pub EverySelectionIsAnswered : Type 0
+EverySelectionIsAnswered = (station : Station) (selection : Selection) → (result : Result Intent Refusal) × Intends station selection result
+
+-- so have an intent and a station
+abbrev pub EveryIntentIsAnswered : Type 0
+EveryIntentIsAnswered = (intent : Intent) (station : Station) → (result : Result Admission Refusal) × Admits intent station result
+
 -- a call that its caller may make and the called station takes joins stations that may be joined
 abbrev pub JoinedMayJoin : Type 0
 JoinedMayJoin = (caller called : Station) (selection : Selection) (intent : Intent) (admission : Admission)

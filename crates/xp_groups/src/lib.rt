@@ -9,4 +9,7 @@ mod laws;
 pub use admission::{Admission, admit};
 pub use calling::intent;
 pub use intention::Intent;
-pub use laws::{admission_is_determined, intent_is_determined, joined_stations_may_join};
+pub use laws::{
+    admission_is_determined, every_intent_is_answered, every_selection_is_answered,
+    intent_is_determined, joined_stations_may_join,
+};

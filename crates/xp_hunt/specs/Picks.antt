@@ -36,3 +36,7 @@ IsTake picked.Busy = ⊥
 -- where an idle line is in the group, one is picked
 abbrev pub PicksIdle : Type 0
 PicksIdle = (states : ℕ → LineState) (group : List ℕ) (line : ℕ) (found : Picked) → IsIdleIn states group line → Picks states group found → IsTake found
+
+-- a look at a group finds something
+abbrev pub EveryGroupIsPicked : Type 0
+EveryGroupIsPicked = (states : ℕ → LineState) (group : List ℕ) → (found : Picked) × Picks states group found

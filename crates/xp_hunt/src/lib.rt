@@ -6,5 +6,5 @@ mod laws;
 mod lines;
 
 pub use choice::{Picked, pick};
-pub use laws::picks_where_one_is_idle;
+pub use laws::{every_group_is_picked, picks_where_one_is_idle};
 pub use lines::{LineState, Lines};
