@@ -75,7 +75,7 @@ module _ {A : Type 0} where
 
   -- or refused
   pub record IsTurnedDown (tables : Tables) (world : World) (line : ℕ) (far : List (Output A)) (request : CallRequest A) (why : Refusal) (told : Told A) : Type 0 where
-    pub decided : Decided tables (lines_seen world) line request.block (Refuse {A = A} why)
+    pub decided : Decided tables (lines_seen world) line request.block (Refuse why)
     pub told_is : told ≡ refused_told world far line request.identifier why
 
   abbrev pub IsRequested : Tables → World → ℕ → List (Output A) → CallRequest A → Outcome → Told A → Type 0
@@ -111,7 +111,7 @@ module _ {A : Type 0} where
 
   -- a fault of it is a procedure error
   pub record IsDeclined (tables : Tables) (world : World) (line : ℕ) (answer : CallAccepted A) (call : Call) (diagnostic : ℕ) (told : Told A) : Type 0 where
-    pub answered : Answered call.setup (address_of tables line) call.dialled answer.d answer.block (answers.Refused {A = A} diagnostic)
+    pub answered : Answered call.setup (address_of tables line) call.dialled answer.d answer.block (answers.Refused diagnostic)
     pub told_is : told ≡ told_of_error world line diagnostic
 
   abbrev pub IsAnswered : Tables → World → ℕ → CallAccepted A → Call → Outcome → Told A → Type 0

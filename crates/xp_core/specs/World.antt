@@ -1,5 +1,6 @@
 -- The state of the exchange.
 use Rattle.std.specs.Prelude.{ℕ, ◌==◌, if◌then◌else◌, Option, None, Some, List, option_map, replicate, slice_index_or, slice_set}
+use Rattle.std.specs.Coded.{Coded, coded_ℕ}
 use Rattle.std.specs.FinMap as map
 use Rattle.std.specs.Ordering.{nat_cmp}
 use Rattle.xp_answer.specs.declared.setup.Setup.{Setup}
@@ -33,6 +34,10 @@ pub record World : Type 0 where
   pub calls : map.FinMap nat_cmp Call
   -- the number of the next call
   pub next : ℕ
+
+-- the live calls are stored as a map of such
+abbrev pub calls_code : Coded Call → Coded (map.FinMap nat_cmp Call)
+calls_code call_code = map.code coded_ℕ call_code
 
 -- a line that never was in service
 abbrev pub off_line : Line
