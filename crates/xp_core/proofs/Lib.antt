@@ -1,4 +1,5 @@
 pub mod Cells
+pub mod Clears
 pub mod Counts
 pub mod Coupled
 pub mod Endings
