@@ -24,6 +24,8 @@ pub struct Playing<A: Allocator = Global> {
     alloc: A,
     core: Core<A>,
     streams: Streams<A>,
+    /// For the text of an entry; what it holds between two lines is of no use.
+    text: Vec<u8, A>,
 }
 
 impl<A: Allocator> Model for Playing<A> {
@@ -51,6 +53,7 @@ impl<A: Allocator + Copy> Playing<A> {
                 alloc,
                 core,
                 streams,
+                text: Vec::new(alloc),
             }),
             Err(_) => Err(core),
         }
@@ -78,7 +81,7 @@ impl<A: Allocator + Copy> Playing<A> {
             Err(LineFault::Memory) => return Err(ReplayFault::Memory),
         };
         let events = events_of(self.alloc, &self.core, &mut self.streams, command)?;
-        act_on_all(self.alloc, &mut self.core, events, writer)
+        act_on_all(self.alloc, &mut self.core, events, &mut self.text, writer)
     }
 }
 
