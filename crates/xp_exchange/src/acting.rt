@@ -12,24 +12,26 @@ ghost use Rattle.xp_subs.specs.Tables.{line_count};
 use crate::fault::ReplayFault;
 use crate::writing::write_out;
 use std::alloc::Allocator;
+use std::collections::VecDeque;
 use std::io::Write;
 use xp_core::{Core, Entry, Event, StepFault};
 use xp_script::write_entry;
 use xp_subs::Subs;
 
-/// Acts on the events in turn, each written before the next. The text of each is made in this buffer, whatever it holds.
+/// Takes the events off their queue and acts on them in turn, each written before the next. The text of each is made in
+/// this buffer, whatever it holds.
 pub fn act_on_all<A: Allocator + Copy, W: Write>(
     alloc: A,
     core: &mut Core<A>,
-    events: Vec<Event<A>, A>,
+    events: &mut VecDeque<Event<A>, A>,
     text: &mut Vec<u8, A>,
     writer: &mut W,
 ) -> Result<(), ReplayFault>
-    requires { All (λ event. (event.line < line_count core.old.subs) × IsReadable event.what) events.items }
-    ensures acted { (text : List ℕ) × Appends (W.contents writer.old) (W.contents writer.new) text × Acted core.old events.items result core.new text }
+    requires { All (λ event. (event.line < line_count core.old.subs) × IsReadable event.what) events.old.items }
+    ensures acted { (text : List ℕ) × Appends (W.contents writer.old) (W.contents writer.new) text × Acted core.old events.old.items result core.new text }
     ensures subs { core.new.subs ≡ core.old.subs }
 {
-    for event in events {
+    while let Some(event) = events.pop_front() {
         act_on(alloc, core, event, text, writer)?;
     }
     Ok(())
