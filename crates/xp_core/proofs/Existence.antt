@@ -1,5 +1,5 @@
 -- Every event has a step.
-use Rattle.std.proofs.Common.{◌≡◌, ℕ, ◌+◌, ◌<◌, ◌≤◌, length, Option, Some, None, List, [], ◌∷◌, refl, ap, sym, subst, arith}
+use Rattle.std.proofs.Common.{◌≡◌, ℕ, ◌+◌, ◌<◌, length, Option, Some, None, List, [], refl, arith}
 use Rattle.xp_answer.proofs.Every.{one_answer, one_indication}
 use Rattle.xp_answer.specs.Answered.{Answered}
 use Rattle.xp_answer.specs.Setup.{setup_of}
@@ -20,7 +20,6 @@ use Rattle.xp_subs.specs.Tables.{Tables, address_of, line_count}
 use Rattle.xp_core.specs.declared.entry.Entry.{Entry}
 use Rattle.xp_core.specs.declared.event.Event.{Event}
 use Rattle.xp_core.specs.declared.event.What.{What}
-use Rattle.xp_core.specs.declared.event.What.TheVariants.{Frame}
 use Rattle.xp_core.specs.declared.outcome.Outcome.{Outcome}
 use Rattle.xp_core.specs.declared.outcome.Outcome.TheVariants.{Plain, Put, Refused, Connected, Declined}
 use Rattle.xp_core.specs.declared.output.Output.{Output}
@@ -36,18 +35,11 @@ use Rattle.xp_core.specs.Table.{CallAccepted, CallRequest, ClearRequest, accepte
 use Rattle.xp_core.specs.Told.{Told, outputs_of}
 use Rattle.xp_core.specs.World.{Call, World, call_on}
 use Rattle.xp_core.proofs.Agreed.{run_agreed}
+use Rattle.xp_core.proofs.Fitting.{request_few}
 use Rattle.xp_core.proofs.InCall.{shown_on}
 use Rattle.xp_core.proofs.Sizes.{run_sized}
 
 module _ {A : Type 0} where
-  -- a call request in a frame that was read dials few digits
-  request_few : (what : What A) (request : CallRequest A) → request_in what ≡ Some request → IsReadable what → length request.block.called ≤ 15
-  request_few (Frame identifier (CallPacket d block)) request is readable =
-      let same : ◌≡◌ {A = CallRequest A} (record { identifier = identifier; d = d; block = block }) request = cc in
-      let P : CallRequest A → Type 0 = λ r. length r.block.called ≤ 15 in
-      subst P same readable.few
-  request_few what request is readable = absurd (cc)
-
   -- something is settled and put out
   record HasActs (Does : Outcome → Told A → Type 0) : Type 0 where
     outcome : Outcome
