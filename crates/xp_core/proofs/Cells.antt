@@ -1,37 +1,77 @@
 -- The states in which the table has an action.
 use Rattle.std.proofs.Common.{◌≡◌, ℕ, None, refl}
-use Rattle.xp_core.specs.Channel.{State, Off, Ready, Waiting, Ringing, Talking, Cleared, call_of}
-use Rattle.xp_core.specs.declared.table.Action.{Action}
-use Rattle.xp_core.specs.declared.table.Action.TheVariants.{Rise, NewCall, Answer, Free}
-use Rattle.xp_core.specs.declared.table.Kind.{Kind}
-use Rattle.xp_core.specs.declared.table.Kind.TheVariants as kinds
-use Rattle.xp_core.specs.Table.{cell}
+use Rattle.xp_channel.specs.declared.action.Action.{Action}
+use Rattle.xp_channel.specs.declared.action.Action.TheVariants.{Nothing, Rise, Fall, NewCall, Collision, Answer, Confirm, Free, Error, Relayed, Expired}
+use Rattle.xp_channel.specs.declared.kind.Kind.{Kind}
+use Rattle.xp_channel.specs.declared.kind.Kind.TheVariants as kinds
+use Rattle.xp_channel.specs.Table.{cell}
+use Rattle.xp_core.specs.Channel.{State, Off, Ready, Waiting, Ringing, Talking, Cleared, call_of, channel_of}
 
 abbrev pub Suits : Action → State → Type 0
 Suits Rise state = call_of state ≡ None
 Suits Free state = call_of state ≡ None
 Suits NewCall state = state ≡ Ready
+Suits Collision state = (number : ℕ) × (state ≡ Ringing number)
 Suits Answer state = (number : ℕ) × (state ≡ Ringing number)
-Suits action state = Unit {0}
+Suits Nothing state = Unit {0}
+Suits Fall state = Unit {0}
+Suits Confirm state = Unit {0}
+Suits (Error diagnostic) state = Unit {0}
+Suits Relayed state = Unit {0}
+Suits Expired state = Unit {0}
 
-pub suits : (state : State) (kind : Kind) → Suits (cell state kind) state
+pub suits : (state : State) (kind : Kind) → Suits (cell (channel_of state) kind) state
 suits Off kinds.Up = refl
-suits Off kind = tt
+suits Off kinds.Down = tt
+suits Off kinds.Call = tt
+suits Off kinds.Accepted = tt
+suits Off kinds.Clear = tt
+suits Off kinds.ClearConfirm = tt
+suits Off kinds.Relayed = tt
+suits Off kinds.Expire = tt
+suits Off (kinds.Wrong diagnostic) = tt
+suits Ready kinds.Up = tt
 suits Ready kinds.Down = tt
 suits Ready kinds.Call = refl
+suits Ready kinds.Accepted = tt
 suits Ready kinds.Clear = tt
-suits Ready kind = tt
+suits Ready kinds.ClearConfirm = tt
+suits Ready kinds.Relayed = tt
+suits Ready kinds.Expire = tt
+suits Ready (kinds.Wrong diagnostic) = tt
+suits (Waiting number) kinds.Up = tt
 suits (Waiting number) kinds.Down = tt
+suits (Waiting number) kinds.Call = tt
+suits (Waiting number) kinds.Accepted = tt
 suits (Waiting number) kinds.Clear = tt
-suits (Waiting number) kind = tt
+suits (Waiting number) kinds.ClearConfirm = tt
+suits (Waiting number) kinds.Relayed = tt
+suits (Waiting number) kinds.Expire = tt
+suits (Waiting number) (kinds.Wrong diagnostic) = tt
+suits (Ringing number) kinds.Up = tt
 suits (Ringing number) kinds.Down = tt
+suits (Ringing number) kinds.Call = (number, refl)
 suits (Ringing number) kinds.Accepted = (number, refl)
 suits (Ringing number) kinds.Clear = tt
-suits (Ringing number) kind = tt
+suits (Ringing number) kinds.ClearConfirm = tt
+suits (Ringing number) kinds.Relayed = tt
+suits (Ringing number) kinds.Expire = tt
+suits (Ringing number) (kinds.Wrong diagnostic) = tt
+suits (Talking number) kinds.Up = tt
 suits (Talking number) kinds.Down = tt
+suits (Talking number) kinds.Call = tt
+suits (Talking number) kinds.Accepted = tt
 suits (Talking number) kinds.Clear = tt
-suits (Talking number) kind = tt
+suits (Talking number) kinds.ClearConfirm = tt
+suits (Talking number) kinds.Relayed = tt
+suits (Talking number) kinds.Expire = tt
+suits (Talking number) (kinds.Wrong diagnostic) = tt
+suits Cleared kinds.Up = tt
 suits Cleared kinds.Down = tt
+suits Cleared kinds.Call = tt
+suits Cleared kinds.Accepted = tt
 suits Cleared kinds.Clear = refl
 suits Cleared kinds.ClearConfirm = refl
-suits Cleared kind = tt
+suits Cleared kinds.Relayed = tt
+suits Cleared kinds.Expire = tt
+suits Cleared (kinds.Wrong diagnostic) = tt

@@ -2,8 +2,10 @@
 use Rattle.std.proofs.Common.{◌≡◌, ◌≢◌, ℕ, ◌+◌, ◌<◌, eqb, Some, None, List, length, set, refl, ap, sym, subst, ◌∙◌, inl, inr, arith}
 use Rattle.std.proofs.lemmas.Bool.{cases_eq, cond_both}
 use Rattle.std.specs.FinMap.{insert, remove}
+use Rattle.xp_answer.specs.declared.setup.Setup.{Setup}
 use Rattle.xp_subs.specs.Tables.{Tables, line_count}
-use Rattle.xp_core.specs.Changes.{Change, Rises, Leaves, Begins, IsRefused, Connects, Ends, Way, GoesOut, IsConfirmed, IsFree, changed, state_after}
+use Rattle.xp_core.specs.declared.outcome.Agreement.{Agreement}
+use Rattle.xp_core.specs.Changes.{Change, Rises, Leaves, Begins, IsRefused, Connects, Ends, Way, GoesOut, IsFree, IsCleared, changed, state_after}
 use Rattle.xp_core.specs.Channel.{State, Waiting, Ringing, Talking, INITIAL_IDENTIFIER, call_of}
 use Rattle.xp_core.specs.Coupling.{AreCoupled, IsEnd, IsHeld}
 use Rattle.xp_core.specs.World.{Call, Line, World, call_numbered, far_end, line_at, state_at}
@@ -29,12 +31,12 @@ pub record IsIn (world : World) (number : ℕ) (call : Call) (line : ℕ) : Type
   pub end : IsEnd call line
 
 -- when a change can be made
-abbrev pub CanBe : {A : Type 0} → World → Change A → Type 0
+abbrev pub CanBe : World → Change → Type 0
 CanBe world (Rises line) = IsOut world line
 CanBe world (Leaves line way) = IsOut world line
-CanBe world (Begins line identifier called dialled packet) = AreTwo world line called
+CanBe world (Begins line identifier called dialled setup) = AreTwo world line called
 CanBe world (IsRefused line identifier dialled why) = IsOut world line
-CanBe world (Connects number call packet) = call_numbered world number ≡ Some call
+CanBe world (Connects number call agreement) = call_numbered world number ≡ Some call
 CanBe world (Ends number call line way cause diagnostic) = IsIn world number call line
 
 -- as calls of these numbers end, a line stays in its call, which goes on, or is in none, and its call was one of those
@@ -80,25 +82,25 @@ module _ (tables : Tables) (world : World) (coupled : AreCoupled tables world) (
 
   left_out : (way : Way) → call_of (state_after way) ≡ None
   left_out GoesOut = refl
-  left_out IsConfirmed = refl
   left_out IsFree = refl
+  left_out IsCleared = refl
 
   -- a call ends
   module _ (number : ℕ) (call : Call) (line : ℕ) (in_it : IsIn world number call line) where
     held : IsHeld tables world number call
     held = coupled.held number call in_it.live
 
-    line_within : line < length world.lines
+    pub line_within : line < length world.lines
     line_within = elim in_it.end [
       | inl is ↦ omega (arith, lines, held.caller, is)
       | inr is ↦ omega (arith, lines, held.called, is)
     ]
 
-    far_within : far_end call line < length world.lines
+    pub far_within : far_end call line < length world.lines
     far_within = cond_both (eqb call.caller line) call.called call.caller (λ l. l < length world.lines)
         (λ first. omega (arith, lines, held.called)) (λ second. omega (arith, lines, held.caller))
 
-    far_shows : call_of (state_at world (far_end call line)) ≡ Some number
+    pub far_shows : call_of (state_at world (far_end call line)) ≡ Some number
     far_shows = cond_both (eqb call.caller line) call.called call.caller (λ l. call_of (state_at world l) ≡ Some number)
         (λ first. called_shows tables world number call held) (λ second. caller_shows tables world number call held)
 
@@ -120,9 +122,9 @@ module _ (tables : Tables) (world : World) (coupled : AreCoupled tables world) (
         })
 
   -- a call between two lines in no call begins
-  module _ (caller called identifier : ℕ) (dialled : List ℕ) (two : AreTwo world caller called) (fresh : call_numbered world world.next ≡ None) where
+  module _ (caller called identifier : ℕ) (dialled : List ℕ) (setup : Setup) (two : AreTwo world caller called) (fresh : call_numbered world world.next ≡ None) where
     abbrev call : Call
-    call = record { caller = caller; called = called; dialled = dialled }
+    call = record { caller = caller; called = called; dialled = dialled; setup = setup; agreed = None }
 
     abbrev waits : Line
     waits = record (line_at world caller) { state = Waiting world.next; identifier = identifier }
@@ -191,12 +193,18 @@ module _ (tables : Tables) (world : World) (coupled : AreCoupled tables world) (
     }
 
   -- a call is accepted: both its lines come to data transfer
-  module _ (number : ℕ) (call : Call) (live : call_numbered world number ≡ Some call) where
+  module _ (number : ℕ) (call : Call) (agreement : Agreement) (live : call_numbered world number ≡ Some call) where
     abbrev talking : ℕ → Line
     talking line = record (line_at world line) { state = Talking number }
 
+    abbrev agreed : Call
+    agreed = record call { agreed = Some agreement }
+
     abbrev accepted : World
-    accepted = record world { lines = set (set world.lines call.called (talking call.called)) call.caller (talking call.caller) }
+    accepted = record world {
+      lines = set (set world.lines call.called (talking call.called)) call.caller (talking call.caller);
+      calls = insert world.calls number agreed;
+    }
 
     was : IsHeld tables world number call
     was = coupled.held number call live
@@ -223,43 +231,55 @@ module _ (tables : Tables) (world : World) (coupled : AreCoupled tables world) (
       ]
     ]
 
+    agreed_held : IsHeld tables accepted number agreed
+    agreed_held = record {
+      caller = was.caller;
+      called = was.called;
+      two = was.two;
+      stage = inr (talks call.caller (caller_shows tables world number call was), talks call.called (called_shows tables world number call was));
+    }
+
     -- the lines of a call of another number stay as they were
-    holds : (n : ℕ) (other : Call) → IsHeld tables world n other → IsHeld tables accepted n other
-    holds n other old = elim (cases_eq number n) [
-      | inl same ↦
-          let shown : Some n ≡ Some number = ap (λ m. Some m) (sym same) in
-          let talk : Talking number ≡ Talking n = ap (λ m. Talking m) same in
-          record {
-            caller = old.caller;
-            called = old.called;
-            two = old.two;
-            stage = inr (
-              talks other.caller (caller_shows tables world n other old ∙ shown) ∙ talk,
-              talks other.called (called_shows tables world n other old ∙ shown) ∙ talk,
-            );
-          }
-      | inr differs ↦ held_still tables world n other old accepted (λ line shows. elim (accepts line) [
-        | late is now ↦ absurd (differs (same_number world line call.caller number n is shows (caller_shows tables world number call was)))
-        | early is now ↦ absurd (differs (same_number world line call.called number n is shows (called_shows tables world number call was)))
-        | never not_called not_caller now ↦ ap (λ k. k.state) now
-      ])
-    ]
+    holds : (n : ℕ) (other : Call) → n ≢ number → IsHeld tables world n other → IsHeld tables accepted n other
+    holds n other differs old = held_still tables world n other old accepted (λ line shows. elim (accepts line) [
+      | late is now ↦ absurd (differs (sym (same_number world line call.caller number n is shows (caller_shows tables world number call was))))
+      | early is now ↦ absurd (differs (sym (same_number world line call.called number n is shows (called_shows tables world number call was))))
+      | never not_called not_caller now ↦ ap (λ k. k.state) now
+    ])
 
     accepted_coupled : AreCoupled tables accepted
     accepted_coupled = record {
-      held = λ n other is. holds n other (coupled.held n other is);
-      shown = λ line n shows. coupled.shown line n (showed line n shows);
+      held = λ n other is. elim (new_or_old world.calls number agreed n other is) [
+        | inl new ↦
+            let P : ℕ → Type 0 = λ m. IsHeld tables accepted m other in
+            let Q : Call → Type 0 = λ c. IsHeld tables accepted number c in
+            subst P (sym new.0) (subst Q new.1 agreed_held)
+        | inr old ↦ holds n other old.0 (coupled.held n other old.1)
+      ];
+      shown = λ line n shows.
+          let found = coupled.shown line n (showed line n shows) in
+          elim (cases_eq n number) [
+            | inl same ↦
+                let there : call_numbered world n ≡ Some found.0 = found.1 in
+                let here : call_numbered world n ≡ Some call = ap (call_numbered world) same ∙ live in
+                let P : ℕ → Type 0 = λ m. call_numbered accepted m ≡ Some agreed in
+                let E : Call → Type 0 = λ c. IsEnd c line in
+                let is : found.0 ≡ call = cc in
+                (agreed, subst P (sym same) (get_new world.calls number agreed), subst E is found.2)
+            | inr other ↦ (found.0, get_other world.calls number agreed n other ∙ found.1, found.2)
+          ];
     }
 
-pub changed_coupled : {A : Type 0} (tables : Tables) (world : World) (change : Change A) → AreCoupled tables world → length world.lines ≡ line_count tables
+pub changed_coupled : (tables : Tables) (world : World) (change : Change) → AreCoupled tables world → length world.lines ≡ line_count tables
     → call_numbered world world.next ≡ None → CanBe world change → AreCoupled tables (changed change world)
 changed_coupled tables world (Rises line) coupled lines fresh can = quiet_coupled tables world coupled lines line _ world.next can refl
 changed_coupled tables world (Leaves line way) coupled lines fresh can =
     quiet_coupled tables world coupled lines line _ world.next can (left_out tables world coupled lines way)
-changed_coupled tables world (Begins line identifier called dialled packet) coupled lines fresh can =
-    put_coupled tables world coupled lines line called identifier dialled can fresh
+changed_coupled tables world (Begins line identifier called dialled setup) coupled lines fresh can =
+    put_coupled tables world coupled lines line called identifier dialled setup can fresh
 changed_coupled tables world (IsRefused line identifier dialled why) coupled lines fresh can =
     quiet_coupled tables world coupled lines line _ (world.next + 1) can refl
-changed_coupled tables world (Connects number call packet) coupled lines fresh can = accepted_coupled tables world coupled lines number call can
+changed_coupled tables world (Connects number call agreement) coupled lines fresh can =
+    accepted_coupled tables world coupled lines number call agreement can
 changed_coupled tables world (Ends number call line way cause diagnostic) coupled lines fresh can =
     closed_coupled tables world coupled lines number call line can _ _ refl (left_out tables world coupled lines way)

@@ -2,24 +2,29 @@
 use Rattle.std.proofs.Common.{◌≡◌, ℕ, ◌+◌, ◌≤◌, ◌<◌, append-nil, cond, eqb, is_some, Option, Some, None, List, [], ◌∷◌, ◌++◌, All, length, refl, ap, sym, subst, ◌∙◌, inl, inr, arith}
 use Rattle.std.proofs.lemmas.Bool.{eq-eqb, cases_lt}
 use Rattle.std.proofs.lemmas.List.Elements.{All-nil, All-cons, All-same}
+use Rattle.xp_causes.specs.declared.clearing_cause.TheConstants.{NUMBER_BUSY}
+use Rattle.xp_causes.specs.declared.diagnostic.TheConstants.{CALL_COLLISION}
+use Rattle.xp_causes.specs.declared.refusal.Refusal.{Refusal}
+use Rattle.xp_packets.specs.declared.block.Block.{Block}
 use Rattle.xp_packets.specs.declared.packet.Packet.TheVariants.{Clear}
 use Rattle.xp_subs.specs.Tables.{Tables, line_count}
 use Rattle.xp_core.specs.declared.entry.Entry.{Entry}
-use Rattle.xp_core.specs.declared.table.Action.TheVariants.{NewCall}
-use Rattle.xp_core.specs.Changes.{Change, Rises, Leaves, Begins, IsRefused, Connects, Ends, Way, GoesOut, IsConfirmed, IsFree, all_changed, changed, outputs_of, recorded, recorded_by}
+use Rattle.xp_core.specs.Changes.{Change, Rises, Leaves, Begins, IsRefused, Connects, Ends, Way, all_changed, changed, recorded, recorded_by}
 use Rattle.xp_core.specs.Clearing.{record_of, refused_record}
 use Rattle.xp_core.specs.Records.{Begins as HasBegun, Ends as HasEnded, IsLive, IsRecordOf, Moment, OneRecordEach, clears_to, count_of}
 use Rattle.xp_core.specs.Run.{Run}
+use Rattle.xp_core.specs.Outcomes.{payer_of, taken_by}
 use Rattle.xp_core.specs.Setting.{setting}
-use Rattle.xp_core.specs.Step.{action_at}
-use Rattle.xp_core.specs.Table.{CallRequest}
+use Rattle.xp_core.specs.Step.{changes_of}
+use Rattle.xp_core.specs.Table.{CallRequest, action_at}
+use Rattle.xp_core.specs.Told.{outputs_of}
 use Rattle.xp_core.specs.World.{Call, World, call_numbered, far_end, opening}
 use Rattle.xp_core.proofs.Coupled.{CanBe}
 use Rattle.xp_core.proofs.Ledger.{IsBegun, IsBooked, Tallies, begun_still, live_none, live_of, run_booked, step_tallies}
-use Rattle.xp_core.proofs.Maps.{get_gone}
+use Rattle.xp_core.proofs.Maps.{get_gone, get_other}
 use Rattle.xp_core.proofs.RunLemmas.{run_split}
-use Rattle.xp_core.proofs.Shapes.{ComesOf, none, one, step_shape}
-use Rattle.xp_core.proofs.Sounds.{IsRight, run_right}
+use Rattle.xp_core.proofs.Shapes.{ComesOf, IsNew, none, one, two, cancelled_by}
+use Rattle.xp_core.proofs.Sounds.{IsRight, cancel_right, run_right, shape_of}
 
 -- a number that is not yet given is no live call's
 none_of : (world : World) (number : ℕ) → (IsLive world number → ⊥) → live_of world number ≡ 0
@@ -28,16 +33,7 @@ none_of world number gone = elim (call_numbered world number) as (λ found. call
   | Some call ↦ λ is. absurd (gone (call, is))
 ] refl
 
-chosen : {X : Type 0} (line : ℕ) (x : X) → cond (eqb line line) (x ∷ []) [] ++ [] ≡ x ∷ []
-chosen line x = ap (λ b. cond b (x ∷ []) [] ++ []) (eq-eqb line line refl)
-
 module _ {A : Type 0} where
-  told_end : (world : World) (number : ℕ) (call : Call) (line : ℕ) (way : Way) (cause diagnostic : ℕ)
-      → clears_to {A = A} (far_end call line) (outputs_of world (Ends number call line way cause diagnostic ∷ [])) ≡ Clear cause (Some diagnostic) None ∷ []
-  told_end world number call line GoesOut cause diagnostic = chosen (far_end call line) (Clear cause (Some diagnostic) None)
-  told_end world number call line IsConfirmed cause diagnostic = chosen (far_end call line) (Clear cause (Some diagnostic) None)
-  told_end world number call line IsFree cause diagnostic = chosen (far_end call line) (Clear cause (Some diagnostic) None)
-
   module _ (tables : Tables) (history : List (Entry A)) (moment : Moment tables history) where
     right : IsRight tables (length moment.before) moment.world
     right = run_right tables moment.before moment.world moment.run
@@ -48,51 +44,47 @@ module _ {A : Type 0} where
     tallies : Tallies moment.world moment.next moment.entry.records.items
     tallies = step_tallies tables moment.before moment.world moment.entry moment.next _ right moment.step
 
-    abbrev Told : List (Change A) → Type 0
-    Told changes = moment.entry.outputs ≡ outputs_of moment.world changes
+    abbrev Comes : Change → Type 0
+    Comes change = ComesOf (setting tables moment.before moment.world moment.entry.event.line) moment.entry.event.what
+        (action_at moment.world moment.entry.event) moment.entry.outcome moment.step.told change
 
-    of_change : (change : Change A) → moment.next ≡ changed change moment.world → Told (change ∷ []) → CanBe moment.world change
-        → ComesOf (setting tables moment.before moment.world moment.entry.event.line) moment.entry.event.what (action_at moment.world moment.entry.event) moment.entry.taken change
-        → All (IsRecordOf moment) (recorded moment.world change)
-    of_change (Rises line) leads told can from = All-nil (IsRecordOf moment)
-    of_change (Leaves line way) leads told can from = All-nil (IsRecordOf moment)
-    of_change (Begins line identifier called dialled packet) leads told can from = All-nil (IsRecordOf moment)
-    of_change (Connects number call packet) leads told can from = All-nil (IsRecordOf moment)
-    of_change (IsRefused line identifier dialled why) leads told can from =
-        let request : HasBegun moment moment.world.next from.0.request = record { asks = from.0.asks; new = from.0.new; numbered = refl } in
-        All-cons (IsRecordOf moment) (refused_record moment.world.next line dialled why) [] (record {
+    -- the record of a call that was refused here, from a world of the same numbers
+    refused_recorded : (w : World) (line identifier : ℕ) (dialled : List ℕ) (why : Refusal) → w.next ≡ moment.world.next
+        → (call_numbered moment.next w.next ≡ None) → Comes (IsRefused line identifier dialled why)
+        → IsRecordOf moment (refused_record w.next line dialled why)
+    refused_recorded w line identifier dialled why same missing from =
+        let request : HasBegun moment w.next from.asked.request = record { asks = from.asked.asks; new = from.asked.new; numbered = same } in
+        record {
           ends = record {
-            was = inr (from.0.request, request);
-            gone = λ live.
-                let missing : call_numbered moment.world moment.world.next ≡ None = right.sound.fresh moment.world.next (omega arith) in
-                let P : World → Type 0 = λ w. call_numbered w moment.world.next ≡ Some live.0 in
-                let there : call_numbered moment.world moment.world.next ≡ Some live.0 = subst P leads live.1 in
-                absurd (cc);
+            was = inr (from.asked.request, request);
+            gone = λ live. let there : call_numbered moment.next w.next ≡ Some live.0 = live.1 in absurd (cc);
           };
           beginning = moment;
-          request = from.0.request;
+          request = from.asked.request;
           begins = request;
-          caller = from.0.line_is;
-          called = sym from.1;
-          dialled = from.0.dialled_is;
-          payer = refl;
+          caller = from.asked.line_is;
+          called = sym (ap taken_by from.turned);
+          dialled = from.asked.dialled_is;
+          payer = sym (ap payer_of from.turned);
           from_caller = refl;
           from_called = refl;
-          told = ap (clears_to line) told ∙ chosen line (Clear why.cause (Some why.diagnostic) None);
-        }) (All-nil (IsRecordOf moment))
-    of_change (Ends number call line way cause diagnostic) leads told can from =
+          block = None;
+          told = ap (clears_to line) moment.step.outputs ∙ from.tells;
+        }
+
+    -- the record of a live call that ended here
+    ended_recorded_as : (number : ℕ) (call : Call) (line cause diagnostic : ℕ) (block : Option (Block A)) → call_numbered moment.world number ≡ Some call
+        → call_numbered moment.next number ≡ None → line ≡ moment.entry.event.line
+        → clears_to (far_end call line) (outputs_of moment.step.told) ≡ Clear cause (Some diagnostic) block ∷ []
+        → IsRecordOf moment (record_of number call cause diagnostic)
+    ended_recorded_as number call line cause diagnostic block live missing at tells =
         let begun : IsBegun tables history number call =
-        begun_still tables moment.before history (moment.entry ∷ moment.rest) moment.splits number call (booked.begun number call can.live) in
-        let Q : ℕ → Type 0 = λ l. clears_to (far_end call l) moment.entry.outputs ≡ Clear cause (Some diagnostic) None ∷ [] in
-        All-cons (IsRecordOf moment) (record_of number call cause diagnostic) [] (record {
+        begun_still tables moment.before history (moment.entry ∷ moment.rest) moment.splits number call (booked.begun number call live) in
+        let Q : ℕ → Type 0 = λ l. clears_to (far_end call l) moment.entry.outputs ≡ Clear cause (Some diagnostic) block ∷ [] in
+        record {
           ends = record {
-            was = inl (call, can.live);
-            gone = λ live.
-                let change : Change A = Ends number call line way cause diagnostic in
-                let P : World → Type 0 = λ w. call_numbered w number ≡ Some live.0 in
-                let there : call_numbered (changed change moment.world) number ≡ Some live.0 = subst P leads live.1 in
-                let gone : call_numbered (changed change moment.world) number ≡ None = get_gone moment.world.calls number number refl in
-                absurd (cc);
+            was = inl (call, live);
+            gone = λ still. let there : call_numbered moment.next number ≡ Some still.0 = still.1 in absurd (cc);
           };
           beginning = begun.beginning;
           request = begun.request;
@@ -100,57 +92,134 @@ module _ {A : Type 0} where
           caller = begun.caller;
           called = begun.called;
           dialled = begun.dialled;
-          payer = refl;
+          payer = begun.payer;
           from_caller = refl;
           from_called = refl;
-          told = subst Q from.1 (ap (clears_to (far_end call line)) told ∙ told_end moment.world number call line way cause diagnostic);
-        }) (All-nil (IsRecordOf moment))
+          block = block;
+          told = subst Q at (ap (clears_to (far_end call line)) moment.step.outputs ∙ tells);
+        }
 
-    leads_by : (changes : List (Change A)) → moment.step.changes ≡ changes → moment.next ≡ all_changed changes moment.world
+    leads_by : (changes : List Change) → changes_of tables moment.before moment.world moment.entry ≡ changes → moment.next ≡ all_changed changes moment.world
     leads_by changes is = moment.step.leads ∙ ap (λ c. all_changed c moment.world) is
 
+    of_change : (change : Change) → moment.next ≡ changed change moment.world → CanBe moment.world change → Comes change
+        → All (IsRecordOf moment) (recorded moment.world change)
+    of_change (Rises line) leads can from = All-nil (IsRecordOf moment)
+    of_change (Leaves line way) leads can from = All-nil (IsRecordOf moment)
+    of_change (Begins line identifier called dialled setup) leads can from = All-nil (IsRecordOf moment)
+    of_change (Connects number call agreement) leads can from = All-nil (IsRecordOf moment)
+    of_change (IsRefused line identifier dialled why) leads can from =
+        All-cons (IsRecordOf moment) (refused_record moment.world.next line dialled why) []
+        (refused_recorded moment.world line identifier dialled why refl (ap (λ w. call_numbered w moment.world.next) leads ∙ right.sound.fresh moment.world.next (omega arith)) from)
+        (All-nil (IsRecordOf moment))
+    of_change (Ends number call line way cause diagnostic) leads can from =
+        All-cons (IsRecordOf moment) (record_of number call cause diagnostic) []
+        (ended_recorded_as number call line cause diagnostic from.block can.live
+        (ap (λ w. call_numbered w number) leads ∙ get_gone moment.world.calls number number refl) from.line_is from.tells)
+        (All-nil (IsRecordOf moment))
+
+    -- a collision: the record of the cancelled call, and then that of the line's own call where it is refused
+    module _ (number : ℕ) (call : Call) (new : IsNew (action_at moment.world moment.entry.event)) (first : CanBe moment.world (cancelled_by number call moment.entry.event.line)) where
+      abbrev ends : Change
+      ends = cancelled_by number call moment.entry.event.line
+
+      abbrev mid : World
+      mid = changed ends moment.world
+
+      mid_right : IsRight tables (length moment.before) mid
+      mid_right = cancel_right tables (length moment.before) moment.world number call moment.entry.event.line right first
+
+      below : number < moment.world.next
+      below = elim (cases_lt number moment.world.next) [
+        | inl earlier ↦ earlier
+        | inr past ↦
+            let missing : call_numbered moment.world number ≡ None = right.sound.fresh number past in
+            let live : call_numbered moment.world number ≡ Some call = first.live in absurd (cc)
+      ]
+
+      gone : (change : Change) → moment.next ≡ changed change mid → Comes change → call_numbered moment.next number ≡ None
+      gone change leads from = ap (λ w. call_numbered w number) leads ∙ by change from where
+        missing : call_numbered mid number ≡ None
+        missing = get_gone moment.world.calls number number refl
+        by : (c : Change) → Comes c → call_numbered (changed c mid) number ≡ None
+        by (Begins line identifier called dialled setup) comes =
+            get_other mid.calls mid.next _ number (λ same. absurd (omega (arith, same, below))) ∙ missing
+        by (IsRefused line identifier dialled why) comes = missing
+        by (Rises line) comes = missing
+        by (Leaves line way) comes = missing
+        by (Connects n c agreement) comes = absurd (comes.old new)
+        by (Ends n c line way cause diagnostic) comes = absurd (comes.old new)
+
+      second_recorded : (change : Change) → moment.next ≡ changed change mid → Comes change → All (IsRecordOf moment) (recorded mid change)
+      second_recorded (Rises line) leads from = All-nil (IsRecordOf moment)
+      second_recorded (Leaves line way) leads from = All-nil (IsRecordOf moment)
+      second_recorded (Begins line identifier called dialled setup) leads from = All-nil (IsRecordOf moment)
+      second_recorded (Connects n c agreement) leads from = All-nil (IsRecordOf moment)
+      second_recorded (IsRefused line identifier dialled why) leads from =
+          All-cons (IsRecordOf moment) (refused_record mid.next line dialled why) []
+          (refused_recorded mid line identifier dialled why refl (ap (λ w. call_numbered w mid.next) leads ∙ mid_right.sound.fresh mid.next (omega arith)) from)
+          (All-nil (IsRecordOf moment))
+      second_recorded (Ends n c line way cause diagnostic) leads from = absurd (from.old new)
+
+      both_recorded : (change : Change) → moment.next ≡ changed change mid → Comes change
+          → clears_to (far_end call moment.entry.event.line) (outputs_of moment.step.told) ≡ Clear NUMBER_BUSY (Some CALL_COLLISION) None ∷ []
+          → All (IsRecordOf moment) (record_of number call NUMBER_BUSY CALL_COLLISION ∷ recorded mid change)
+      both_recorded change leads from tells =
+          All-cons (IsRecordOf moment) (record_of number call NUMBER_BUSY CALL_COLLISION) (recorded mid change)
+          (ended_recorded_as number call moment.entry.event.line NUMBER_BUSY CALL_COLLISION None first.live (gone change leads from) refl tells)
+          (second_recorded change leads from)
+
     each_recorded : All (IsRecordOf moment) moment.entry.records.items
-    each_recorded = elim (step_shape tables moment.before moment.world moment.entry moment.next right.coupled moment.step) [
+    each_recorded = elim (shape_of tables moment.before moment.world moment.entry moment.next (length moment.before) right moment.step) [
       | none is old ↦ All-same (IsRecordOf moment) moment.entry.records.items [] (moment.step.records ∙ ap (recorded_by moment.world) is) (All-nil (IsRecordOf moment))
       | one change is can from ↦
           All-same (IsRecordOf moment) moment.entry.records.items (recorded moment.world change)
           (moment.step.records ∙ ap (recorded_by moment.world) is ∙ append-nil (recorded moment.world change))
-          (of_change change (leads_by (change ∷ []) is) (moment.step.outputs ∙ ap (outputs_of moment.world) is) can from)
+          (of_change change (leads_by (change ∷ []) is) can from)
+      | two number call change new is first can tells from ↦
+          All-same (IsRecordOf moment) moment.entry.records.items (record_of number call NUMBER_BUSY CALL_COLLISION ∷ recorded (mid number call new first) change)
+          (moment.step.records ∙ ap (recorded_by moment.world) is ∙ ap (λ more. record_of number call NUMBER_BUSY CALL_COLLISION ∷ more) (append-nil (recorded (mid number call new first) change)))
+          (both_recorded number call new first change (leads_by (ends number call new first ∷ change ∷ []) is) from tells)
     ]
 
-    few_of : (change : Change A) → length (recorded moment.world change) ≤ 1
-    few_of (Rises line) = omega arith
-    few_of (Leaves line way) = omega arith
-    few_of (Begins line identifier called dialled packet) = omega arith
-    few_of (IsRefused line identifier dialled why) = omega arith
-    few_of (Connects number call packet) = omega arith
-    few_of (Ends number call line way cause diagnostic) = omega arith
+    few_of : (w : World) (change : Change) → length (recorded w change) ≤ 1
+    few_of w (Rises line) = omega arith
+    few_of w (Leaves line way) = omega arith
+    few_of w (Begins line identifier called dialled setup) = omega arith
+    few_of w (IsRefused line identifier dialled why) = omega arith
+    few_of w (Connects number call agreement) = omega arith
+    few_of w (Ends number call line way cause diagnostic) = omega arith
 
     few_recorded : length moment.entry.records.items ≤ 2
-    few_recorded = elim (step_shape tables moment.before moment.world moment.entry moment.next right.coupled moment.step) [
+    few_recorded = elim (shape_of tables moment.before moment.world moment.entry moment.next (length moment.before) right moment.step) [
       | none is old ↦ omega (arith, ap length (moment.step.records ∙ ap (recorded_by moment.world) is))
       | one change is can from ↦ omega (
         arith,
-        few_of change,
+        few_of moment.world change,
         ap length (moment.step.records ∙ ap (recorded_by moment.world) is ∙ append-nil (recorded moment.world change)),
+      )
+      | two number call change new is first can tells from ↦ omega (
+        arith,
+        few_of (mid number call new first) change,
+        ap length (moment.step.records ∙ ap (recorded_by moment.world) is ∙ ap (λ more. record_of number call NUMBER_BUSY CALL_COLLISION ∷ more) (append-nil (recorded (mid number call new first) change))),
       )
     ]
 
     -- a new call uses a number
-    numbers : (change : Change A) → action_at moment.world moment.entry.event ≡ NewCall
-        → ComesOf (setting tables moment.before moment.world moment.entry.event.line) moment.entry.event.what (action_at moment.world moment.entry.event) moment.entry.taken change
-        → (changed change moment.world).next ≡ moment.world.next + 1
-    numbers (Rises line) new from = absurd (from new)
-    numbers (Leaves line way) new from = absurd (from new)
-    numbers (Begins line identifier called dialled packet) new from = refl
-    numbers (IsRefused line identifier dialled why) new from = refl
-    numbers (Connects number call packet) new from = absurd (from.0 new)
-    numbers (Ends number call line way cause diagnostic) new from = absurd (from.0 new)
+    numbers : (w : World) (change : Change) → IsNew (action_at moment.world moment.entry.event) → Comes change → (changed change w).next ≡ w.next + 1
+    numbers w (Rises line) new from = absurd (from new)
+    numbers w (Leaves line way) new from = absurd (from new)
+    numbers w (Begins line identifier called dialled setup) new from = refl
+    numbers w (IsRefused line identifier dialled why) new from = refl
+    numbers w (Connects number call agreement) new from = absurd (from.old new)
+    numbers w (Ends number call line way cause diagnostic) new from = absurd (from.old new)
 
     begun_counts : (request : CallRequest A) (number : ℕ) → HasBegun moment number request → moment.world.next < moment.next.next
-    begun_counts request number begins = elim (step_shape tables moment.before moment.world moment.entry moment.next right.coupled moment.step) [
+    begun_counts request number begins = elim (shape_of tables moment.before moment.world moment.entry moment.next (length moment.before) right moment.step) [
       | none is old ↦ absurd (old request begins.asks begins.new)
-      | one change is can from ↦ omega (arith, ap (λ w. w.next) (leads_by (change ∷ []) is), numbers change begins.new from)
+      | one change is can from ↦ omega (arith, ap (λ w. w.next) (leads_by (change ∷ []) is), numbers moment.world change begins.new from)
+      | two n call change new is first can tells from ↦
+          omega (arith, ap (λ w. w.next) (leads_by (ends n call new first ∷ change ∷ []) is), numbers (mid n call new first) change begins.new from)
     ]
 
     ended_recorded : (number : ℕ) → HasEnded moment number → count_of number moment.entry.records.items ≡ 1

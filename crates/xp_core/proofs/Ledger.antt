@@ -6,21 +6,22 @@ use Rattle.std.specs.FinMap.{get-empty}
 use Rattle.std.specs.Ordering.{nat_cmp}
 use Rattle.xp_subs.specs.Tables.{Tables, line_count}
 use Rattle.xp_core.specs.declared.entry.Entry.{Entry}
-use Rattle.xp_core.specs.declared.record.Record.{Record}
+use Rattle.xp_charge.specs.declared.record.Record.{Record}
 use Rattle.xp_core.specs.Changes.{Change, Rises, Leaves, Begins, IsRefused, Connects, Ends, all_changed, changed, recorded, recorded_by}
 use Rattle.xp_core.specs.Clearing.{record_of, refused_record}
 use Rattle.xp_core.specs.Records.{Begins as HasBegun, Moment, count_of, holders, records_of}
+use Rattle.xp_core.specs.Outcomes.{payer_of, taken_by}
 use Rattle.xp_core.specs.Run.{Run}
 use Rattle.xp_core.specs.Setting.{setting}
-use Rattle.xp_core.specs.Step.{Step, action_at}
-use Rattle.xp_core.specs.Table.{CallRequest}
+use Rattle.xp_core.specs.Step.{Step, changes_of}
+use Rattle.xp_core.specs.Table.{CallRequest, action_at}
 use Rattle.xp_core.specs.World.{Call, World, call_numbered, opening}
 use Rattle.xp_core.proofs.Counts.{count_by-append, count_by-cons}
 use Rattle.xp_core.proofs.Coupled.{CanBe}
 use Rattle.xp_core.proofs.Maps.{get_gone, get_left, get_new, get_other, new_or_old, was_there}
 use Rattle.xp_core.proofs.RunLemmas.{run_keeps, run_push}
-use Rattle.xp_core.proofs.Shapes.{none, one, ComesOf, step_shape}
-use Rattle.xp_core.proofs.Sounds.{IsRight, run_right}
+use Rattle.xp_core.proofs.Shapes.{none, one, two, ComesOf, cancelled_by}
+use Rattle.xp_core.proofs.Sounds.{IsRight, cancel_right, run_right, shape_of}
 
 -- 1 for a live call, else 0
 abbrev pub live_of : World → ℕ → ℕ
@@ -63,15 +64,31 @@ tallies_same world next number same = record {
   beyond = λ n past. omega (arith, live_same world next n (same n));
 }
 
-pub changed_tallies : {A : Type 0} (world : World) (change : Change A) → ((number : ℕ) → world.next ≤ number → call_numbered world number ≡ None)
+pub changed_tallies : (world : World) (change : Change) → ((number : ℕ) → world.next ≤ number → call_numbered world number ≡ None)
     → CanBe world change → Tallies world (changed change world) (recorded world change)
 changed_tallies world (Rises line) fresh can = tallies_same world _ refl (λ number. refl)
 changed_tallies world (Leaves line way) fresh can = tallies_same world _ refl (λ number. refl)
-changed_tallies world (Connects number call packet) fresh can = tallies_same world _ refl (λ n. refl)
-changed_tallies {A} world (Begins line identifier called dialled packet) fresh can =
-    let change : Change A = Begins line identifier called dialled packet in
+changed_tallies world (Connects number call agreement) fresh can = record {
+  grows = omega arith;
+  old = λ n below. same n;
+  new = λ n past below. absurd (omega (arith, past, below));
+  beyond = λ n past. same n;
+} where
+  agreed : Call
+  agreed = record call { agreed = Some agreement }
+
+  same : (n : ℕ) → count_of n [] + live_of (changed (Connects number call agreement) world) n ≡ live_of world n
+  same n = elim (cases_eq n number) [
+    | inl is ↦
+        let P : ℕ → Type 0 = λ m. live_of (changed (Connects number call agreement) world) m ≡ live_of world m in
+        let here : P number = live_is (changed (Connects number call agreement) world) number agreed (get_new world.calls number agreed) ∙ sym (live_is world number call can) in
+        omega (arith, subst P (sym is) here)
+    | inr other ↦ omega (arith, live_same world (changed (Connects number call agreement) world) n (get_other world.calls number agreed n other))
+  ]
+changed_tallies world (Begins line identifier called dialled setup) fresh can =
+    let change : Change = Begins line identifier called dialled setup in
     let next : World = changed change world in
-    let call : Call = record { caller = line; called = called; dialled = dialled } in
+    let call : Call = record { caller = line; called = called; dialled = dialled; setup = setup; agreed = None } in
     let other : (number : ℕ) → number ≢ world.next → live_of next number ≡ live_of world number =
     λ number differs. live_same world next number (get_other world.calls world.next call number differs) in
     record {
@@ -92,8 +109,8 @@ changed_tallies world (IsRefused line identifier dialled why) fresh can =
       new = λ number past below. omega (arith, count_of-one number charged (omega (arith, past, below)));
       beyond = λ number past. omega (arith, count_of-other number charged (λ same. absurd (omega (arith, same, past))));
     }
-changed_tallies {A} world (Ends number call line way cause diagnostic) fresh can =
-    let change : Change A = Ends number call line way cause diagnostic in
+changed_tallies world (Ends number call line way cause diagnostic) fresh can =
+    let change : Change = Ends number call line way cause diagnostic in
     let next : World = changed change world in
     let charged : Record = record_of number call cause diagnostic in
     let all : (n : ℕ) → count_of n (charged ∷ []) + live_of next n ≡ live_of world n =
@@ -110,19 +127,36 @@ changed_tallies {A} world (Ends number call line way cause diagnostic) fresh can
       beyond = λ n past. all n;
     }
 
+-- one after the other, the first of which gives no number
+tallies_both : (world mid next : World) (records more : List Record) → mid.next ≡ world.next → Tallies world mid records → Tallies mid next more → Tallies world next (records ++ more)
+tallies_both world mid next records more same first then = record {
+  grows = omega (arith, same, then.grows);
+  old = λ n below. omega (arith, count_of-append n records more, first.old n below, then.old n (omega (arith, same, below)));
+  new = λ n past below. omega (arith, count_of-append n records more, first.beyond n (omega (arith, same, past)), then.new n (omega (arith, same, past)) below);
+  beyond = λ n past. omega (arith, count_of-append n records more, first.beyond n (omega (arith, same, past, then.grows)), then.beyond n past);
+}
+
 module _ {A : Type 0} where
   pub step_tallies : (tables : Tables) (before : List (Entry A)) (world : World) (entry : Entry A) (next : World) (entries : ℕ) → IsRight tables entries world
       → (step : Step tables before world entry next) → Tallies world next entry.records.items
   step_tallies tables before world entry next entries right step =
       let P : World → List Record → Type 0 = λ w records. Tallies world w records in
       let Q : World → Type 0 = λ w. P w entry.records.items in
-      subst Q (sym step.leads) (subst (P (all_changed step.changes world)) (sym step.records) (
-      let R : List (Change A) → Type 0 = λ changes. P (all_changed changes world) (recorded_by world changes) in
-      elim (step_shape tables before world entry next right.coupled step) [
+      let changes : List Change = changes_of tables before world entry in
+      subst Q (sym step.leads) (subst (P (all_changed changes world)) (sym step.records) (
+      let R : List Change → Type 0 = λ changes. P (all_changed changes world) (recorded_by world changes) in
+      elim (shape_of tables before world entry next entries right step) [
         | none is old ↦ subst R (sym is) (tallies_same world world refl (λ number. refl))
         | one change is can from ↦
             let tallies = changed_tallies world change right.sound.fresh can in
             subst R (sym is) (subst (P (changed change world)) (sym (append-nil (recorded world change))) tallies)
+        | two number call change new is first can told from ↦
+            let ends : Change = cancelled_by number call entry.event.line in
+            let mid : World = changed ends world in
+            let after = cancel_right tables entries world number call entry.event.line right first in
+            let both = tallies_both world mid (changed change mid) (recorded world ends) (recorded mid change) refl
+                (changed_tallies world ends right.sound.fresh first) (changed_tallies mid change after.sound.fresh can) in
+            subst R (sym is) (subst (P (changed change mid)) (ap (λ more. recorded world ends ++ more) (sym (append-nil (recorded mid change)))) both)
       ]))
 
   -- this live call was begun at a moment of the history
@@ -131,7 +165,8 @@ module _ {A : Type 0} where
     pub request : CallRequest A
     pub begins : HasBegun beginning number request
     pub caller : call.caller ≡ beginning.entry.event.line
-    pub called : Some call.called ≡ beginning.entry.taken
+    pub called : Some call.called ≡ taken_by beginning.entry.outcome
+    pub payer : call.setup.payer ≡ payer_of beginning.entry.outcome
     pub dialled : call.dialled ≡ request.block.called
 
   pub record IsBooked (tables : Tables) (before : List (Entry A)) (world : World) : Type 0 where
@@ -160,6 +195,7 @@ module _ {A : Type 0} where
     begins = record { asks = begun.begins.asks; new = begun.begins.new; numbered = begun.begins.numbered };
     caller = begun.caller;
     called = begun.called;
+    payer = begun.payer;
     dialled = begun.dialled;
   }
 
@@ -181,32 +217,54 @@ module _ {A : Type 0} where
     abbrev Begun : World → Type 0
     Begun w = (number : ℕ) (call : Call) → call_numbered w number ≡ Some call → IsBegun tables (before ++ entry ∷ []) number call
 
-    begun_changed : (change : Change A) → CanBe world change → ComesOf (setting tables before world entry.event.line) entry.event.what (action_at world entry.event) entry.taken change
-        → Begun (changed change world)
-    begun_changed (Rises line) can from = begun
-    begun_changed (Leaves line way) can from = begun
-    begun_changed (IsRefused line identifier dialled why) can from = begun
-    begun_changed (Connects number call packet) can from = begun
-    begun_changed (Ends number call line way cause diagnostic) can from = λ n c is. begun n c (was_there world.calls number n c is).1
-    begun_changed (Begins line identifier called dialled packet) can from = λ n c is.
-        elim (new_or_old world.calls world.next (record { caller = line; called = called; dialled = dialled }) n c is) [
+    begun_changed : (change : Change) (w : World) → w.next ≡ world.next → Begun w → CanBe w change
+        → ComesOf (setting tables before world entry.event.line) entry.event.what (action_at world entry.event) entry.outcome step.told change
+        → Begun (changed change w)
+    begun_changed (Rises line) w same old can from = old
+    begun_changed (Leaves line way) w same old can from = old
+    begun_changed (IsRefused line identifier dialled why) w same old can from = old
+    begun_changed (Connects number call agreement) w same old can from = λ n c is.
+        elim (new_or_old w.calls number (record call { agreed = Some agreement }) n c is) [
+          | inl new ↦
+              let P : ℕ → Type 0 = λ m. IsBegun tables (before ++ entry ∷ []) m c in
+              let Q : Call → Type 0 = λ x. IsBegun tables (before ++ entry ∷ []) number x in
+              let was = old number call can in
+              subst P (sym new.0) (subst Q new.1 (record {
+                beginning = was.beginning;
+                request = was.request;
+                begins = was.begins;
+                caller = was.caller;
+                called = was.called;
+                payer = was.payer;
+                dialled = was.dialled;
+              }))
+          | inr before_it ↦ old n c before_it.1
+        ]
+    begun_changed (Ends number call line way cause diagnostic) w same old can from = λ n c is. old n c (was_there w.calls number n c is).1
+    begun_changed (Begins line identifier called dialled setup) w same old can from = λ n c is.
+        elim (new_or_old w.calls w.next (record { caller = line; called = called; dialled = dialled; setup = setup; agreed = None }) n c is) [
           | inl new ↦ record {
             beginning = here tables before world entry next run step;
             request = from.asked.request;
-            begins = record { asks = from.asked.asks; new = from.asked.new; numbered = new.0 };
+            begins = record { asks = from.asked.asks; new = from.asked.new; numbered = new.0 ∙ same };
             caller = sym (ap (λ x. x.caller) new.1) ∙ from.asked.line_is;
-            called = ap (λ x. Some x.called) (sym new.1) ∙ sym from.took;
+            called = ap (λ x. Some x.called) (sym new.1) ∙ sym (ap taken_by from.took);
+            payer = ap (λ x. x.setup.payer) (sym new.1) ∙ sym (ap payer_of from.took);
             dialled = sym (ap (λ x. x.dialled) new.1) ∙ from.asked.dialled_is;
           }
-          | inr old ↦ begun n c old.1
+          | inr earlier ↦ old n c earlier.1
         ]
 
     begun_next : IsRight tables (length before) world → Begun next
     begun_next right =
         let Q : World → Type 0 = λ w. Begun w in
-        elim (step_shape tables before world entry next right.coupled step) [
+        elim (shape_of tables before world entry next (length before) right step) [
           | none is old ↦ subst Q (sym (step.leads ∙ ap (λ changes. all_changed changes world) is)) begun
-          | one change is can from ↦ subst Q (sym (step.leads ∙ ap (λ changes. all_changed changes world) is)) (begun_changed change can from)
+          | one change is can from ↦ subst Q (sym (step.leads ∙ ap (λ changes. all_changed changes world) is)) (begun_changed change world refl begun can from)
+          | two number call change new is first can told from ↦
+              let ends : Change = cancelled_by number call entry.event.line in
+              subst Q (sym (step.leads ∙ ap (λ changes. all_changed changes world) is))
+              (begun_changed change (changed ends world) refl (λ n c there. begun n c (was_there world.calls number n c there).1) can from)
         ]
 
   step_booked : (tables : Tables) (before : List (Entry A)) (world : World) (entry : Entry A) (next : World)

@@ -1,124 +1,337 @@
--- What a step does: nothing, or one change that can be made.
-use Rattle.std.proofs.Common.{◌≡◌, ℕ, ◌<◌, Bool, Option, Some, None, List, [], ◌∷◌, length, refl, ap, sym, subst}
-use Rattle.xp_packets.specs.declared.packet.Packet.{Packet}
-use Rattle.xp_subs.specs.Tables.{Tables}
+-- What a step does: nothing, one change that can be made, or, in a collision, the end of the incoming call and then one.
+use Rattle.std.proofs.Common.{◌≡◌, ◌≢◌, ◌⊎◌, ℕ, ◌<◌, eqb, Bool, Option, Some, None, List, [], ◌∷◌, ◌++◌, length, refl, ap, sym, subst, ◌∙◌, inl, inr, arith, length-set}
+use Rattle.std.proofs.lemmas.Bool.{cond_both, eq-eqb, ne_eqb, cond-true, cond-false, cases_eq}
+use Rattle.xp_answer.specs.CarriedOn.{block_with}
+use Rattle.xp_answer.specs.declared.setup.Setup.{Setup}
+use Rattle.xp_causes.specs.Told.{cause_told, diagnostic_told}
+use Rattle.xp_causes.specs.declared.clearing_cause.TheConstants.{NUMBER_BUSY, OUT_OF_ORDER, REMOTE_PROCEDURE_ERROR}
+use Rattle.xp_causes.specs.declared.diagnostic.TheConstants.{CALL_COLLISION, NO_ADDITIONAL_INFORMATION, TIMER_EXPIRED_FOR_INCOMING_CALL}
+use Rattle.xp_causes.specs.declared.refusal.Refusal.{Refusal}
+use Rattle.xp_channel.specs.declared.action.Action.{Action}
+use Rattle.xp_channel.specs.declared.action.Action.TheVariants.{Nothing, Rise, Fall, NewCall, Collision, Answer, Confirm, Free, Error, Relayed, Expired}
+use Rattle.xp_packets.specs.declared.block.Block.{Block}
+use Rattle.xp_packets.specs.declared.packet.Packet.TheVariants.{Clear}
+use Rattle.xp_subs.specs.Tables.{Tables, line_count}
 use Rattle.xp_core.specs.declared.entry.Entry.{Entry}
 use Rattle.xp_core.specs.declared.event.What.{What}
-use Rattle.xp_core.specs.declared.table.Action.{Action}
-use Rattle.xp_core.specs.declared.table.Action.TheVariants.{Nothing, Rise, Fall, NewCall, Answer, Confirm, Free}
-use Rattle.xp_core.specs.declared.verdict.Verdict.{Verdict}
-use Rattle.xp_core.specs.declared.verdict.Verdict.TheVariants.{Take, Refuse}
-use Rattle.xp_core.specs.Causes.{OUT_OF_ORDER, NO_ADDITIONAL_INFORMATION}
-use Rattle.xp_core.specs.Changes.{Change, Rises, Leaves, Begins, IsRefused, Connects, Ends, Way, GoesOut, IsConfirmed, IsFree}
-use Rattle.xp_core.specs.Channel.{call_of}
-use Rattle.xp_core.specs.Clearing.{cause_told, diagnostic_told}
-use Rattle.xp_core.specs.Coupling.{AreCoupled}
-use Rattle.xp_core.specs.Decision.{first_of, reasons}
-use Rattle.xp_core.specs.Packets.{connected, incoming}
+use Rattle.xp_core.specs.declared.outcome.Agreement.{Agreement}
+use Rattle.xp_core.specs.declared.outcome.Outcome.{Outcome}
+use Rattle.xp_core.specs.declared.outcome.Outcome.TheVariants.{Plain, Put, Refused, Connected, Declined}
+use Rattle.xp_core.specs.declared.output.Output.{Output}
+use Rattle.xp_core.specs.Acts.{Acts, Answers, Confirms, IsAnswered, IsConfirmed, IsConnected, IsPlain, IsPut, IsRequested, IsTurnedDown, Requests, cancelled_told, told_of_error, told_of_fall}
+use Rattle.xp_core.specs.Changes.{Change, Rises, Leaves, Begins, IsRefused, Connects, Ends, Way, GoesOut, IsFree, IsCleared, changed}
+use Rattle.xp_core.specs.Channel.{Cleared, INITIAL_IDENTIFIER, Ready, Ringing, call_of}
+use Rattle.xp_core.specs.Coupling.{AreCoupled, IsEnd, IsHeld}
+use Rattle.xp_core.specs.Records.{clears_to}
 use Rattle.xp_core.specs.Setting.{Setting, setting}
-use Rattle.xp_core.specs.Step.{Chooses, IsDecided, Step, action_at, answers, confirms, does, leaves, requests, taken_by}
-use Rattle.xp_core.specs.Table.{CallRequest, accepted_in, clear_in, kind_of, request_in}
-use Rattle.xp_core.specs.World.{Call, World, call_on, state_at}
+use Rattle.xp_core.specs.Step.{Step, answers, cancels, changes_of, collides, confirms, does, leaves, requests}
+use Rattle.xp_core.specs.Table.{CallAccepted, CallRequest, ClearRequest, accepted_in, action_at, clear_in, kind_of, request_in}
+use Rattle.xp_core.specs.Told.{Told, nothing_told, outputs_of}
+use Rattle.xp_core.specs.World.{Call, Line, World, call_numbered, call_on, far_end, line_at, state_at}
 use Rattle.xp_core.proofs.Cells.{Suits, suits}
-use Rattle.xp_core.proofs.Coupled.{CanBe}
-use Rattle.xp_core.proofs.Idle.{idle_ready, idle_within}
+use Rattle.xp_core.proofs.Clears.{collision_refused, collision_taken, collision_turned_down, confirmed_told, error_told, fall_told, put_told, turned_down}
+use Rattle.xp_core.proofs.Coupled.{CanBe, IsIn, IsOut, far_shows, far_within, line_within}
+use Rattle.xp_core.proofs.Idle.{IsReadyFor, taken_ready}
 use Rattle.xp_core.proofs.InCall.{end_of, none_on, shown_on}
+use Rattle.xp_core.proofs.Lines.{Twice, late, early, never, twice}
+
+-- a call request is decided
+abbrev pub IsNew : Action → Type 0
+IsNew action = (action ≡ NewCall) ⊎ (action ≡ Collision)
+
+-- the end of the call that a collision cancels
+abbrev pub cancelled_by : ℕ → Call → ℕ → Change
+cancelled_by number call line = Ends number call line IsFree NUMBER_BUSY CALL_COLLISION
 
 module _ {A : Type 0} where
   -- the call request that a new call or a refusal comes of
   pub record IsAsked (at : Setting A) (what : What A) (action : Action) (line identifier : ℕ) (dialled : List ℕ) : Type 0 where
     pub request : CallRequest A
     pub asks : request_in what ≡ Some request
-    pub new : action ≡ NewCall
+    pub new : IsNew action
     pub line_is : line ≡ at.line
     pub identifier_is : identifier ≡ request.identifier
     pub dialled_is : dialled ≡ request.block.called
 
-  pub record IsTaken (at : Setting A) (what : What A) (action : Action) (taken : Option ℕ) (line identifier called : ℕ) (dialled : List ℕ) (packet : Packet A) : Type 0 where
+  pub record IsTaken (at : Setting A) (what : What A) (action : Action) (outcome : Outcome) (told : Told A) (line identifier called : ℕ) (dialled : List ℕ) (setup : Setup) : Type 0 where
     pub asked : IsAsked at what action line identifier dialled
-    pub took : taken ≡ Some called
-    pub fit : first_of (reasons at.tables asked.request.block) ≡ None
-    pub packet_is : packet ≡ incoming at.tables line called asked.request.d asked.request.block
+    pub took : outcome ≡ Put called setup
+    pub far : List (Output A)
+    pub put : IsPut at.tables at.world at.line far asked.request called setup told
+
+  pub record IsTurned (at : Setting A) (what : What A) (action : Action) (outcome : Outcome) (told : Told A) (line identifier : ℕ) (dialled : List ℕ) (why : Refusal) : Type 0 where
+    pub asked : IsAsked at what action line identifier dialled
+    pub turned : outcome ≡ Refused why
+    pub tells : clears_to line (outputs_of told) ≡ Clear why.cause (Some why.diagnostic) None ∷ []
+
+  pub record IsJoined (at : Setting A) (action : Action) (outcome : Outcome) (told : Told A) (number : ℕ) (call : Call) (agreement : Agreement) : Type 0 where
+    pub old : IsNew action → ⊥
+    pub settled : outcome ≡ Connected agreement
+    pub on : call_on at.world at.line ≡ Some (number, call)
+    pub answer : CallAccepted A
+    pub connected : IsConnected at.tables at.world at.line answer call agreement told
+
+  pub record IsEnded (at : Setting A) (action : Action) (told : Told A) (call : Call) (line cause diagnostic : ℕ) : Type 0 where
+    pub old : IsNew action → ⊥
+    pub line_is : line ≡ at.line
+    pub block : Option (Block A)
+    pub tells : clears_to (far_end call line) (outputs_of told) ≡ Clear cause (Some diagnostic) block ∷ []
 
   -- where a change comes from
-  abbrev pub ComesOf : Setting A → What A → Action → Option ℕ → Change A → Type 0
-  ComesOf at what action taken (Begins line identifier called dialled packet) = IsTaken at what action taken line identifier called dialled packet
-  ComesOf at what action taken (IsRefused line identifier dialled why) = IsAsked at what action line identifier dialled × (taken ≡ None)
-  ComesOf at what action taken (Connects number call packet) =
-      (action ≡ NewCall → ⊥) × (d : Bool) × (line : ℕ) × (packet ≡ connected at.tables line call.dialled d)
-  ComesOf at what action taken (Ends number call line way cause diagnostic) = (action ≡ NewCall → ⊥) × (line ≡ at.line)
-  ComesOf at what action taken change = action ≡ NewCall → ⊥
+  abbrev pub ComesOf : Setting A → What A → Action → Outcome → Told A → Change → Type 0
+  ComesOf at what action outcome told (Rises line) = IsNew action → ⊥
+  ComesOf at what action outcome told (Leaves line way) = IsNew action → ⊥
+  ComesOf at what action outcome told (Begins line identifier called dialled setup) = IsTaken at what action outcome told line identifier called dialled setup
+  ComesOf at what action outcome told (IsRefused line identifier dialled why) = IsTurned at what action outcome told line identifier dialled why
+  ComesOf at what action outcome told (Connects number call agreement) = IsJoined at action outcome told number call agreement
+  ComesOf at what action outcome told (Ends number call line way cause diagnostic) = IsEnded at action told call line cause diagnostic
 
-  pub data Shape (at : Setting A) (what : What A) (action : Action) (taken : Option ℕ) (changes : List (Change A)) : Type 0 where
-    none : changes ≡ [] → ((request : CallRequest A) → request_in what ≡ Some request → action ≡ NewCall → ⊥)
-        → Shape at what action taken changes
-    one : (change : Change A) → changes ≡ change ∷ [] → CanBe at.world change → ComesOf at what action taken change
-        → Shape at what action taken changes
+  pub data Shape (at : Setting A) (what : What A) (action : Action) (outcome : Outcome) (told : Told A) (changes : List Change) : Type 0 where
+    none : changes ≡ [] → ((request : CallRequest A) → request_in what ≡ Some request → IsNew action → ⊥)
+        → Shape at what action outcome told changes
+    one : (change : Change) → changes ≡ change ∷ [] → CanBe at.world change → ComesOf at what action outcome told change
+        → Shape at what action outcome told changes
+    two : (number : ℕ) (call : Call) (change : Change) → IsNew action → changes ≡ cancelled_by number call at.line ∷ change ∷ []
+        → CanBe at.world (cancelled_by number call at.line) → CanBe (changed (cancelled_by number call at.line) at.world) change
+        → clears_to (far_end call at.line) (outputs_of told) ≡ Clear NUMBER_BUSY (Some CALL_COLLISION) None ∷ []
+        → ComesOf at what action outcome told change
+        → Shape at what action outcome told changes
 
-module _ {A : Type 0} (tables : Tables) (before : List (Entry A)) (world : World) (line : ℕ) (coupled : AreCoupled tables world) (within : line < length world.lines) where
+module _ {A : Type 0} (tables : Tables) (before : List (Entry A)) (world : World) (line : ℕ) (coupled : AreCoupled tables world) (lines : length world.lines ≡ line_count tables) (within : line < length world.lines) where
   abbrev here : Setting A
   here = setting tables before world line
 
-  leaving : (what : What A) (action : Action) (taken : Option ℕ) (way : Way) (cause diagnostic : ℕ) (found : Option (ℕ × Call)) → call_on world line ≡ found
-      → (action ≡ NewCall → ⊥) → Shape here what action taken (leaves line way cause diagnostic found ∷ [])
-  leaving what action taken way cause diagnostic None is old =
+  -- the far end of the line's call is another line
+  module _ (found : ℕ × Call) (is : call_on world line ≡ Some found) where
+    abbrev in_call : IsIn world found.0 found.1 line
+    in_call =
+        let shown = shown_on world line found is in
+        record { live = shown.1; shows = shown.0; end = end_of tables world coupled line found.0 found.1 shown.0 shown.1 }
+
+    far_differs : far_end found.1 line ≢ line
+    far_differs same = elim in_call.end [
+      | inl caller ↦ held.two (sym caller ∙ sym same ∙ cond-true (eqb found.1.caller line) found.1.called found.1.caller (eq-eqb found.1.caller line (sym caller)))
+      | inr called ↦
+          let other : found.1.caller ≢ line = λ e. held.two (e ∙ called) in
+          other (sym (cond-false (eqb found.1.caller line) found.1.called found.1.caller (ne_eqb found.1.caller line other)) ∙ same)
+    ] where
+      held : IsHeld tables world found.0 found.1
+      held = coupled.held found.0 found.1 in_call.live
+
+    near_differs : line ≢ far_end found.1 line
+    near_differs same = far_differs (sym same)
+
+  leaving : (what : What A) (action : Action) (outcome : Outcome) (told : Told A) (way : Way) (cause diagnostic : ℕ) (found : Option (ℕ × Call)) → call_on world line ≡ found
+      → (IsNew action → ⊥)
+      → ((call : ℕ × Call) → found ≡ Some call → (block : Option (Block A)) × (clears_to (far_end call.1 line) (outputs_of told) ≡ Clear cause (Some diagnostic) block ∷ []))
+      → Shape here what action outcome told (leaves line way cause diagnostic found ∷ [])
+  leaving what action outcome told way cause diagnostic None is old tells =
       one (Leaves line way) refl (record { within = within; none = none_on tables world coupled line is }) old
-  leaving what action taken way cause diagnostic (Some found) is old =
-      let shown = shown_on world line found is in
-      one (Ends found.0 found.1 line way cause diagnostic) refl
-      (record { live = shown.1; shows = shown.0; end = end_of tables world coupled line found.0 found.1 shown.0 shown.1 }) (old, refl)
+  leaving what action outcome told way cause diagnostic (Some found) is old tells =
+      one (Ends found.0 found.1 line way cause diagnostic) refl (in_call found is)
+      (record { old = old; line_is = refl; block = (tells found refl).0; tells = (tells found refl).1 })
 
-  answering : (what : What A) (taken : Option ℕ) (accepted : Option Bool) (found : Option (ℕ × Call)) → call_on world line ≡ found
-      → Shape here what Answer taken (answers tables line accepted found)
-  answering what taken None found is = none refl (λ request asks new. absurd (cc))
-  answering what taken (Some d) None is = none refl (λ request asks new. absurd (cc))
-  answering what taken (Some d) (Some found) is =
-      one (Connects found.0 found.1 (connected tables line found.1.dialled d)) refl (shown_on world line found is).1 (λ e. absurd (cc), d, line, refl)
+  -- what is told, by what the event is
+  erring : (what : What A) (action : Action) (outcome : Outcome) (told : Told A) (diagnostic : ℕ) → (IsNew action → ⊥) → told ≡ told_of_error world line diagnostic
+      → Shape here what action outcome told (leaves line IsCleared REMOTE_PROCEDURE_ERROR diagnostic (call_on world line) ∷ [])
+  erring what action outcome told diagnostic old is =
+      leaving what action outcome told IsCleared REMOTE_PROCEDURE_ERROR diagnostic (call_on world line) refl old (λ found shows.
+      (None, ap (λ t. clears_to (far_end found.1 line) (outputs_of t)) is ∙ error_told world line found shows diagnostic (near_differs found shows)))
 
-  confirming : (what : What A) (taken : Option ℕ) (clear : Option (ℕ × Option ℕ)) → Shape here what Confirm taken (confirms line clear (call_on world line))
-  confirming what taken None = none refl (λ request asks new. absurd (cc))
-  confirming what taken (Some clear) =
-      leaving what Confirm taken IsConfirmed (cause_told clear.0) (diagnostic_told clear.1) (call_on world line) refl (λ e. absurd (cc))
+  falling : (what : What A) (outcome : Outcome) (told : Told A) → told ≡ told_of_fall world line what
+      → Shape here what Fall outcome told (leaves line GoesOut OUT_OF_ORDER NO_ADDITIONAL_INFORMATION (call_on world line) ∷ [])
+  falling what outcome told is =
+      leaving what Fall outcome told GoesOut OUT_OF_ORDER NO_ADDITIONAL_INFORMATION (call_on world line) refl not_new (λ found shows.
+      (None, ap (λ t. clears_to (far_end found.1 line) (outputs_of t)) is ∙ fall_told world line found shows what)) where
+    not_new : IsNew Fall → ⊥
+    not_new (inl e) = absurd (cc)
+    not_new (inr e) = absurd (cc)
 
-  requesting : (what : What A) (asked : Option (CallRequest A)) (choice : Option Verdict) (taken : Option ℕ) → request_in what ≡ asked
-      → call_of (state_at world line) ≡ None → IsDecided here asked choice → taken ≡ taken_by choice → Shape here what NewCall taken (requests tables line asked choice)
-  requesting what None choice taken asks out chosen took = none refl (λ request is new. absurd (cc))
-  requesting what (Some request) None taken asks out chosen took = absurd chosen
-  requesting what (Some request) (Some (Take called)) taken asks out chosen took =
-      let idle = chosen.among.1 in
-      let ready = idle_ready world line called idle in
-      one (Begins line request.identifier called request.block.called (incoming tables line called request.d request.block)) refl
+  answering_one : (what : What A) (outcome : Outcome) (told : Told A) (answer : CallAccepted A) (found : ℕ × Call) → call_on world line ≡ Some found
+      → IsAnswered tables world line answer found.1 outcome told → Shape here what Answer outcome told (answers line (Some found) outcome)
+  answering_one what (Connected agreement) told answer found is acts =
+      one (Connects found.0 found.1 agreement) refl (shown_on world line found is).1
+      (record { old = not_new; settled = refl; on = is; answer = answer; connected = acts }) where
+    not_new : IsNew Answer → ⊥
+    not_new (inl e) = absurd (cc)
+    not_new (inr e) = absurd (cc)
+  answering_one what (Declined diagnostic) told answer found is acts =
+      let P : Option (ℕ × Call) → Type 0 = λ c. Shape here what Answer (Declined diagnostic) told (leaves line IsCleared REMOTE_PROCEDURE_ERROR diagnostic c ∷ []) in
+      subst P is (erring what Answer (Declined diagnostic) told diagnostic not_new acts.told_is) where
+    not_new : IsNew Answer → ⊥
+    not_new (inl e) = absurd (cc)
+    not_new (inr e) = absurd (cc)
+  answering_one what Plain told answer found is acts = absurd acts
+  answering_one what (Put called setup) told answer found is acts = absurd acts
+  answering_one what (Refused why) told answer found is acts = absurd acts
+
+  answering : (what : What A) (outcome : Outcome) (told : Told A) (accepted : Option (CallAccepted A)) (found : Option (ℕ × Call)) → call_on world line ≡ found
+      → Answers tables world line accepted found outcome told → Shape here what Answer outcome told (answers line found outcome)
+  answering what outcome told accepted None is acts = none refl (λ request asks new. not_new new) where
+    not_new : IsNew Answer → ⊥
+    not_new (inl e) = absurd (cc)
+    not_new (inr e) = absurd (cc)
+  answering what outcome told None (Some found) is acts = none (nothing outcome acts.0) (λ request asks new. not_new new) where
+    nothing : (o : Outcome) → o ≡ Plain → answers line (Some found) o ≡ []
+    nothing o plain = ap (answers line (Some found)) plain
+    not_new : IsNew Answer → ⊥
+    not_new (inl e) = absurd (cc)
+    not_new (inr e) = absurd (cc)
+  answering what outcome told (Some answer) (Some found) is acts = answering_one what outcome told answer found is acts
+
+  confirming : (what : What A) (outcome : Outcome) (told : Told A) (clear : Option (ClearRequest A)) (found : Option (ℕ × Call)) → call_on world line ≡ found
+      → Confirms world line clear found outcome told → Shape here what Confirm outcome told (confirms line clear found)
+  confirming what outcome told None found is acts = none refl (λ request asks new. not_new new) where
+    not_new : IsNew Confirm → ⊥
+    not_new (inl e) = absurd (cc)
+    not_new (inr e) = absurd (cc)
+  confirming what outcome told (Some clear) None is acts =
+      leaving what Confirm outcome told IsFree (cause_told clear.cause) (diagnostic_told clear.diagnostic) None is not_new (λ found shows. absurd (cc)) where
+    not_new : IsNew Confirm → ⊥
+    not_new (inl e) = absurd (cc)
+    not_new (inr e) = absurd (cc)
+  confirming what outcome told (Some clear) (Some found) is acts =
+      one (Ends found.0 found.1 line IsFree (cause_told clear.cause) (diagnostic_told clear.diagnostic)) refl (in_call found is) (record {
+        old = not_new;
+        line_is = refl;
+        block = block_with acts.carried.field acts.carried.user;
+        tells = ap (λ t. clears_to (far_end found.1 line) (outputs_of t)) acts.told_is ∙ confirmed_told world line found is clear acts.packet acts.carried;
+      }) where
+    not_new : IsNew Confirm → ⊥
+    not_new (inl e) = absurd (cc)
+    not_new (inr e) = absurd (cc)
+
+  -- ---- a call request
+
+  taking : (what : What A) (action : Action) (told : Told A) (request : CallRequest A) (called : ℕ) (setup : Setup) (far : List (Output A)) → request_in what ≡ Some request → IsNew action
+      → IsPut tables world line far request called setup told
+      → ComesOf here what action (Put called setup) told (Begins line request.identifier called request.block.called setup)
+  taking what action told request called setup far asks new put = record {
+    asked = record { request = request; asks = asks; new = new; line_is = refl; identifier_is = refl; dialled_is = refl };
+    took = refl;
+    far = far;
+    put = put;
+  }
+
+  ready_for : (request : CallRequest A) (called : ℕ) (setup : Setup) (far : List (Output A)) (told : Told A) → IsPut tables world line far request called setup told → IsReadyFor world line called
+  ready_for request called setup far told put =
+      let P : ℕ → Type 0 = λ l. IsReadyFor world line l in
+      subst P (sym put.called_is) (taken_ready tables world line request.block put.ring put.decided)
+
+  requesting : (what : What A) (outcome : Outcome) (told : Told A) (asked : Option (CallRequest A)) → request_in what ≡ asked
+      → call_of (state_at world line) ≡ None → Requests tables world line [] asked outcome told → Shape here what NewCall outcome told (requests line asked outcome)
+  requesting what outcome told None asks out acts = none refl (λ request is new. absurd (cc))
+  requesting what (Put called setup) told (Some request) asks out acts =
+      let ready = ready_for request called setup [] told acts in
+      one (Begins line request.identifier called request.block.called setup) refl
       (record {
         one = record { within = within; none = out };
-        second = record { within = idle_within world line called idle; none = ap call_of ready.1 };
-        differ = ready.0;
+        second = record { within = ready.within; none = ap call_of ready.ready };
+        differ = ready.differ;
       })
-      (record {
-        asked = record { request = request; asks = asks; new = refl; line_is = refl; identifier_is = refl; dialled_is = refl };
-        took = took;
-        fit = chosen.fit;
-        packet_is = refl;
+      (taking what NewCall told request called setup [] asks (inl refl) acts)
+  requesting what (Refused why) told (Some request) asks out acts =
+      one (IsRefused line request.identifier request.block.called why) refl (record { within = within; none = out }) (record {
+        asked = record { request = request; asks = asks; new = inl refl; line_is = refl; identifier_is = refl; dialled_is = refl };
+        turned = refl;
+        tells = ap (λ t. clears_to line (outputs_of t)) acts.told_is ∙ turned_down world line request.identifier why;
       })
-  requesting what (Some request) (Some (Refuse why)) taken asks out chosen took =
-      one (IsRefused line request.identifier request.block.called why) refl (record { within = within; none = out })
-      (record { request = request; asks = asks; new = refl; line_is = refl; identifier_is = refl; dialled_is = refl }, took)
+  requesting what Plain told (Some request) asks out acts = absurd acts
+  requesting what (Connected agreement) told (Some request) asks out acts = absurd acts
+  requesting what (Declined diagnostic) told (Some request) asks out acts = absurd acts
 
-  shape : (what : What A) (action : Action) (choice : Option Verdict) (taken : Option ℕ) → Suits action (state_at world line) → Chooses here what action choice
-      → taken ≡ taken_by choice → Shape here what action taken (does here what action choice)
-  shape what Nothing choice taken suit chosen took = none refl (λ request asks new. absurd (cc))
-  shape what Rise choice taken suit chosen took = one (Rises line) refl (record { within = within; none = suit }) (λ e. absurd (cc))
-  shape what Fall choice taken suit chosen took =
-      leaving what Fall taken GoesOut OUT_OF_ORDER NO_ADDITIONAL_INFORMATION (call_on world line) refl (λ e. absurd (cc))
-  shape what Free choice taken suit chosen took = one (Leaves line IsFree) refl (record { within = within; none = suit }) (λ e. absurd (cc))
-  shape what NewCall choice taken suit chosen took = requesting what (request_in what) choice taken refl (ap call_of suit) chosen took
-  shape what Answer choice taken suit chosen took = answering what taken (accepted_in what) (call_on world line) refl
-  shape what Confirm choice taken suit chosen took = confirming what taken (clear_in what)
+  -- as the incoming call has ended, its line is ready, and a line that was ready is
+  module _ (found : ℕ × Call) (is : call_on world line ≡ Some found) where
+    abbrev mid : World
+    mid = changed (cancelled_by found.0 found.1 line) world
+
+    abbrev cleared : Line
+    cleared = record (line_at world (far_end found.1 line)) { state = Cleared }
+
+    abbrev freed : Line
+    freed = record (line_at world line) { state = Ready }
+
+    became : (l : ℕ) → Twice world.lines (far_end found.1 line) cleared line freed l
+    became l = twice world.lines (far_end found.1 line) cleared line freed l
+        (far_within tables world coupled lines found.0 found.1 line (in_call found is)) (line_within tables world coupled lines found.0 found.1 line (in_call found is))
+
+    mid_count : length mid.lines ≡ length world.lines
+    mid_count = length-set _ line _ ∙ length-set world.lines (far_end found.1 line) _
+
+    line_out : IsOut mid line
+    line_out = record {
+      within = omega (arith, mid_count, within);
+      none = elim (became line) [
+        | late same now ↦ ap (λ k. call_of k.state) now
+        | early same now ↦ absurd (near_differs found is same)
+        | never not_far not_near now ↦ absurd (not_near refl)
+      ];
+    }
+
+    other_out : (called : ℕ) → IsReadyFor world line called → IsOut mid called
+    other_out called ready = record {
+      within = omega (arith, mid_count, ready.within);
+      none = elim (became called) [
+        | late same now ↦ absurd (ready.differ (sym same))
+        | early same now ↦
+            let rings : call_of (state_at world called) ≡ Some found.0 =
+            ap (λ l. call_of (state_at world l)) same ∙ far_shows tables world coupled lines found.0 found.1 line (in_call found is) in
+            let idle : call_of (state_at world called) ≡ None = ap call_of ready.ready in
+            absurd (cc)
+        | never not_far not_near now ↦ ap (λ k. call_of k.state) now ∙ ap call_of ready.ready
+      ];
+    }
+
+    colliding_in : (what : What A) (outcome : Outcome) (told : Told A) (request : CallRequest A) → request_in what ≡ Some request
+        → IsRequested tables world line (cancelled_told world line) request outcome told → Shape here what Collision outcome told (collides line (Some request) (Some found) outcome)
+    colliding_in what (Put called setup) told request asks acts =
+        let ready = ready_for request called setup (cancelled_told world line) told acts in
+        two found.0 found.1 (Begins line request.identifier called request.block.called setup) (inr refl) refl (in_call found is)
+        (record { one = line_out; second = other_out called ready; differ = ready.differ })
+        (ap (λ t. clears_to (far_end found.1 line) (outputs_of t)) acts.told_is
+        ∙ collision_taken world line found is called acts.packet (put_told (far_end found.1 line) called INITIAL_IDENTIFIER _ _ acts.packet acts.incoming.whole))
+        (taking what Collision told request called setup (cancelled_told world line) asks (inr refl) acts)
+    colliding_in what (Refused why) told request asks acts =
+        two found.0 found.1 (IsRefused line request.identifier request.block.called why) (inr refl) refl (in_call found is) line_out
+        (ap (λ t. clears_to (far_end found.1 line) (outputs_of t)) acts.told_is ∙ collision_refused world line found is request.identifier why (near_differs found is))
+        (record {
+          asked = record { request = request; asks = asks; new = inr refl; line_is = refl; identifier_is = refl; dialled_is = refl };
+          turned = refl;
+          tells = ap (λ t. clears_to line (outputs_of t)) acts.told_is ∙ collision_turned_down world line found is request.identifier why (far_differs found is);
+        })
+    colliding_in what Plain told request asks acts = absurd acts
+    colliding_in what (Connected agreement) told request asks acts = absurd acts
+    colliding_in what (Declined diagnostic) told request asks acts = absurd acts
+
+  colliding : (what : What A) (outcome : Outcome) (told : Told A) (asked : Option (CallRequest A)) (found : Option (ℕ × Call)) → request_in what ≡ asked → call_on world line ≡ found
+      → (number : ℕ) × (state_at world line ≡ Ringing number)
+      → Requests tables world line (cancelled_told world line) asked outcome told → Shape here what Collision outcome told (collides line asked found outcome)
+  colliding what outcome told None found asks is rings acts = none refl (λ request asked new. absurd (cc))
+  colliding what outcome told (Some request) None asks is rings acts =
+      let none : call_of (state_at world line) ≡ None = none_on tables world coupled line is in
+      let some : call_of (state_at world line) ≡ Some rings.0 = ap call_of rings.1 in
+      absurd (cc)
+  colliding what outcome told (Some request) (Some found) asks is rings acts = colliding_in found is what outcome told request asks acts
+
+  -- ---- the cells
+
+  shape : (what : What A) (action : Action) (outcome : Outcome) (told : Told A) → Suits action (state_at world line) → Acts here what action outcome told
+      → Shape here what action outcome told (does here what action outcome)
+  shape what Nothing outcome told suit acts = none refl (λ request asks new. elim new [ inl e ↦ absurd (cc) | inr e ↦ absurd (cc) ])
+  shape what Relayed outcome told suit acts = none refl (λ request asks new. elim new [ inl e ↦ absurd (cc) | inr e ↦ absurd (cc) ])
+  shape what Rise outcome told suit acts = one (Rises line) refl (record { within = within; none = suit }) (λ new. elim new [ inl e ↦ absurd (cc) | inr e ↦ absurd (cc) ])
+  shape what Free outcome told suit acts = one (Leaves line IsFree) refl (record { within = within; none = suit }) (λ new. elim new [ inl e ↦ absurd (cc) | inr e ↦ absurd (cc) ])
+  shape what Fall outcome told suit acts = falling what outcome told acts.1
+  shape what (Error diagnostic) outcome told suit acts = erring what (Error diagnostic) outcome told diagnostic (λ new. elim new [ inl e ↦ absurd (cc) | inr e ↦ absurd (cc) ]) acts.1
+  shape what Expired outcome told suit acts = erring what Expired outcome told TIMER_EXPIRED_FOR_INCOMING_CALL (λ new. elim new [ inl e ↦ absurd (cc) | inr e ↦ absurd (cc) ]) acts.1
+  shape what NewCall outcome told suit acts = requesting what outcome told (request_in what) refl (ap call_of suit) acts
+  shape what Collision outcome told suit acts = colliding what outcome told (request_in what) (call_on world line) refl refl suit acts
+  shape what Answer outcome told suit acts = answering what outcome told (accepted_in what) (call_on world line) refl acts
+  shape what Confirm outcome told suit acts = confirming what outcome told (clear_in what) (call_on world line) refl acts
 
 pub step_shape : {A : Type 0} (tables : Tables) (before : List (Entry A)) (world : World) (entry : Entry A) (next : World) → AreCoupled tables world
-    → (step : Step tables before world entry next)
-    → Shape (setting tables before world entry.event.line) entry.event.what (action_at world entry.event) entry.taken step.changes
-step_shape {A} tables before world entry next coupled step =
-    let at : Setting A = setting tables before world entry.event.line in
-    let P : List (Change A) → Type 0 = λ changes. Shape at entry.event.what (action_at world entry.event) entry.taken changes in
-    subst P (sym step.acts) (shape tables before world entry.event.line coupled step.line entry.event.what (action_at world entry.event) step.choice entry.taken
-    (suits (state_at world entry.event.line) (kind_of entry.event.what)) step.chosen step.taken)
+    → length world.lines ≡ line_count tables → (step : Step tables before world entry next)
+    → Shape (setting tables before world entry.event.line) entry.event.what (action_at world entry.event) entry.outcome step.told (changes_of tables before world entry)
+step_shape tables before world entry next coupled lines step =
+    shape tables before world entry.event.line coupled lines step.line entry.event.what (action_at world entry.event) entry.outcome step.told
+    (suits (state_at world entry.event.line) (kind_of entry.event.what)) step.acts

@@ -10,9 +10,9 @@ use Rattle.xp_exchange.specs.Serial.{IsTold, Stops, StopsAt, PlaysOut, Reaches}
 use Rattle.xp_exchange.specs.Splitting.{joined, line_feed, HasNoFeed, EndsLine}
 use Rattle.xp_exchange.proofs.Tellings.{told_all_but_none, told_nothing, told_both, told_but_last, told_in_part}
 
-pub no_feed_more : (octets : List ℕ) (octet : ℕ) → HasNoFeed octets → octet ≢ line_feed → HasNoFeed (octets ++ octet ∷ [])
-no_feed_more [] octet none other = (other, tt)
-no_feed_more (first ∷ octets) octet none other = (none.0, no_feed_more octets octet none.1 other)
+pub no_feed_both : (octets more : List ℕ) → HasNoFeed octets → HasNoFeed more → HasNoFeed (octets ++ more)
+no_feed_both [] more none other = other
+no_feed_both (first ∷ octets) more none other = (none.0, no_feed_both octets more none.1 other)
 
 module _ {A : Type 0} where
   -- the subscriptions stay
@@ -30,20 +30,20 @@ module _ {A : Type 0} where
     told = told_nothing old.moment.exchange;
   }
 
-  -- one octet more of the line
-  pub took_octet : (old between new : Progress A) (front : List ℕ) (octet : ℕ) (text : List ℕ) → TakesIn old front between text
-      → new ≡ record between { line = between.line ++ octet ∷ [] } → TakesIn old (front ++ octet ∷ []) new text
-  took_octet old between new front octet text took added =
-      let after : Progress A = record between { line = between.line ++ octet ∷ [] } in
-      let more : TakesIn old (front ++ octet ∷ []) after text = record {
+  -- some octets more of the line
+  pub took_octets : (old between new : Progress A) (front octets : List ℕ) (text : List ℕ) → TakesIn old front between text
+      → new ≡ record between { line = between.line ++ octets } → TakesIn old (front ++ octets) new text
+  took_octets old between new front octets text took added =
+      let after : Progress A = record between { line = between.line ++ octets } in
+      let more : TakesIn old (front ++ octets) after text = record {
         lines = took.lines;
-        whole = sym (append_assoc old.line front (octet ∷ [])) ∙ ap (λ some. some ++ octet ∷ []) took.whole ∙ append_assoc (joined took.lines) between.line (octet ∷ []);
+        whole = sym (append_assoc old.line front octets) ∙ ap (λ some. some ++ octets) took.whole ∙ append_assoc (joined took.lines) between.line octets;
         each = took.each;
         played = took.played;
         number = took.number;
         told = took.told;
       } in
-      subst (λ now. TakesIn old (front ++ octet ∷ []) now text) (sym added) more
+      subst (λ now. TakesIn old (front ++ octets) now text) (sym added) more
 
   -- the octets up to a line feed
   up_to_feed : (old between : Progress A) (front : List ℕ) (octet : ℕ) (text : List ℕ) → (took : TakesIn old front between text) → octet ≡ line_feed
@@ -113,34 +113,34 @@ module _ {A : Type 0} where
   }
 
   -- it stops in the midst of a line
-  pub took_overflows : (fault : ReplayFault) (old between : Progress A) (front more : List ℕ) (left : Option (List ℕ)) (octet : ℕ) (text : List ℕ) → TakesIn old front between text
-      → octet ≢ line_feed → HasNoFeed between.line → Overflows between fault
-      → Stops old.moment old.number (old.line ++ (front ++ octet ∷ more)) fault left between.moment.exchange text
-  took_overflows (Script found) old between front more left octet text took other clean over = record {
+  pub took_overflows : (fault : ReplayFault) (old between : Progress A) (front octets more : List ℕ) (left : Option (List ℕ)) (text : List ℕ) → TakesIn old front between text
+      → HasNoFeed octets → HasNoFeed between.line → Overflows between octets fault
+      → Stops old.moment old.number (old.line ++ (front ++ (octets ++ more))) fault left between.moment.exchange text
+  took_overflows (Script found) old between front octets more left text took other clean over = record {
     lines = took.lines;
-    line = between.line ++ octet ∷ [];
+    line = between.line ++ octets;
     more = more;
-    whole = onward old between front (octet ∷ more) text took ∙ ap (λ rest. joined took.lines ++ rest) (sym (append_assoc between.line (octet ∷ []) more));
+    whole = onward old between front (octets ++ more) text took ∙ ap (λ rest. joined took.lines ++ rest) (sym (append_assoc between.line octets more));
     each = took.each;
-    no_feed = no_feed_more between.line octet clean other;
+    no_feed = no_feed_both between.line octets clean other;
     at = between.moment;
     played = took.played;
-    why = (over.0 ∙ took.number, inr (omega (arith, over.1, length-append between.line (octet ∷ []))), refl, took.told);
+    why = (over.0 ∙ took.number, inr over.1, refl, took.told);
   }
-  took_overflows Memory old between front more left octet text took other clean over = record {
+  took_overflows Memory old between front octets more left text took other clean over = record {
     lines = took.lines;
     line = between.line;
-    more = octet ∷ more;
-    whole = onward old between front (octet ∷ more) text took;
+    more = octets ++ more;
+    whole = onward old between front (octets ++ more) text took;
     each = took.each;
     no_feed = clean;
     at = between.moment;
     played = took.played;
     why = (inl refl, told_all_but_none old.moment.exchange between.moment.exchange text took.told);
   }
-  took_overflows Journal old between front more left octet text took other clean over = elim over [ ]
-  took_overflows Write old between front more left octet text took other clean over = elim over [ ]
-  took_overflows Read old between front more left octet text took other clean over = elim over [ ]
+  took_overflows Journal old between front octets more left text took other clean over = elim over [ ]
+  took_overflows Write old between front octets more left text took other clean over = elim over [ ]
+  took_overflows Read old between front octets more left text took other clean over = elim over [ ]
 
   -- it can't be read on
   pub took_unread : (old between : Progress A) (front more : List ℕ) (left : Option (List ℕ)) (text : List ℕ) → TakesIn old front between text → HasNoFeed between.line

@@ -1,5 +1,5 @@
 -- What the steps of a replay tell one another of the octets that were read.
-use Rattle.std.specs.Prelude.{◌≡◌, ℕ, ◌+◌, ◌≤◌, List, [], ◌++◌, length, Option, Some, Result, Ok, Err}
+use Rattle.std.specs.Prelude.{◌≡◌, ℕ, ◌+◌, ◌<◌, List, [], ◌++◌, length, Option, Some, Result, Ok, Err}
 use Rattle.std.specs.List.{AllByRecursion}
 use Rattle.xp_core.specs.Exchange.{Exchange}
 use Rattle.xp_script.specs.Command.{longest}
@@ -40,11 +40,11 @@ module _ {A : Type 0} where
   abbrev pub Finished : Progress A → Result (Unit {0}) ReplayFault → Progress A → List ℕ → Type 0
   Finished old result new text = Played old.moment old.number old.line result new.moment text
 
-  -- the line would be too long, or memory was wanted
-  abbrev pub Overflows : Progress A → ReplayFault → Type 0
-  Overflows old (Script found) = (found ≡ old.number) × (longest ≤ length old.line)
-  Overflows old Memory = Unit {0}
-  Overflows old fault = ⊥
+  -- with these octets the line would be too long, or memory was wanted
+  abbrev pub Overflows : Progress A → List ℕ → ReplayFault → Type 0
+  Overflows old octets (Script found) = (found ≡ old.number) × (longest < length (old.line ++ octets))
+  Overflows old octets Memory = Unit {0}
+  Overflows old octets fault = ⊥
 
   -- from here on to the end of the octets
   abbrev pub ReplaysFrom : Progress A → List ℕ → Result (Unit {0}) ReplayFault → Option (List ℕ) → Exchange A → List ℕ → Type 0

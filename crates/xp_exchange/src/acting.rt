@@ -12,24 +12,27 @@ ghost use Rattle.xp_subs.specs.Tables.{line_count};
 use crate::fault::ReplayFault;
 use crate::writing::write_out;
 use std::alloc::Allocator;
+use std::collections::VecDeque;
 use std::io::Write;
 use xp_core::{Core, Entry, Event, StepFault};
 use xp_script::write_entry;
 use xp_subs::Subs;
 
-/// Acts on the events in turn, each written before the next.
+/// Takes the events off their queue and acts on them in turn, each written before the next. The text of each is made in
+/// this buffer, whatever it holds.
 pub fn act_on_all<A: Allocator + Copy, W: Write>(
     alloc: A,
     core: &mut Core<A>,
-    events: Vec<Event<A>, A>,
+    events: &mut VecDeque<Event<A>, A>,
+    text: &mut Vec<u8, A>,
     writer: &mut W,
 ) -> Result<(), ReplayFault>
-    requires { All (λ event. (event.line < line_count core.old.subs) × IsReadable event.what) events.items }
-    ensures acted { (text : List ℕ) × Appends (W.contents writer.old) (W.contents writer.new) text × Acted core.old events.items result core.new text }
+    requires { All (λ event. (event.line < line_count core.old.subs) × IsReadable event.what) events.old.items }
+    ensures acted { (text : List ℕ) × Appends (W.contents writer.old) (W.contents writer.new) text × Acted core.old events.old.items result core.new text }
     ensures subs { core.new.subs ≡ core.old.subs }
 {
-    for event in events {
-        act_on(alloc, core, event, writer)?;
+    while let Some(event) = events.pop_front() {
+        act_on(alloc, core, event, text, writer)?;
     }
     Ok(())
 }
@@ -38,6 +41,7 @@ fn act_on<A: Allocator + Copy, W: Write>(
     alloc: A,
     core: &mut Core<A>,
     event: Event<A>,
+    text: &mut Vec<u8, A>,
     writer: &mut W,
 ) -> Result<(), ReplayFault>
     requires line { event.line < line_count core.old.subs }
@@ -48,7 +52,7 @@ fn act_on<A: Allocator + Copy, W: Write>(
     match core.step(event) {
         Ok(_) => {
             let entries = core.history();
-            tell(alloc, core.subs(), &entries[entries.len() - 1], writer)
+            tell(alloc, core.subs(), &entries[entries.len() - 1], text, writer)
         }
         Err(fault) => Err(reason_of(&fault)),
     }
@@ -64,18 +68,19 @@ fn reason_of<A: Allocator>(fault: &StepFault<A>) -> ReplayFault
     }
 }
 
-/// Writes the text of an entry.
+/// Writes the text of an entry, which is made in this buffer.
 fn tell<A: Allocator + Copy, W: Write>(
     alloc: A,
     subs: &Subs,
     entry: &Entry<A>,
+    text: &mut Vec<u8, A>,
     writer: &mut W,
 ) -> Result<(), ReplayFault>
     requires writable { AreWritable entry.now.outputs }
     requires lines { HasLines (line_count subs.now) entry.now }
     ensures { Tells (W.contents writer.old) (W.contents writer.new) (entry_text subs.now entry.now) result }
 {
-    let mut text = Vec::new(alloc);
-    write_entry(alloc, subs, entry, &mut text)?;
-    write_out(writer, &text)
+    text.clear();
+    write_entry(alloc, subs, entry, text)?;
+    write_out(writer, text)
 }

@@ -6,32 +6,34 @@ ghost use Rattle.xp_exchange.specs.Acting.{emptied, IsBetweenFrames, TakesWhole}
 ghost use Rattle.xp_exchange.specs.Heard.{Hears, IsReadAs, AreRead};
 
 use std::alloc::{AllocError, Allocator};
+use std::collections::VecDeque;
 use xp_core::{Event, What};
 use xp_frames::{Deframer, FrameFault};
 use xp_packets::{PacketFault, decode};
 use xp_subs::LineNo;
 
-/// The events that octets of a line are: those of its frames, and that it goes down where a head is bad. Then its
-/// stream begins anew.
+/// Fills the queue with the events that octets of a line are: those of its frames, and that it goes down where a head is
+/// bad. Then its stream begins anew.
 pub fn hear<A: Allocator + Copy>(
     alloc: A,
     line: LineNo,
     stream: &mut Deframer<A>,
     octets: &[u8],
-) -> Result<Vec<Event<A>, A>, AllocError>
+    events: &mut VecDeque<Event<A>, A>,
+) -> Result<(), AllocError>
     requires { IsBetweenFrames stream.old }
-    ensures heard { IfOk result (λ events. Hears line stream.old.rest octets.now events.items stream.new.rest) }
+    ensures heard { OnOk result (Hears line stream.old.rest octets.now events.new.items stream.new.rest) }
     ensures between { OnOk result (IsBetweenFrames stream.new) }
-    ensures fit { IfOk result (λ events. All (λ event. (event.line ≡ line) × IsReadable event.what) events.items) }
+    ensures fit { OnOk result (All (λ event. (event.line ≡ line) × IsReadable event.what) events.new.items) }
 {
     let fails = fails_with(stream, octets)?;
-    let mut events = events_of(alloc, line, stream)?;
+    read_all(alloc, line, stream, events)?;
     if fails {
         let what = What::Down;
-        events.push(Event { line, what })?;
+        events.push_back(Event { line, what })?;
         *stream = Deframer::new(alloc);
     }
-    Ok(events)
+    Ok(())
 }
 
 /// Takes octets in: whether a bad head stands behind their frames.
@@ -49,22 +51,23 @@ fn fails_with<A: Allocator + Copy>(
     }
 }
 
-/// The events of the packets that wait, which wait no more.
-fn events_of<A: Allocator + Copy>(
+/// Fills the queue with the events of the packets that wait, which wait no more.
+fn read_all<A: Allocator + Copy>(
     alloc: A,
     line: LineNo,
     stream: &mut Deframer<A>,
-) -> Result<Vec<Event<A>, A>, AllocError>
-    ensures read { IfOk result (λ events. AreRead line stream.old.waiting events.items) }
-    ensures fit { IfOk result (λ events. All (λ event. (event.line ≡ line) × IsReadable event.what) events.items) }
+    events: &mut VecDeque<Event<A>, A>,
+) -> Result<(), AllocError>
+    ensures read { OnOk result (AreRead line stream.old.waiting events.new.items) }
+    ensures fit { OnOk result (All (λ event. (event.line ≡ line) × IsReadable event.what) events.new.items) }
     ensures stream { OnOk result (stream.new ≡ emptied stream.old) }
 {
-    let mut events = Vec::new(alloc);
+    events.clear();
     while let Some(packet) = stream.next() {
         let event = event_of(alloc, line, &packet)?;
-        events.push(event)?;
+        events.push_back(event)?;
     }
-    Ok(events)
+    Ok(())
 }
 
 /// A packet, or octets that are none, come on a line.

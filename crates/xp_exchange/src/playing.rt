@@ -1,6 +1,6 @@
 //! Playing the lines of a script.
 
-ghost use Rattle.std.specs.Prelude.{◌≡◌, ◌+◌, ◌<◌, ◌^◌, ℕ, List, [], ◌∷◌, All, IfErr, IfOk, OnOk, length};
+ghost use Rattle.std.specs.Prelude.{◌≡◌, ◌+◌, ◌<◌, ◌^◌, ℕ, List, [], ◌∷◌, ◌++◌, All, IfErr, IfOk, OnOk, length};
 ghost use Rattle.std.specs.Io.KnownBytes.{Appends};
 ghost use Rattle.xp_core.specs.Exchange.{IsReadable, world_of};
 ghost use Rattle.xp_exchange.specs.Play.{Plays, is_off_at};
@@ -12,6 +12,7 @@ use crate::acting::act_on_all;
 use crate::fault::ReplayFault;
 use crate::streams::Streams;
 use std::alloc::{AllocError, Allocator, Global};
+use std::collections::VecDeque;
 use std::io::Write;
 use std::marker::Model;
 use xp_core::{Channel, Core, Event, What};
@@ -24,6 +25,10 @@ pub struct Playing<A: Allocator = Global> {
     alloc: A,
     core: Core<A>,
     streams: Streams<A>,
+    /// For the events of a line, and for the text of an entry. They are kept for their memory: what they hold between two
+    /// lines is of no use.
+    events: VecDeque<Event<A>, A>,
+    text: Vec<u8, A>,
 }
 
 impl<A: Allocator> Model for Playing<A> {
@@ -51,6 +56,8 @@ impl<A: Allocator + Copy> Playing<A> {
                 alloc,
                 core,
                 streams,
+                events: VecDeque::new(alloc),
+                text: Vec::new(alloc),
             }),
             Err(_) => Err(core),
         }
@@ -77,39 +84,40 @@ impl<A: Allocator + Copy> Playing<A> {
             Err(LineFault::Faulty) => return Err(ReplayFault::Script(number)),
             Err(LineFault::Memory) => return Err(ReplayFault::Memory),
         };
-        let events = events_of(self.alloc, &self.core, &mut self.streams, command)?;
-        act_on_all(self.alloc, &mut self.core, events, writer)
+        hear(&self.core, &mut self.streams, command, &mut self.events)?;
+        act_on_all(self.alloc, &mut self.core, &mut self.events, &mut self.text, writer)
     }
 }
 
-/// The events that a command is.
-fn events_of<A: Allocator + Copy>(
-    alloc: A,
+/// Fills the queue with the events that a command is.
+fn hear<A: Allocator + Copy>(
     core: &Core<A>,
     streams: &mut Streams<A>,
     command: Command<A>,
-) -> Result<Vec<Event<A>, A>, AllocError>
+    events: &mut VecDeque<Event<A>, A>,
+) -> Result<(), AllocError>
     requires line { HasLine (line_count core.now.subs) command }
     requires lines { length streams.old ≡ line_count core.now.subs }
-    ensures plays { IfOk result (λ events. Plays (world_of core.now) streams.old command events.items streams.new) }
-    ensures fit { IfOk result (λ events. All (λ event. (event.line < line_count core.now.subs) × IsReadable event.what) events.items) }
+    ensures plays { OnOk result (Plays (world_of core.now) streams.old command events.new.items streams.new) }
+    ensures fit { OnOk result (All (λ event. (event.line < line_count core.now.subs) × IsReadable event.what) events.new.items) }
     ensures lines { length streams.new ≡ length streams.old }
 {
+    events.clear();
     match command {
-        Command::Nothing => Ok(Vec::new(alloc)),
+        Command::Nothing => Ok(()),
         Command::Up(line) => {
             if is_off(core, line) {
                 streams.begin(line);
             }
-            one(alloc, line, What::Up)
+            put(line, What::Up, events)
         }
-        Command::Down(line) => one(alloc, line, What::Down),
-        Command::Expire(line) => one(alloc, line, What::Expire),
+        Command::Down(line) => put(line, What::Down, events),
+        Command::Expire(line) => put(line, What::Expire, events),
         Command::In(line, octets) => {
             if is_off(core, line) {
-                return Ok(Vec::new(alloc));
+                return Ok(());
             }
-            streams.hear(line, octets.as_slice())
+            streams.hear(line, octets.as_slice(), events)
         }
     }
 }
@@ -121,11 +129,14 @@ fn is_off<A: Allocator>(core: &Core<A>, line: LineNo) -> bool
     matches!(core.line(line).channel, Channel::Off)
 }
 
-/// One event.
-fn one<A: Allocator>(alloc: A, line: LineNo, what: What<A>) -> Result<Vec<Event<A>, A>, AllocError>
-    ensures { IfOk result (λ events. events.items ≡ record { line = line; what = what } ∷ []) }
+/// Adds an event to the queue.
+fn put<A: Allocator>(
+    line: LineNo,
+    what: What<A>,
+    events: &mut VecDeque<Event<A>, A>,
+) -> Result<(), AllocError>
+    ensures { OnOk result (events.new.items ≡ events.old.items ++ record { line = line; what = what } ∷ []) }
 {
-    let mut events = Vec::new(alloc);
-    events.push(Event { line, what })?;
-    Ok(events)
+    events.push_back(Event { line, what })?;
+    Ok(())
 }

@@ -1,13 +1,14 @@
 //! A whole script, in pieces as the reader gives them.
 
-ghost use Rattle.std.specs.Prelude.{◌≡◌, ◌≢◌, ◌+◌, ◌<◌, ◌≤◌, ◌^◌, ℕ, List, [], ◌∷◌, ◌++◌, IfOk, IfErr, IfSome, OnOk, length};
+ghost use Rattle.std.specs.Prelude.{◌≡◌, ◌+◌, ◌<◌, ◌≤◌, ◌^◌, ℕ, List, [], ◌∷◌, ◌++◌, IfOk, IfErr, IfSome, OnOk, length};
 ghost use Rattle.std.specs.Io.KnownBytes.{Appends};
 ghost use Rattle.xp_exchange.specs.Replaying.{Took, Ended, Finished, Overflows, ReplaysFrom};
 ghost use Rattle.xp_exchange.specs.Serial.{Replays, ReplaysAlone};
-ghost use Rattle.xp_exchange.specs.Splitting.{line_feed, HasNoFeed};
+ghost use Rattle.xp_exchange.specs.Splitting.{HasNoFeed};
 
 use crate::fault::ReplayFault;
 use crate::playing::Playing;
+use memchr::memchr;
 use std::alloc::{Allocator, Global};
 use std::io::{ErrorKind, Read, Write};
 use std::marker::Model;
@@ -143,14 +144,13 @@ impl<A: Allocator + Copy> UnfinishedScript<A> {
         ensures number { OnOk result (self.new.number ≤ self.old.number + length octets.now) }
         ensures line { OnOk result (HasNoFeed self.new.line) }
     {
-        for octet in octets {
-            if *octet == LINE_FEED {
-                self.end_line(writer)?;
-            } else {
-                self.add(*octet)?;
-            }
+        let mut rest = octets;
+        while let Some(end) = memchr(LINE_FEED, rest) {
+            self.add(&rest[..end])?;
+            self.end_line(writer)?;
+            rest = rest.split_at(end + 1).1;
         }
-        Ok(())
+        self.add(rest)
     }
 
     /// Plays the line that is over.
@@ -165,18 +165,18 @@ impl<A: Allocator + Copy> UnfinishedScript<A> {
         Ok(())
     }
 
-    /// Adds an octet to the line.
-    fn add(&mut self, octet: u8) -> Result<(), ReplayFault>
-        requires { octet ≢ line_feed }
-        ensures added { OnOk result (self.new ≡ record self.old { line = self.old.line ++ octet ∷ [] }) }
-        ensures refused { IfErr result (λ fault. Overflows self.old fault) }
+    /// Adds octets to the line.
+    fn add(&mut self, octets: &[u8]) -> Result<(), ReplayFault>
+        requires { HasNoFeed octets.now }
+        ensures added { OnOk result (self.new ≡ record self.old { line = self.old.line ++ octets.now }) }
+        ensures refused { IfErr result (λ fault. Overflows self.old octets.now fault) }
         ensures kept { self.new.moment ≡ self.old.moment }
         ensures line { HasNoFeed self.old.line }
     {
-        if self.line.len() >= MAX_LINE_OCTETS {
+        if self.line.len() + octets.len() > MAX_LINE_OCTETS {
             return Err(ReplayFault::Script(self.number));
         }
-        self.line.push(octet).map_err(|_| ReplayFault::Memory)
+        self.line.extend_from_slice(octets).map_err(|_| ReplayFault::Memory)
     }
 
     /// Plays the last line, which may lack its line feed.

@@ -7,6 +7,7 @@ ghost use Rattle.xp_exchange.specs.Play.{unfinished_at};
 
 use crate::frames::hear;
 use std::alloc::{AllocError, Allocator, Global};
+use std::collections::VecDeque;
 use std::marker::Model;
 use std::mem;
 use xp_core::Event;
@@ -51,19 +52,25 @@ impl<A: Allocator + Copy> Streams<A> {
         self.streams[usize::from(line)] = Deframer::new(self.alloc);
     }
 
-    /// The events that octets of a line are: those of its frames, and that it goes down where a head is bad.
-    pub fn hear(&mut self, line: LineNo, octets: &[u8]) -> Result<Vec<Event<A>, A>, AllocError>
+    /// Fills the queue with the events that octets of a line are: those of its frames, and that it goes down where a head
+    /// is bad.
+    pub fn hear(
+        &mut self,
+        line: LineNo,
+        octets: &[u8],
+        events: &mut VecDeque<Event<A>, A>,
+    ) -> Result<(), AllocError>
         requires { line < length self.old }
-        ensures heard { IfOk result (λ events. Hears line (unfinished_at self.old line) octets.now events.items (unfinished_at self.new line)) }
+        ensures heard { OnOk result (Hears line (unfinished_at self.old line) octets.now events.new.items (unfinished_at self.new line)) }
         ensures kept { OnOk result (self.new ≡ slice_set self.old line (unfinished_at self.new line)) }
         ensures lines { length self.new ≡ length self.old }
-        ensures fit { IfOk result (λ events. All (λ event. (event.line ≡ line) × IsReadable event.what) events.items) }
+        ensures fit { OnOk result (All (λ event. (event.line ≡ line) × IsReadable event.what) events.new.items) }
     {
         // Out of its place, since want of memory may leave it with packets that wait.
         let place = &mut self.streams[usize::from(line)];
         let mut stream = mem::replace(place, Deframer::new(self.alloc));
-        let events = hear(self.alloc, line, &mut stream, octets)?;
+        hear(self.alloc, line, &mut stream, octets, events)?;
         self.streams[usize::from(line)] = stream;
-        Ok(events)
+        Ok(())
     }
 }

@@ -43,6 +43,14 @@ BadHead octets fault = ⊥
 abbrev pub HasNoBadHead : List ℕ → Type 0
 HasNoBadHead octets = (fault : FrameFault) → BadHead octets fault → ⊥
 
+-- What `frame_head` answers: the octets of the frame before the packet.
+abbrev pub IsHead : List ℕ → Result (List ℕ) FrameFault → Type 0
+IsHead packet (Ok head) = IsPacket packet × (frame packet ≡ head ++ packet)
+IsHead packet (Err (Length n)) = (IsPacket packet → ⊥) × (n ≡ min (length packet) 65535)
+IsHead packet (Err Memory) = ⊥
+IsHead packet (Err (Version v)) = ⊥
+IsHead packet (Err Failed) = ⊥
+
 -- What `write_frame` answers, and what stands in its buffer before and after.
 abbrev pub Writes : List ℕ → List ℕ → Result (Unit {0}) FrameFault → List ℕ → Type 0
 Writes packet before (Ok done) after = IsPacket packet × (after ≡ before ++ frame packet)

@@ -18,11 +18,14 @@ pub struct Row {
     pub status: Vec<u8>,
     /// What it tells on standard error, without the line feed.
     pub told: Vec<u8>,
+    /// Whether it is done with ample memory alone.
+    pub once: bool,
 }
 
 impl Row {
     /// Reads the row of this folder. Without a file `script` nothing is read, without `status` it is 0, without `stderr`
-    /// nothing is told; a file `check` asks for the subscription file to be checked.
+    /// nothing is told. A file `check` asks for the subscription file to be checked, and a file `once` for ample memory
+    /// alone.
     pub fn read<R: AllocGlobal + Files>(rt: &R, folder: &str) -> io::Result<Row> {
         let alloc = rt.alloc();
         Ok(Row {
@@ -35,6 +38,7 @@ impl Row {
             text: fs::read(rt, format!(in alloc; "{folder}/expected")?.as_str())?,
             status: line_of(rt, folder, "status", "0")?,
             told: line_of(rt, folder, "stderr", "")?,
+            once: fs::exists(rt, format!(in alloc; "{folder}/once")?.as_str())?,
         })
     }
 }

@@ -30,11 +30,11 @@ pub enum Verdict {
     NoRequest,
 }
 
-/// Tries a row with ample memory, and then with each request for memory refused in turn.
+/// Tries a row with ample memory, and then, unless that is to be all, with each request for memory refused in turn.
 pub fn verdict_on<R: AllocGlobal + Files>(rt: &R, row: &Row) -> Result<Verdict, AllocError> {
     let outcome = run(rt, row, rt.alloc());
     match compared(rt, row, &outcome)? {
-        Verdict::AsExpected => Ok(with_refusals(rt, row, &outcome)),
+        Verdict::AsExpected if !row.once => Ok(with_refusals(rt, row, &outcome)),
         verdict => Ok(verdict),
     }
 }

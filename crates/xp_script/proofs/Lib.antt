@@ -1,3 +1,5 @@
+mod DigitLemmas
+mod HexLemmas
 mod ListLemmas
 mod NameLemmas
 mod WordLemmas

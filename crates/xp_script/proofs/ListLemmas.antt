@@ -1,6 +1,8 @@
 -- What the items of a list stand for, one after the other.
-use Rattle.std.proofs.Common.{◌≡◌, ℕ, ◌+◌, ◌<◌, List, [], ◌∷◌, ◌++◌, length, get_or, take, flat_map, append_assoc, arith}
+use Rattle.std.proofs.Common.{◌≡◌, ℕ, ◌+◌, ◌<◌, ◌≤◌, List, [], ◌∷◌, ◌++◌, length, get_or, take, flat_map, append_assoc, arith, sym, ap, ◌∙◌, refl}
 use Rattle.std.proofs.lemmas.Grind.{common_steps, flat_map-append}
+use Rattle.std.proofs.lemmas.List.{length-append, take-take, take_at}
+use Rattle.xp_script.specs.Text.{Keeps}
 
 -- one item more
 pub flat_map-more : {X : Type 0} (f : X → List ℕ) (xs : List X) (i : ℕ) (x : X) → i < length xs → x ≡ get_or xs i x
@@ -14,3 +16,11 @@ pub text-more : {X : Type 0} (f : X → List ℕ) (xs : List X) (i : ℕ) (x : X
     → so_far ≡ before ++ flat_map f (take i xs) → so_far ++ f x ≡ before ++ flat_map f (take (i + 1) xs)
 text-more f xs i x before so_far within is invariant =
     rw (flat_map-more f xs i x within is, invariant) (append_assoc before (flat_map f (take i xs)) (f x))
+
+-- the front stays where some was added to it, and what it was then stays
+pub still_kept : (before more so_far after : List ℕ) → so_far ≡ before ++ more → Keeps so_far after → Keeps before after
+still_kept before more so_far after is kept =
+    let within : length before ≤ length so_far = omega (arith, length-append before more, ap length is) in
+    sym (take-take (length before) (length so_far) after within)
+    ∙ ap (take (length before)) (kept ∙ is)
+    ∙ take_at before more (length before) refl

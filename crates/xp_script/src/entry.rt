@@ -1,9 +1,9 @@
 //! The text of an entry of the history.
 
-ghost use Rattle.std.specs.Prelude.{◌≡◌, ◌<◌, ◌++◌, All, flat_map, IfOk, OnErr, OnOk};
+ghost use Rattle.std.specs.Prelude.{◌≡◌, ◌<◌, ◌++◌, All, flat_map, OnErr, OnOk};
 ghost use Rattle.xp_core.specs.Writable.{AreWritable};
 ghost use Rattle.xp_script.specs.Lines.{HasLines, IsBetween};
-ghost use Rattle.xp_script.specs.Text.{entry_text, output_text, record_text};
+ghost use Rattle.xp_script.specs.Text.{entry_text, Keeps, output_text, record_text};
 ghost use Rattle.xp_subs.specs.Tables.{line_count};
 
 use crate::output::push_output;
@@ -29,23 +29,30 @@ pub fn write_entry<A: Allocator + Copy>(
     ensures ok { OnOk result (text.new.items ≡ text.old.items ++ entry_text subs.now entry.now) }
     ensures err { OnErr result (text.new.items ≡ text.old.items) }
 {
-    let lines = lines_of(alloc, subs, entry)?;
-    text.extend_from_slice(lines.as_slice())
+    let before = text.len();
+    match push_entry(alloc, subs, entry, text) {
+        Ok(()) => Ok(()),
+        Err(refused) => {
+            text.truncate(before);
+            Err(refused)
+        }
+    }
 }
 
-fn lines_of<A: Allocator + Copy>(
+/// Adds the text of an entry, or of the first part of it.
+fn push_entry<A: Allocator + Copy>(
     alloc: A,
     subs: &Subs,
     entry: &Entry<A>,
-) -> Result<Vec<u8, A>, AllocError>
+    text: &mut Vec<u8, A>,
+) -> Result<(), AllocError>
     requires writable { AreWritable entry.now.outputs }
     requires lines { HasLines (line_count subs.now) entry.now }
-    ensures { IfOk result (λ lines. lines.items ≡ entry_text subs.now entry.now) }
+    ensures ok { OnOk result (text.new.items ≡ text.old.items ++ entry_text subs.now entry.now) }
+    ensures kept { Keeps text.old.items text.new.items }
 {
-    let mut lines = Vec::new(alloc);
-    push_outputs(alloc, subs, entry.outputs.as_slice(), &mut lines)?;
-    push_records(alloc, subs, entry.records.as_slice(), &mut lines)?;
-    Ok(lines)
+    push_outputs(alloc, subs, entry.outputs.as_slice(), text)?;
+    push_records(subs, entry.records.as_slice(), text)
 }
 
 fn push_outputs<A: Allocator + Copy>(
@@ -56,7 +63,8 @@ fn push_outputs<A: Allocator + Copy>(
 ) -> Result<(), AllocError>
     requires writable { AreWritable outputs.now }
     requires lines { All (λ output. output.line < line_count subs.now) outputs.now }
-    ensures { OnOk result (text.new.items ≡ text.old.items ++ flat_map (output_text subs.now) outputs.now) }
+    ensures ok { OnOk result (text.new.items ≡ text.old.items ++ flat_map (output_text subs.now) outputs.now) }
+    ensures kept { Keeps text.old.items text.new.items }
 {
     for output in outputs {
         push_output(alloc, subs, output, text)?;
@@ -64,17 +72,17 @@ fn push_outputs<A: Allocator + Copy>(
     Ok(())
 }
 
-fn push_records<A: Allocator + Copy>(
-    alloc: A,
+fn push_records<A: Allocator>(
     subs: &Subs,
     records: &[Record],
     text: &mut Vec<u8, A>,
 ) -> Result<(), AllocError>
     requires { All (IsBetween (line_count subs.now)) records.now }
-    ensures { OnOk result (text.new.items ≡ text.old.items ++ flat_map (record_text subs.now) records.now) }
+    ensures ok { OnOk result (text.new.items ≡ text.old.items ++ flat_map (record_text subs.now) records.now) }
+    ensures kept { Keeps text.old.items text.new.items }
 {
     for record in records {
-        push_record(alloc, subs, record, text)?;
+        push_record(subs, record, text)?;
     }
     Ok(())
 }

@@ -13,11 +13,11 @@ use Rattle.xp_exchange.proofs.playing.Playing.play.Goals as goal
 pub returns-in-Err-Memory : goal.returns-in-Err-Memory
 returns-in-Err-Memory g c = ([], appends_nothing _, (inl refl, told_all_but_none _ _ [] (told_nothing c.args.self.now.exchange)))
 
-pub returns-in_err-events : goal.returns-in_err-events
-returns-in_err-events g c =
+pub returns-in_err-hear : goal.returns-in_err-hear
+returns-in_err-hear g c =
     let p = err_from_is_err_and c.from_residual.result c.from_residual.ensures.1 in
     let old : Standing _ = record { exchange = c.self.inside.core; unfinished = c.self.inside.streams } in
-    let new : Standing _ = record { exchange = c.self.inside.core; unfinished = c.events_of.new.streams } in
+    let new : Standing _ = record { exchange = c.self.inside.core; unfinished = c.hear.new.streams } in
     subst (λ result. (text : List ℕ) × Appends (g.W.Write.contents c.args.writer.now) (g.W.Write.contents c.args.writer.now) text × Played c.args.self.now c.args.number c.args.line.now result new text)
     (sym (p.1 ∙ ap Err p.2))
     (subst (λ first. (text : List ℕ) × Appends (g.W.Write.contents c.args.writer.now) (g.W.Write.contents c.args.writer.now) text × Played first c.args.number c.args.line.now (Err Memory) new text)
@@ -27,12 +27,12 @@ pub returns : goal.returns
 returns g c =
     let acted = c.act_on_all.ensures.acted in
     let old : Standing _ = record { exchange = c.self.inside.core; unfinished = c.self.inside.streams } in
-    let new : Standing _ = record { exchange = c.act_on_all.new.core; unfinished = c.events_of.new.streams } in
+    let new : Standing _ = record { exchange = c.act_on_all.new.core; unfinished = c.hear.new.streams } in
     subst (λ first. (text : List ℕ) × Appends (g.W.Write.contents c.args.writer.now) (g.W.Write.contents c.act_on_all.new.writer) text × Played first c.args.number c.args.line.now c.act_on_all.result new text)
     c.self.view_is (
       acted.0,
       acted.1,
-      played c.act_on_all.result old new c.args.number c.args.line.now c.in-Ok.command c.in_ok-events.events.items acted.0
+      played c.act_on_all.result old new c.args.number c.args.line.now c.in-Ok.command c.hear.new.events.items acted.0
           (subst (λ tables. said tables c.args.line.now ≡ Some c.in-Ok.command) c.subs.ensures c.in-Ok.ensures.said)
-          c.in_ok-events.ensures.plays acted.2,
+          c.in_ok-hear.ensures.plays acted.2,
     )

@@ -12,7 +12,7 @@ invariant_of-self g c =
 
 pub invariant_of-self-2 : goal.invariant_of-self-2
 invariant_of-self-2 g c =
-    All-set IsBetweenFrames _ c.from-2.result _ c.in_ok-events.ensures.between
+    All-set IsBetweenFrames _ c.from-2.result _ c.in_ok-hear.ensures.between
     (All-set IsBetweenFrames c.self.inside.streams.items c.from.result _ (is_new_after _ _ c.replace-stream.ensures.after c.new.ensures) c.self.invariant)
 
 pub index_mut-requires : goal.index_mut-requires
@@ -21,9 +21,9 @@ index_mut-requires g c = omega (arith, within_rests c.self.inside.streams.items 
 pub returns-clause-heard : goal.returns-clause-heard
 returns-clause-heard g c =
     let within = within_rests c.self.inside.streams.items _ _ c.from.result c.self.view_is c.from.ensures c.requires in
-    subst (λ unfinished. Hears c.args.line (unfinished_at unfinished c.args.line) c.args.octets.now c.in_ok-events.events.items (unfinished_at (rests (set (set c.self.inside.streams.items c.from.result c.replace-stream.new.dest) c.from-2.result c.hear.new.stream)) c.args.line)) c.self.view_is
+    subst (λ unfinished. Hears c.args.line (unfinished_at unfinished c.args.line) c.args.octets.now c.hear.new.events.items (unfinished_at (rests (set (set c.self.inside.streams.items c.from.result c.replace-stream.new.dest) c.from-2.result c.hear.new.stream)) c.args.line)) c.self.view_is
     (heard_at c.self.inside.streams.items c.args.line c.from.result c.from-2.result c.replace-stream.result _ _ _ _ within c.from.ensures c.from-2.ensures
-    (subst (λ stream. stream ≡ get_or c.self.inside.streams.items c.from.result stream) (sym c.replace-stream.ensures.value) c.index_mut-place.ensures.value) c.in_ok-events.ensures.heard)
+    (subst (λ stream. stream ≡ get_or c.self.inside.streams.items c.from.result stream) (sym c.replace-stream.ensures.value) c.index_mut-place.ensures.value) c.in_ok-hear.ensures.heard)
 
 pub returns-clause-kept : goal.returns-clause-kept
 returns-clause-kept g c =

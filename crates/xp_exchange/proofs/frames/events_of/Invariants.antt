@@ -1,9 +1,0 @@
-use Rattle.std.proofs.Common.{length}
-use Rattle.xp_exchange.proofs.Heard.{ReadSoFar}
-use Rattle.xp_exchange.proofs.frames.events_of.Given as goal
-
-abbrev pub invariant-loop-packet : goal.invariant-loop-packet
-invariant-loop-packet g l = ReadSoFar l.line l.fn.stream l.stream l.events.items
-
-abbrev pub decreases-loop-packet : goal.decreases-loop-packet
-decreases-loop-packet g l = length l.stream.waiting
