@@ -1,104 +1,150 @@
 -- Every event has a step.
-use Rattle.std.proofs.Common.{◌≡◌, ℕ, ◌+◌, ◌<◌, true, false, ltb, find, length, is_none, Option, Some, None, List, inl, inr, refl, ap, sym, subst, arith}
-use Rattle.xp_packets.specs.declared.block.Block.{Block}
-use Rattle.xp_subs.specs.declared.target.Target.{Target}
-use Rattle.xp_subs.specs.Tables.{Tables, line_count, target_of}
+use Rattle.std.proofs.Common.{◌≡◌, ℕ, ◌+◌, ◌<◌, length, Option, Some, None, List, [], refl, arith}
+use Rattle.xp_answer.proofs.Every.{one_answer, one_indication}
+use Rattle.xp_answer.specs.Answered.{Answered}
+use Rattle.xp_answer.specs.Setup.{setup_of}
+use Rattle.xp_answer.specs.Terms.{AreTerms}
+use Rattle.xp_answer.specs.declared.answer.Answer.{Answer}
+use Rattle.xp_answer.specs.declared.answer.Answer.TheVariants as answered
+use Rattle.xp_channel.specs.declared.action.Action.{Action}
+use Rattle.xp_channel.specs.declared.action.Action.TheVariants.{Nothing, Rise, Fall, NewCall, Collision, Answer as Accepting, Confirm, Free, Error, Relayed, Expired}
+use Rattle.xp_decide.proofs.Exists.{has_verdict}
+use Rattle.xp_decide.proofs.Written.{told_can_be_written}
+use Rattle.xp_decide.specs.Decided.{Decided}
+use Rattle.xp_decide.specs.Written.{CanBeWritten}
+use Rattle.xp_decide.specs.declared.verdict.Verdict.{Verdict}
+use Rattle.xp_decide.specs.declared.verdict.Verdict.TheVariants.{Take, Refuse}
+use Rattle.xp_packets.specs.declared.packet.Packet.TheVariants.{Call as CallPacket}
+use Rattle.xp_subs.specs.Sound.{IsSound}
+use Rattle.xp_subs.specs.Tables.{Tables, address_of, line_count}
 use Rattle.xp_core.specs.declared.entry.Entry.{Entry}
 use Rattle.xp_core.specs.declared.event.Event.{Event}
 use Rattle.xp_core.specs.declared.event.What.{What}
-use Rattle.xp_core.specs.declared.table.Action.{Action}
-use Rattle.xp_core.specs.declared.table.Action.TheVariants.{NewCall}
-use Rattle.xp_core.specs.declared.verdict.Verdict.{Verdict}
-use Rattle.xp_core.specs.declared.verdict.Verdict.TheVariants.{Take, Refuse}
-use Rattle.xp_core.specs.Changes.{Change, all_changed, outputs_of, recorded_by}
-use Rattle.xp_core.specs.Decision.{Chosen, Decided, first_of, is_idle, reasons, target_lines, why_none}
+use Rattle.xp_core.specs.declared.outcome.Outcome.{Outcome}
+use Rattle.xp_core.specs.declared.outcome.Outcome.TheVariants.{Plain, Put, Refused, Connected, Declined}
+use Rattle.xp_core.specs.declared.output.Output.{Output}
+use Rattle.xp_core.specs.Acts.{Acts, Answers, Confirms, IsRequested, Requests, agreement_of, cancelled_told, lines_seen}
+use Rattle.xp_core.specs.Agreed.{AllHaveTerms}
+use Rattle.xp_core.specs.Changes.{all_changed, recorded_by}
+use Rattle.xp_core.specs.Exchange.{IsReadable}
 use Rattle.xp_core.specs.Existence.{HasStep}
-use Rattle.xp_core.specs.Run.{Run}
+use Rattle.xp_core.specs.Run.{Run, world_next}
 use Rattle.xp_core.specs.Setting.{Setting, setting}
-use Rattle.xp_core.specs.Step.{Chooses, IsDecided, action_at, does, taken_by}
-use Rattle.xp_core.specs.Table.{CallRequest, request_in}
-use Rattle.xp_core.specs.World.{World}
-use Rattle.xp_core.proofs.Fitting.{passed}
-use Rattle.xp_core.proofs.Searches.{find_none}
-use Rattle.xp_core.proofs.Sounds.{run_right}
-use Rattle.xp_subs.proofs.Found.{find_some}
-
-record HasVerdict {A : Type 0} (tables : Tables) (world : World) (caller : ℕ) (block : Block A) : Type 0 where
-  verdict : Verdict
-  decided : Decided tables world caller block verdict
-
-choice_among : (world : World) (caller : ℕ) (lines : List ℕ) → (verdict : Verdict) × Chosen world caller lines verdict
-choice_among world caller lines = elim (find (is_idle world caller) lines) as (λ found. find (is_idle world caller) lines ≡ found → (verdict : Verdict) × Chosen world caller lines verdict) [
-  | Some line ↦ λ is. (Take line, find_some (is_idle world caller) lines line is)
-  | None ↦ λ is. (Refuse (why_none world lines), (find_none (is_idle world caller) lines is, refl))
-] refl
-
-module _ {A : Type 0} (tables : Tables) (world : World) (caller : ℕ) (block : Block A) where
-  placed_as : first_of (reasons tables block) ≡ None → (target : Target) → target_of tables block.called ≡ Some target
-      → (verdict : Verdict) → Chosen world caller (target_lines tables target) verdict → HasVerdict tables world caller block
-  placed_as fit target found (Take line) among =
-      record { verdict = Take line; decided = record { fit = fit; target = target; found = found; among = among } }
-  placed_as fit target found (Refuse why) among =
-      record { verdict = Refuse why; decided = inr (record { fit = fit; target = target; found = found; among = among }) }
-
-  placed : first_of (reasons tables block) ≡ None → (target : Target) → target_of tables block.called ≡ Some target → HasVerdict tables world caller block
-  placed fit target found =
-      let among = choice_among world caller (target_lines tables target) in placed_as fit target found among.0 among.1
-
-  has_verdict : HasVerdict tables world caller block
-  has_verdict = elim (first_of (reasons tables block)) as (λ reason. first_of (reasons tables block) ≡ reason → HasVerdict tables world caller block) [
-    | Some why ↦ λ is. record { verdict = Refuse why; decided = inl is }
-    | None ↦ λ fit. elim (target_of tables block.called) as (λ target. target_of tables block.called ≡ target → HasVerdict tables world caller block) [
-      | Some target ↦ λ found. placed fit target found
-      | None ↦ λ missing.
-          let rest = passed (ltb 0 (length block.facilities)) _ _ fit in
-          let late = passed (ltb 16 (length block.user)) _ _ rest.1 in
-          let there : is_none (target_of tables block.called) ≡ false = (passed (is_none (target_of tables block.called)) _ _ late.1).0 in
-          let gone : is_none (target_of tables block.called) ≡ true = ap is_none missing in
-          absurd (cc)
-    ] refl
-  ] refl
+use Rattle.xp_core.specs.Step.{changes_of}
+use Rattle.xp_core.specs.Table.{CallAccepted, CallRequest, ClearRequest, accepted_in, action_at, clear_in, request_in}
+use Rattle.xp_core.specs.Told.{Told, outputs_of}
+use Rattle.xp_core.specs.World.{Call, World, call_on}
+use Rattle.xp_core.proofs.Agreed.{run_agreed}
+use Rattle.xp_core.proofs.Fitting.{request_few}
+use Rattle.xp_core.proofs.InCall.{shown_on}
+use Rattle.xp_core.proofs.Sizes.{run_sized}
 
 module _ {A : Type 0} where
-  record HasChoice (at : Setting A) (what : What A) (action : Action) : Type 0 where
-    choice : Option Verdict
-    chosen : Chooses at what action choice
+  -- something is settled and put out
+  record HasActs (Does : Outcome → Told A → Type 0) : Type 0 where
+    outcome : Outcome
+    told : Told A
+    acts : Does outcome told
 
-  asked_choice : (at : Setting A) (what : What A) (asked : Option (CallRequest A)) → request_in what ≡ asked → HasChoice at what NewCall
-  asked_choice at what None is = let P : Option (CallRequest A) → Type 0 = λ a. IsDecided at a None in record { choice = None; chosen = subst P (sym is) refl }
-  asked_choice at what (Some request) is =
-      let it : HasVerdict at.tables at.world at.line request.block = has_verdict at.tables at.world at.line request.block in
-      let P : Option (CallRequest A) → Type 0 = λ a. IsDecided at a (Some it.verdict) in
-      record { choice = Some it.verdict; chosen = subst P (sym is) it.decided }
+  module _ (at : Setting A) (what : What A) (sound : IsSound at.tables) (terms : AllHaveTerms at.world) (readable : IsReadable what) where
+    verdict_acts : (far : List (Output A)) (request : CallRequest A) → request_in what ≡ Some request
+        → (verdict : Verdict A) → Decided at.tables (lines_seen at.world) at.line request.block verdict
+        → HasActs (IsRequested at.tables at.world at.line far request)
+    verdict_acts far request asks (Refuse why) decided =
+        record { outcome = Refused why; told = _; acts = record { decided = decided; told_is = refl } }
+    verdict_acts far request asks (Take ring) decided =
+        let written : CanBeWritten ring.told =
+            told_can_be_written at.tables (lines_seen at.world) at.line request.block sound (request_few what request asks readable) ring decided in
+        record {
+          outcome = Put ring.line (setup_of ring);
+          told = _;
+          acts = record {
+            ring = ring;
+            decided = decided;
+            called_is = refl;
+            setup_is = refl;
+            packet = CallPacket request.d (record {
+              called = address_of at.tables ring.line;
+              calling = address_of at.tables at.line;
+              facilities = written.field;
+              user = request.block.user;
+            });
+            incoming = record { field = written.field; tells = written.tells; whole = refl };
+            told_is = refl;
+          };
+        }
 
-  has_choice : (at : Setting A) (what : What A) (action : Action) → HasChoice at what action
-  has_choice at what NewCall = asked_choice at what (request_in what) refl
-  has_choice at what action = record { choice = None; chosen = refl }
+    request_acts : (far : List (Output A)) (asked : Option (CallRequest A)) → request_in what ≡ asked → HasActs (Requests at.tables at.world at.line far asked)
+    request_acts far None asks = record { outcome = Plain; told = _; acts = (refl, refl) }
+    request_acts far (Some request) asks =
+        let it = has_verdict at.tables (lines_seen at.world) at.line request.block in
+        verdict_acts far request asks it.verdict it.decided
 
-  pub has_step : (tables : Tables) (history : List (Entry A)) (world : World) (event : Event A) → Run tables history world → event.line < line_count tables
-      → HasStep tables history world event
-  has_step tables history world event run line =
+    answered_acts : (accepted : CallAccepted A) (found : ℕ × Call) (answer : Answer A)
+        → Answered found.1.setup (address_of at.tables at.line) found.1.dialled accepted.d accepted.block answer
+        → HasActs (Answers at.tables at.world at.line (Some accepted) (Some found))
+    answered_acts accepted found (answered.Connected connection) is = record {
+      outcome = Connected (agreement_of connection);
+      told = _;
+      acts = record { connection = connection; answered = is; agreement_is = refl; told_is = refl };
+    }
+    answered_acts accepted found (answered.Refused diagnostic) is =
+        record { outcome = Declined diagnostic; told = _; acts = record { answered = is; told_is = refl } }
+
+    answer_acts : (accepted : Option (CallAccepted A)) (found : Option (ℕ × Call)) → call_on at.world at.line ≡ found
+        → HasActs (Answers at.tables at.world at.line accepted found)
+    answer_acts None found on = record { outcome = Plain; told = _; acts = (refl, refl) }
+    answer_acts (Some accepted) None on = record { outcome = Plain; told = _; acts = (refl, refl) }
+    answer_acts (Some accepted) (Some found) on =
+        let live = (shown_on at.world at.line found on).1 in
+        let indicated : AreTerms found.1.setup.indicated = (terms found.0 found.1 live).indicated in
+        let it = one_answer found.1.setup (address_of at.tables at.line) found.1.dialled accepted.d accepted.block indicated in
+        answered_acts accepted found it.some.0 it.some.1
+
+    clear_acts : (clear : Option (ClearRequest A)) (found : Option (ℕ × Call)) → HasActs (Confirms at.world at.line clear found)
+    clear_acts None found = record { outcome = Plain; told = _; acts = (refl, refl) }
+    clear_acts (Some clear) None = record { outcome = Plain; told = _; acts = (refl, refl) }
+    clear_acts (Some clear) (Some found) =
+        let it = one_indication found.1.setup.fast clear.cause clear.diagnostic clear.block None tt in record {
+          outcome = Plain;
+          told = _;
+          acts = record { plain = refl; packet = it.some.0; carried = it.some.1; told_is = refl };
+        }
+
+    has_acts : (action : Action) → HasActs (Acts at what action)
+    has_acts NewCall = request_acts [] (request_in what) refl
+    has_acts Collision = request_acts (cancelled_told at.world at.line) (request_in what) refl
+    has_acts Accepting = answer_acts (accepted_in what) (call_on at.world at.line) refl
+    has_acts Confirm = clear_acts (clear_in what) (call_on at.world at.line)
+    has_acts action = record { outcome = Plain; told = _; acts = (refl, refl) }
+
+  pub has_step : (tables : Tables) (history : List (Entry A)) (world : World) (event : Event A) → IsSound tables → Run tables history world
+      → event.line < line_count tables → IsReadable event.what → HasStep tables history world event
+  has_step tables history world event sound run line readable =
       let at : Setting A = setting tables history world event.line in
-      let it = has_choice at event.what (action_at world event) in
-      let changes : List (Change A) = does at event.what (action_at world event) it.choice in
-      record {
-        entry = record {
+      let it = has_acts at event.what sound (run_agreed tables history world run) readable (action_at world event) in
+      let entry : Entry A = record {
+        number = length history + 1;
+        event = event;
+        outcome = it.outcome;
+        outputs = outputs_of it.told;
+        records = record { items = recorded_by world (changes_of tables history world (record {
           number = length history + 1;
           event = event;
-          taken = taken_by it.choice;
-          outputs = outputs_of world changes;
-          records = record { items = recorded_by world changes };
-        };
-        next = all_changed changes world;
+          outcome = it.outcome;
+          outputs = [];
+          records = record { items = [] };
+        })) };
+      } in
+      record {
+        entry = entry;
+        next = world_next tables history world entry;
         event_is = refl;
         step = record {
           number = refl;
-          line = omega (arith, line, (run_right tables history world run).sound.lines);
-          choice = it.choice;
-          chosen = it.chosen;
-          taken = refl;
-          changes = changes;
-          acts = refl;
+          line = omega (arith, line, run_sized tables history world run);
+          told = it.told;
+          acts = it.acts;
           outputs = refl;
           records = refl;
           leads = refl;

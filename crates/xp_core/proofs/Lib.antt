@@ -1,3 +1,4 @@
+pub mod Agreed
 pub mod Cells
 pub mod Clears
 pub mod Counts
@@ -7,15 +8,18 @@ pub mod Existence
 pub mod Fitting
 pub mod Idle
 pub mod InCall
+pub mod Joined
 pub mod Kept
 pub mod Ledger
 pub mod Lines
 pub mod Maps
 pub mod Names
+pub mod Origins
 pub mod Outcomes
 pub mod RunLemmas
 pub mod Searches
 pub mod Shapes
 pub mod Showing
+pub mod Sizes
 pub mod Sounds
 pub mod Worlds

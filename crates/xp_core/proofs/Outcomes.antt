@@ -1,115 +1,236 @@
 -- Two steps of one event are the same, but for the line that a new call is put to.
-use Rattle.std.proofs.Common.{◌≡◌, ◌∙◌, ℕ, Option, Some, None, List, inl, inr, refl, ap, sym, subst}
-use Rattle.std.specs.Prelude.{is_none}
-use Rattle.std.specs.List.{list_any}
-use Rattle.std.proofs.lemmas.List.Folds.{list_any_at}
-use Rattle.xp_packets.specs.declared.block.Block.{Block}
-use Rattle.xp_subs.specs.Tables.{Tables}
+use Rattle.std.proofs.Common.{◌≡◌, ◌∙◌, ℕ, Option, Some, None, List, [], ◌∷◌, refl, ap, sym, subst}
+use Rattle.xp_answer.proofs.Once.{answers_same, incoming_call_same, indications_same}
+use Rattle.xp_answer.specs.Incoming.{IsIncomingCall}
+use Rattle.xp_answer.specs.Setup.{setup_of}
+use Rattle.xp_answer.specs.declared.answer.Answer.{Answer}
+use Rattle.xp_answer.specs.declared.answer.Answer.TheVariants as answered
+use Rattle.xp_answer.specs.declared.setup.Setup.{Setup}
+use Rattle.xp_causes.specs.declared.refusal.Refusal.{Refusal}
+use Rattle.xp_charge.specs.declared.record.Record.{Record}
+use Rattle.xp_channel.specs.declared.action.Action.{Action}
+use Rattle.xp_channel.specs.declared.action.Action.TheVariants.{NewCall, Collision, Answer as Answers_it, Confirm}
+use Rattle.xp_decide.proofs.Once.{decided_same}
+use Rattle.xp_decide.specs.Laws.{IsSameButLine as IsSameVerdict, IsSameRing}
+use Rattle.xp_decide.specs.declared.verdict.Ring.{Ring}
+use Rattle.xp_decide.specs.declared.verdict.Verdict.TheVariants.{Take, Refuse}
+use Rattle.xp_packets.specs.declared.packet.Packet.{Packet}
+use Rattle.xp_packets.specs.declared.packet.Packet.TheVariants.{ClearConfirm}
+use Rattle.xp_subs.specs.Tables.{Tables, address_of}
 use Rattle.xp_core.specs.declared.entry.Entry.{Entry}
 use Rattle.xp_core.specs.declared.event.Event.{Event}
 use Rattle.xp_core.specs.declared.event.What.{What}
-use Rattle.xp_core.specs.declared.table.Action.{Action}
-use Rattle.xp_core.specs.declared.table.Action.TheVariants.{NewCall}
-use Rattle.xp_core.specs.declared.verdict.Verdict.{Verdict}
-use Rattle.xp_core.specs.declared.verdict.Verdict.TheVariants.{Take, Refuse}
-use Rattle.xp_core.specs.Decision.{Decided, IsPlaced, is_idle, target_lines, why_none}
+use Rattle.xp_core.specs.declared.outcome.Agreement.{Agreement}
+use Rattle.xp_core.specs.declared.outcome.Outcome.{Outcome}
+use Rattle.xp_core.specs.declared.outcome.Outcome.TheVariants.{Plain, Put, Refused, Connected, Declined}
+use Rattle.xp_core.specs.declared.output.Output.{Output}
+use Rattle.xp_core.specs.Acts.{Acts, Answers, Confirms, IsAnswered, IsPlain, IsRequested, Requests, agreement_of, cancelled_told, told_connected, told_of_error}
+use Rattle.xp_core.specs.Changes.{Change, all_changed, recorded_by}
 use Rattle.xp_core.specs.Determined.{IsSameButLine}
-use Rattle.xp_core.specs.Changes.{Change, all_changed, outputs_of, recorded_by}
+use Rattle.xp_core.specs.Outcomes.{taken_by, with_line}
 use Rattle.xp_core.specs.Setting.{Setting, setting}
-use Rattle.xp_core.specs.Step.{Chooses, IsDecided, Step, action_at, does, requests, taken_by}
-use Rattle.xp_core.specs.Table.{CallRequest, request_in}
-use Rattle.xp_core.specs.World.{World}
+use Rattle.xp_core.specs.Step.{Step, answers, collides, does, requests}
+use Rattle.xp_core.specs.Table.{CallAccepted, CallRequest, ClearRequest, accepted_in, action_at, clear_in, request_in}
+use Rattle.xp_core.specs.Told.{Told, outputs_of, refused_told, send, send_far, taken_told}
+use Rattle.xp_core.specs.World.{Call, World, call_on}
 
--- two verdicts of one request
-abbrev IsSameVerdict : Verdict → Verdict → Type 0
-IsSameVerdict (Take line) (Take line') = Unit {0}
-IsSameVerdict (Refuse why) (Refuse why') = why ≡ why'
-IsSameVerdict (Take line) (Refuse why) = ⊥
-IsSameVerdict (Refuse why) (Take line) = ⊥
-
-module _ {A : Type 0} (tables : Tables) (world : World) (line : ℕ) (block : Block A) where
-  -- a placed request has one target
-  target_same : (one other : Verdict) (first : IsPlaced tables world line block one) (second : IsPlaced tables world line block other) → first.target ≡ second.target
-  target_same one other first second =
-      let e : Some first.target ≡ Some second.target = sym first.found ∙ second.found in cc
-
-  not_both : (called : ℕ) (one : Verdict) → IsPlaced tables world line block (Take called) → Decided tables world line block one → IsSameVerdict (Take called) one
-  not_both called (Take other) first second = tt
-  not_both called (Refuse why) first (inl against) = cc (first.fit)
-  not_both called (Refuse why) first (inr second) =
-      let among = first.among in
-      let some = list_any_at (is_idle world line) (target_lines tables first.target) among.0.0 called among.0.1 (ap (is_idle world line) among.0.2 ∙ among.1) in
-      let lines = ap (λ target. list_any (is_idle world line) (target_lines tables target)) (target_same (Take called) (Refuse why) first second) in
-      cc (some, lines, second.among.0)
-
-  decided_same : (one other : Verdict) → Decided tables world line block one → Decided tables world line block other → IsSameVerdict one other
-  decided_same (Take called) other first second = not_both called other first second
-  decided_same (Refuse why) (Take called) first second = not_both called (Refuse why) second first
-  decided_same (Refuse why) (Refuse why') (inl first) (inl second) = let e : Some why ≡ Some why' = sym first ∙ second in cc
-  decided_same (Refuse why) (Refuse why') (inl first) (inr second) = cc (second.fit)
-  decided_same (Refuse why) (Refuse why') (inr first) (inl second) = cc (first.fit)
-  decided_same (Refuse why) (Refuse why') (inr first) (inr second) =
-      first.among.1 ∙ ap (λ target. why_none world (target_lines tables target)) (target_same (Refuse why) (Refuse why') first second) ∙ sym second.among.1
+-- what is recorded of an answer, whichever line a call is put to
+answer_recorded : (world : World) (line : ℕ) (found : Option (ℕ × Call)) (outcome : Outcome)
+    → recorded_by world (answers line found outcome) ≡ recorded_by world (answers line found (with_line 0 outcome))
+answer_recorded world line None outcome = refl
+answer_recorded world line (Some found) (Put called setup) = refl
+answer_recorded world line (Some found) (Refused why) = refl
+answer_recorded world line (Some found) Plain = refl
+answer_recorded world line (Some found) (Connected agreement) = refl
+answer_recorded world line (Some found) (Declined diagnostic) = refl
 
 module _ {A : Type 0} where
-  -- two lists of changes, with the lines that they take
-  record IsSame (at : Setting A) (taken : Option ℕ) (changes : List (Change A)) (taken' : Option ℕ) (changes' : List (Change A)) : Type 0 where
-    refused : is_none taken ≡ is_none taken'
-    records : recorded_by at.world changes ≡ recorded_by at.world changes'
-    does : taken ≡ taken' → changes ≡ changes'
+  -- two outcomes with what they put out: the same, but for the line
+  record IsAlike (one : Outcome) (told : Told A) (other : Outcome) (told' : Told A) : Type 0 where
+    outcome : with_line 0 one ≡ with_line 0 other
+    whole : taken_by one ≡ taken_by other → one ≡ other
+    put_out : taken_by one ≡ taken_by other → told ≡ told'
 
-  -- what is not chosen
-  unchosen : (at : Setting A) (choice choice' : Option Verdict) (changes : Option Verdict → List (Change A)) → choice ≡ None → choice' ≡ None
-      → IsSame at (taken_by choice) (changes choice) (taken_by choice') (changes choice')
-  unchosen at choice choice' changes first second =
-      let same : choice ≡ choice' = first ∙ sym second in
-      record {
-        refused = ap (λ c. is_none (taken_by c)) same;
-        records = ap (λ c. recorded_by at.world (changes c)) same;
-        does = λ line. ap changes same;
-      }
+  -- the same in all
+  same : (one other : Outcome) (told told' : Told A) → one ≡ other → told ≡ told' → IsAlike one told other told'
+  same one other told told' is also = record { outcome = ap (with_line 0) is; whole = λ line. is; put_out = λ line. also }
 
-  requests_same : (at : Setting A) (request : CallRequest A) (one other : Verdict) → IsSameVerdict one other
-      → IsSame at (taken_by (Some one)) (requests at.tables at.line (Some request) (Some one)) (taken_by (Some other)) (requests at.tables at.line (Some request) (Some other))
-  requests_same at request (Take called) (Take called') same = record {
-    refused = refl;
-    records = refl;
-    does = λ is. let e : called ≡ called' = cc in ap (λ c. requests at.tables at.line (Some request) (Some (Take c))) e;
+  plain_alike : (this : Told A) (one other : Outcome) (told told' : Told A) → IsPlain this one told → IsPlain this other told' → IsAlike one told other told'
+  plain_alike this one other told told' first second = same one other told told' (first.0 ∙ sym second.0) (first.1 ∙ sym second.1)
+
+  -- ---- a call request
+
+  ring_same : (one other : Ring A) → IsSameRing one other → one.line ≡ other.line → one ≡ other
+  ring_same one other is line = λ i. record { line = line i; told = is.told i; asked = is.asked i; reason = is.reason i }
+
+  setup_same : (one other : Ring A) → IsSameRing one other → setup_of one ≡ setup_of other
+  setup_same one other is =
+      let to : Ring A → Ring A = λ ring. record ring { line = 0 } in
+      let stripped : to one ≡ to other = ring_same (to one) (to other) (record { told = is.told; asked = is.asked; reason = is.reason }) refl in
+      ap setup_of stripped
+
+  module _ (tables : Tables) (world : World) (line : ℕ) (far : List (Output A)) (request : CallRequest A) where
+    requested_alike : (one other : Outcome) (told told' : Told A)
+        → IsRequested tables world line far request one told → IsRequested tables world line far request other told' → IsAlike one told other told'
+    requested_alike (Put called setup) (Put called' setup') told told' first second =
+        let rings : IsSameRing first.ring second.ring = decided_same tables _ line request.block (Take first.ring) (Take second.ring) first.decided second.decided in
+        let setups : setup ≡ setup' = first.setup_is ∙ setup_same first.ring second.ring rings ∙ sym second.setup_is in
+        let I : ℕ → Ring A → Packet A → Type 0 = λ at ring packet. IsIncomingCall ring (address_of tables at) (address_of tables line) request.d request.block packet in
+        let packets : called ≡ called' → first.packet ≡ second.packet = λ at.
+            let ring : first.ring ≡ second.ring = ring_same first.ring second.ring rings (sym first.called_is ∙ at ∙ second.called_is) in
+            let moved : I called' second.ring first.packet = subst (λ c. I c second.ring first.packet) at (subst (λ r. I called r first.packet) ring first.incoming) in
+            incoming_call_same second.ring (address_of tables called') (address_of tables line) request.d request.block first.packet second.packet moved second.incoming in
+        record {
+          outcome = ap (Put 0) setups;
+          whole = λ taken. let at : called ≡ called' = cc in ap (λ c. Put c setup) at ∙ ap (Put called') setups;
+          put_out = λ taken.
+              let at : called ≡ called' = cc in
+              first.told_is ∙ ap (λ c. taken_told world far c first.packet) at ∙ ap (taken_told world far called') (packets at) ∙ sym second.told_is;
+        }
+    requested_alike (Put called setup) (Refused why) told told' first second =
+        absurd (decided_same tables _ line request.block (Take first.ring) (Refuse why) first.decided second.decided)
+    requested_alike (Refused why) (Put called setup) told told' first second =
+        absurd (decided_same tables _ line request.block (Refuse why) (Take second.ring) first.decided second.decided)
+    requested_alike (Refused why) (Refused why') told told' first second =
+        let is : why ≡ why' = decided_same tables _ line request.block (Refuse why) (Refuse why') first.decided second.decided in
+        same (Refused why) (Refused why') told told' (ap Refused is) (first.told_is ∙ ap (refused_told world far line request.identifier) is ∙ sym second.told_is)
+    requested_alike (Put called setup) Plain told told' first second = absurd second
+    requested_alike (Put called setup) (Connected agreement) told told' first second = absurd second
+    requested_alike (Put called setup) (Declined diagnostic) told told' first second = absurd second
+    requested_alike (Refused why) Plain told told' first second = absurd second
+    requested_alike (Refused why) (Connected agreement) told told' first second = absurd second
+    requested_alike (Refused why) (Declined diagnostic) told told' first second = absurd second
+    requested_alike Plain other told told' first second = absurd first
+    requested_alike (Connected agreement) other told told' first second = absurd first
+    requested_alike (Declined diagnostic) other told told' first second = absurd first
+
+  requests_alike : (tables : Tables) (world : World) (line : ℕ) (far : List (Output A)) (asked : Option (CallRequest A)) (one other : Outcome) (told told' : Told A)
+      → Requests tables world line far asked one told → Requests tables world line far asked other told' → IsAlike one told other told'
+  requests_alike tables world line far None one other told told' first second = plain_alike _ one other told told' first second
+  requests_alike tables world line far (Some request) one other told told' first second =
+      requested_alike tables world line far request one other told told' first second
+
+  -- ---- an answer
+
+  module _ (tables : Tables) (world : World) (line : ℕ) (answer : CallAccepted A) (call : Call) where
+    answered_alike : (one other : Outcome) (told told' : Told A)
+        → IsAnswered tables world line answer call one told → IsAnswered tables world line answer call other told' → IsAlike one told other told'
+    answered_alike (Connected agreement) (Connected agreement') told told' first second =
+        let answers : answered.Connected first.connection ≡ answered.Connected second.connection =
+            answers_same call.setup (address_of tables line) call.dialled answer.d answer.block _ _ first.answered second.answered in
+        let is : first.connection ≡ second.connection = cc in
+        same (Connected agreement) (Connected agreement') told told'
+        (ap Connected (first.agreement_is ∙ ap agreement_of is ∙ sym second.agreement_is))
+        (first.told_is ∙ ap (λ c. told_connected world call.caller c.packet) is ∙ sym second.told_is)
+    answered_alike (Connected agreement) (Declined diagnostic) told told' first second =
+        let answers : answered.Connected first.connection ≡ answered.Refused diagnostic =
+            answers_same call.setup (address_of tables line) call.dialled answer.d answer.block _ _ first.answered second.answered in cc
+    answered_alike (Declined diagnostic) (Connected agreement) told told' first second =
+        let answers : answered.Refused diagnostic ≡ answered.Connected second.connection =
+            answers_same call.setup (address_of tables line) call.dialled answer.d answer.block _ _ first.answered second.answered in cc
+    answered_alike (Declined diagnostic) (Declined diagnostic') told told' first second =
+        let answers : ◌≡◌ {A = Answer A} (answered.Refused diagnostic) (answered.Refused diagnostic') =
+            answers_same call.setup (address_of tables line) call.dialled answer.d answer.block _ _ first.answered second.answered in
+        let is : diagnostic ≡ diagnostic' = cc in
+        same (Declined diagnostic) (Declined diagnostic') told told' (ap Declined is) (first.told_is ∙ ap (told_of_error world line) is ∙ sym second.told_is)
+    answered_alike (Connected agreement) Plain told told' first second = absurd second
+    answered_alike (Connected agreement) (Put called setup) told told' first second = absurd second
+    answered_alike (Connected agreement) (Refused why) told told' first second = absurd second
+    answered_alike (Declined diagnostic) Plain told told' first second = absurd second
+    answered_alike (Declined diagnostic) (Put called setup) told told' first second = absurd second
+    answered_alike (Declined diagnostic) (Refused why) told told' first second = absurd second
+    answered_alike Plain other told told' first second = absurd first
+    answered_alike (Put called setup) other told told' first second = absurd first
+    answered_alike (Refused why) other told told' first second = absurd first
+
+  answers_alike : (tables : Tables) (world : World) (line : ℕ) (accepted : Option (CallAccepted A)) (found : Option (ℕ × Call)) (one other : Outcome) (told told' : Told A)
+      → Answers tables world line accepted found one told → Answers tables world line accepted found other told' → IsAlike one told other told'
+  answers_alike tables world line None found one other told told' first second = plain_alike _ one other told told' first second
+  answers_alike tables world line (Some answer) None one other told told' first second = plain_alike _ one other told told' first second
+  answers_alike tables world line (Some answer) (Some found) one other told told' first second =
+      answered_alike tables world line answer found.1 one other told told' first second
+
+  -- ---- a clear request
+
+  abbrev carried_told : World → ℕ → ℕ × Call → Packet A → Told A
+  carried_told world line found packet = record {
+    own = send world line (ClearConfirm None) ∷ [];
+    far = send_far world line (Some found) packet;
+    taken = [];
   }
-  requests_same at request (Refuse why) (Refuse why') same =
-      let changes = ap (λ w. requests at.tables at.line (Some request) (Some (Refuse w))) same in
-      record { refused = refl; records = ap (recorded_by at.world) changes; does = λ is. changes }
-  requests_same at request (Take called) (Refuse why) same = absurd same
-  requests_same at request (Refuse why) (Take called) same = absurd same
 
-  asks_same : (at : Setting A) (asked : Option (CallRequest A)) (one other : Option Verdict) → IsDecided at asked one → IsDecided at asked other
-      → IsSame at (taken_by one) (requests at.tables at.line asked one) (taken_by other) (requests at.tables at.line asked other)
-  asks_same at None one other first second = unchosen at one other (requests at.tables at.line None) first second
-  asks_same at (Some request) None other first second = absurd first
-  asks_same at (Some request) (Some one) None first second = absurd second
-  asks_same at (Some request) (Some one) (Some other) first second =
-      requests_same at request one other (decided_same at.tables at.world at.line request.block one other first second)
+  confirms_alike : (world : World) (line : ℕ) (asked : Option (ClearRequest A)) (found : Option (ℕ × Call)) (one other : Outcome) (told told' : Told A)
+      → Confirms world line asked found one told → Confirms world line asked found other told' → IsAlike one told other told'
+  confirms_alike world line None found one other told told' first second = plain_alike _ one other told told' first second
+  confirms_alike world line (Some clear) None one other told told' first second = plain_alike _ one other told told' first second
+  confirms_alike world line (Some clear) (Some found) one other told told' first second =
+      let packets : first.packet ≡ second.packet =
+          indications_same found.1.setup.fast clear.cause clear.diagnostic clear.block None first.packet second.packet first.carried second.carried in
+      same one other told told' (first.plain ∙ sym second.plain)
+      (first.told_is ∙ ap (λ packet. carried_told world line found packet) packets ∙ sym second.told_is)
 
-  does_alike : (at : Setting A) (what : What A) (action : Action) (one other : Option Verdict) → Chooses at what action one → Chooses at what action other
-      → IsSame at (taken_by one) (does at what action one) (taken_by other) (does at what action other)
-  does_alike at what NewCall one other first second = asks_same at (request_in what) one other first second
-  does_alike at what action one other first second = unchosen at one other (does at what action) first second
+  -- ---- all cells of the table
+
+  acts_alike : (at : Setting A) (what : What A) (action : Action) (one other : Outcome) (told told' : Told A)
+      → Acts at what action one told → Acts at what action other told' → IsAlike one told other told'
+  acts_alike at what NewCall one other told told' first second =
+      requests_alike at.tables at.world at.line [] (request_in what) one other told told' first second
+  acts_alike at what Collision one other told told' first second =
+      requests_alike at.tables at.world at.line (cancelled_told at.world at.line) (request_in what) one other told told' first second
+  acts_alike at what Answers_it one other told told' first second =
+      answers_alike at.tables at.world at.line (accepted_in what) (call_on at.world at.line) one other told told' first second
+  acts_alike at what Confirm one other told told' first second =
+      confirms_alike at.world at.line (clear_in what) (call_on at.world at.line) one other told told' first second
+  acts_alike at what action one other told told' first second = plain_alike _ one other told told' first second
+
+  -- ---- what is recorded
+
+  request_recorded : (world : World) (line : ℕ) (asked : Option (CallRequest A)) (outcome : Outcome)
+      → recorded_by world (requests line asked outcome) ≡ recorded_by world (requests line asked (with_line 0 outcome))
+  request_recorded world line None outcome = refl
+  request_recorded world line (Some request) (Put called setup) = refl
+  request_recorded world line (Some request) (Refused why) = refl
+  request_recorded world line (Some request) Plain = refl
+  request_recorded world line (Some request) (Connected agreement) = refl
+  request_recorded world line (Some request) (Declined diagnostic) = refl
+
+  collision_recorded : (world : World) (line : ℕ) (asked : Option (CallRequest A)) (found : Option (ℕ × Call)) (outcome : Outcome)
+      → recorded_by world (collides line asked found outcome) ≡ recorded_by world (collides line asked found (with_line 0 outcome))
+  collision_recorded world line None found outcome = refl
+  collision_recorded world line (Some request) None outcome = request_recorded world line (Some request) outcome
+  collision_recorded world line (Some request) (Some found) (Put called setup) = refl
+  collision_recorded world line (Some request) (Some found) (Refused why) = refl
+  collision_recorded world line (Some request) (Some found) Plain = refl
+  collision_recorded world line (Some request) (Some found) (Connected agreement) = refl
+  collision_recorded world line (Some request) (Some found) (Declined diagnostic) = refl
+
+  -- what is recorded is the same, whichever line is taken
+  recorded_alike : (at : Setting A) (what : What A) (action : Action) (outcome : Outcome)
+      → recorded_by at.world (does at what action outcome) ≡ recorded_by at.world (does at what action (with_line 0 outcome))
+  recorded_alike at what NewCall outcome = request_recorded at.world at.line (request_in what) outcome
+  recorded_alike at what Collision outcome = collision_recorded at.world at.line (request_in what) (call_on at.world at.line) outcome
+  recorded_alike at what Answers_it outcome = answer_recorded at.world at.line (call_on at.world at.line) outcome
+  recorded_alike at what action outcome = refl
 
   pub steps_same : (tables : Tables) (history : List (Entry A)) (world : World) (one : Entry A) (next : World) (other : Entry A) (next' : World)
       → Step tables history world one next → Step tables history world other next' → one.event ≡ other.event
       → IsSameButLine one next other next'
   steps_same tables history world one next other next' first second event =
-      let C : Event A → Type 0 = λ e. Chooses (setting tables history world e.line) e.what (action_at world e) first.choice in
-      let D : Event A → List (Change A) = λ e. does (setting tables history world e.line) e.what (action_at world e) first.choice in
-      let same = does_alike (setting tables history world other.event.line) other.event.what (action_at world other.event) first.choice second.choice
-      (subst C event first.chosen) second.chosen in
-      let mine : first.changes ≡ D other.event = first.acts ∙ ap D event in
-      let taken : one.taken ≡ other.taken → taken_by first.choice ≡ taken_by second.choice = λ line. sym first.taken ∙ line ∙ second.taken in
-      let changes : one.taken ≡ other.taken → first.changes ≡ second.changes = λ line. mine ∙ same.does (taken line) ∙ sym second.acts in
+      let D : Event A → Outcome → List Change = λ e o. does (setting tables history world e.line) e.what (action_at world e) o in
+      let C : Event A → Type 0 = λ e. Acts (setting tables history world e.line) e.what (action_at world e) one.outcome first.told in
+      let alike : IsAlike one.outcome first.told other.outcome second.told =
+          acts_alike (setting tables history world other.event.line) other.event.what (action_at world other.event) one.outcome other.outcome first.told second.told
+          (subst C event first.acts) second.acts in
+      let S : Outcome → List Record = λ o. recorded_by world (D other.event o) in
+      let recorded : (o : Outcome) → S o ≡ S (with_line 0 o) = recorded_alike (setting tables history world other.event.line) other.event.what (action_at world other.event) in
+      let changes : taken_by one.outcome ≡ taken_by other.outcome → D one.event one.outcome ≡ D other.event other.outcome = λ line.
+          ap (λ e. D e one.outcome) event ∙ ap (D other.event) (alike.whole line) in
       record {
         number = first.number ∙ sym second.number;
-        taken = ap is_none first.taken ∙ same.refused ∙ ap is_none (sym second.taken);
-        records = first.records ∙ ap (recorded_by world) mine ∙ same.records ∙ sym (ap (recorded_by world) second.acts) ∙ sym second.records;
-        outputs = λ line. first.outputs ∙ ap (outputs_of world) (changes line) ∙ sym second.outputs;
+        outcome = alike.outcome;
+        records = first.records ∙ ap (λ e. recorded_by world (D e one.outcome)) event
+            ∙ recorded one.outcome ∙ ap S alike.outcome ∙ sym (recorded other.outcome) ∙ sym second.records;
+        whole = alike.whole;
+        outputs = λ line. first.outputs ∙ ap outputs_of (alike.put_out line) ∙ sym second.outputs;
         world = λ line. first.leads ∙ ap (λ c. all_changed c world) (changes line) ∙ sym second.leads;
       }

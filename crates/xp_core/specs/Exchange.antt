@@ -1,6 +1,8 @@
 -- What a serial exchange shows, and what one step of it does.
-use Rattle.std.specs.Prelude.{◌≡◌, ℕ, Bool, true, false, List, [], ◌∷◌, ◌++◌, if◌then◌else◌}
+use Rattle.std.specs.Prelude.{◌≡◌, ℕ, ◌≤◌, List, [], ◌∷◌, ◌++◌, length}
 use Rattle.xp_packets.specs.Fitness.{CanBeEncoded}
+use Rattle.xp_packets.specs.declared.packet.Packet.{Packet}
+use Rattle.xp_packets.specs.declared.packet.Packet.TheVariants.{Call}
 use Rattle.xp_subs.specs.Tables.{Tables}
 use Rattle.xp_core.specs.declared.entry.Entry.{Entry}
 use Rattle.xp_core.specs.declared.event.Event.{Event}
@@ -20,9 +22,19 @@ module _ {A : Type 0} where
   abbrev pub world_of : Exchange A → World
   world_of exchange = world_after exchange.subs exchange.history
 
-  -- some octets spell the identifier and the packet of a frame
+  -- a call request dials at most 15 digits
+  abbrev pub DialsFew : Packet A → Type 0
+  DialsFew (Call d block) = length block.called ≤ 15
+  DialsFew packet = Unit {0}
+
+  -- some octets spell the identifier and the packet; that few digits are dialled is a fact of their type
+  pub record CanBeRead (identifier : ℕ) (packet : Packet A) : Type 0 where
+    pub encodable : CanBeEncoded identifier packet
+    pub few : DialsFew packet
+
+  -- a frame is one that can be read
   abbrev pub IsReadable : What A → Type 0
-  IsReadable (Frame identifier packet) = CanBeEncoded identifier packet
+  IsReadable (Frame identifier packet) = CanBeRead identifier packet
   IsReadable Up = Unit {0}
   IsReadable Down = Unit {0}
   IsReadable (WrongFrame wrong) = Unit {0}
