@@ -1,11 +1,15 @@
 -- The text of a charging record.
-use Rattle.std.specs.Prelude.{ℕ, codes, decimal, List, [], ◌∷◌, ◌++◌, Option, None, Some}
+use Rattle.std.specs.Prelude.{◌≡◌, ℕ, codes, decimal, List, [], ◌∷◌, ◌++◌, length, take, Option, None, Some}
 use Rattle.hex.specs.Hex.{encode_lower}
 use Rattle.xp_packets.specs.Digits.{text_of as text_of_digits}
 use Rattle.xp_packets.specs.declared.end.End.{End}
 use Rattle.xp_packets.specs.declared.end.End.TheVariants.{Caller, Called}
 use Rattle.xp_subs.specs.Tables.{Tables, line_at}
 use Rattle.xp_charge.specs.declared.record.Record.{Record}
+
+-- The text still begins with what stood there before.
+abbrev pub Keeps : List ℕ → List ℕ → Type 0
+Keeps before after = take (length before) after ≡ before
 
 -- a space, then the field
 abbrev pub field : List ℕ → List ℕ
@@ -28,17 +32,23 @@ abbrev pub payer_text : End → List ℕ
 payer_text Caller = codes "caller"
 payer_text Called = codes "called"
 
--- the charging record of an ended call
-abbrev pub record_text : Tables → Record → List ℕ
-record_text tables ended =
-    codes "record"
-    ++ field (decimal ended.number)
+-- which call ended
+abbrev pub call_text : Tables → Record → List ℕ
+call_text tables ended =
+    field (decimal ended.number)
     ++ field (name_of tables ended.caller)
     ++ field (called_text tables ended.called)
     ++ field (digits_text ended.dialled)
-    ++ field (payer_text ended.payer)
+
+-- who pays, for how much, and how the call ended
+abbrev pub charge_text : Record → List ℕ
+charge_text ended =
+    field (payer_text ended.payer)
     ++ field (decimal ended.from_caller)
     ++ field (decimal ended.from_called)
     ++ field (encode_lower (ended.cause ∷ []))
     ++ field (decimal ended.diagnostic)
-    ++ 10 ∷ []
+
+-- the charging record of an ended call
+abbrev pub record_text : Tables → Record → List ℕ
+record_text tables ended = codes "record" ++ call_text tables ended ++ charge_text ended ++ 10 ∷ []

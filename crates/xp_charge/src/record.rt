@@ -1,9 +1,9 @@
-ghost use Rattle.std.specs.Prelude.{◌≡◌, ◌++◌, ◌<◌, IfOk, IfSome, OnErr, OnOk};
+ghost use Rattle.std.specs.Prelude.{◌≡◌, ◌++◌, ◌<◌, IfSome, OnErr, OnOk};
 ghost use Rattle.xp_charge.specs.Lines.{HasLines};
-ghost use Rattle.xp_charge.specs.Text.{called_text, payer_text, record_text};
+ghost use Rattle.xp_charge.specs.Text.{Keeps, call_text, called_text, charge_text, payer_text, record_text};
 ghost use Rattle.xp_subs.specs.Tables.{line_count};
 
-use crate::text::{push_digits, push_field, push_number, push_octets};
+use crate::text::{NONE, push_digits, push_field, push_number, push_octet};
 use std::alloc::{AllocError, Allocator};
 use xp_packets::{Digits, End};
 use xp_subs::{LineNo, Subs};
@@ -31,9 +31,6 @@ pub struct Record {
     pub diagnostic: u8,
 }
 
-/// What stands for a called line that there is not.
-const NONE: &str = "-";
-
 impl Record {
     /// An equal copy.
     pub fn copy(&self) -> Record
@@ -57,35 +54,56 @@ impl Record {
     /// # Errors
     ///
     /// Where memory is wanting the text stays as it was.
-    pub fn write<A: Allocator + Copy>(
-        &self,
-        subs: &Subs,
-        text: &mut Vec<u8, A>,
-    ) -> Result<(), AllocError>
+    pub fn write<A: Allocator>(&self, subs: &Subs, text: &mut Vec<u8, A>) -> Result<(), AllocError>
         requires { HasLines (line_count subs.now) self.now }
         ensures ok { OnOk result (text.new.items ≡ text.old.items ++ record_text subs.now self.now) }
         ensures err { OnErr result (text.new.items ≡ text.old.items) }
     {
-        let line = self.line(*text.allocator(), subs)?;
-        text.extend_from_slice(line.as_slice())
+        let before = text.len();
+        match self.push(subs, text) {
+            Ok(()) => Ok(()),
+            Err(refused) => {
+                text.truncate(before);
+                Err(refused)
+            }
+        }
     }
 
-    fn line<A: Allocator + Copy>(&self, alloc: A, subs: &Subs) -> Result<Vec<u8, A>, AllocError>
+    /// Adds the line, or the first part of it.
+    fn push<A: Allocator>(&self, subs: &Subs, text: &mut Vec<u8, A>) -> Result<(), AllocError>
         requires { HasLines (line_count subs.now) self.now }
-        ensures { IfOk result (λ line. line.items ≡ record_text subs.now self.now) }
+        ensures ok { OnOk result (text.new.items ≡ text.old.items ++ record_text subs.now self.now) }
+        ensures kept { Keeps text.old.items text.new.items }
     {
-        let mut line = Vec::from_slice(alloc, b"record")?;
-        push_number(&mut line, self.number)?;
-        push_field(&mut line, subs.name_of(self.caller).as_bytes())?;
-        push_field(&mut line, name_of_called(subs, self.called).as_bytes())?;
-        push_digits(&mut line, &self.dialled)?;
-        push_field(&mut line, name_of_payer(self.payer).as_bytes())?;
-        push_number(&mut line, u64::from(self.from_caller))?;
-        push_number(&mut line, u64::from(self.from_called))?;
-        push_octets(&mut line, &[self.cause])?;
-        push_number(&mut line, u64::from(self.diagnostic))?;
-        line.push(b'\n')?;
-        Ok(line)
+        text.extend_from_slice(b"record")?;
+        self.push_call(subs, text)?;
+        self.push_charge(text)?;
+        text.push(b'\n')?;
+        Ok(())
+    }
+
+    /// Adds which call it was: its number, its lines and the digits that were dialled.
+    fn push_call<A: Allocator>(&self, subs: &Subs, text: &mut Vec<u8, A>) -> Result<(), AllocError>
+        requires { HasLines (line_count subs.now) self.now }
+        ensures ok { OnOk result (text.new.items ≡ text.old.items ++ call_text subs.now self.now) }
+        ensures kept { Keeps text.old.items text.new.items }
+    {
+        push_number(text, self.number)?;
+        push_field(text, subs.name_of(self.caller).as_bytes())?;
+        push_field(text, name_of_called(subs, self.called).as_bytes())?;
+        push_digits(text, &self.dialled)
+    }
+
+    /// Adds who pays, for how much, and how the call ended.
+    fn push_charge<A: Allocator>(&self, text: &mut Vec<u8, A>) -> Result<(), AllocError>
+        ensures ok { OnOk result (text.new.items ≡ text.old.items ++ charge_text self.now) }
+        ensures kept { Keeps text.old.items text.new.items }
+    {
+        push_field(text, name_of_payer(self.payer).as_bytes())?;
+        push_number(text, u64::from(self.from_caller))?;
+        push_number(text, u64::from(self.from_called))?;
+        push_octet(text, self.cause)?;
+        push_number(text, u64::from(self.diagnostic))
     }
 }
 

@@ -15,7 +15,8 @@ use std::alloc::{AllocError, Allocator, Global};
 use std::collections::VecDeque;
 use std::io::Write;
 use std::marker::Model;
-use xp_core::{Channel, Core, Event, What};
+use xp_channel::Channel;
+use xp_core::{Core, Event, What};
 use xp_script::{Command, LineFault};
 use xp_subs::LineNo;
 

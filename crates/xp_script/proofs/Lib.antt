@@ -1,4 +1,3 @@
-mod DigitLemmas
 mod HexLemmas
 mod ListLemmas
 mod NameLemmas

@@ -1,2 +1,2 @@
 -- The lines that an entry names.
-pub use Rattle.xp_core.specs.Lines.{IsBetween, HasLines}
+pub use Rattle.xp_core.specs.Lines.{HasLines}

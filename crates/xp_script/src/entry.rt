@@ -2,14 +2,16 @@
 
 ghost use Rattle.std.specs.Prelude.{◌≡◌, ◌<◌, ◌++◌, All, flat_map, OnErr, OnOk};
 ghost use Rattle.xp_core.specs.Writable.{AreWritable};
-ghost use Rattle.xp_script.specs.Lines.{HasLines, IsBetween};
-ghost use Rattle.xp_script.specs.Text.{entry_text, Keeps, output_text, record_text};
+ghost use Rattle.xp_charge.specs.Lines.{HasLines as NamesLines};
+ghost use Rattle.xp_charge.specs.Text.{Keeps, record_text};
+ghost use Rattle.xp_script.specs.Lines.{HasLines};
+ghost use Rattle.xp_script.specs.Text.{entry_text, output_text};
 ghost use Rattle.xp_subs.specs.Tables.{line_count};
 
 use crate::output::push_output;
-use crate::record::push_record;
 use std::alloc::{AllocError, Allocator};
-use xp_core::{Entry, Output, Record};
+use xp_charge::Record;
+use xp_core::{Entry, Output};
 use xp_subs::Subs;
 
 /// Adds the text of an entry: a line for each packet put out, as a frame in hexadecimal, then one for each record. The
@@ -77,12 +79,12 @@ fn push_records<A: Allocator>(
     records: &[Record],
     text: &mut Vec<u8, A>,
 ) -> Result<(), AllocError>
-    requires { All (IsBetween (line_count subs.now)) records.now }
+    requires { All (NamesLines (line_count subs.now)) records.now }
     ensures ok { OnOk result (text.new.items ≡ text.old.items ++ flat_map (record_text subs.now) records.now) }
     ensures kept { Keeps text.old.items text.new.items }
 {
     for record in records {
-        push_record(subs, record, text)?;
+        record.write(subs, text)?;
     }
     Ok(())
 }

@@ -6,7 +6,6 @@ mod entry;
 mod fault;
 mod line;
 mod output;
-mod record;
 mod text;
 
 pub use command::{Command, MAX_LINE_OCTETS};

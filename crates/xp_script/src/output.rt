@@ -6,7 +6,8 @@ ghost use Rattle.xp_core.specs.Writable.{IsWritable};
 ghost use Rattle.xp_frames.specs.Frame.{frame};
 ghost use Rattle.xp_packets.specs.Fitness.{unfit};
 ghost use Rattle.xp_packets.specs.Writing.{written};
-ghost use Rattle.xp_script.specs.Text.{Keeps, output_text};
+ghost use Rattle.xp_charge.specs.Text.{Keeps};
+ghost use Rattle.xp_script.specs.Text.{output_text};
 ghost use Rattle.xp_subs.specs.Tables.{line_count};
 
 use crate::text::{push_field, push_octets};

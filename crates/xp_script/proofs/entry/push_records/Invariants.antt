@@ -1,5 +1,5 @@
 use Rattle.std.proofs.Common.{◌≡◌, ◌++◌, flat_map, take}
-use Rattle.xp_script.specs.Text.{record_text}
+use Rattle.xp_charge.specs.Text.{record_text}
 use Rattle.xp_script.proofs.entry.push_records.Given as goal
 
 abbrev pub invariant-loop-record : goal.invariant-loop-record

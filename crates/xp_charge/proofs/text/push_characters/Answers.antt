@@ -1,7 +1,7 @@
 use Rattle.std.proofs.Common.{◌<◌, get_or, sym, subst, rules}
 use Rattle.xp_packets.specs.Digits.{AreDigits}
-use Rattle.xp_script.proofs.DigitLemmas.{digit_below}
-use Rattle.xp_script.proofs.text.push_characters.Goals as goal
+use Rattle.xp_charge.proofs.DigitLemmas.{digit_below}
+use Rattle.xp_charge.proofs.text.push_characters.Goals as goal
 
 pub overflow_add-digit : goal.overflow_add-digit
 overflow_add-digit g c =
