@@ -1,125 +1,108 @@
 -- Every line that an entry of a run names is one of the subscriptions'.
-use Rattle.std.proofs.Common.{◌≡◌, ◌∙◌, ℕ, ◌<◌, eqb, Some, List, [], ◌∷◌, ◌++◌, All, length, refl, ap, sym, subst, inl, inr, arith, append-nil}
+use Rattle.std.proofs.Common.{◌≡◌, ℕ, ◌<◌, eqb, Some, List, [], ◌∷◌, ◌++◌, All, length, refl, ap, arith}
 use Rattle.std.proofs.lemmas.Bool.{cond_both}
-use Rattle.std.proofs.lemmas.List.Elements.{All-nil, All-cons, All-push, All-append, All-from_recursion, All-same}
+use Rattle.std.proofs.lemmas.List.Elements.{All-nil, All-cons, All-push, All-append, All-same, All-weaker}
 use Rattle.std.specs.List.{AllByRecursion}
+use Rattle.xp_charge.specs.Lines.{HasLines as NamesLines}
+use Rattle.xp_charge.specs.declared.record.Record.{Record}
+use Rattle.xp_decide.proofs.Joined.{taken_is_free}
+use Rattle.xp_subs.specs.Sound.{IsSound}
 use Rattle.xp_subs.specs.Tables.{Tables, line_count}
 use Rattle.xp_core.specs.declared.entry.Entry.{Entry}
+use Rattle.xp_core.specs.declared.event.What.{What}
 use Rattle.xp_core.specs.declared.output.Output.{Output}
-use Rattle.xp_core.specs.Changes.{Change, Rises, Leaves, Begins, IsRefused, Connects, Ends, Way, GoesOut, IsConfirmed, IsFree, outputs_of, recorded, recorded_by, told, told_on_way}
+use Rattle.xp_core.specs.Acts.{lines_seen}
+use Rattle.xp_core.specs.Changes.{Change, Rises, Leaves, Begins, IsRefused, Connects, Ends, changed, recorded, recorded_by}
 use Rattle.xp_core.specs.Clearing.{record_of, refused_record}
-use Rattle.xp_core.specs.Coupling.{AreCoupled, IsEnd, IsHeld}
-use Rattle.xp_core.specs.Lines.{HasLines, IsBetween}
+use Rattle.xp_core.specs.Coupling.{AreCoupled, IsHeld}
+use Rattle.xp_core.specs.Lines.{HasLines}
 use Rattle.xp_core.specs.Run.{Run}
-use Rattle.xp_core.specs.Step.{Step}
+use Rattle.xp_core.specs.Setting.{Setting, setting}
+use Rattle.xp_core.specs.Step.{Step, changes_of}
+use Rattle.xp_core.specs.Table.{action_at}
+use Rattle.xp_core.specs.Told.{outputs_of}
 use Rattle.xp_core.specs.World.{Call, World, call_numbered, far_end, opening}
-use Rattle.xp_core.proofs.Coupled.{CanBe}
+use Rattle.xp_core.proofs.Origins.{ComesOf, IsSent, all_come, all_sent, closing, confirming, clearing, refusing, clearing_far, carrying_on, connecting, ringing}
 use Rattle.xp_core.proofs.RunLemmas.{run_keeps, run_push}
-use Rattle.xp_core.proofs.Shapes.{none, one, step_shape}
 use Rattle.xp_core.proofs.Sounds.{IsRight, run_right}
 
-module _ (tables : Tables) (world : World) (coupled : AreCoupled tables world) where
-  end_within : (number : ℕ) (call : Call) (line : ℕ) → call_numbered world number ≡ Some call → IsEnd call line → line < line_count tables
-  end_within number call line live end =
-      let held : IsHeld tables world number call = coupled.held number call live in
-      elim end [
-        | inl is ↦ omega (arith, is, held.caller)
-        | inr is ↦ omega (arith, is, held.called)
-      ]
+module _ {A : Type 0} (at : Setting A) (what : What A) (sound : IsSound at.tables) (coupled : AreCoupled at.tables at.world) (within : at.line < line_count at.tables) where
+  -- ---- what is put out
 
-  far_within : (number : ℕ) (call : Call) (line : ℕ) → call_numbered world number ≡ Some call → far_end call line < line_count tables
+  abbrev IsNamed : Output A → Type 0
+  IsNamed output = output.line < line_count at.tables
+
+  far_within : (number : ℕ) (call : Call) (line : ℕ) → call_numbered at.world number ≡ Some call → far_end call line < line_count at.tables
   far_within number call line live =
-      let held : IsHeld tables world number call = coupled.held number call live in
-      cond_both (eqb call.caller line) call.called call.caller (λ l. l < line_count tables) (λ first. held.called) (λ second. held.caller)
+      let held : IsHeld at.tables at.world number call = coupled.held number call live in
+      cond_both (eqb call.caller line) call.called call.caller (λ l. l < line_count at.tables) (λ first. held.called) (λ second. held.caller)
 
-module _ {A : Type 0} (tables : Tables) (world : World) (coupled : AreCoupled tables world) (lines : length world.lines ≡ line_count tables) where
-  abbrev Named : List (Output A) → Type 0
-  Named outputs = AllByRecursion (λ output. output.line < line_count tables) outputs
+  to : (line : ℕ) (output : Output A) → output.line ≡ line → line < line_count at.tables → IsNamed output
+  to line output is below = omega (arith, is, below)
 
-  way_named : (line : ℕ) (way : Way) (outputs : List (Output A)) → outputs ≡ told_on_way world line way → line < line_count tables → Named outputs
-  way_named line GoesOut outputs is within = let P : List (Output A) → Type 0 = λ o. Named o in subst P (sym is) tt
-  way_named line IsConfirmed outputs is within = let P : List (Output A) → Type 0 = λ o. Named o in subst P (sym is) (within, tt)
-  way_named line IsFree outputs is within = let P : List (Output A) → Type 0 = λ o. Named o in subst P (sym is) tt
+  sent_named : (output : Output A) → IsSent at what output → IsNamed output
+  sent_named output (closing is) = to at.line output (ap (λ o. o.line) is) within
+  sent_named output (confirming is) = to at.line output (ap (λ o. o.line) is) within
+  sent_named output (clearing cause diagnostic is) = to at.line output (ap (λ o. o.line) is) within
+  sent_named output (refusing request why asks is) = to at.line output (ap (λ o. o.line) is) within
+  sent_named output (clearing_far found cause diagnostic live is) =
+      to (far_end found.1 at.line) output (ap (λ o. o.line) is) (far_within found.0 found.1 at.line live)
+  sent_named output (carrying_on found clear packet live clears carried is) =
+      to (far_end found.1 at.line) output (ap (λ o. o.line) is) (far_within found.0 found.1 at.line live)
+  sent_named output (connecting found answer connection live accepts answered is) =
+      to found.1.caller output (ap (λ o. o.line) is) (coupled.held found.0 found.1 live).caller
+  sent_named output (ringing request ring packet asks decided incoming is) =
+      to ring.line output (ap (λ o. o.line) is) (taken_is_free at.tables (lines_seen at.world) at.line request.block ring sound decided).known
 
-  own_named : (change : Change A) → CanBe world change → Named ((told world change).own)
-  own_named (Rises line) can = tt
-  own_named (Leaves line way) can = way_named line way _ refl (omega (arith, can.within, lines))
-  own_named (Begins line identifier called dialled packet) can = tt
-  own_named (IsRefused line identifier dialled why) can = (omega (arith, can.within, lines), tt)
-  own_named (Connects number call packet) can = tt
-  own_named (Ends number call line way cause diagnostic) can = way_named line way _ refl (end_within tables world coupled number call line can.live can.end)
+  -- ---- what is recorded
 
-  far_named : (change : Change A) → CanBe world change → Named ((told world change).far)
-  far_named (Rises line) can = tt
-  far_named (Leaves line way) can = tt
-  far_named (Begins line identifier called dialled packet) can = tt
-  far_named (IsRefused line identifier dialled why) can = tt
-  far_named (Connects number call packet) can = ((coupled.held number call can).caller, tt)
-  far_named (Ends number call line way cause diagnostic) can = (far_within tables world coupled number call line can.live, tt)
+  abbrev Recorded : List Record → Type 0
+  Recorded records = All (NamesLines (line_count at.tables)) records
 
-  taken_named : (change : Change A) → CanBe world change → Named ((told world change).taken)
-  taken_named (Rises line) can = tt
-  taken_named (Leaves line way) can = tt
-  taken_named (Begins line identifier called dialled packet) can = (omega (arith, can.second.within, lines), tt)
-  taken_named (IsRefused line identifier dialled why) can = tt
-  taken_named (Connects number call packet) can = tt
-  taken_named (Ends number call line way cause diagnostic) can = tt
+  records_named : (change : Change) (world : World) → ComesOf at what change → Recorded (recorded world change)
+  records_named (Rises line) world from = All-nil (NamesLines (line_count at.tables))
+  records_named (Leaves line way) world from = All-nil (NamesLines (line_count at.tables))
+  records_named (Begins line identifier called dialled setup) world from = All-nil (NamesLines (line_count at.tables))
+  records_named (Connects number call agreement) world from = All-nil (NamesLines (line_count at.tables))
+  records_named (IsRefused line identifier dialled why) world from =
+      All-cons (NamesLines (line_count at.tables)) (refused_record world.next line dialled why) []
+      (record { caller = omega (arith, from.line_is, within); called = tt }) (All-nil (NamesLines (line_count at.tables)))
+  records_named (Ends number call line way cause diagnostic) world from =
+      let held : IsHeld at.tables at.world number call = coupled.held number call from.0 in
+      All-cons (NamesLines (line_count at.tables)) (record_of number call cause diagnostic) []
+      (record { caller = held.caller; called = held.called }) (All-nil (NamesLines (line_count at.tables)))
 
-  records_named : (change : Change A) → CanBe world change → All (IsBetween (line_count tables)) (recorded world change)
-  records_named (Rises line) can = All-nil (IsBetween (line_count tables))
-  records_named (Leaves line way) can = All-nil (IsBetween (line_count tables))
-  records_named (Begins line identifier called dialled packet) can = All-nil (IsBetween (line_count tables))
-  records_named (Connects number call packet) can = All-nil (IsBetween (line_count tables))
-  records_named (IsRefused line identifier dialled why) can =
-      All-cons (IsBetween (line_count tables)) (refused_record world.next line dialled why) [] (omega (arith, can.within, lines), tt) (All-nil (IsBetween (line_count tables)))
-  records_named (Ends number call line way cause diagnostic) can =
-      let held : IsHeld tables world number call = coupled.held number call can.live in
-      All-cons (IsBetween (line_count tables)) (record_of number call cause diagnostic) [] (held.caller, held.called) (All-nil (IsBetween (line_count tables)))
+  all_records_named : (changes : List Change) (world : World) → AllByRecursion (ComesOf at what) changes → Recorded (recorded_by world changes)
+  all_records_named [] world from = All-nil (NamesLines (line_count at.tables))
+  all_records_named (change ∷ changes) world from =
+      All-append (NamesLines (line_count at.tables)) (recorded world change) (recorded_by (changed change world) changes)
+      (records_named change world from.0) (all_records_named changes (changed change world) from.1)
 
 module _ {A : Type 0} where
-  abbrev AreNamed : Tables → List (Output A) → Type 0
-  AreNamed tables outputs = All (λ output. output.line < line_count tables) outputs
-
-  each_named : (tables : Tables) (outputs : List (Output A)) → AllByRecursion (λ output. output.line < line_count tables) outputs → AreNamed tables (outputs ++ [])
-  each_named tables outputs all =
-      let P : List (Output A) → Type 0 = λ o. AreNamed tables o in
-      subst P (sym (append-nil outputs)) (All-from_recursion (λ output. output.line < line_count tables) outputs all)
-
-  one_named : (tables : Tables) (own far new : List (Output A)) → AllByRecursion (λ output. output.line < line_count tables) own
-      → AllByRecursion (λ output. output.line < line_count tables) far → AllByRecursion (λ output. output.line < line_count tables) new
-      → AreNamed tables (((own ++ []) ++ (far ++ [])) ++ (new ++ []))
-  one_named tables own far new all_own all_far all_new =
-      let P : Output A → Type 0 = λ output. output.line < line_count tables in
-      All-append P ((own ++ []) ++ (far ++ [])) (new ++ [])
-      (All-append P (own ++ []) (far ++ []) (each_named tables own all_own) (each_named tables far all_far)) (each_named tables new all_new)
-
-  entry_named : (tables : Tables) (before : List (Entry A)) (world : World) (entry : Entry A) (next : World) → IsRight tables (length before) world
+  entry_named : (tables : Tables) (before : List (Entry A)) (world : World) (entry : Entry A) (next : World) → IsSound tables → IsRight tables (length before) world
       → Step tables before world entry next → HasLines (line_count tables) entry
-  entry_named tables before world entry next right step =
-      let P : List (Output A) → Type 0 = λ o. AreNamed tables o in
-      elim (step_shape tables before world entry next right.coupled step) [
-        | none is old ↦ record {
-          outputs = subst P (sym (step.outputs ∙ ap (outputs_of world) is)) (All-nil (λ output. output.line < line_count tables));
-          records = All-same (IsBetween (line_count tables)) entry.records.items [] (step.records ∙ ap (recorded_by world) is) (All-nil (IsBetween (line_count tables)));
-        }
-        | one change is can from ↦ record {
-          outputs = subst P (sym (step.outputs ∙ ap (outputs_of world) is)) (one_named tables (told world change).own (told world change).far (told world change).taken
-              (own_named tables world right.coupled right.sound.lines change can) (far_named tables world right.coupled right.sound.lines change can)
-              (taken_named tables world right.coupled right.sound.lines change can));
-          records = All-same (IsBetween (line_count tables)) entry.records.items (recorded world change) (step.records ∙ ap (recorded_by world) is ∙ append-nil (recorded world change))
-              (records_named tables world right.coupled right.sound.lines change can);
-        }
-      ]
+  entry_named tables before world entry next sound right step =
+      let at : Setting A = setting tables before world entry.event.line in
+      let within : entry.event.line < line_count tables = omega (arith, step.line, right.sound.lines) in
+      let N : Output A → Type 0 = λ output. output.line < line_count tables in
+      record {
+        outputs = All-same N entry.outputs (outputs_of step.told) step.outputs
+            (All-weaker (IsSent at entry.event.what) N (sent_named at entry.event.what sound right.coupled within) (outputs_of step.told)
+            (all_sent at entry.event.what (action_at world entry.event) entry.outcome step.told step.acts));
+        records = All-same (NamesLines (line_count tables)) entry.records.items _ step.records
+            (all_records_named at entry.event.what sound right.coupled within (changes_of tables before world entry) world
+            (all_come at entry.event.what (action_at world entry.event) entry.outcome step.told step.acts));
+      }
 
-  step_named : (tables : Tables) (before : List (Entry A)) (world : World) (entry : Entry A) (next : World)
+  step_named : (tables : Tables) (sound : IsSound tables) (before : List (Entry A)) (world : World) (entry : Entry A) (next : World)
       → Run tables before world × All (HasLines (line_count tables)) before → Step tables before world entry next
       → Run tables (before ++ entry ∷ []) next × All (HasLines (line_count tables)) (before ++ entry ∷ [])
-  step_named tables before world entry next old step = (
+  step_named tables sound before world entry next old step = (
     run_push tables [] (opening (line_count tables)) before world entry next old.0 step,
-    All-push (HasLines (line_count tables)) before entry old.1 (entry_named tables before world entry next (run_right tables before world old.0) step),
+    All-push (HasLines (line_count tables)) before entry old.1 (entry_named tables before world entry next sound (run_right tables before world old.0) step),
   )
 
-  pub run_named : (tables : Tables) (history : List (Entry A)) (world : World) → Run tables history world → All (HasLines (line_count tables)) history
-  run_named tables history world run =
-      (run_keeps (λ before w. Run tables before w × All (HasLines (line_count tables)) before) tables (step_named tables) [] (opening (line_count tables)) history world
+  pub run_named : (tables : Tables) (history : List (Entry A)) (world : World) → IsSound tables → Run tables history world → All (HasLines (line_count tables)) history
+  run_named tables history world sound run =
+      (run_keeps (λ before w. Run tables before w × All (HasLines (line_count tables)) before) tables (step_named tables sound) [] (opening (line_count tables)) history world
       (refl, All-nil (HasLines (line_count tables))) run).1
