@@ -16,6 +16,8 @@ pub mod Maps
 pub mod Names
 pub mod Origins
 pub mod Outcomes
+pub mod Plans
+pub mod Requests
 pub mod RunLemmas
 pub mod Searches
 pub mod Shapes
