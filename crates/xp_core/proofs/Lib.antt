@@ -1,5 +1,6 @@
 pub mod Agreed
 pub mod Cells
+pub mod Clearings
 pub mod Clears
 pub mod Counts
 pub mod Coupled
