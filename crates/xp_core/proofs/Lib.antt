@@ -5,6 +5,7 @@ pub mod Clears
 pub mod Counts
 pub mod Coupled
 pub mod Endings
+pub mod Events
 pub mod Existence
 pub mod Fitting
 pub mod Idle

@@ -41,7 +41,9 @@ pub fn plan_of<A: Allocator + Copy>(
     let line = event.line;
     let what = &event.what;
     match action_of(machine.line(line).state, what) {
-        Action::Nothing | Action::Relayed => nothing(alloc, machine),
+        Action::Nothing => nothing(alloc, machine),
+        // Data, flow control, interrupts and resets are not relayed yet.
+        Action::Relayed => nothing(alloc, machine),
         Action::Rise => rise(alloc, machine, line),
         Action::Fall => fall(alloc, machine, line, what),
         Action::Free => free(alloc, machine, line),
