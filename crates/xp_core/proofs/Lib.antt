@@ -7,6 +7,7 @@ pub mod Fitting
 pub mod Idle
 pub mod InCall
 pub mod Kept
+pub mod Keyed
 pub mod Ledger
 pub mod Lines
 pub mod Maps

@@ -47,18 +47,14 @@ pub fn withdraw<A: Allocator>(
 ) -> Withdrawal
     ensures { IsWithdrawal result machine.now (leaves line (way_of way) cause diagnostic (call_on machine.now line)) }
 {
+    let change = Change::Leave { line, way };
     match machine.call_on(line) {
         None => Withdrawal {
-            change: Change::Leave { line, way },
+            change,
             charged: None,
         },
         Some(call) => Withdrawal {
-            change: Change::End {
-                number: call.number,
-                line,
-                way,
-                far: call.far_end(line),
-            },
+            change,
             charged: Some(call.record(cause, diagnostic)),
         },
     }
