@@ -9,15 +9,16 @@ use Rattle.std.specs.FinMap as finite
 use Rattle.slab.specs.Slab.{Slab, Updates, get}
 use Rattle.xp_core.specs.declared.call.CallKey.{CallKey}
 use Rattle.xp_core.specs.declared.call.LiveCall.{LiveCall}
+use Rattle.xp_core.specs.declared.change.Change.TheVariants as changes
 use Rattle.xp_core.specs.declared.channel.ChannelState.{ChannelState}
 use Rattle.xp_core.specs.declared.channel.ChannelState.TheVariants as kept
 use Rattle.xp_core.specs.declared.channel.LogicalChannel.{LogicalChannel}
 use Rattle.xp_core.specs.declared.outcome.Agreement.{Agreement}
 use Rattle.xp_core.specs.Changes.{Way, IsFree, state_after}
-use Rattle.xp_core.specs.Channel.{State, Ringing, Talking, Waiting, Cleared, INITIAL_IDENTIFIER, call_of}
+use Rattle.xp_core.specs.Channel.{State, Ready, Ringing, Talking, Waiting, Cleared, INITIAL_IDENTIFIER, call_of}
 use Rattle.xp_core.specs.Coupling.{IsEnd}
-use Rattle.xp_core.specs.Kept.{AreKeyed, IsAccepted, IsEnded, IsKeptUnder, call_of_kept, calls_of, channel_at, entry_of, key_of, line_of, lines_connected, lines_left, lines_put, off_channel, state_of, world_kept}
-use Rattle.xp_core.specs.Plan.{connected, freed_if_any, left}
+use Rattle.xp_core.specs.Kept.{AreKeyed, IsAccepted, IsEnded, IsKeptUnder, call_of_kept, calls_of, channel_at, entry_of, key_of, line_of, lines_connected, lines_left, lines_put, off_channel, risen, state_of, turned_down, world_kept}
+use Rattle.xp_core.specs.Plan.{applied, connected, freed_if_any, left}
 use Rattle.xp_core.specs.World.{Call, Line, World, call_numbered, call_on, far_end, line_at, moved, moved_as, numbered, off_line, opening, state_at}
 use Rattle.xp_core.proofs.Keyed.{added, added_one_each, changed, changed_one_each, found, removed, removed_one_each}
 use Rattle.xp_core.proofs.Lines.{get_or-set}
@@ -145,11 +146,20 @@ module _ (lines : List LogicalChannel) (calls : Slab LiveCall) (next : ℕ) wher
   pub set_kept : (line : ℕ) (becomes : LogicalChannel) → world_kept (set lines line becomes) calls next ≡ record here { lines = slice_set here.lines line (line_of becomes) }
   set_kept line becomes = ap (λ ls. record here { lines = ls }) (map-set line_of lines line becomes)
 
+  pub risen_kept : (line : ℕ) → world_kept (set lines line (risen (channel_at lines line))) calls next ≡ applied (changes.Rise line) here
+  risen_kept line =
+      set_kept line (risen (channel_at lines line))
+      ∙ ap (λ l. record here { lines = slice_set here.lines line (record { state = Ready; identifier = INITIAL_IDENTIFIER; connection = l.connection + 1 }) })
+      (sym (line_kept lines line))
+
   pub moved_as_kept : (line identifier : ℕ) (state : ChannelState) (others : List LogicalChannel)
       → map line_of (set others line (record (channel_at lines line) { state = state; identifier = identifier })) ≡ moved_as here line identifier (state_of state) (map line_of others)
   moved_as_kept line identifier state others =
       map-set line_of others line _
       ∙ ap (λ l. set (map line_of others) line (record l { state = state_of state; identifier = identifier })) (sym (line_kept lines line))
+
+  pub refused_kept : (line identifier : ℕ) → world_kept (set lines line (turned_down (channel_at lines line) identifier)) calls (next + 1) ≡ applied (changes.Refuse line identifier) here
+  refused_kept line identifier = ap (λ ls. record here { lines = ls; next = next + 1 }) (moved_as_kept line identifier kept.Cleared lines)
 
   moved_kept : (line : ℕ) (state : ChannelState) (others : List LogicalChannel)
       → map line_of (set others line (record (channel_at lines line) { state = state })) ≡ moved here line (state_of state) (map line_of others)
