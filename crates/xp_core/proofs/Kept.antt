@@ -167,6 +167,9 @@ module _ (lines : List LogicalChannel) (calls : Slab LiveCall) (next : ℕ) wher
       map-set line_of others line _
       ∙ ap (λ l. set (map line_of others) line (record l { state = state_of state })) (sym (line_kept lines line))
 
+  pub free_kept : (line : ℕ) → world_kept (set lines line (record (channel_at lines line) { state = kept.Ready })) calls next ≡ applied (changes.Free line) here
+  free_kept line = ap (λ ls. record here { lines = ls }) (moved_kept line kept.Ready lines)
+
   -- a call begins: it is put under a free key, which both its lines have
   module _ (keyed : AreKeyed lines calls) (after : Slab LiveCall) (key : ℕ) (call : LiveCall) (updates : Updates calls after key (Some call)) (free : get calls key ≡ None)
       (fresh : finite.get (calls_of calls) call.number ≡ None) (identifier : ℕ) where

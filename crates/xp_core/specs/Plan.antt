@@ -46,6 +46,7 @@ abbrev pub applied : KeptChange → World → World
 applied (kept.Rise line) world = record world {
   lines = slice_set world.lines line (record { state = Ready; identifier = INITIAL_IDENTIFIER; connection = (line_at world line).connection + 1 });
 }
+applied (kept.Free line) world = record world { lines = moved world line Ready world.lines }
 applied (kept.Leave line way) world = left line (way_of way) (call_on world line) world
 applied (kept.Begin caller identifier called dialled setup) world = record {
   lines = moved_as world called INITIAL_IDENTIFIER (Ringing world.next) (moved_as world caller identifier (Waiting world.next) world.lines);

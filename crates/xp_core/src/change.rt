@@ -21,6 +21,10 @@ pub enum Change {
     Rise {
         line: LineNo,
     },
+    /// A line in no call is free for one.
+    Free {
+        line: LineNo,
+    },
     /// A line comes to a state of no call. The call that it is in, if it is in one, ends, and its far line is cleared.
     Leave {
         line: LineNo,

@@ -24,6 +24,7 @@ pub fn places(change: &Option<Change>) -> usize
         Some(Change::Begin { .. }) => 1,
         Some(
             Change::Rise { .. }
+            | Change::Free { .. }
             | Change::Leave { .. }
             | Change::Refuse { .. }
             | Change::Connect { .. },
@@ -86,6 +87,7 @@ fn make<A: Allocator>(
 {
     match change {
         Change::Rise { line } => rise(lines, line),
+        Change::Free { line } => free(lines, line),
         Change::Leave { line, way } => leave(lines, calls, line, way),
         Change::Begin {
             caller,
@@ -123,6 +125,14 @@ fn rise<A: Allocator>(lines: &mut Vec<LogicalChannel, A>, line: LineNo)
         identifier: LogicalChannel::INITIAL_IDENTIFIER,
         connection: channel(lines, line).connection + 1,
     };
+    set_line(lines, line, becomes);
+}
+
+/// A line in no call is free for one.
+fn free<A: Allocator>(lines: &mut Vec<LogicalChannel, A>, line: LineNo)
+    ensures { lines.new.items ≡ slice_set lines.old.items line (record (channel_at lines.old.items line) { state = ChannelState.Ready }) }
+{
+    let becomes = channel(lines, line).moved(ChannelState::Ready);
     set_line(lines, line, becomes);
 }
 

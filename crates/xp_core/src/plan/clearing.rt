@@ -79,8 +79,7 @@ pub fn free<A: Allocator>(
 ) -> Result<Plan<A>, AllocError>
     ensures { IfOk result (λ plan. IsPlainPlan plan machine.now nothing_told (Leaves line IsFree ∷ [])) }
 {
-    let way = Way::IsFree;
-    Ok(Plan::of(Buffer::with_room(alloc, 0)?).changing(Change::Leave { line, way }))
+    Ok(Plan::of(Buffer::with_room(alloc, 0)?).changing(Change::Free { line }))
 }
 
 /// A line goes out of service: its call ends as out of order.

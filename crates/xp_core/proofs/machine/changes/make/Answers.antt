@@ -2,7 +2,7 @@ use Rattle.std.proofs.Common.{None, ap, arith, refl, sym, ◌+◌, ◌∙◌}
 use Rattle.xp_core.specs.declared.call.LiveCall.{LiveCall}
 use Rattle.xp_core.specs.Kept.{world_kept}
 use Rattle.xp_core.specs.Plan.{applied}
-use Rattle.xp_core.proofs.Kept.{begun_kept, begun_keyed, line_kept, refused_kept, risen_kept}
+use Rattle.xp_core.proofs.Kept.{begun_kept, begun_keyed, free_kept, line_kept, refused_kept, risen_kept}
 use Rattle.xp_core.proofs.machine.changes.make.Goals as goal
 
 pub rise-requires : goal.rise-requires
@@ -13,6 +13,12 @@ returns-in-Rise-clause-made g c =
     ap (λ ls. world_kept ls c.args.calls.now c.args.next.now) c.rise.ensures
     ∙ risen_kept c.args.lines.now.items c.args.calls.now c.args.next.now c.in-Rise.line
     ∙ ap (λ change. applied change (world_kept c.args.lines.now.items c.args.calls.now c.args.next.now)) (sym c.in-Rise.is)
+
+pub returns-in-Free-clause-made : goal.returns-in-Free-clause-made
+returns-in-Free-clause-made g c =
+    ap (λ ls. world_kept ls c.args.calls.now c.args.next.now) c.free.ensures
+    ∙ free_kept c.args.lines.now.items c.args.calls.now c.args.next.now c.in-Free.line
+    ∙ ap (λ change. applied change (world_kept c.args.lines.now.items c.args.calls.now c.args.next.now)) (sym c.in-Free.is)
 
 pub returns-in-Begin-clause-keyed : goal.returns-in-Begin-clause-keyed
 returns-in-Begin-clause-keyed g c =
