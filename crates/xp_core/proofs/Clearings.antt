@@ -63,9 +63,6 @@ module _ {A : Type 0} (tables : Tables) (world : World) (line : ℕ) (answer : C
         let P : List ℕ → Type 0 = λ at. Answered call.setup at call.dialled answer.d answer.block given in
         subst IsGiven same (subst P address_is answered)
 
-    pub live : call_numbered world call.number ≡ Some (call_of_kept call)
-    live = (shown_on world line (entry_of call) (sym is)).1
-
     pub connected : (connection : Connection A) → given ≡ answers.Connected connection → plan.outcome ≡ Connected (agreement_of connection)
         → IsPlan plan world (told_connected world call.caller connection.packet) (Connects call.number (call_of_kept call) (agreement_of connection) ∷ [])
         → PlansAnswer tables world line answer plan

@@ -12,6 +12,7 @@ pub mod Idle
 pub mod InCall
 pub mod Joined
 pub mod Kept
+pub mod Keyed
 pub mod Ledger
 pub mod Lines
 pub mod Maps

@@ -7,11 +7,11 @@ use Rattle.xp_core.specs.declared.change.Change.{Change as KeptChange}
 use Rattle.xp_core.specs.declared.output.Output.{Output}
 use Rattle.xp_core.specs.declared.plan.Plan.{Plan}
 use Rattle.xp_core.specs.declared.plan.request.Cancelled.{Cancelled}
-use Rattle.xp_core.specs.declared.plan.clearing.Withdrawal.{Withdrawal}
 use Rattle.xp_core.specs.Acts.{cancelled_told}
-use Rattle.xp_core.specs.Changes.{Change, Ends, IsFree, all_changed, changed, recorded, recorded_by}
-use Rattle.xp_core.specs.Plan.{IsCancelled, IsPlan, IsWithdrawal, applied, applied_if_any}
-use Rattle.xp_core.specs.Step.{cancels, leaves}
+use Rattle.xp_core.specs.Changes.{Change, IsFree, all_changed, changed, recorded, recorded_by}
+use Rattle.xp_core.specs.Clearing.{record_of}
+use Rattle.xp_core.specs.Plan.{IsCancelled, IsPlan, applied, applied_if_any, freed_if_any, left}
+use Rattle.xp_core.specs.Step.{cancels}
 use Rattle.xp_core.specs.Told.{clear_indication, send_far}
 use Rattle.xp_core.specs.World.{Call, World, call_on}
 
@@ -30,7 +30,7 @@ pub planned : {A : Type 0} (plan : Plan A) (world : World) (cancelled : Cancelle
     (own taken : List (Output A)) (records : List Record)
     → IsCancelled cancelled world ended far
     → plan.outputs.outputs ≡ own ++ option_to_list cancelled.told ++ taken
-    → plan.cancelled ≡ cancelled.change → plan.change ≡ Some kept
+    → plan.cancelled ≡ cancelled.line → plan.change ≡ Some kept
     → plan.records.items ≡ option_to_list cancelled.charged ++ records
     → ((w : World) → applied kept w ≡ changed change w) → records ≡ recorded (all_changed ended world) change
     → IsPlan plan world (record { own = own; far = far; taken = taken }) (ended ++ change ∷ [])
@@ -39,8 +39,8 @@ planned plan world cancelled ended far kept change own taken records ends output
   records = charged ∙ ap (λ front. front ++ records) ends.records
       ∙ ap (λ last. recorded_by world ended ++ last) (recorded_is ∙ sym (append-nil (recorded (all_changed ended world) change)))
       ∙ sym (recorded_by-append ended (change ∷ []) world);
-  does = ap (λ c. applied_if_any c (applied_if_any plan.cancelled world)) changes
-      ∙ ap (λ c. applied kept (applied_if_any c world)) cancels
+  does = ap (λ c. applied_if_any c (freed_if_any plan.cancelled world)) changes
+      ∙ ap (λ l. applied kept (freed_if_any l world)) cancels
       ∙ ap (applied kept) ends.does
       ∙ does (all_changed ended world)
       ∙ sym (all_changed-append ended (change ∷ []) world);
@@ -56,17 +56,15 @@ module _ {A : Type 0} (cancelled : Cancelled A) (world : World) (line : ℕ) whe
       let P : Option (ℕ × Call) → Type 0 = λ found. IsCancelled cancelled world (cancels line found) (indication found) in
       subst P is (none world)
 
-  pub call_cancelled : (withdrawal : Withdrawal) (found : ℕ × Call) → Some found ≡ call_on world line
-      → IsWithdrawal withdrawal world (leaves line IsFree NUMBER_BUSY CALL_COLLISION (call_on world line))
-      → cancelled.change ≡ Some withdrawal.change → cancelled.charged ≡ withdrawal.charged
+  pub call_cancelled : (found : ℕ × Call) → Some found ≡ call_on world line
+      → cancelled.line ≡ Some line → option_to_list cancelled.charged ≡ record_of found.0 found.1 NUMBER_BUSY CALL_COLLISION ∷ []
       → option_to_list cancelled.told ≡ cancelled_told world line
       → IsCancelled cancelled world (cancels line (call_on world line)) (cancelled_told world line)
-  call_cancelled withdrawal found is leaving change charged told =
+  call_cancelled found is at charged told =
       let P : Option (ℕ × Call) → Type 0 = λ f. IsCancelled cancelled world (cancels line f) (cancelled_told world line) in
       subst P is (record {
-        does = ap (λ c. applied_if_any c world) change ∙ leaving.does ∙ ap (λ f. changed (leaves line IsFree NUMBER_BUSY CALL_COLLISION f) world) (sym is);
+        does = ap (λ l. freed_if_any l world) at ∙ ap (λ f. left line IsFree f world) (sym is);
         next = refl;
-        records = ap option_to_list charged ∙ leaving.records ∙ ap (λ f. recorded world (leaves line IsFree NUMBER_BUSY CALL_COLLISION f)) (sym is)
-            ∙ sym (append-nil (recorded world (Ends found.0 found.1 line IsFree NUMBER_BUSY CALL_COLLISION)));
+        records = charged;
         told = told;
       })

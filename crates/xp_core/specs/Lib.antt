@@ -11,6 +11,7 @@ pub mod Exchange
 pub mod Existence
 pub mod Joined
 pub mod Kept
+pub mod Keyed
 pub mod Lines
 pub mod Outcomes
 pub mod Plan

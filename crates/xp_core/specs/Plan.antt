@@ -16,28 +16,38 @@ use Rattle.xp_core.specs.declared.plan.clearing.Withdrawal.{Withdrawal}
 use Rattle.xp_core.specs.declared.plan.request.Cancelled.{Cancelled}
 use Rattle.xp_subs.specs.Tables.{Tables}
 use Rattle.xp_core.specs.Acts.{Acts, Answers, IsConfirmed, IsRequested}
-use Rattle.xp_core.specs.Changes.{Change, all_changed, changed, recorded, recorded_by, state_after}
+use Rattle.xp_core.specs.Changes.{Change, IsFree, Way, all_changed, changed, recorded, recorded_by, state_after}
 use Rattle.xp_core.specs.Channel.{Ready, Waiting, Ringing, Talking, Cleared, INITIAL_IDENTIFIER}
 use Rattle.xp_core.specs.Kept.{way_of}
 use Rattle.xp_core.specs.Setting.{Setting}
 use Rattle.xp_core.specs.Step.{answers, confirms, does, requests}
 use Rattle.xp_core.specs.Table.{CallAccepted, CallRequest, ClearRequest}
 use Rattle.xp_core.specs.Told.{Told, outputs_of, send_far}
-use Rattle.xp_core.specs.World.{Call, World, call_on, line_at, moved, moved_as}
+use Rattle.xp_core.specs.World.{Call, World, call_on, far_end, line_at, moved, moved_as}
 
--- these calls, with this one accepted
-abbrev pub with_agreement : map.FinMap nat_cmp Call → ℕ → Agreement → map.FinMap nat_cmp Call
-with_agreement calls number agreement = accept (map.get calls number) where
-  accept : Option Call → map.FinMap nat_cmp Call
-  accept None = calls
-  accept (Some call) = map.insert calls number (record call { agreed = Some agreement })
+-- a line comes to a state of no call, and the call that it is in ends
+abbrev pub left : ℕ → Way → Option (ℕ × Call) → World → World
+left line way None world = record world { lines = moved world line (state_after way) world.lines }
+left line way (Some found) world = record world {
+  lines = moved world line (state_after way) (moved world (far_end found.1 line) Cleared world.lines);
+  calls = map.remove world.calls found.0;
+}
+
+-- the call that a line is in is accepted
+abbrev pub connected : Option (ℕ × Call) → Agreement → World → World
+connected None agreement world = world
+connected (Some found) agreement world = record world {
+  lines = moved world found.1.caller (Talking found.0) (moved world found.1.called (Talking found.0) world.lines);
+  calls = map.insert world.calls found.0 (record found.1 { agreed = Some agreement });
+}
 
 -- what a change of the machine does
 abbrev pub applied : KeptChange → World → World
 applied (kept.Rise line) world = record world {
   lines = slice_set world.lines line (record { state = Ready; identifier = INITIAL_IDENTIFIER; connection = (line_at world line).connection + 1 });
 }
-applied (kept.Leave line way) world = record world { lines = moved world line (state_after (way_of way)) world.lines }
+applied (kept.Free line) world = record world { lines = moved world line Ready world.lines }
+applied (kept.Leave line way) world = left line (way_of way) (call_on world line) world
 applied (kept.Begin caller identifier called dialled setup) world = record {
   lines = moved_as world called INITIAL_IDENTIFIER (Ringing world.next) (moved_as world caller identifier (Waiting world.next) world.lines);
   calls = map.insert world.calls world.next (record { caller = caller; called = called; dialled = dialled; setup = setup; agreed = None });
@@ -45,18 +55,16 @@ applied (kept.Begin caller identifier called dialled setup) world = record {
 }
 applied (kept.Refuse line identifier) world =
     record world { lines = moved_as world line identifier Cleared world.lines; next = world.next + 1 }
-applied (kept.Connect number caller called agreement) world = record world {
-  lines = moved world caller (Talking number) (moved world called (Talking number) world.lines);
-  calls = with_agreement world.calls number agreement;
-}
-applied (kept.End number line way far) world = record world {
-  lines = moved world line (state_after (way_of way)) (moved world far Cleared world.lines);
-  calls = map.remove world.calls number;
-}
+applied (kept.Connect line agreement) world = connected (call_on world line) agreement world
 
 abbrev pub applied_if_any : Option KeptChange → World → World
 applied_if_any None world = world
 applied_if_any (Some change) world = applied change world
+
+-- the call that was put to a line, if there is one, is cancelled
+abbrev pub freed_if_any : Option ℕ → World → World
+freed_if_any None world = world
+freed_if_any (Some line) world = left line IsFree (call_on world line) world
 
 -- a line that leaves its call, and the record of the call, if it is in one
 pub record IsWithdrawal (withdrawal : Withdrawal) (world : World) (change : Change) : Type 0 where
@@ -66,14 +74,14 @@ pub record IsWithdrawal (withdrawal : Withdrawal) (world : World) (change : Chan
 module _ {A : Type 0} where
   -- the call that a collision cancels, if there is one, and what its caller is told
   pub record IsCancelled (cancelled : Cancelled A) (world : World) (ended : List Change) (far : List (Output A)) : Type 0 where
-    pub does : applied_if_any cancelled.change world ≡ all_changed ended world
+    pub does : freed_if_any cancelled.line world ≡ all_changed ended world
     pub next : (all_changed ended world).next ≡ world.next
     pub records : option_to_list cancelled.charged ≡ recorded_by world ended
     pub told : option_to_list cancelled.told ≡ far
 
   -- the call that is cancelled ends first
   abbrev pub applied_by : Plan A → World → World
-  applied_by plan world = applied_if_any plan.change (applied_if_any plan.cancelled world)
+  applied_by plan world = applied_if_any plan.change (freed_if_any plan.cancelled world)
 
   pub record IsPlan (plan : Plan A) (world : World) (told : Told A) (changes : List Change) : Type 0 where
     pub outputs : plan.outputs.outputs ≡ outputs_of told

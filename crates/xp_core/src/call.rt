@@ -26,6 +26,15 @@ pub struct LiveCall {
     pub agreed: Option<Agreement>,
 }
 
+/// Which live call a line is in. A key that is used again has a call of another number.
+#[derive(Clone, Copy, Debug, PartialEq, Eq)]
+pub struct CallKey {
+    /// The call's number.
+    pub number: u64,
+    /// Under which key the call is kept.
+    pub key: usize,
+}
+
 impl LiveCall {
     /// The other line of the call.
     pub fn far_end(&self, line: LineNo) -> LineNo

@@ -21,7 +21,11 @@ pub enum Change {
     Rise {
         line: LineNo,
     },
-    /// A line in no call comes to another state of no call.
+    /// A line in no call is free for one.
+    Free {
+        line: LineNo,
+    },
+    /// A line comes to a state of no call. The call that it is in, if it is in one, ends, and its far line is cleared.
     Leave {
         line: LineNo,
         way: Way,
@@ -39,18 +43,9 @@ pub enum Change {
         line: LineNo,
         identifier: u16,
     },
-    /// A call is accepted.
+    /// The call that a line is in is accepted.
     Connect {
-        number: u64,
-        caller: LineNo,
-        called: LineNo,
-        agreement: Agreement,
-    },
-    /// A call ends by a line of it, and its far line is cleared.
-    End {
-        number: u64,
         line: LineNo,
-        way: Way,
-        far: LineNo,
+        agreement: Agreement,
     },
 }

@@ -1,7 +1,8 @@
-ghost use Rattle.std.specs.Prelude.{◌≡◌};
+ghost use Rattle.std.specs.Prelude.{◌≡◌, option_map};
 ghost use Rattle.xp_core.specs.Channel.{call_of, channel_of, seen_as};
-ghost use Rattle.xp_core.specs.Kept.{state_of};
+ghost use Rattle.xp_core.specs.Kept.{key_of, state_of};
 
+use crate::call::CallKey;
 use xp_channel::Channel;
 use xp_hunt::LineState;
 
@@ -14,26 +15,34 @@ pub enum ChannelState {
     /// p1, ready.
     Ready,
     /// p2, DTE waiting: the line asked for this call.
-    Waiting(u64),
+    Waiting(CallKey),
     /// p3, DCE waiting: this call was put to the line.
-    Ringing(u64),
+    Ringing(CallKey),
     /// p4, data transfer in this call.
-    Talking(u64),
+    Talking(CallKey),
     /// p7, DCE clear indication: the line has yet to confirm it.
     Cleared,
 }
 
 impl ChannelState {
+    /// The call that the line is in.
+    pub fn key(self) -> Option<CallKey>
+        ensures key { result ≡ key_of self }
+        ensures number { option_map (λ call. call.number) result ≡ call_of (state_of self) }
+    {
+        match self {
+            ChannelState::Waiting(call)
+            | ChannelState::Ringing(call)
+            | ChannelState::Talking(call) => Some(call),
+            ChannelState::Off | ChannelState::Ready | ChannelState::Cleared => None,
+        }
+    }
+
     /// The number of the call that the line is in.
     pub fn call(self) -> Option<u64>
         ensures { result ≡ call_of (state_of self) }
     {
-        match self {
-            ChannelState::Waiting(number)
-            | ChannelState::Ringing(number)
-            | ChannelState::Talking(number) => Some(number),
-            ChannelState::Off | ChannelState::Ready | ChannelState::Cleared => None,
-        }
+        self.key().map(|call| call.number)
     }
 
     /// The state in the table of actions.
@@ -85,4 +94,22 @@ impl LogicalChannel {
         identifier: 0,
         connection: 0,
     };
+
+    /// What becomes of the line in this state, under this identifier; its connection stays.
+    pub fn moved_as(self, identifier: u16, state: ChannelState) -> LogicalChannel
+        ensures { result ≡ record self { state = state; identifier = identifier } }
+    {
+        LogicalChannel {
+            state,
+            identifier,
+            connection: self.connection,
+        }
+    }
+
+    /// The same, under its own identifier.
+    pub fn moved(self, state: ChannelState) -> LogicalChannel
+        ensures { result ≡ record self { state = state } }
+    {
+        self.moved_as(self.identifier, state)
+    }
 }

@@ -20,14 +20,15 @@ use arrayvec::ArrayVec;
 pub use event::plan_of;
 use std::alloc::{Allocator, Global};
 use xp_charge::Record;
+use xp_subs::LineNo;
 
 /// What is settled, put out, changed and recorded, in order.
 #[derive(Drop)]
 pub struct Plan<A: Allocator = Global> {
     pub outcome: Outcome,
     pub outputs: Buffer<A>,
-    /// The end of the call that a collision cancels, made before the other change.
-    pub cancelled: Option<Change>,
+    /// The line whose call a collision cancels, before the change.
+    pub cancelled: Option<LineNo>,
     pub change: Option<Change>,
     pub records: Records,
 }
@@ -58,8 +59,8 @@ impl<A: Allocator> Plan<A> {
         Plan { outcome, ..self }
     }
 
-    /// The plan with the end of a call that is cancelled, if there is one.
-    pub fn cancelling(self, cancelled: Option<Change>) -> Plan<A>
+    /// The plan with a line whose call is cancelled, if there is one.
+    pub fn cancelling(self, cancelled: Option<LineNo>) -> Plan<A>
         ensures { result ≡ record self { cancelled = cancelled } }
     {
         Plan { cancelled, ..self }

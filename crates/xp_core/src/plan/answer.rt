@@ -4,10 +4,10 @@ ghost use Rattle.std.specs.Prelude.{◌≡◌, ◌<◌, [], ◌∷◌, Some, IfO
 ghost use Rattle.xp_core.specs.Acts.{agreement_of, told_connected};
 ghost use Rattle.xp_core.specs.Agreed.{AllHaveTerms};
 ghost use Rattle.xp_core.specs.Asked.{answer_of};
-ghost use Rattle.xp_core.specs.Kept.{call_of_kept};
+ghost use Rattle.xp_core.specs.Kept.{call_of_kept, entry_of};
 ghost use Rattle.xp_core.specs.Changes.{Connects};
 ghost use Rattle.xp_core.specs.Plan.{IsPlan, PlansAnswer};
-ghost use Rattle.xp_core.specs.World.{call_numbered};
+ghost use Rattle.xp_core.specs.World.{call_on};
 ghost use Rattle.xp_subs.specs.Tables.{line_count};
 
 use super::Plan;
@@ -42,7 +42,7 @@ pub fn answer<A: Allocator + Copy>(
     match examine(alloc, &call.setup, address, &call.dialled, answer.d, answer.block)? {
         Answer::Connected(connection) => {
             let outputs = Buffer::with_room(alloc, 1)?;
-            Ok(connect(machine, call, connection, outputs))
+            Ok(connect(machine, line, call, connection, outputs))
         }
         Answer::Refused(diagnostic) => {
             let plan = clear_both(alloc, machine, line, diagnostic)?;
@@ -54,6 +54,7 @@ pub fn answer<A: Allocator + Copy>(
 /// The call is connected: both lines are in data transfer.
 fn connect<A: Allocator>(
     machine: &Machine<A>,
+    line: LineNo,
     call: &LiveCall,
     connection: Connection<A>,
     outputs: Buffer<A>,
@@ -61,7 +62,7 @@ fn connect<A: Allocator>(
     requires empty { outputs.outputs ≡ [] }
     requires room { 0 < outputs.room }
     ensures outcome { result.outcome ≡ Outcome.Connected (agreement_of connection) }
-    ensures planned { call_numbered machine.now call.now.number ≡ Some (call_of_kept call.now)
+    ensures planned { call_on machine.now line ≡ Some (entry_of call.now)
         → IsPlan result machine.now (told_connected machine.now call.now.caller connection.packet) (Connects call.now.number (call_of_kept call.now) (agreement_of connection) ∷ []) }
 {
     let Connection {
@@ -70,12 +71,7 @@ fn connect<A: Allocator>(
         charging,
     } = connection;
     let agreement = Agreement { terms, charging };
-    let change = Change::Connect {
-        number: call.number,
-        caller: call.caller,
-        called: call.called,
-        agreement,
-    };
+    let change = Change::Connect { line, agreement };
     Plan::of(outputs.with(send(machine, call.caller, packet)))
         .settling(Outcome::Connected(agreement))
         .changing(change)

@@ -47,18 +47,14 @@ pub fn withdraw<A: Allocator>(
 ) -> Withdrawal
     ensures { IsWithdrawal result machine.now (leaves line (way_of way) cause diagnostic (call_on machine.now line)) }
 {
+    let change = Change::Leave { line, way };
     match machine.call_on(line) {
         None => Withdrawal {
-            change: Change::Leave { line, way },
+            change,
             charged: None,
         },
         Some(call) => Withdrawal {
-            change: Change::End {
-                number: call.number,
-                line,
-                way,
-                far: call.far_end(line),
-            },
+            change,
             charged: Some(call.record(cause, diagnostic)),
         },
     }
@@ -83,8 +79,7 @@ pub fn free<A: Allocator>(
 ) -> Result<Plan<A>, AllocError>
     ensures { IfOk result (λ plan. IsPlainPlan plan machine.now nothing_told (Leaves line IsFree ∷ [])) }
 {
-    let way = Way::IsFree;
-    Ok(Plan::of(Buffer::with_room(alloc, 0)?).changing(Change::Leave { line, way }))
+    Ok(Plan::of(Buffer::with_room(alloc, 0)?).changing(Change::Free { line }))
 }
 
 /// A line goes out of service: its call ends as out of order.

@@ -1,6 +1,6 @@
 //! A call request: it is put to a line as an incoming call, or cleared.
 
-ghost use Rattle.std.specs.Prelude.{◌≡◌, ◌<◌, [], ◌∷◌, ◌++◌, List, Some, IfOk};
+ghost use Rattle.std.specs.Prelude.{◌≡◌, ◌<◌, [], ◌∷◌, ◌++◌, List, IfOk};
 ghost use Rattle.xp_core.specs.Acts.{cancelled_told};
 ghost use Rattle.xp_core.specs.Asked.{request_of};
 ghost use Rattle.xp_core.specs.Changes.{Change as Changing, Begins, IsRefused};
@@ -14,9 +14,8 @@ ghost use Rattle.xp_subs.specs.Tables.{line_count};
 
 use super::Plan;
 use super::asked::CallRequest;
-use super::clearing::{Withdrawal, withdraw};
 use super::send::{clear_indication, send_as, send_far};
-use crate::change::{Change, Way};
+use crate::change::Change;
 use crate::channel::LogicalChannel;
 use crate::machine::Machine;
 use crate::outcome::Outcome;
@@ -34,7 +33,8 @@ use xp_subs::{LineNo, Subs};
 /// The incoming call that a call request from its line cancels (X.25 clause 4.1.6), if it cancels one.
 #[derive(Drop)]
 pub struct Cancelled<A: Allocator> {
-    pub change: Option<Change>,
+    /// The line that it was put to.
+    pub line: Option<LineNo>,
     pub charged: Option<Record>,
     /// What its caller is told.
     pub told: Option<Output<A>>,
@@ -46,7 +46,7 @@ impl<A: Allocator> Cancelled<A> {
         ensures { (world : World) → IsCancelled result world [] [] }
     {
         Cancelled {
-            change: None,
+            line: None,
             charged: None,
             told: None,
         }
@@ -58,23 +58,11 @@ impl<A: Allocator> Cancelled<A> {
     {
         match machine.call_on(line) {
             None => Cancelled::none(),
-            Some(_call) => Cancelled::of(
-                withdraw(machine, line, Way::IsFree, NUMBER_BUSY, CALL_COLLISION),
-                send_far(machine, line, clear_indication(NUMBER_BUSY, CALL_COLLISION)),
-            ),
-        }
-    }
-
-    fn of(withdrawal: Withdrawal, told: Option<Output<A>>) -> Cancelled<A>
-        ensures change { result.change ≡ Some withdrawal.change }
-        ensures charged { result.charged ≡ withdrawal.charged }
-        ensures told { result.told ≡ told }
-    {
-        let Withdrawal { change, charged } = withdrawal;
-        Cancelled {
-            change: Some(change),
-            charged,
-            told,
+            Some(call) => Cancelled {
+                line: Some(line),
+                charged: Some(call.record(NUMBER_BUSY, CALL_COLLISION)),
+                told: send_far(machine, line, clear_indication(NUMBER_BUSY, CALL_COLLISION)),
+            },
         }
     }
 }
@@ -132,7 +120,7 @@ fn put<A: Allocator>(
     };
     let ring = send_as(machine, called, LogicalChannel::INITIAL_IDENTIFIER, packet);
     let Cancelled {
-        change,
+        line,
         charged,
         told,
     } = cancelled;
@@ -141,7 +129,7 @@ fn put<A: Allocator>(
             line: called,
             setup,
         })
-        .cancelling(change)
+        .cancelling(line)
         .changing(begins)
         .with_some_record(charged)
 }
@@ -177,13 +165,13 @@ fn refused<A: Allocator>(
         diagnostic: why.diagnostic,
     };
     let Cancelled {
-        change,
+        line,
         charged,
         told,
     } = cancelled;
     Plan::of(outputs.with(own).with_some(told))
         .settling(Outcome::Refused(why))
-        .cancelling(change)
+        .cancelling(line)
         .changing(Change::Refuse {
             line: caller,
             identifier,

@@ -1,17 +1,15 @@
 use Rattle.std.proofs.Common.{rules, ◌≡◌, Some, ap, ◌∙◌, option_map}
 use Rattle.std.specs.Option.{option_copied}
-use Rattle.xp_core.specs.Channel.{call_of}
-use Rattle.xp_core.specs.Kept.{entry_of}
-use Rattle.xp_core.specs.World.{numbered, state_at}
-use Rattle.xp_core.proofs.Kept.{found_kept, lists}
+use Rattle.slab.specs.Slab.{get}
+use Rattle.xp_core.specs.Kept.{channel_at, entry_of, key_of}
+use Rattle.xp_core.specs.World.{call_on}
+use Rattle.xp_core.proofs.Kept.{found_kept}
 use Rattle.xp_core.proofs.machine.Machine.call_on.Goals as goal
 
 pub returns : goal.returns
 returns g c =
-    let shows : Some c.in_ok-number.number ≡ call_of (state_at c.args.self.now c.args.line) =
-    c.in_ok-number.ensures ∙ ap call_of c.line.ensures.state in
-    let found : option_copied c.numbered.result ≡ lists c.in_ok-number.number c.self.inside.calls.items = search rules in
+    let key : key_of (channel_at c.self.inside.lines.items c.args.line).state ≡ Some c.in_ok-call.call = search rules in
+    let found : option_copied c.get.result ≡ get c.self.inside.calls c.in_ok-call.call.key = search rules in
     ap (option_map entry_of) found
-    ∙ found_kept c.self.inside.lines.items c.self.inside.calls.items c.self.inside.next c.in_ok-number.number
-    ∙ ap (λ w. numbered w (Some c.in_ok-number.number)) c.self.view_is
-    ∙ ap (numbered c.args.self.now) shows
+    ∙ found_kept c.self.inside.lines.items c.self.inside.calls c.self.inside.next c.args.line c.in_ok-call.call c.self.invariant key
+    ∙ ap (λ w. call_on w c.args.line) c.self.view_is

@@ -1,8 +1,9 @@
-use Rattle.std.proofs.Common.{rules, refl}
-use Rattle.xp_core.specs.declared.channel.ChannelState.TheVariants.{Off}
-use Rattle.xp_core.proofs.Kept.{new_kept}
+use Rattle.std.proofs.Common.{rules}
+use Rattle.xp_core.proofs.Kept.{new_kept, new_keyed}
 use Rattle.xp_core.proofs.machine.Machine.new.Goals as goal
 
+pub invariant_of-result : goal.invariant_of-result
+invariant_of-result g c = new_keyed c.in_ok-lines.lines.items c.new.result c.args.lines (search rules) c.new.ensures.empty
+
 pub returns : goal.returns
-returns g c =
-    new_kept (record { state = Off; identifier = 0; connection = 0 }) c.in_ok-lines.lines.items c.new.result.items c.args.lines refl (search rules) c.new.ensures.items
+returns g c = new_kept c.in_ok-lines.lines.items c.new.result c.args.lines (search rules) c.new.ensures.empty

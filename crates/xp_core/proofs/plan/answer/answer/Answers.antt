@@ -1,7 +1,7 @@
 use Rattle.std.proofs.Common.{rules, ap, sym, ◌∙◌}
 use Rattle.xp_core.specs.Asked.{answer_of}
 use Rattle.xp_core.specs.declared.outcome.Outcome.TheVariants.{Declined}
-use Rattle.xp_core.proofs.Clearings.{connected, declined, indicated, live, not_called, settled_otherwise}
+use Rattle.xp_core.proofs.Clearings.{connected, declined, indicated, not_called, settled_otherwise}
 use Rattle.xp_core.proofs.plan.answer.answer.Goals as goal
 
 pub returns-in_default : goal.returns-in_default
@@ -17,8 +17,7 @@ returns-in_ok-outputs-in-Connected g c =
     let accepted = answer_of c.args.answer.now in
     connected c.args.subs.now at c.args.line accepted c.connect.result c.in-Some.call.now c.in-Some.ensures c.address_of-address.result.now c.address_of-address.ensures
     c.in_ok-connection.field-0 c.in_ok-connection.ensures.answered c.in-Connected.connection c.in-Connected.is c.connect.ensures.outcome
-    (c.connect.ensures.planned (live c.args.subs.now at c.args.line accepted c.connect.result c.in-Some.call.now c.in-Some.ensures c.address_of-address.result.now c.address_of-address.ensures
-    c.in_ok-connection.field-0 c.in_ok-connection.ensures.answered))
+    (c.connect.ensures.planned (sym c.in-Some.ensures))
 
 pub returns-in_ok-plan-in-Refused : goal.returns-in_ok-plan-in-Refused
 returns-in_ok-plan-in-Refused g c =
