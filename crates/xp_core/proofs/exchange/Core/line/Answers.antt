@@ -1,8 +1,10 @@
 use Rattle.std.proofs.Common.{ap, arith, subst, ◌∙◌}
+use Rattle.xp_core.specs.Agreed.{AllHaveTerms}
 use Rattle.xp_core.specs.Coupling.{AreCoupled}
 use Rattle.xp_core.specs.Exchange.{Exchange, world_of}
 use Rattle.xp_core.specs.View.{view_of}
 use Rattle.xp_core.specs.World.{line_at}
+use Rattle.xp_core.proofs.Agreed.{run_agreed}
 use Rattle.xp_core.proofs.Fitting.{run_narrow}
 use Rattle.xp_core.proofs.Sounds.{run_right}
 use Rattle.xp_core.proofs.exchange.Core.line.Goals as goal
@@ -15,10 +17,15 @@ returns-clause-view g c =
 pub returns-clause-identifier : goal.returns-clause-identifier
 returns-clause-identifier g c =
     let shown = ap (λ v. v.identifier) (c.view.ensures ∙ ap view_of c.line.ensures.line ∙ ap (λ w. view_of (line_at w c.args.line)) c.self.invariant.shown) in
-    let narrow = run_narrow c.self.inside.subs c.self.inside.history.items _ c.self.invariant.run c.self.invariant.readable c.args.line in
+    let narrow = run_narrow c.self.inside.subs c.self.inside.history.items _ c.self.invariant.sound c.self.invariant.run c.self.invariant.readable c.args.line in
     omega (arith, shown, narrow)
 
 pub returns-clause-coupled : goal.returns-clause-coupled
 returns-clause-coupled g c =
     let P : Exchange _ → Type 0 = λ core. AreCoupled core.subs (world_of core) in
     subst P c.self.view_is (run_right c.self.inside.subs c.self.inside.history.items _ c.self.invariant.run).coupled
+
+pub returns-clause-terms : goal.returns-clause-terms
+returns-clause-terms g c =
+    let P : Exchange _ → Type 0 = λ core. AllHaveTerms (world_of core) in
+    subst P c.self.view_is (run_agreed c.self.inside.subs c.self.inside.history.items _ c.self.invariant.run)
