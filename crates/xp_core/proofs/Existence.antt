@@ -7,7 +7,7 @@ use Rattle.xp_answer.specs.Terms.{AreTerms}
 use Rattle.xp_answer.specs.declared.answer.Answer.{Answer}
 use Rattle.xp_answer.specs.declared.answer.Answer.TheVariants as answered
 use Rattle.xp_channel.specs.declared.action.Action.{Action}
-use Rattle.xp_channel.specs.declared.action.Action.TheVariants.{Nothing, Rise, Fall, NewCall, Collision, Answer as Accepting, Confirm, Free, Error, Relayed, Expired}
+use Rattle.xp_channel.specs.declared.action.Action.TheVariants.{NewCall, Collision, Answer as Accepting, Confirm}
 use Rattle.xp_decide.proofs.Exists.{has_verdict}
 use Rattle.xp_decide.proofs.Written.{told_can_be_written}
 use Rattle.xp_decide.specs.Decided.{Decided}
@@ -25,7 +25,7 @@ use Rattle.xp_core.specs.declared.outcome.Outcome.TheVariants.{Plain, Put, Refus
 use Rattle.xp_core.specs.declared.output.Output.{Output}
 use Rattle.xp_core.specs.Acts.{Acts, Answers, Confirms, IsRequested, Requests, agreement_of, cancelled_told, lines_seen}
 use Rattle.xp_core.specs.Agreed.{AllHaveTerms}
-use Rattle.xp_core.specs.Changes.{all_changed, recorded_by}
+use Rattle.xp_core.specs.Changes.{recorded_by}
 use Rattle.xp_core.specs.Exchange.{IsReadable}
 use Rattle.xp_core.specs.Existence.{HasStep}
 use Rattle.xp_core.specs.Run.{Run, world_next}

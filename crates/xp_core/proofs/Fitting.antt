@@ -1,5 +1,5 @@
 -- What is put out can be written: identifiers have twelve bits, and fields and user data are short.
-use Rattle.std.proofs.Common.{◌≡◌, ◌∙◌, ℕ, ◌<◌, ◌≤◌, Bool, true, false, cond, ltb, Option, Some, None, List, [], ◌∷◌, ◌++◌, All, get_or, set, length, refl, ap, sym, subst, arith}
+use Rattle.std.proofs.Common.{◌≡◌, ℕ, ◌<◌, ◌≤◌, Bool, true, false, cond, ltb, Option, Some, None, List, [], ◌∷◌, ◌++◌, All, get_or, set, length, refl, ap, sym, subst, arith}
 use Rattle.std.proofs.lemmas.Bool.{le-ltb, ltb-false}
 use Rattle.std.proofs.lemmas.List.Elements.{All-nil, All-pop, All-push, All-weaker}
 use Rattle.std.specs.List.{AllByRecursion}
@@ -25,7 +25,7 @@ use Rattle.xp_core.specs.Run.{Run}
 use Rattle.xp_core.specs.Setting.{Setting, setting}
 use Rattle.xp_core.specs.Step.{Step, changes_of}
 use Rattle.xp_core.specs.Table.{CallAccepted, CallRequest, ClearRequest, accepted_in, action_at, clear_in, request_in}
-use Rattle.xp_core.specs.Told.{clear_indication, close, outputs_of, send, send_as}
+use Rattle.xp_core.specs.Told.{clear_indication, outputs_of, send, send_as}
 use Rattle.xp_core.specs.World.{Line, World, far_end, line_at, off_line, opening}
 use Rattle.xp_core.specs.Writable.{AreReadable, AreWritable, IsWritable}
 use Rattle.xp_core.proofs.Lines.{get_or-set, line_at-opening}

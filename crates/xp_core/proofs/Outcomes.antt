@@ -5,13 +5,11 @@ use Rattle.xp_answer.specs.Incoming.{IsIncomingCall}
 use Rattle.xp_answer.specs.Setup.{setup_of}
 use Rattle.xp_answer.specs.declared.answer.Answer.{Answer}
 use Rattle.xp_answer.specs.declared.answer.Answer.TheVariants as answered
-use Rattle.xp_answer.specs.declared.setup.Setup.{Setup}
-use Rattle.xp_causes.specs.declared.refusal.Refusal.{Refusal}
 use Rattle.xp_charge.specs.declared.record.Record.{Record}
 use Rattle.xp_channel.specs.declared.action.Action.{Action}
 use Rattle.xp_channel.specs.declared.action.Action.TheVariants.{NewCall, Collision, Answer as Answers_it, Confirm}
 use Rattle.xp_decide.proofs.Once.{decided_same}
-use Rattle.xp_decide.specs.Laws.{IsSameButLine as IsSameVerdict, IsSameRing}
+use Rattle.xp_decide.specs.Laws.{IsSameRing}
 use Rattle.xp_decide.specs.declared.verdict.Ring.{Ring}
 use Rattle.xp_decide.specs.declared.verdict.Verdict.TheVariants.{Take, Refuse}
 use Rattle.xp_packets.specs.declared.packet.Packet.{Packet}
@@ -20,7 +18,6 @@ use Rattle.xp_subs.specs.Tables.{Tables, address_of}
 use Rattle.xp_core.specs.declared.entry.Entry.{Entry}
 use Rattle.xp_core.specs.declared.event.Event.{Event}
 use Rattle.xp_core.specs.declared.event.What.{What}
-use Rattle.xp_core.specs.declared.outcome.Agreement.{Agreement}
 use Rattle.xp_core.specs.declared.outcome.Outcome.{Outcome}
 use Rattle.xp_core.specs.declared.outcome.Outcome.TheVariants.{Plain, Put, Refused, Connected, Declined}
 use Rattle.xp_core.specs.declared.output.Output.{Output}

@@ -1,11 +1,11 @@
 -- The lines of a state that a history leads to are as many as the subscriptions'.
-use Rattle.std.proofs.Common.{◌≡◌, ℕ, List, [], ◌∷◌, ◌++◌, length, refl, ap, sym, ◌∙◌, length-set}
+use Rattle.std.proofs.Common.{◌≡◌, List, [], ◌∷◌, length, refl, ap, ◌∙◌, length-set}
 use Rattle.std.proofs.lemmas.List.{length-replicate}
 use Rattle.xp_subs.specs.Tables.{Tables, line_count}
 use Rattle.xp_core.specs.declared.entry.Entry.{Entry}
 use Rattle.xp_core.specs.Changes.{Change, Rises, Leaves, Begins, IsRefused, Connects, Ends, all_changed, changed}
 use Rattle.xp_core.specs.Run.{Run}
-use Rattle.xp_core.specs.Step.{Step, changes_of}
+use Rattle.xp_core.specs.Step.{changes_of}
 use Rattle.xp_core.specs.World.{World, far_end, off_line, opening}
 use Rattle.xp_core.proofs.RunLemmas.{run_keeps}
 
