@@ -1,5 +1,6 @@
 pub mod Agreed
 pub mod Cells
+pub mod Clearings
 pub mod Clears
 pub mod Counts
 pub mod Coupled
@@ -16,6 +17,8 @@ pub mod Maps
 pub mod Names
 pub mod Origins
 pub mod Outcomes
+pub mod Plans
+pub mod Requests
 pub mod RunLemmas
 pub mod Searches
 pub mod Shapes

@@ -1,5 +1,5 @@
 -- A piece of a script, one line after the other.
-use Rattle.std.proofs.Common.{◌≡◌, ℕ, zero, suc, ◌+◌, ◌<◌, ◌≤◌, List, [], ◌∷◌, ◌++◌, length, length-append, take, drop, get_or, refl, sym, ap, ◌∙◌, append_assoc, append-nil, subst, arith, Option, None, Some, Result, Ok, Err, OnOk, IfErr}
+use Rattle.std.proofs.Common.{◌≡◌, ℕ, zero, suc, ◌+◌, ◌≤◌, List, [], ◌∷◌, ◌++◌, length, length-append, take, drop, get_or, refl, sym, ap, ◌∙◌, append_assoc, append-nil, subst, arith, Option, None, Some, Result, Ok, Err, OnOk, IfErr}
 use Rattle.std.proofs.lemmas.Bool.{eq-eqb, eqb-true}
 use Rattle.std.proofs.lemmas.List.{drop_more, take-append-drop, take_all}
 use Rattle.std.specs.Io.KnownBytes.{Appends}
@@ -73,7 +73,7 @@ module _ {A : Type 0} where
       let clean = subst HasNoFeed (sym (ap (λ progress. progress.line) added)) (no_feed_both before.line (take end rest) taken.line found.clean) in
       let same : full.number ≡ before.number = ap (λ progress. progress.number) added in
       let whole = taken.parts ∙ ap (λ all. taken.front ++ all) found.parts ∙ sym (append_assoc taken.front (take end rest) (line_feed ∷ drop (end + 1) rest))
-          ∙ sym (append_assoc front (line_feed ∷ []) (drop (end + 1) rest)) in
+      ∙ sym (append_assoc front (line_feed ∷ []) (drop (end + 1) rest)) in
       record {
         front = front ++ line_feed ∷ [];
         parts = whole;

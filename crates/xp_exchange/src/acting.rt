@@ -52,7 +52,13 @@ fn act_on<A: Allocator + Copy, W: Write>(
     match core.step(event) {
         Ok(_) => {
             let entries = core.history();
-            tell(alloc, core.subs(), &entries[entries.len() - 1], text, writer)
+            tell(
+                alloc,
+                core.subs(),
+                &entries[entries.len() - 1],
+                text,
+                writer,
+            )
         }
         Err(fault) => Err(reason_of(&fault)),
     }

@@ -86,7 +86,13 @@ impl<A: Allocator + Copy> Playing<A> {
             Err(LineFault::Memory) => return Err(ReplayFault::Memory),
         };
         hear(&self.core, &mut self.streams, command, &mut self.events)?;
-        act_on_all(self.alloc, &mut self.core, &mut self.events, &mut self.text, writer)
+        act_on_all(
+            self.alloc,
+            &mut self.core,
+            &mut self.events,
+            &mut self.text,
+            writer,
+        )
     }
 }
 

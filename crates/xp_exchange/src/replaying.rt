@@ -176,7 +176,9 @@ impl<A: Allocator + Copy> UnfinishedScript<A> {
         if self.line.len() + octets.len() > MAX_LINE_OCTETS {
             return Err(ReplayFault::Script(self.number));
         }
-        self.line.extend_from_slice(octets).map_err(|_| ReplayFault::Memory)
+        self.line
+            .extend_from_slice(octets)
+            .map_err(|_| ReplayFault::Memory)
     }
 
     /// Plays the last line, which may lack its line feed.

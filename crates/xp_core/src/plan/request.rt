@@ -1,6 +1,6 @@
 //! A call request: it is put to a line as an incoming call, or cleared.
 
-ghost use Rattle.std.specs.Prelude.{◌≡◌, ◌<◌, [], ◌∷◌, ◌++◌, List, IfOk, IfOk};
+ghost use Rattle.std.specs.Prelude.{◌≡◌, ◌<◌, [], ◌∷◌, ◌++◌, List, Some, IfOk};
 ghost use Rattle.xp_core.specs.Acts.{cancelled_told};
 ghost use Rattle.xp_core.specs.Asked.{request_of};
 ghost use Rattle.xp_core.specs.Changes.{Change as Changing, Begins, IsRefused};
@@ -56,15 +56,25 @@ impl<A: Allocator> Cancelled<A> {
     pub fn by(machine: &Machine<A>, line: LineNo) -> Cancelled<A>
         ensures { IsCancelled result machine.now (cancels line (call_on machine.now line)) (cancelled_told machine.now line) }
     {
-        if machine.call_on(line).is_none() {
-            return Cancelled::none();
+        match machine.call_on(line) {
+            None => Cancelled::none(),
+            Some(_call) => Cancelled::of(
+                withdraw(machine, line, Way::IsFree, NUMBER_BUSY, CALL_COLLISION),
+                send_far(machine, line, clear_indication(NUMBER_BUSY, CALL_COLLISION)),
+            ),
         }
-        let Withdrawal { change, charged } =
-            withdraw(machine, line, Way::IsFree, NUMBER_BUSY, CALL_COLLISION);
+    }
+
+    fn of(withdrawal: Withdrawal, told: Option<Output<A>>) -> Cancelled<A>
+        ensures change { result.change ≡ Some withdrawal.change }
+        ensures charged { result.charged ≡ withdrawal.charged }
+        ensures told { result.told ≡ told }
+    {
+        let Withdrawal { change, charged } = withdrawal;
         Cancelled {
             change: Some(change),
             charged,
-            told: send_far(machine, line, clear_indication(NUMBER_BUSY, CALL_COLLISION)),
+            told,
         }
     }
 }

@@ -1,4 +1,4 @@
-use Rattle.std.proofs.Common.{ℕ, List, ◌∙◌, ap, sym, subst, Err, arith, length, drop}
+use Rattle.std.proofs.Common.{ℕ, List, ◌∙◌, ap, sym, subst, Err, arith, length}
 use Rattle.std.proofs.lemmas.List.{length-drop, nil_from_length}
 use Rattle.std.proofs.lemmas.Result.{err_from_is_err_and}
 use Rattle.std.specs.Io.KnownBytes.{Appends}
