@@ -102,12 +102,11 @@ impl<A: Allocator> Core<A> {
     ghost use Rattle.xp_core.specs.Writable.{AreWritable};
 
     /// What can be seen of a line. In p2, p3 and p4 it is one of the two lines of the live call that it shows. A line
-    /// that there is not shows as out of service. The sizes of each live call are in their ranges.
+    /// that there is not shows as out of service.
     pub fn line(&self, line: LineNo) -> LineView
         ensures view { result ≡ view_of (line_at (world_of self.now) line) }
         ensures identifier { result.identifier < 4096 }
         ensures coupled { AreCoupled self.now.subs (world_of self.now) }
-        ensures terms { AllHaveTerms (world_of self.now) }
     {
         self.machine.line(line).view()
     }
@@ -122,13 +121,14 @@ impl<A: Allocator> Core<A> {
 
     /// All entries, which lead to the present state. Each packet that they put out can be encoded, and each line that
     /// they put something out to or record is one of the subscriptions'. Closed user groups let the stations of each call
-    /// be joined.
+    /// be joined, and the sizes of each live call are in their ranges.
     pub fn history(&self) -> &[Entry<A>]
         ensures entries { result.now ≡ self.now.history }
         ensures run { Run self.now.subs self.now.history (world_of self.now) }
         ensures writable { All (λ entry. AreWritable entry.outputs) self.now.history }
         ensures lines { All (HasLines (line_count self.now.subs)) self.now.history }
         ensures joined { AreJoined self.now.subs self.now.history (world_of self.now) }
+        ensures terms { AllHaveTerms (world_of self.now) }
     {
         self.history.as_slice()
     }

@@ -1,10 +1,12 @@
 use Rattle.std.proofs.Common.{All, subst}
+use Rattle.xp_core.specs.Agreed.{AllHaveTerms}
 use Rattle.xp_core.specs.Exchange.{Exchange, world_of}
 use Rattle.xp_core.specs.Joined.{AreJoined}
 use Rattle.xp_core.specs.Run.{world_after}
 use Rattle.xp_core.specs.Writable.{AreWritable}
 use Rattle.xp_subs.specs.Tables.{line_count}
 use Rattle.xp_core.specs.Lines.{HasLines}
+use Rattle.xp_core.proofs.Agreed.{run_agreed}
 use Rattle.xp_core.proofs.Fitting.{run_fits}
 use Rattle.xp_core.proofs.Joined.{run_joined}
 use Rattle.xp_core.proofs.Names.{run_named}
@@ -27,3 +29,8 @@ returns-clause-joined g c =
     let P : Exchange _ → Type 0 = λ core. AreJoined core.subs core.history (world_of core) in
     subst P c.self.view_is (run_joined c.self.inside.subs c.self.inside.history.items (world_after c.self.inside.subs c.self.inside.history.items)
     c.self.invariant.sound c.self.invariant.run)
+
+pub returns-clause-terms : goal.returns-clause-terms
+returns-clause-terms g c =
+    let P : Exchange _ → Type 0 = λ core. AllHaveTerms (world_of core) in
+    subst P c.self.view_is (run_agreed c.self.inside.subs c.self.inside.history.items _ c.self.invariant.run)

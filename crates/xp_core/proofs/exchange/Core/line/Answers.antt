@@ -1,10 +1,8 @@
 use Rattle.std.proofs.Common.{ap, arith, subst, ◌∙◌}
-use Rattle.xp_core.specs.Agreed.{AllHaveTerms}
 use Rattle.xp_core.specs.Coupling.{AreCoupled}
 use Rattle.xp_core.specs.Exchange.{Exchange, world_of}
 use Rattle.xp_core.specs.View.{view_of}
 use Rattle.xp_core.specs.World.{line_at}
-use Rattle.xp_core.proofs.Agreed.{run_agreed}
 use Rattle.xp_core.proofs.Fitting.{run_narrow}
 use Rattle.xp_core.proofs.Sounds.{run_right}
 use Rattle.xp_core.proofs.exchange.Core.line.Goals as goal
@@ -24,8 +22,3 @@ pub returns-clause-coupled : goal.returns-clause-coupled
 returns-clause-coupled g c =
     let P : Exchange _ → Type 0 = λ core. AreCoupled core.subs (world_of core) in
     subst P c.self.view_is (run_right c.self.inside.subs c.self.inside.history.items _ c.self.invariant.run).coupled
-
-pub returns-clause-terms : goal.returns-clause-terms
-returns-clause-terms g c =
-    let P : Exchange _ → Type 0 = λ core. AllHaveTerms (world_of core) in
-    subst P c.self.view_is (run_agreed c.self.inside.subs c.self.inside.history.items _ c.self.invariant.run)
