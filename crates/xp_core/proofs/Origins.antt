@@ -106,13 +106,16 @@ module _ {A : Type 0} where
 
     requested : (request : CallRequest A) (far : List (Output A)) (outcome : Outcome) (told : Told A) → request_in what ≡ Some request
         → IsRequested at.tables at.world at.line far request outcome told → AllCome (requests at.line (Some request) outcome)
-    requested request far (Put called setup) told asks is = (record {
-      asked = record { request = request; asks = asks; line_is = refl; identifier_is = refl; dialled_is = refl };
-      ring = is.ring;
-      decided = is.decided;
-      called_is = is.called_is;
-      setup_is = is.setup_is;
-    }, tt)
+    requested request far (Put called setup) told asks is = (
+      record {
+        asked = record { request = request; asks = asks; line_is = refl; identifier_is = refl; dialled_is = refl };
+        ring = is.ring;
+        decided = is.decided;
+        called_is = is.called_is;
+        setup_is = is.setup_is;
+      },
+      tt,
+    )
     requested request far (Refused why) told asks is = (record { request = request; asks = asks; line_is = refl; identifier_is = refl; dialled_is = refl }, tt)
     requested request far Plain told asks is = absurd is
     requested request far (Connected agreement) told asks is = absurd is
@@ -135,13 +138,16 @@ module _ {A : Type 0} where
     accepting accepted None outcome told on is = tt
     accepting None (Some found) outcome told on is =
         let P : Outcome → Type 0 = λ o. AllCome (answers at.line (Some found) o) in subst P (sym is.0) tt
-    accepting (Some answer) (Some found) (Connected agreement) told on is = (record {
-      live = (shown_on at.world at.line found on).1;
-      answer = answer;
-      connection = is.connection;
-      answered = is.answered;
-      agreement_is = is.agreement_is;
-    }, tt)
+    accepting (Some answer) (Some found) (Connected agreement) told on is = (
+      record {
+        live = (shown_on at.world at.line found on).1;
+        answer = answer;
+        connection = is.connection;
+        answered = is.answered;
+        agreement_is = is.agreement_is;
+      },
+      tt,
+    )
     accepting (Some answer) (Some found) (Declined diagnostic) told on is = (((shown_on at.world at.line found on).1, refl), tt)
     accepting (Some answer) (Some found) Plain told on is = tt
     accepting (Some answer) (Some found) (Put called setup) told on is = tt
