@@ -1,5 +1,5 @@
 -- The sizes of the live calls are in their ranges.
-use Rattle.std.proofs.Common.{◌≡◌, ℕ, Some, None, List, [], ◌∷◌, ◌++◌, refl, ap, sym, subst, inl, inr}
+use Rattle.std.proofs.Common.{◌≡◌, ℕ, Some, None, List, [], ◌∷◌, sym, subst, inl, inr}
 use Rattle.std.specs.FinMap.{get-empty}
 use Rattle.std.specs.List.{AllByRecursion}
 use Rattle.std.specs.Ordering.{nat_cmp}
@@ -7,7 +7,6 @@ use Rattle.xp_answer.proofs.Ready.{indicated_terms}
 use Rattle.xp_answer.proofs.Settled.{connection_settled}
 use Rattle.xp_answer.specs.Terms.{AreSettled, AreTerms}
 use Rattle.xp_answer.specs.declared.setup.Setup.{Setup}
-use Rattle.xp_answer.specs.declared.terms.Terms.{Terms}
 use Rattle.xp_decide.proofs.Written.{told_sizes}
 use Rattle.xp_subs.specs.Tables.{Tables, line_count}
 use Rattle.xp_core.specs.declared.entry.Entry.{Entry}

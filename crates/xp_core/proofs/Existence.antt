@@ -7,7 +7,7 @@ use Rattle.xp_answer.specs.Terms.{AreTerms}
 use Rattle.xp_answer.specs.declared.answer.Answer.{Answer}
 use Rattle.xp_answer.specs.declared.answer.Answer.TheVariants as answered
 use Rattle.xp_channel.specs.declared.action.Action.{Action}
-use Rattle.xp_channel.specs.declared.action.Action.TheVariants.{Nothing, Rise, Fall, NewCall, Collision, Answer as Accepting, Confirm, Free, Error, Relayed, Expired}
+use Rattle.xp_channel.specs.declared.action.Action.TheVariants.{NewCall, Collision, Answer as Accepting, Confirm}
 use Rattle.xp_decide.proofs.Exists.{has_verdict}
 use Rattle.xp_decide.proofs.Written.{told_can_be_written}
 use Rattle.xp_decide.specs.Decided.{Decided}
@@ -25,7 +25,7 @@ use Rattle.xp_core.specs.declared.outcome.Outcome.TheVariants.{Plain, Put, Refus
 use Rattle.xp_core.specs.declared.output.Output.{Output}
 use Rattle.xp_core.specs.Acts.{Acts, Answers, Confirms, IsRequested, Requests, agreement_of, cancelled_told, lines_seen}
 use Rattle.xp_core.specs.Agreed.{AllHaveTerms}
-use Rattle.xp_core.specs.Changes.{all_changed, recorded_by}
+use Rattle.xp_core.specs.Changes.{recorded_by}
 use Rattle.xp_core.specs.Exchange.{IsReadable}
 use Rattle.xp_core.specs.Existence.{HasStep}
 use Rattle.xp_core.specs.Run.{Run, world_next}
@@ -37,7 +37,7 @@ use Rattle.xp_core.specs.World.{Call, World, call_on}
 use Rattle.xp_core.proofs.Agreed.{run_agreed}
 use Rattle.xp_core.proofs.Fitting.{request_few}
 use Rattle.xp_core.proofs.InCall.{shown_on}
-use Rattle.xp_core.proofs.Sizes.{run_sized}
+use Rattle.xp_core.proofs.Sounds.{run_right}
 
 module _ {A : Type 0} where
   -- something is settled and put out
@@ -54,7 +54,7 @@ module _ {A : Type 0} where
         record { outcome = Refused why; told = _; acts = record { decided = decided; told_is = refl } }
     verdict_acts far request asks (Take ring) decided =
         let written : CanBeWritten ring.told =
-            told_can_be_written at.tables (lines_seen at.world) at.line request.block sound (request_few what request asks readable) ring decided in
+        told_can_be_written at.tables (lines_seen at.world) at.line request.block sound (request_few what request asks readable) ring decided in
         record {
           outcome = Put ring.line (setup_of ring);
           told = _;
@@ -128,13 +128,15 @@ module _ {A : Type 0} where
         event = event;
         outcome = it.outcome;
         outputs = outputs_of it.told;
-        records = record { items = recorded_by world (changes_of tables history world (record {
-          number = length history + 1;
-          event = event;
-          outcome = it.outcome;
-          outputs = [];
-          records = record { items = [] };
-        })) };
+        records = record {
+          items = recorded_by world (changes_of tables history world (record {
+            number = length history + 1;
+            event = event;
+            outcome = it.outcome;
+            outputs = [];
+            records = record { items = [] };
+          }));
+        };
       } in
       record {
         entry = entry;
@@ -142,7 +144,7 @@ module _ {A : Type 0} where
         event_is = refl;
         step = record {
           number = refl;
-          line = omega (arith, line, run_sized tables history world run);
+          line = omega (arith, line, (run_right tables history world run).sound.lines);
           told = it.told;
           acts = it.acts;
           outputs = refl;

@@ -1,5 +1,5 @@
 -- What is put out can be written: identifiers have twelve bits, and fields and user data are short.
-use Rattle.std.proofs.Common.{◌≡◌, ◌∙◌, ℕ, ◌<◌, ◌≤◌, Bool, true, false, cond, ltb, Option, Some, None, List, [], ◌∷◌, ◌++◌, All, get_or, set, length, refl, ap, sym, subst, arith}
+use Rattle.std.proofs.Common.{◌≡◌, ℕ, ◌<◌, ◌≤◌, Bool, true, false, cond, ltb, Option, Some, None, List, [], ◌∷◌, ◌++◌, All, get_or, set, length, refl, ap, sym, subst, arith}
 use Rattle.std.proofs.lemmas.Bool.{le-ltb, ltb-false}
 use Rattle.std.proofs.lemmas.List.Elements.{All-nil, All-pop, All-push, All-weaker}
 use Rattle.std.specs.List.{AllByRecursion}
@@ -25,7 +25,7 @@ use Rattle.xp_core.specs.Run.{Run}
 use Rattle.xp_core.specs.Setting.{Setting, setting}
 use Rattle.xp_core.specs.Step.{Step, changes_of}
 use Rattle.xp_core.specs.Table.{CallAccepted, CallRequest, ClearRequest, accepted_in, action_at, clear_in, request_in}
-use Rattle.xp_core.specs.Told.{clear_indication, close, outputs_of, send, send_as}
+use Rattle.xp_core.specs.Told.{clear_indication, outputs_of, send, send_as}
 use Rattle.xp_core.specs.World.{Line, World, far_end, line_at, off_line, opening}
 use Rattle.xp_core.specs.Writable.{AreReadable, AreWritable, IsWritable}
 use Rattle.xp_core.proofs.Lines.{get_or-set, line_at-opening}
@@ -131,7 +131,7 @@ module _ {A : Type 0} where
     sent_fits output (ringing request ring packet asks decided incoming is) =
         let written = told_can_be_written at.tables (lines_seen at.world) at.line request.block sound (request_few what request asks readable) ring decided in
         let can = incoming_call_sent ring (address_of at.tables ring.line) (address_of at.tables at.line) request.d request.block packet written
-            (request_short what request asks readable).1 incoming in
+        (request_short what request asks readable).1 incoming in
         sent_as ring.line 1 packet output is (can.fit 1 (omega arith))
 
   -- ---- identifiers
@@ -172,11 +172,11 @@ module _ {A : Type 0} where
       let W : List (Output A) → Type 0 = λ outputs. AreWritable outputs in
       let from = all_come at entry.event.what (action_at world entry.event) entry.outcome step.told step.acts in
       let narrow : IsNarrow next = subst N (sym step.leads)
-          (all_changed_narrow at entry.event.what parts.1 (changes_of tables before world entry) world from old.0) in
+      (all_changed_narrow at entry.event.what parts.1 (changes_of tables before world entry) world from old.0) in
       let writable : AreWritable entry.outputs = subst W (sym step.outputs)
-          (All-weaker (IsSent at entry.event.what) (λ output. IsWritable output.outgoing.put)
-          (sent_fits at entry.event.what sound parts.1 old.0) (outputs_of step.told)
-          (all_sent at entry.event.what (action_at world entry.event) entry.outcome step.told step.acts)) in
+      (All-weaker (IsSent at entry.event.what) (λ output. IsWritable output.outgoing.put)
+      (sent_fits at entry.event.what sound parts.1 old.0) (outputs_of step.told)
+      (all_sent at entry.event.what (action_at world entry.event) entry.outcome step.told step.acts)) in
       (narrow, All-push (λ e. AreWritable e.outputs) before entry old.1 writable)
 
   run_keeps_fit : (tables : Tables) (history : List (Entry A)) (world : World) → IsSound tables → Run tables history world → Fits history world

@@ -1,6 +1,6 @@
 -- What each change of a step, and each thing that it puts out, comes of.
-use Rattle.std.proofs.Common.{◌≡◌, ℕ, Option, Some, None, List, [], ◌∷◌, ◌++◌, All, refl, ap, sym, subst}
-use Rattle.std.proofs.lemmas.List.Elements.{All-append, All-from_recursion, All-nil}
+use Rattle.std.proofs.Common.{◌≡◌, ℕ, Option, Some, None, List, [], ◌∷◌, ◌++◌, All, refl, sym, subst}
+use Rattle.std.proofs.lemmas.List.Elements.{All-append, All-from_recursion}
 use Rattle.std.specs.List.{AllByRecursion}
 use Rattle.xp_answer.specs.Answered.{Answered}
 use Rattle.xp_answer.specs.CarriedOn.{CarriedOn}
@@ -20,7 +20,7 @@ use Rattle.xp_decide.specs.declared.verdict.Ring.{Ring}
 use Rattle.xp_decide.specs.declared.verdict.Verdict.TheVariants.{Take}
 use Rattle.xp_packets.specs.declared.packet.Packet.{Packet}
 use Rattle.xp_packets.specs.declared.packet.Packet.TheVariants.{ClearConfirm}
-use Rattle.xp_subs.specs.Tables.{Tables, address_of}
+use Rattle.xp_subs.specs.Tables.{address_of}
 use Rattle.xp_core.specs.declared.event.What.{What}
 use Rattle.xp_core.specs.declared.event.What.TheVariants as events
 use Rattle.xp_core.specs.declared.outcome.Agreement.{Agreement}
@@ -31,10 +31,10 @@ use Rattle.xp_core.specs.Acts.{Acts, Answers, Confirms, IsAnswered, IsPlain, IsR
 use Rattle.xp_core.specs.Changes.{Change, Rises, Leaves, Begins, IsRefused, Connects, Ends, Way, GoesOut, IsFree, IsCleared}
 use Rattle.xp_core.specs.Channel.{INITIAL_IDENTIFIER}
 use Rattle.xp_core.specs.Setting.{Setting}
-use Rattle.xp_core.specs.Step.{answers, cancels, collides, confirms, does, leaves, requests}
+use Rattle.xp_core.specs.Step.{answers, collides, confirms, does, leaves, requests}
 use Rattle.xp_core.specs.Table.{CallAccepted, CallRequest, ClearRequest, accepted_in, clear_in, request_in}
 use Rattle.xp_core.specs.Told.{Told, clear_indication, close, nothing_told, outputs_of, send, send_as, send_far}
-use Rattle.xp_core.specs.World.{Call, World, call_numbered, call_on, far_end}
+use Rattle.xp_core.specs.World.{Call, call_numbered, call_on, far_end}
 use Rattle.xp_core.proofs.InCall.{shown_on}
 
 module _ {A : Type 0} where
@@ -106,13 +106,16 @@ module _ {A : Type 0} where
 
     requested : (request : CallRequest A) (far : List (Output A)) (outcome : Outcome) (told : Told A) → request_in what ≡ Some request
         → IsRequested at.tables at.world at.line far request outcome told → AllCome (requests at.line (Some request) outcome)
-    requested request far (Put called setup) told asks is = (record {
-      asked = record { request = request; asks = asks; line_is = refl; identifier_is = refl; dialled_is = refl };
-      ring = is.ring;
-      decided = is.decided;
-      called_is = is.called_is;
-      setup_is = is.setup_is;
-    }, tt)
+    requested request far (Put called setup) told asks is = (
+      record {
+        asked = record { request = request; asks = asks; line_is = refl; identifier_is = refl; dialled_is = refl };
+        ring = is.ring;
+        decided = is.decided;
+        called_is = is.called_is;
+        setup_is = is.setup_is;
+      },
+      tt,
+    )
     requested request far (Refused why) told asks is = (record { request = request; asks = asks; line_is = refl; identifier_is = refl; dialled_is = refl }, tt)
     requested request far Plain told asks is = absurd is
     requested request far (Connected agreement) told asks is = absurd is
@@ -135,13 +138,16 @@ module _ {A : Type 0} where
     accepting accepted None outcome told on is = tt
     accepting None (Some found) outcome told on is =
         let P : Outcome → Type 0 = λ o. AllCome (answers at.line (Some found) o) in subst P (sym is.0) tt
-    accepting (Some answer) (Some found) (Connected agreement) told on is = (record {
-      live = (shown_on at.world at.line found on).1;
-      answer = answer;
-      connection = is.connection;
-      answered = is.answered;
-      agreement_is = is.agreement_is;
-    }, tt)
+    accepting (Some answer) (Some found) (Connected agreement) told on is = (
+      record {
+        live = (shown_on at.world at.line found on).1;
+        answer = answer;
+        connection = is.connection;
+        answered = is.answered;
+        agreement_is = is.agreement_is;
+      },
+      tt,
+    )
     accepting (Some answer) (Some found) (Declined diagnostic) told on is = (((shown_on at.world at.line found on).1, refl), tt)
     accepting (Some answer) (Some found) Plain told on is = tt
     accepting (Some answer) (Some found) (Put called setup) told on is = tt

@@ -5,13 +5,11 @@ use Rattle.xp_answer.specs.Incoming.{IsIncomingCall}
 use Rattle.xp_answer.specs.Setup.{setup_of}
 use Rattle.xp_answer.specs.declared.answer.Answer.{Answer}
 use Rattle.xp_answer.specs.declared.answer.Answer.TheVariants as answered
-use Rattle.xp_answer.specs.declared.setup.Setup.{Setup}
-use Rattle.xp_causes.specs.declared.refusal.Refusal.{Refusal}
 use Rattle.xp_charge.specs.declared.record.Record.{Record}
 use Rattle.xp_channel.specs.declared.action.Action.{Action}
 use Rattle.xp_channel.specs.declared.action.Action.TheVariants.{NewCall, Collision, Answer as Answers_it, Confirm}
 use Rattle.xp_decide.proofs.Once.{decided_same}
-use Rattle.xp_decide.specs.Laws.{IsSameButLine as IsSameVerdict, IsSameRing}
+use Rattle.xp_decide.specs.Laws.{IsSameRing}
 use Rattle.xp_decide.specs.declared.verdict.Ring.{Ring}
 use Rattle.xp_decide.specs.declared.verdict.Verdict.TheVariants.{Take, Refuse}
 use Rattle.xp_packets.specs.declared.packet.Packet.{Packet}
@@ -20,7 +18,6 @@ use Rattle.xp_subs.specs.Tables.{Tables, address_of}
 use Rattle.xp_core.specs.declared.entry.Entry.{Entry}
 use Rattle.xp_core.specs.declared.event.Event.{Event}
 use Rattle.xp_core.specs.declared.event.What.{What}
-use Rattle.xp_core.specs.declared.outcome.Agreement.{Agreement}
 use Rattle.xp_core.specs.declared.outcome.Outcome.{Outcome}
 use Rattle.xp_core.specs.declared.outcome.Outcome.TheVariants.{Plain, Put, Refused, Connected, Declined}
 use Rattle.xp_core.specs.declared.output.Output.{Output}
@@ -77,9 +74,9 @@ module _ {A : Type 0} where
         let setups : setup ≡ setup' = first.setup_is ∙ setup_same first.ring second.ring rings ∙ sym second.setup_is in
         let I : ℕ → Ring A → Packet A → Type 0 = λ at ring packet. IsIncomingCall ring (address_of tables at) (address_of tables line) request.d request.block packet in
         let packets : called ≡ called' → first.packet ≡ second.packet = λ at.
-            let ring : first.ring ≡ second.ring = ring_same first.ring second.ring rings (sym first.called_is ∙ at ∙ second.called_is) in
-            let moved : I called' second.ring first.packet = subst (λ c. I c second.ring first.packet) at (subst (λ r. I called r first.packet) ring first.incoming) in
-            incoming_call_same second.ring (address_of tables called') (address_of tables line) request.d request.block first.packet second.packet moved second.incoming in
+        let ring : first.ring ≡ second.ring = ring_same first.ring second.ring rings (sym first.called_is ∙ at ∙ second.called_is) in
+        let moved : I called' second.ring first.packet = subst (λ c. I c second.ring first.packet) at (subst (λ r. I called r first.packet) ring first.incoming) in
+        incoming_call_same second.ring (address_of tables called') (address_of tables line) request.d request.block first.packet second.packet moved second.incoming in
         record {
           outcome = ap (Put 0) setups;
           whole = λ taken. let at : called ≡ called' = cc in ap (λ c. Put c setup) at ∙ ap (Put called') setups;
@@ -117,20 +114,20 @@ module _ {A : Type 0} where
         → IsAnswered tables world line answer call one told → IsAnswered tables world line answer call other told' → IsAlike one told other told'
     answered_alike (Connected agreement) (Connected agreement') told told' first second =
         let answers : answered.Connected first.connection ≡ answered.Connected second.connection =
-            answers_same call.setup (address_of tables line) call.dialled answer.d answer.block _ _ first.answered second.answered in
+        answers_same call.setup (address_of tables line) call.dialled answer.d answer.block _ _ first.answered second.answered in
         let is : first.connection ≡ second.connection = cc in
         same (Connected agreement) (Connected agreement') told told'
         (ap Connected (first.agreement_is ∙ ap agreement_of is ∙ sym second.agreement_is))
         (first.told_is ∙ ap (λ c. told_connected world call.caller c.packet) is ∙ sym second.told_is)
     answered_alike (Connected agreement) (Declined diagnostic) told told' first second =
         let answers : answered.Connected first.connection ≡ answered.Refused diagnostic =
-            answers_same call.setup (address_of tables line) call.dialled answer.d answer.block _ _ first.answered second.answered in cc
+        answers_same call.setup (address_of tables line) call.dialled answer.d answer.block _ _ first.answered second.answered in cc
     answered_alike (Declined diagnostic) (Connected agreement) told told' first second =
         let answers : answered.Refused diagnostic ≡ answered.Connected second.connection =
-            answers_same call.setup (address_of tables line) call.dialled answer.d answer.block _ _ first.answered second.answered in cc
+        answers_same call.setup (address_of tables line) call.dialled answer.d answer.block _ _ first.answered second.answered in cc
     answered_alike (Declined diagnostic) (Declined diagnostic') told told' first second =
         let answers : ◌≡◌ {A = Answer A} (answered.Refused diagnostic) (answered.Refused diagnostic') =
-            answers_same call.setup (address_of tables line) call.dialled answer.d answer.block _ _ first.answered second.answered in
+        answers_same call.setup (address_of tables line) call.dialled answer.d answer.block _ _ first.answered second.answered in
         let is : diagnostic ≡ diagnostic' = cc in
         same (Declined diagnostic) (Declined diagnostic') told told' (ap Declined is) (first.told_is ∙ ap (told_of_error world line) is ∙ sym second.told_is)
     answered_alike (Connected agreement) Plain told told' first second = absurd second
@@ -165,7 +162,7 @@ module _ {A : Type 0} where
   confirms_alike world line (Some clear) None one other told told' first second = plain_alike _ one other told told' first second
   confirms_alike world line (Some clear) (Some found) one other told told' first second =
       let packets : first.packet ≡ second.packet =
-          indications_same found.1.setup.fast clear.cause clear.diagnostic clear.block None first.packet second.packet first.carried second.carried in
+      indications_same found.1.setup.fast clear.cause clear.diagnostic clear.block None first.packet second.packet first.carried second.carried in
       same one other told told' (first.plain ∙ sym second.plain)
       (first.told_is ∙ ap (λ packet. carried_told world line found packet) packets ∙ sym second.told_is)
 
@@ -219,12 +216,12 @@ module _ {A : Type 0} where
       let D : Event A → Outcome → List Change = λ e o. does (setting tables history world e.line) e.what (action_at world e) o in
       let C : Event A → Type 0 = λ e. Acts (setting tables history world e.line) e.what (action_at world e) one.outcome first.told in
       let alike : IsAlike one.outcome first.told other.outcome second.told =
-          acts_alike (setting tables history world other.event.line) other.event.what (action_at world other.event) one.outcome other.outcome first.told second.told
-          (subst C event first.acts) second.acts in
+      acts_alike (setting tables history world other.event.line) other.event.what (action_at world other.event) one.outcome other.outcome first.told second.told
+      (subst C event first.acts) second.acts in
       let S : Outcome → List Record = λ o. recorded_by world (D other.event o) in
       let recorded : (o : Outcome) → S o ≡ S (with_line 0 o) = recorded_alike (setting tables history world other.event.line) other.event.what (action_at world other.event) in
       let changes : taken_by one.outcome ≡ taken_by other.outcome → D one.event one.outcome ≡ D other.event other.outcome = λ line.
-          ap (λ e. D e one.outcome) event ∙ ap (D other.event) (alike.whole line) in
+      ap (λ e. D e one.outcome) event ∙ ap (D other.event) (alike.whole line) in
       record {
         number = first.number ∙ sym second.number;
         outcome = alike.outcome;

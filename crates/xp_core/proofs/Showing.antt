@@ -1,93 +1,68 @@
 -- As an event is entered, what is kept goes on to show where the history leads.
-use Rattle.std.proofs.Common.{◌≡◌, ◌∙◌, ◌+◌, ◌<◌, IfOk, OnErr, Result, Ok, Err, Option, Some, None, List, [], ◌∷◌, ◌++◌, length, refl, ap, sym, subst, append-nil}
+use Rattle.std.proofs.Common.{◌≡◌, ◌∙◌, ◌+◌, ◌<◌, IfOk, OnErr, Result, Ok, Err, Option, Some, List, [], ◌∷◌, ◌++◌, length, refl, ap, sym, subst, append-nil}
 use Rattle.std.proofs.lemmas.List.Concat.{flat_map-append}
 use Rattle.std.proofs.lemmas.List.Elements.{All-nil, All-pop, All-push}
+use Rattle.xp_charge.specs.declared.record.Record.{Record}
+use Rattle.xp_subs.specs.Sound.{IsSound}
 use Rattle.xp_subs.specs.Tables.{Tables, line_count}
 use Rattle.xp_core.specs.declared.advance.Work.{Work}
 use Rattle.xp_core.specs.declared.entry.Entry.{Entry}
 use Rattle.xp_core.specs.declared.event.Event.{Event}
-use Rattle.xp_core.specs.declared.event.What.{What}
+use Rattle.xp_core.specs.declared.outcome.Outcome.{Outcome}
 use Rattle.xp_core.specs.declared.plan.Plan.{Plan}
-use Rattle.xp_core.specs.declared.record.Record.{Record}
 use Rattle.xp_core.specs.declared.stepped.Stepped.{Stepped}
-use Rattle.xp_core.specs.declared.table.Action.{Action}
-use Rattle.xp_core.specs.declared.table.Action.TheVariants.{NewCall}
-use Rattle.xp_core.specs.declared.verdict.Verdict.{Verdict}
+use Rattle.xp_core.specs.Agreed.{AllHaveTerms}
 use Rattle.xp_core.specs.Exchange.{Advances, Exchange, IsReadable, world_of}
-use Rattle.xp_core.specs.Plan.{IsPlan, Plans, PlansCall, applied_if_any}
+use Rattle.xp_core.specs.Plan.{Plans, applied_by}
 use Rattle.xp_core.specs.Records.{records_of}
 use Rattle.xp_core.specs.Run.{Run}
-use Rattle.xp_core.specs.Setting.{Setting, setting}
+use Rattle.xp_core.specs.Setting.{setting}
 use Rattle.xp_core.specs.Shown.{Shows}
-use Rattle.xp_core.specs.Step.{Chooses, IsDecided, Step, action_at, does, requests, taken_by}
-use Rattle.xp_core.specs.Table.{CallRequest, request_in}
+use Rattle.xp_core.specs.Step.{Step}
+use Rattle.xp_core.specs.Table.{action_at}
 use Rattle.xp_core.specs.Work.{Enters, Works}
 use Rattle.xp_core.specs.World.{World, opening}
 use Rattle.xp_core.specs.Writable.{AreWritable}
+use Rattle.xp_core.proofs.Agreed.{run_agreed}
 use Rattle.xp_core.proofs.Fitting.{run_fits}
 use Rattle.xp_core.proofs.RunLemmas.{run_push}
 use Rattle.xp_core.proofs.Worlds.{run_world}
 
 module _ {A : Type 0} where
-  record IsPlanned (at : Setting A) (what : What A) (action : Action) (plan : Plan A) : Type 0 where
-    choice : Option Verdict
-    chosen : Chooses at what action choice
-    planned : IsPlan plan at.world (taken_by choice) (does at what action choice)
-
-  planned_call : (at : Setting A) (what : What A) (asked : Option (CallRequest A)) (plan : Plan A) → request_in what ≡ asked → PlansCall at asked plan
-      → IsPlanned at what NewCall plan
-  planned_call at what None plan is plans =
-      let P : Option (CallRequest A) → Type 0 = λ a. IsDecided at a None in
-      let Q : Option (CallRequest A) → Type 0 = λ a. IsPlan plan at.world None (requests at.tables at.line a None) in
-      record { choice = None; chosen = subst P (sym is) refl; planned = subst Q (sym is) plans }
-  planned_call at what (Some request) plan is plans =
-      let P : Option (CallRequest A) → Type 0 = λ a. IsDecided at a (Some plans.verdict) in
-      let Q : Option (CallRequest A) → Type 0 = λ a. IsPlan plan at.world (taken_by (Some plans.verdict)) (requests at.tables at.line a (Some plans.verdict)) in
-      record { choice = Some plans.verdict; chosen = subst P (sym is) plans.decided; planned = subst Q (sym is) plans.planned }
-
-  planned_for : (at : Setting A) (what : What A) (action : Action) (plan : Plan A) → Plans at what action plan → IsPlanned at what action plan
-  planned_for at what NewCall plan plans = planned_call at what (request_in what) plan refl plans
-  planned_for at what action plan plans = record { choice = None; chosen = refl; planned = plans }
-
   -- what was planned and applied
   pub works_out : (tables : Tables) (before : List (Entry A)) (old : World) (event : Event A) (plan : Plan A) (work : Work A) (new : World)
       → Plans (setting tables before old event.line) event.what (action_at old event) plan
-      → work.taken ≡ plan.taken → work.outputs ≡ plan.outputs.outputs → work.told ≡ work.outputs → work.records ≡ plan.records
-      → new ≡ applied_if_any plan.change old → Works tables before old event work new
-  works_out tables before old event plan work new plans taken outputs told records applied =
-      let it = planned_for (setting tables before old event.line) event.what (action_at old event) plan plans in
-      record {
-        choice = it.choice;
-        chosen = it.chosen;
-        taken = taken ∙ it.planned.takes;
-        changes = does (setting tables before old event.line) event.what (action_at old event) it.choice;
-        acts = refl;
-        outputs = outputs ∙ it.planned.outputs;
-        told = told ∙ outputs ∙ it.planned.outputs;
-        records = ap (λ r. r.items) records ∙ it.planned.records;
-        leads = applied ∙ it.planned.does;
-      }
+      → work.outcome ≡ plan.outcome → work.outputs ≡ plan.outputs.outputs → work.told ≡ work.outputs → work.records ≡ plan.records
+      → new ≡ applied_by plan old → Works tables before old event work new
+  works_out tables before old event plan work new plans outcome outputs copied records applied =
+      let made : Works tables before old event (record work { outcome = plan.outcome }) new = record {
+        told = plans.told;
+        acts = plans.acts;
+        outputs = outputs ∙ plans.planned.outputs;
+        copied = copied;
+        records = ap (λ r. r.items) records ∙ plans.planned.records;
+        leads = applied ∙ plans.planned.does;
+      } in
+      let P : Outcome → Type 0 = λ o. Works tables before old event (record work { outcome = o }) new in
+      subst P (sym outcome) made
 
   -- and entered
   pub enters : (tables : Tables) (old : World) (history : List (Entry A)) (records : List Record) (event : Event A) (work : Work A)
       (new : World) (entries : List (Entry A)) (charged : List Record) (told : Stepped A) (entry : Entry A)
       → Works tables history old event work new
-      → entry ≡ record { number = length history + 1; event = event; taken = work.taken; outputs = work.outputs; records = work.records }
+      → entry ≡ record { number = length history + 1; event = event; outcome = work.outcome; outputs = work.outputs; records = work.records }
       → event.line < length old.lines
       → entries ≡ history ++ entry ∷ [] → charged ≡ records ++ work.records.items → told.entry ≡ length history + 1 → told.outputs ≡ work.told
       → Enters tables old history records event new entries charged told
   enters tables old history records event work new entries charged told entry works is line grown recorded number outputs =
-      let made : Entry A = record { number = length history + 1; event = event; taken = work.taken; outputs = work.outputs; records = work.records } in
+      let made : Entry A = record { number = length history + 1; event = event; outcome = work.outcome; outputs = work.outputs; records = work.records } in
       record {
         entry = made;
         event_is = refl;
         step = record {
           number = refl;
           line = line;
-          choice = works.choice;
-          chosen = works.chosen;
-          taken = works.taken;
-          changes = works.changes;
+          told = works.told;
           acts = works.acts;
           outputs = works.outputs;
           records = works.records;
@@ -96,7 +71,7 @@ module _ {A : Type 0} where
         grown = grown ∙ ap (λ e. history ++ e ∷ []) is;
         recorded = recorded;
         number = number;
-        outputs = outputs ∙ works.told ∙ sym works.outputs;
+        outputs = outputs ∙ works.copied;
       }
 
   module _ (tables : Tables) (history : List (Entry A)) (machine : World) (records : List Record) (shows : Shows tables history machine records)
@@ -112,6 +87,7 @@ module _ {A : Type 0} where
         let P : World → Type 0 = λ w. Run tables (history ++ done.entry ∷ []) w in
         let E : Event A → Type 0 = λ e. IsReadable e.what in
         record {
+          sound = shows.sound;
           run = subst P (run_world tables (history ++ done.entry ∷ []) new led) led;
           readable = All-push (λ e. IsReadable e.event.what) history done.entry shows.readable (subst E (sym done.event_is) readable);
           shown = run_world tables (history ++ done.entry ∷ []) new led;
@@ -147,7 +123,12 @@ module _ {A : Type 0} where
     told_fits =
         let W : List _ → Type 0 = λ outputs. AreWritable outputs in
         subst W (sym done.outputs)
-        (All-pop (λ e. AreWritable e.outputs) entries history (Some done.entry) done.grown (run_fits tables entries _ shows_next.run shows_next.readable)).1
+        (All-pop (λ e. AreWritable e.outputs) entries history (Some done.entry) done.grown (run_fits tables entries _ shows_next.sound shows_next.run shows_next.readable)).1
+
+  -- the live calls that are kept have their terms
+  pub kept_terms : (tables : Tables) (history : List (Entry A)) (machine : World) (records : List Record) → Shows tables history machine records → AllHaveTerms machine
+  kept_terms tables history machine records shows =
+      let P : World → Type 0 = λ w. AllHaveTerms w in subst P (sym shows.shown) (run_agreed tables history _ shows.run)
 
   -- a call that hands on its outcome
   pub outcome_shows : {E : Type 0} (tables : Tables) (history : List (Entry A)) (machine : World) (records : List Record) (event : Event A) (new : World) (entries : List (Entry A))
@@ -188,8 +169,8 @@ module _ {A : Type 0} where
   outcome_keeps subs history entries (Err fault) old same shown = ap (exchange_of subs) same ∙ shown
 
   -- nothing was entered yet
-  pub opening_shows : (tables : Tables) (history : List (Entry A)) (machine : World) (records : List Record) → history ≡ [] → machine ≡ opening (line_count tables) → records ≡ []
+  pub opening_shows : (tables : Tables) (history : List (Entry A)) (machine : World) (records : List Record) → IsSound tables → history ≡ [] → machine ≡ opening (line_count tables) → records ≡ []
       → Shows tables history machine records
-  opening_shows tables history machine records none at nothing =
+  opening_shows tables history machine records sound none at nothing =
       let P : List (Entry A) → Type 0 = λ entries. Shows tables entries machine records in
-      subst P (sym none) (record { run = refl; readable = All-nil (λ e. IsReadable e.event.what); shown = at; charged = nothing })
+      subst P (sym none) (record { sound = sound; run = refl; readable = All-nil (λ e. IsReadable e.event.what); shown = at; charged = nothing })

@@ -1,3 +1,7 @@
+ghost use Rattle.std.specs.Prelude.{◌≡◌};
+ghost use Rattle.xp_packets.specs.Fitness.{CanBeEncoded};
+ghost use Rattle.xp_core.specs.Exchange.{DialsFew, IsReadable};
+
 use std::alloc::{Allocator, Global};
 use xp_packets::{Packet, Wrong};
 use xp_subs::LineNo;
@@ -26,4 +30,25 @@ pub enum What<A: Allocator = Global> {
     Expire,
     /// The line takes its packets too slowly, and is given up: its connection is closed. Nothing raises it yet.
     Stall,
+}
+
+impl<A: Allocator> What<A> {
+    /// A packet came that can be encoded under this identifier, as every one that is read.
+    pub fn frame(identifier: u16, packet: Packet<A>) -> What<A>
+        requires { CanBeEncoded identifier packet }
+        ensures frame { result ≡ What.Frame identifier packet }
+        ensures readable { IsReadable result }
+    {
+        measure(&packet);
+        What::Frame { identifier, packet }
+    }
+}
+
+/// No address has more than 15 digits: that comes with their count.
+fn measure<A: Allocator>(packet: &Packet<A>)
+    ensures { DialsFew packet.now }
+{
+    if let Packet::Call { d: _, block } = packet {
+        let _ = block.called.len();
+    }
 }

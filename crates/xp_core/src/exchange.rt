@@ -93,7 +93,9 @@ impl<A: Allocator + Copy> Core<A> {
 }
 
 impl<A: Allocator> Core<A> {
+    ghost use Rattle.xp_core.specs.Agreed.{AllHaveTerms};
     ghost use Rattle.xp_core.specs.Coupling.{AreCoupled};
+    ghost use Rattle.xp_core.specs.Joined.{AreJoined};
     ghost use Rattle.xp_core.specs.Lines.{HasLines};
     ghost use Rattle.xp_core.specs.Records.{OneRecordEach, records_of};
     ghost use Rattle.xp_core.specs.Run.{Run};
@@ -118,12 +120,15 @@ impl<A: Allocator> Core<A> {
     }
 
     /// All entries, which lead to the present state. Each packet that they put out can be encoded, and each line that
-    /// they put something out to or record is one of the subscriptions'.
+    /// they put something out to or record is one of the subscriptions'. Closed user groups let the stations of each call
+    /// be joined, and the sizes of each live call are in their ranges.
     pub fn history(&self) -> &[Entry<A>]
         ensures entries { result.now ≡ self.now.history }
         ensures run { Run self.now.subs self.now.history (world_of self.now) }
         ensures writable { All (λ entry. AreWritable entry.outputs) self.now.history }
         ensures lines { All (HasLines (line_count self.now.subs)) self.now.history }
+        ensures joined { AreJoined self.now.subs self.now.history (world_of self.now) }
+        ensures terms { AllHaveTerms (world_of self.now) }
     {
         self.history.as_slice()
     }

@@ -1,7 +1,7 @@
 //! The events that the frames of a line are.
 
 ghost use Rattle.std.specs.Prelude.{◌≡◌, [], All, IfOk, OnOk};
-ghost use Rattle.xp_core.specs.Exchange.{DialsFew, IsReadable};
+ghost use Rattle.xp_core.specs.Exchange.{IsReadable};
 ghost use Rattle.xp_exchange.specs.Acting.{emptied, IsBetweenFrames, TakesWhole};
 ghost use Rattle.xp_exchange.specs.Heard.{Hears, IsReadAs, AreRead};
 
@@ -9,7 +9,7 @@ use std::alloc::{AllocError, Allocator};
 use std::collections::VecDeque;
 use xp_core::{Event, What};
 use xp_frames::{Deframer, FrameFault};
-use xp_packets::{Packet, PacketFault, decode};
+use xp_packets::{PacketFault, decode};
 use xp_subs::LineNo;
 
 /// Fills the queue with the events that octets of a line are: those of its frames, and that it goes down where a head is
@@ -81,21 +81,9 @@ fn event_of<A: Allocator + Copy>(
     ensures fit { IfOk result (λ event. IsReadable event.what) }
 {
     let what = match decode(alloc, octets) {
-        Ok((identifier, packet)) => {
-            dials_few(&packet);
-            What::Frame { identifier, packet }
-        }
+        Ok((identifier, packet)) => What::frame(identifier, packet),
         Err(PacketFault::Wrong(wrong)) => What::WrongFrame(wrong),
         Err(PacketFault::Memory) => return Err(AllocError),
     };
     Ok(Event { line, what })
-}
-
-/// A call request dials at most 15 digits: that comes with their type.
-fn dials_few<A: Allocator>(packet: &Packet<A>)
-    ensures { DialsFew packet.now }
-{
-    if let Packet::Call { block, .. } = packet {
-        let _ = block.called.len();
-    }
 }

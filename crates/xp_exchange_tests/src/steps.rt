@@ -46,7 +46,7 @@ fn event_of<A: Allocator + Copy>(
         });
     }
     let (identifier, packet) = decode(alloc, packet)?;
-    let what = What::Frame { identifier, packet };
+    let what = What::frame(identifier, packet);
     Ok(Event { line, what })
 }
 

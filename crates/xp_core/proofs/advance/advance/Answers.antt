@@ -8,7 +8,7 @@ returns-clause-ok g c =
     let made : ℕ → Entry _ = λ n. record {
       number = n;
       event = c.args.event;
-      taken = c.in-Ok.work.taken;
+      outcome = c.in-Ok.work.outcome;
       outputs = c.in-Ok.work.outputs;
       records = c.in-Ok.work.records;
     } in

@@ -15,7 +15,7 @@ returns-clause-view g c =
 pub returns-clause-identifier : goal.returns-clause-identifier
 returns-clause-identifier g c =
     let shown = ap (λ v. v.identifier) (c.view.ensures ∙ ap view_of c.line.ensures.line ∙ ap (λ w. view_of (line_at w c.args.line)) c.self.invariant.shown) in
-    let narrow = run_narrow c.self.inside.subs c.self.inside.history.items _ c.self.invariant.run c.self.invariant.readable c.args.line in
+    let narrow = run_narrow c.self.inside.subs c.self.inside.history.items _ c.self.invariant.sound c.self.invariant.run c.self.invariant.readable c.args.line in
     omega (arith, shown, narrow)
 
 pub returns-clause-coupled : goal.returns-clause-coupled

@@ -1,9 +1,12 @@
-use Rattle.xp_core.proofs.Showing.{outcome_advances, outcome_fits, outcome_keeps, outcome_shows}
+use Rattle.xp_core.proofs.Showing.{kept_terms, outcome_advances, outcome_fits, outcome_keeps, outcome_shows}
 use Rattle.xp_core.proofs.Sounds.{right_here}
 use Rattle.xp_core.proofs.exchange.Core.step.Goals as goal
 
 pub advance-requires-clause-sound : goal.advance-requires-clause-sound
 advance-requires-clause-sound g c = right_here c.self.inside.subs c.self.inside.history.items _ c.self.inside.machine c.self.invariant.run c.self.invariant.shown
+
+pub advance-requires-clause-terms : goal.advance-requires-clause-terms
+advance-requires-clause-terms g c = kept_terms c.self.inside.subs c.self.inside.history.items c.self.inside.machine c.self.inside.records.items c.self.invariant
 
 pub invariant_of-self : goal.invariant_of-self
 invariant_of-self g c = outcome_shows _ _ _ _ c.args.event _ _ _ c.advance.result c.self.invariant c.requires.readable
