@@ -8,6 +8,7 @@ pub mod Endings
 pub mod Events
 pub mod Existence
 pub mod Fitting
+pub mod Fronts
 pub mod Idle
 pub mod InCall
 pub mod Joined
@@ -22,7 +23,6 @@ pub mod Outcomes
 pub mod Plans
 pub mod Requests
 pub mod RunLemmas
-pub mod Searches
 pub mod Shapes
 pub mod Showing
 pub mod Sounds

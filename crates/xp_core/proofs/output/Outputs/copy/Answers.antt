@@ -1,5 +1,5 @@
 use Rattle.std.proofs.Common.{◌∙◌}
-use Rattle.xp_core.proofs.Searches.{front_more}
+use Rattle.xp_core.proofs.Fronts.{front_more}
 use Rattle.xp_core.proofs.output.Outputs.copy.Goals as goal
 
 pub loop-output-preserved : goal.loop-output-preserved
