@@ -2,6 +2,7 @@
 use Rattle.std.proofs.Common.{◌≡◌, ℕ, ◌+◌, ◌<◌, ◌≤◌, List, [], ◌∷◌, ◌++◌, length, get_or, take, flat_map, append_assoc, arith, sym, ap, ◌∙◌, refl}
 use Rattle.std.proofs.lemmas.Grind.{common_steps, flat_map-append}
 use Rattle.std.proofs.lemmas.List.{length-append, take-take, take_at}
+use Rattle.std.proofs.Math.Seq.{take-length}
 use Rattle.xp_charge.specs.Text.{Keeps}
 
 -- one item more
@@ -24,3 +25,7 @@ still_kept before more so_far after is kept =
     sym (take-take (length before) (length so_far) after within)
     ∙ ap (take (length before)) (kept ∙ is)
     ∙ take_at before more (length before) refl
+
+-- a text that is the same keeps its front
+pub same_kept : (before after : List ℕ) → after ≡ before → Keeps before after
+same_kept before after same = ap (take (length before)) same ∙ take-length before
