@@ -23,7 +23,6 @@ pub mod Outcomes
 pub mod Plans
 pub mod Requests
 pub mod RunLemmas
-pub mod Searches
 pub mod Shapes
 pub mod Showing
 pub mod Sounds
