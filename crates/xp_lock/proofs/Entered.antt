@@ -25,12 +25,12 @@ use Rattle.xp_lock.specs.Stalling.{CanEnter, HasEntered, HasStalled, switch_of}
 use Rattle.xp_lock.specs.Switch.{IsGiven, Takes, is_up}
 use Rattle.xp_lock.proofs.Touches.{Touches, few_to_each, touches}
 
-take_front : {X : Type 0} (xs ys : List X) → take (length xs) (xs ++ ys) ≡ xs
+pub take_front : {X : Type 0} (xs ys : List X) → take (length xs) (xs ++ ys) ≡ xs
 take_front [] [] = refl
 take_front [] (y ∷ ys) = refl
 take_front (x ∷ xs) ys = ap (λ zs. x ∷ zs) (take_front xs ys)
 
-drop_front : {X : Type 0} (xs ys : List X) → drop (length xs) (xs ++ ys) ≡ ys
+pub drop_front : {X : Type 0} (xs ys : List X) → drop (length xs) (xs ++ ys) ≡ ys
 drop_front [] ys = refl
 drop_front (x ∷ xs) ys = drop_front xs ys
 

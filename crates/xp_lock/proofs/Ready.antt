@@ -14,10 +14,10 @@ use Rattle.xp_lock.specs.Switch.{IsGiven, Switch, Takes}
 module _ {A : Type 0} where
   -- what a look leaves of an outbox
   pub record IsAlike (box after : Putting (Outgoing A)) : Type 0 where
-    queue : after.queue ≡ box.queue
-    capacity : after.capacity ≡ box.capacity
-    put : after.put ≡ box.put
-    free : box.free ≤ after.free
+    pub queue : after.queue ≡ box.queue
+    pub capacity : after.capacity ≡ box.capacity
+    pub put : after.put ≡ box.put
+    pub free : box.free ≤ after.free
 
   alike_at : (line : ℕ) (boxes after : List (Putting (Outgoing A))) → LooksAt line boxes after → (other : ℕ) → IsAlike (box_at boxes other) (box_at after other)
   alike_at line boxes after looks other = elim (cases_eq other line) [

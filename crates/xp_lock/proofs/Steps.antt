@@ -4,12 +4,14 @@ use Rattle.std.proofs.lemmas.Bool.{ne_eqb}
 use Rattle.std.specs.Prelude.{slice_index}
 use mathlib.Core.Option.{some, some-injective, some-ne-none}
 use lib.ListN.{get_elem?}
-use Rattle.atomic_table.proofs.Lists.{at_set}
+use prog.Atomic.{either}
+use Rattle.atomic_table.proofs.Lists.{at_set, exchanged}
 use Rattle.atomic_table.specs.Table.{Allows, Joins, Splits, State, keeps}
 use Rattle.xp_core.specs.declared.entry.Entry.{Entry}
+use Rattle.xp_core.specs.Exchange.{Exchange}
 use Rattle.xp_lock.specs.declared.word.View.{View}
 use Rattle.xp_lock.specs.Handed.{handed}
-use Rattle.xp_lock.specs.Views.{Claims, Fits, HasSeenOwn, IsAdded, IsChecked, IsShared, StartsWith, claim_of, claiming, holding, joined, keeping, next_claim, nobody, one_further, unclaimed}
+use Rattle.xp_lock.specs.Views.{Claims, Fits, HasSeenOwn, IsChecked, IsGrown, IsShared, IsShown, StartsWith, claim_of, claiming, holding, joined, keeping, next_claim, nobody, one_further, unclaimed}
 use Rattle.xp_lock.proofs.Lists.{Each, each_new, each_set, handed-append, handed-none, starts_empty, starts_longer, starts_whole}
 
 off : false ≡ true → ⊥
@@ -225,13 +227,19 @@ module _ {A : Type 0} where
       → Joins {S = S} (λ s. IsShared s.words s.views) seat v other u (joined v u) nobody
   takes_in_at seat v other u may s h at two at' = takes_in s.words s.views h seat v other u at two at' may
 
-  pub adds : {S : Type 0} (slots seat : ℕ) (me : View A × List (ℕ × S)) (more : List (Entry A)) (n : ℕ) → me.0.keeps ≡ true → me.0.claims ≡ true
-      → n ≡ length me.0.all + length more → ((line : ℕ) → line ≢ me.0.line → handed line more ≡ [])
-      → Allows {S = S} (λ s. IsShared s.words s.views) slots seat me 0 (λ _. n) (λ _ m. IsAdded more me.0 m.0 × (m.1 ≡ me.1))
-  adds slots seat me more n may claims long none s h count at below =
+  pub shows : (slots seat : ℕ) (me : View A × List (ℕ × Exchange A)) (core : Exchange A) (before count : ℕ) → me.0.keeps ≡ true → me.0.claims ≡ true
+      → before ≡ length me.0.all → count ≡ length core.history → IsGrown me.0.line me.0.all core.history
+      → Allows {S = Exchange A} (λ s. IsShared s.words s.views) slots seat me 0 (λ n. either (eqb n before) count n) (λ _ m. IsShown core.history me.0 m.0 × (m.1 ≡ me.1))
+  shows slots seat me core before count may claims was now grown s h long at below =
       let v = me.0 in
-      (holding v.next (v.all ++ more) v.line (v.all ++ more), keeps, tt, adds_to s.words s.views h seat v more n at may claims long none,
-       (record { grown = refl; seen = seen_own s.words s.views h seat v at may claims }, refl))
+      let n : ℕ = slice_index s.words 0 in
+      let after : View A = holding v.next core.history v.line core.history in
+      let Shown : ℕ → List (Entry A) → Type 0 = λ word xs. IsShared (set s.words 0 word) (set s.views seat (holding v.next xs v.line xs)) in
+      let found : n ≡ before = h.word ∙ ap length (sym ((h.each seat v at).keeps may).1) ∙ sym was in
+      let added = adds_to s.words s.views h seat v grown.more count at may claims (now ∙ ap length grown.grown_is ∙ length-append v.all grown.more) grown.others in
+      (after, keeps, tt,
+       exchanged n before count (λ word. Shown word core.history) (λ _. subst (Shown count) (sym grown.grown_is) added) (λ other. absurd (other found)),
+       (record { shown = refl; seen = seen_own s.words s.views h seat v at may claims }, refl))
 
   pub checks : {S : Type 0} (slots seat : ℕ) (me : View A × List (ℕ × S)) → me.0.keeps ≡ true → me.0.claims ≡ true
       → Allows {S = S} (λ s. IsShared s.words s.views) slots seat me 0 (λ n. n) (λ _ m. IsChecked me.0 m.0 × (m.1 ≡ me.1))

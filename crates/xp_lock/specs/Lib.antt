@@ -2,6 +2,7 @@ pub mod Boxes
 pub mod Forced
 pub mod Handed
 pub mod Outgoing
+pub mod Passes
 pub mod Sight
 pub mod Stalling
 pub mod Switch

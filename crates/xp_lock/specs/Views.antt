@@ -1,10 +1,11 @@
 -- The word beside the lock, and what those who step on it know. The keeper under the lock knows the whole history; the
 -- claim of a line knows a front of it, and that no one else has added entries of the line since.
-use Rattle.std.specs.Prelude.{◌≡◌, ℕ, ◌+◌, ◌<◌, true, false, List, [], ◌++◌, length, slice_index}
-use mathlib.Core.Option.{some}
+use Rattle.std.specs.Prelude.{◌≡◌, ◌≢◌, ℕ, ◌+◌, ◌<◌, true, false, List, [], ◌++◌, length, slice_index}
+use mathlib.Core.Option.{Option, none, some}
 use lib.ListN.{get_elem?}
 use Rattle.atomic_table.specs.Seated.{TableId}
 use Rattle.xp_core.specs.declared.entry.Entry.{Entry}
+use Rattle.xp_core.specs.Exchange.{Exchange}
 use Rattle.xp_lock.specs.declared.word.View.{View}
 use Rattle.xp_lock.specs.Handed.{handed}
 
@@ -77,10 +78,20 @@ module _ {A : Type 0} where
     pub front : StartsWith view.all view.seen
     pub own : handed view.line view.all ≡ handed view.line view.seen
 
-  -- the keeper adds entries, and shows the claim the history with them
-  pub record IsAdded (more : List (Entry A)) (view after : View A) : Type 0 where
-    pub grown : after ≡ holding view.next (view.all ++ more) view.line (view.all ++ more)
+  -- a history grows by entries that are this line's, or that no line handed in
+  pub record IsGrown (line : ℕ) (history grown : List (Entry A)) : Type 0 where
+    pub more : List (Entry A)
+    pub grown_is : grown ≡ history ++ more
+    pub others : (other : ℕ) → other ≢ line → handed other more ≡ []
+
+  -- the keeper, and the claim that it holds, come to know this history
+  pub record IsShown (history : List (Entry A)) (view after : View A) : Type 0 where
+    pub shown : after ≡ holding view.next history view.line history
     pub seen : HasSeenOwn view
+
+  abbrev pub IsShownBy : Option (Exchange A) → View A → View A → Type 0
+  IsShownBy none view after = Unit {0}
+  IsShownBy (some core) view after = IsShown core.history view after
 
   -- the keeper compares the claim with the history, and lets it go
   pub record IsChecked (view after : View A) : Type 0 where

@@ -73,6 +73,14 @@ impl<A: Allocator + Copy> Switch<A> {
         Ok(done)
     }
 
+    /// The serial exchange.
+    pub fn core(&self) -> &Core<A>
+        ensures subs { result.now.subs ≡ self.now.subs }
+        ensures history { result.now.history ≡ self.now.history }
+    {
+        &self.core
+    }
+
     /// Refuses every later event.
     pub fn halt(&mut self)
         ensures { self.new ≡ record self.old { halted = true } }

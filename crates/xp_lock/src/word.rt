@@ -1,14 +1,14 @@
 //! The word beside the lock: how long the history is. Who steps on it learns what it may rely on.
 
-ghost use Rattle.std.specs.Prelude.{◌≡◌, ◌≢◌, ℕ, ◌+◌, true, [], length, IfOk};
+ghost use Rattle.std.specs.Prelude.{◌≡◌, true, [], length, IfOk};
 ghost use Rattle.xp_lock.specs.Handed.{handed};
-ghost use Rattle.xp_lock.specs.Views.{IsAdded, IsChecked, claim_of, joined, keeping, next_claim, one_further, unclaimed};
+ghost use Rattle.xp_lock.specs.Views.{IsChecked, IsGrown, IsShown, StartsWith, claim_of, claiming, joined, keeping, next_claim, one_further, unclaimed};
 
 use atomic_table::{Join, Play, Seat, Split, Table, TableRule};
 use std::alloc::{AllocError, Allocator};
 use std::collections::LinkedList;
-use std::marker::{Brand, Model};
-use xp_core::Entry;
+use std::marker::Model;
+use xp_core::{Core, Entry};
 
 /// What a seat knows: whether it keeps the history and how many claims it has given out, and whether it has the claim of
 /// a line and what that has seen. No value of it is made.
@@ -24,7 +24,7 @@ pub struct View<A: Allocator> {
 /// The rule.
 pub struct OneHistory;
 
-impl<A: Allocator> TableRule<u64, View<A>, ()> for OneHistory {
+impl<A: Allocator> TableRule<Core<A>, View<A>, ()> for OneHistory {
     ghost use Rattle.std.specs.Prelude.{[]};
     ghost use Rattle.xp_lock.specs.Views.{IsShared, keeping};
 
@@ -63,34 +63,20 @@ impl<A: Allocator> Join<View<A>> for Claim {
     ghost spent = { nobody };
 }
 
-/// The entries that a store adds.
-pub trait More<A: Allocator> {
-    ghost use Rattle.std.specs.Prelude.{List};
-    ghost use Rattle.xp_core.specs.declared.entry.Entry.{Entry};
+/// The keeper shows the history as the exchange has it now.
+pub struct Shows;
 
-    ghost entries: { List (Entry A) };
-}
-
-impl<A: Allocator> More<A> for Brand {
-    ghost use Rattle.std.specs.Prelude.{[]};
-
-    ghost entries = { [] };
-}
-
-/// These entries are added.
-pub struct Adds<M>(M);
-
-impl<A: Allocator, M: More<A>> Play<u64, View<A>> for Adds<M> {
+impl<A: Allocator> Play<Core<A>, View<A>> for Shows {
     ghost use Rattle.std.specs.Prelude.{◌≡◌};
-    ghost use Rattle.xp_lock.specs.Views.{IsAdded};
+    ghost use Rattle.xp_lock.specs.Views.{IsShownBy};
 
-    ghost then = { λ _ m _ w. IsAdded M.entries m.0 w.0 × (w.1 ≡ m.1) };
+    ghost then = { λ step m _ w. IsShownBy step.said m.0 w.0 × (w.1 ≡ m.1) };
 }
 
 /// A claim is compared with the history.
 pub struct Checks;
 
-impl<A: Allocator> Play<u64, View<A>> for Checks {
+impl<A: Allocator> Play<Core<A>, View<A>> for Checks {
     ghost use Rattle.std.specs.Prelude.{◌≡◌};
     ghost use Rattle.xp_lock.specs.Views.{IsChecked};
 
@@ -100,7 +86,7 @@ impl<A: Allocator> Play<u64, View<A>> for Checks {
 /// The word.
 #[derive(Drop)]
 pub struct Word<A: Allocator> {
-    table: Table<u64, View<A>, (), OneHistory, A>,
+    table: Table<Core<A>, View<A>, (), OneHistory, A>,
 }
 
 impl<A: Allocator> Model for Word<A> {
@@ -117,7 +103,7 @@ impl<A: Allocator> Model for Word<A> {
 /// A seat on the word: the keeper's, or a line's.
 #[derive(Drop)]
 pub struct Sight<A: Allocator> {
-    seat: Seat<u64, View<A>>,
+    seat: Seat<Core<A>, View<A>>,
 }
 
 impl<A: Allocator> Model for Sight<A> {
@@ -175,19 +161,6 @@ impl<A: Allocator> Word<A> {
         self.table.shared.join_seat::<Claim>(&mut keeper.seat, seat);
     }
 
-    /// Stores the new length of the history.
-    fn store<M: More<A>>(&self, keeper: &mut Sight<A>, more: &[Entry<A>], count: u64)
-        requires word { keeper.old.word ≡ self.now }
-        requires holds { (keeper.old.knows.keeps ≡ true) × (keeper.old.knows.claims ≡ true) }
-        requires more { M.entries ≡ more.now }
-        requires count { count ≡ length keeper.old.knows.all + length more.now }
-        requires others { (line : ℕ) → line ≢ keeper.old.knows.line → handed line more.now ≡ [] }
-        ensures word { keeper.new.word ≡ keeper.old.word }
-        ensures added { IsAdded more.now keeper.old.knows keeper.new.knows }
-    {
-        self.table.shared.store::<Adds<M>>(&mut keeper.seat, 0, count);
-    }
-
     /// Compares the claim that the keeper holds with the history.
     fn check(&self, keeper: &mut Sight<A>)
         requires word { keeper.old.word ≡ self.now }
@@ -196,5 +169,61 @@ impl<A: Allocator> Word<A> {
         ensures checked { IsChecked keeper.old.knows keeper.new.knows }
     {
         self.table.shared.load::<Checks>(&mut keeper.seat, 0);
+    }
+
+    /// Shows a pass the history, to which entries of its line and stalls were added.
+    pub(crate) fn refresh(
+        &self,
+        keeper: &mut Sight<A>,
+        pass: &mut Sight<A>,
+        core: &Core<A>,
+        before: u64,
+    )
+        requires word { (keeper.old.word ≡ self.now) × (pass.old.word ≡ self.now) }
+        requires keeper { keeper.old.knows ≡ keeping keeper.old.knows.next keeper.old.knows.all }
+        requires pass { pass.old.knows ≡ claiming pass.old.knows.line pass.old.knows.seen }
+        requires before { before ≡ length keeper.old.knows.all }
+        requires grown { IsGrown pass.old.knows.line keeper.old.knows.all core.now.history }
+        ensures keeper { keeper.new ≡ record keeper.old { knows = keeping keeper.old.knows.next core.now.history } }
+        ensures pass { pass.new ≡ record pass.old { knows = claiming pass.old.knows.line core.now.history } }
+        ensures seen { StartsWith keeper.old.knows.all pass.old.knows.seen }
+        ensures own { handed pass.old.knows.line keeper.old.knows.all ≡ handed pass.old.knows.line pass.old.knows.seen }
+    {
+        let claim = self.take_claim(pass);
+        self.add_claim(keeper, claim);
+        self.show(keeper, core, before);
+        *pass = self.take_claim(keeper);
+    }
+
+    /// Stores the new length of the history.
+    fn show(&self, keeper: &mut Sight<A>, core: &Core<A>, before: u64)
+        requires word { keeper.old.word ≡ self.now }
+        requires holds { (keeper.old.knows.keeps ≡ true) × (keeper.old.knows.claims ≡ true) }
+        requires before { before ≡ length keeper.old.knows.all }
+        requires grown { IsGrown keeper.old.knows.line keeper.old.knows.all core.now.history }
+        ensures word { keeper.new.word ≡ keeper.old.word }
+        ensures shown { IsShown core.now.history keeper.old.knows keeper.new.knows }
+    {
+        let count = core.history().len() as u64;
+        self.table.shared.compare_exchange_with::<Shows>(
+            &mut keeper.seat,
+            0,
+            before,
+            count,
+            core,
+        );
+    }
+
+    /// Compares what a pass has seen with the history.
+    pub(crate) fn compare(&self, keeper: &mut Sight<A>, pass: Sight<A>)
+        requires word { (keeper.old.word ≡ self.now) × (pass.word ≡ self.now) }
+        requires keeper { keeper.old.knows ≡ keeping keeper.old.knows.next keeper.old.knows.all }
+        requires pass { pass.knows ≡ claiming pass.knows.line pass.knows.seen }
+        ensures keeper { keeper.new ≡ keeper.old }
+        ensures seen { StartsWith keeper.old.knows.all pass.knows.seen }
+        ensures own { handed pass.knows.line keeper.old.knows.all ≡ handed pass.knows.line pass.knows.seen }
+    {
+        self.add_claim(keeper, pass);
+        self.check(keeper);
     }
 }
