@@ -1,6 +1,7 @@
 pub mod Entered
 pub mod Fresh
 pub mod Lists
+pub mod Opened
 pub mod Putting
 pub mod Queues
 pub mod Ready

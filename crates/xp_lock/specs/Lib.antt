@@ -1,6 +1,9 @@
 pub mod Boxes
+pub mod Closing
+pub mod Faults
 pub mod Forced
 pub mod Handed
+pub mod Opening
 pub mod Outgoing
 pub mod Passes
 pub mod Sight

@@ -1,11 +1,18 @@
 //! What lies under the lock.
 
-ghost use Rattle.std.specs.Prelude.{◌≡◌, false, true, IfOk, IfErr, OnErr, OnOk};
+ghost use Rattle.std.specs.Prelude.{◌≡◌, ◌<◌, false, true, IfOk, IfErr, OnErr, OnOk, length, map};
+ghost use mathlib.Core.List.{IsPrefix};
+ghost use Rattle.xp_subs.specs.Tables.{line_count};
 ghost use Rattle.xp_core.specs.Exchange.{IsReadable};
-ghost use Rattle.xp_lock.specs.Handed.{is_stall};
-ghost use Rattle.xp_lock.specs.Passes.{Freshens};
+ghost use Rattle.xp_lock.specs.Boxes.{box_at};
+ghost use Rattle.xp_lock.specs.Closing.{AreTold};
+ghost use Rattle.xp_lock.specs.Handed.{handed, is_stall};
+ghost use Rattle.xp_lock.specs.Passes.{Freshens, mine};
 ghost use Rattle.xp_lock.specs.Switch.{Refuses, Takes};
+ghost use Rattle.xp_lock.specs.Views.{StartsWith, keeping};
 
+use crate::book::Book;
+use crate::boxes::Box;
 use crate::done::Done;
 use crate::fault::OfferFault;
 use crate::name::Name;
@@ -16,6 +23,7 @@ use std::alloc::{Allocator, Global};
 use std::marker::{Model, PhantomData};
 use std::sync::Wait;
 use xp_core::Event;
+use xp_outbox::settle;
 
 /// What lies under the lock: the exchange with its outboxes, and the seat that knows the whole history.
 #[derive(Drop)]
@@ -40,6 +48,20 @@ impl<N: Name, A: Allocator> Model for Keeper<N, A> {
 }
 
 impl<N: Name, A: Allocator + Copy> Keeper<N, A> {
+    pub(crate) fn new(switch: Switch<A>, sight: Sight<A>) -> Keeper<N, A>
+        requires word { sight.word ≡ N.word }
+        requires knows { sight.knows ≡ keeping (line_count N.subs) switch.history }
+        requires subs { switch.subs ≡ N.subs }
+        requires queues { map (λ b. b.queue) switch.boxes ≡ N.queues }
+        ensures { result ≡ switch }
+    {
+        Keeper {
+            switch,
+            sight,
+            name: PhantomData,
+        }
+    }
+
     /// Takes one event of the pass's line, and the stalls that it forces.
     ///
     /// # Errors
@@ -67,13 +89,35 @@ impl<N: Name, A: Allocator + Copy> Keeper<N, A> {
         let _line = pass.line;
         let before = self.switch.core().history().len() as u64;
         let done = self.switch.take(rt, event)?;
-        word.refresh(
-            &mut self.sight,
-            &mut pass.sight,
-            self.switch.core(),
-            before,
-        );
+        let core = self.switch.core();
+        let _legal = core.history();
+        word.refresh(&mut self.sight, &mut pass.sight, core, before);
         Ok(done)
+    }
+
+    /// Compares what each pass has seen and taken with the history.
+    pub fn close<R: Wait>(
+        self,
+        rt: &R,
+        word: &Word<A>,
+        passes: Vec<LinePass<N, A>, A>,
+    ) -> Book<A>
+        requires word { word.now ≡ N.word }
+        ensures book { result ≡ record { subs = self.subs; history = self.history } }
+        ensures told { AreTold self.history passes.items }
+    {
+        let Keeper {
+            switch,
+            sight,
+            name: _,
+        } = self;
+        let (core, boxes) = switch.into_parts();
+        let mut sight = sight;
+        let mut boxes = boxes;
+        for pass in passes {
+            hear(rt, word, &mut sight, &mut boxes, pass);
+        }
+        Book::new(core)
     }
 
     /// Refuses every later event.
@@ -89,4 +133,34 @@ impl<N: Name, A: Allocator + Copy> Keeper<N, A> {
     {
         self.switch.is_halted()
     }
+}
+
+/// Compares what a pass has seen with the history, and what it has taken with what was put into its outbox.
+fn hear<N: Name, A: Allocator, R: Wait>(
+    rt: &R,
+    word: &Word<A>,
+    keeper: &mut Sight<A>,
+    boxes: &mut Vec<Box<A>, A>,
+    pass: LinePass<N, A>,
+)
+    requires word { (word.now ≡ N.word) × (keeper.old.word ≡ N.word) }
+    requires keeper { keeper.old.knows ≡ keeping keeper.old.knows.next keeper.old.knows.all }
+    requires boxes { map (λ b. b.queue) boxes.old.items ≡ N.queues }
+    ensures keeper { keeper.new ≡ keeper.old }
+    ensures boxes { boxes.new.items ≡ boxes.old.items }
+    ensures seen { StartsWith keeper.old.knows.all pass.seen }
+    ensures own { handed pass.line keeper.old.knows.all ≡ mine pass }
+    ensures there { pass.line < length boxes.old.items }
+    ensures taken { IsPrefix pass.taken (box_at boxes.old.items pass.line).put }
+{
+    let LinePass {
+        line,
+        sight,
+        outbox,
+        name: _,
+    } = pass;
+    word.compare(keeper, sight);
+    let at = line as usize;
+    let end = &mut boxes[at];
+    settle(rt, end, outbox);
 }

@@ -18,7 +18,7 @@ pub struct LinePass<N: Name, A: Allocator = Global> {
     pub(crate) line: LineNo,
     pub(crate) sight: Sight<A>,
     pub(crate) outbox: TakeEnd<Outgoing<A>, A>,
-    name: PhantomData<N>,
+    pub(crate) name: PhantomData<N>,
 }
 
 impl<N: Name, A: Allocator> Model for LinePass<N, A> {

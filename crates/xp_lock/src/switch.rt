@@ -3,6 +3,7 @@
 ghost use Rattle.std.specs.Prelude.{◌≡◌, ◌+◌, ◌<◌, ◌≤◌, true, false, IfOk, IfErr, length};
 ghost use Rattle.xp_subs.specs.Tables.{line_count};
 ghost use Rattle.xp_core.specs.Exchange.{IsReadable};
+ghost use Rattle.xp_lock.specs.Boxes.{AreKept};
 ghost use Rattle.xp_lock.specs.Handed.{is_stall};
 ghost use Rattle.xp_lock.specs.Switch.{Refuses, Takes, is_up};
 
@@ -45,6 +46,17 @@ fn comes_up<A: Allocator>(what: &What<A>) -> bool
 }
 
 impl<A: Allocator + Copy> Switch<A> {
+    pub fn new(core: Core<A>, boxes: Vec<Box<A>, A>) -> Switch<A>
+        requires { AreKept core.subs core.history boxes.items }
+        ensures { result ≡ record { subs = core.subs; history = core.history; boxes = boxes.items; halted = false } }
+    {
+        Switch {
+            core,
+            boxes,
+            halted: false,
+        }
+    }
+
     /// Takes one event of a line, and the stalls that it forces.
     ///
     /// # Errors
@@ -79,6 +91,21 @@ impl<A: Allocator + Copy> Switch<A> {
         ensures history { result.now.history ≡ self.now.history }
     {
         &self.core
+    }
+
+    /// The serial exchange, and the outboxes.
+    pub fn into_parts(self) -> (Core<A>, Vec<Box<A>, A>)
+        ensures subs { result.0.subs ≡ self.subs }
+        ensures history { result.0.history ≡ self.history }
+        ensures boxes { result.1.items ≡ self.boxes }
+        ensures kept { AreKept self.subs self.history self.boxes }
+    {
+        let Switch {
+            core,
+            boxes,
+            halted: _,
+        } = self;
+        (core, boxes)
     }
 
     /// Refuses every later event.
