@@ -25,7 +25,7 @@ at_front [] (suc n) x rest e = absurd (cc)
 at_front (y ∷ ys) zero x rest e = cc
 at_front (y ∷ ys) (suc n) x rest e = at_front ys n x rest e
 
-pub drop_rest : {X : Type 0} (xs : List X) (n : ℕ) (x : X) (rest : List X) → drop n xs ≡ x ∷ rest → drop (n + 1) xs ≡ rest
+pub drop_rest : {X : Type 0} (xs : List X) (n : ℕ) (x : X) (rest : List X) → drop n xs ≡ x ∷ rest → drop (suc n) xs ≡ rest
 drop_rest [] zero x rest e = absurd (cc)
 drop_rest [] (suc n) x rest e = absurd (cc)
 drop_rest (y ∷ ys) zero x rest e = cc

@@ -26,7 +26,7 @@ pub struct Blanks<A: Allocator = Global> {
 }
 
 impl<A: Allocator> Model for Blanks<A> {
-    ghost use Rattle.std.specs.Prelude.{◌≡◌, ◌≤◌, [], All, map};
+    ghost use Rattle.std.specs.Prelude.{◌≡◌, ◌≤◌, [], All, length, map};
     ghost use Rattle.xp_subs.specs.Tables.{line_count};
     ghost use Rattle.xp_lock.specs.Opening.{Blank};
 
@@ -37,7 +37,7 @@ impl<A: Allocator> Model for Blanks<A> {
 
     ghost view = { λ b. record { subs = b.core.subs; word = b.word; queues = map (λ box. box.queue) b.boxes.items } };
 
-    ghost invariant = { λ b. (b.core.history ≡ []) × (b.sight ≡ record { word = b.word; knows = keeping 0 [] }) × AreKept b.core.subs [] b.boxes.items × (map (λ end. end.queue) b.ends.items ≡ map (λ box. box.queue) b.boxes.items) × All (λ end. end.taken ≡ []) b.ends.items × (b.lines ≡ line_count b.core.subs) × (line_count b.core.subs ≤ 512) };
+    ghost invariant = { λ b. (b.core.history ≡ []) × (b.sight ≡ record { word = b.word; knows = keeping 0 [] }) × AreKept b.core.subs [] b.boxes.items × (map (λ end. end.queue) b.ends.items ≡ map (λ box. box.queue) b.boxes.items) × All (λ end. end.taken ≡ []) b.ends.items × (b.lines ≡ line_count b.core.subs) × (line_count b.core.subs ≤ 512) × (length b.ends.items ≡ line_count b.core.subs) };
 }
 
 /// Makes what an exchange of these subscriptions is made of.

@@ -103,8 +103,9 @@ impl<N: Name, A: Allocator + Copy> Keeper<N, A> {
         passes: Vec<LinePass<N, A>, A>,
     ) -> Book<A>
         requires word { word.now ≡ N.word }
-        ensures book { result ≡ record { subs = self.subs; history = self.history } }
-        ensures told { AreTold self.history passes.items }
+        ensures subs { result.subs ≡ N.subs }
+        ensures history { result.history ≡ self.history }
+        ensures told { AreTold result.history passes.items }
     {
         let Keeper {
             switch,
