@@ -40,7 +40,7 @@ module _ {A : Type 0} (old mid : Exchange A) (event : Event A) (told : Stepped A
   touched = touches old.subs old.history (world_of old) step.entry (world_of mid) coupled step.step
 
   few : (line : ℕ) → length (to_line line told.outputs) ≤ 17
-  few line = subst (λ os. length (to_line line os) ≤ 17) (sym step.outputs) (few_to_each old.subs old.history (world_of old) step.entry (world_of mid) step.step line)
+  few line = subst (λ os. length (to_line line os) ≤ 17) (sym step.outputs) (few_to_each old.subs old.history (world_of old) step.entry (world_of mid) coupled step.step line)
 
   -- a line that is given something was in service
   served : (line : ℕ) → 0 < length (to_line line told.outputs) → is_off (state_at (world_of old) line) ≡ false

@@ -23,14 +23,16 @@ pub hear-requires-clause-boxes : goal.hear-requires-clause-boxes
 hear-requires-clause-boxes g c = ap (map (λ b. b.queue)) (c.loop-pass.invariant.boxes ∙ c.into_parts-core.ensures.boxes) ∙ c.self.invariant.3
 
 pub loop-pass-init : goal.loop-pass-init
-loop-pass-init g c = record {
-  can_next = tt;
-  is_finite = tt;
-  many = ?;
-  sight = refl;
-  boxes = refl;
-  told = ?;
-}
+loop-pass-init g c =
+    let gives = c.into_iter-pass-iterator.ensures.into_iter_gives in
+    record {
+      can_next = tt;
+      is_finite = tt;
+      many = ap length gives.0 ∙ sym c.args.passes.ok.0 ∙ sym gives.1;
+      sight = refl;
+      boxes = refl;
+      told = λ told. subst (AreTold c.args.self.history) gives.0 told;
+    }
 
 pub loop-pass-preserved : goal.loop-pass-preserved
 loop-pass-preserved g c =
@@ -65,4 +67,5 @@ returns-clause-told g c =
     let was = c.loop-pass.invariant in
     let history = c.args.self.history in
     let none = nil_from_length (into_iter_items c.loop-pass.pass-iterator) (was.many ∙ c.in-None.ensures.steps.0) in
-    was.told (subst (AreTold history) (sym none) (All-nil (IsTold history)))
+    let book = ap (λ b. b.history) c.new.ensures ∙ c.into_parts-core.ensures.history ∙ ap (λ s. s.history) c.self.view_is in
+    subst (λ h. AreTold h c.args.passes.items) (sym book) (was.told (subst (AreTold history) (sym none) (All-nil (IsTold history))))
