@@ -2,7 +2,6 @@
 use Rattle.std.proofs.Common.{◌≡◌, ◌≢◌, ℕ, zero, suc, ◌+◌, ◌-◌, ◌<◌, ◌≤◌, ◌⊎◌, Bool, true, false, List, [], ◌∷◌, ◌++◌, take, drop, length, sym, refl, ap, ◌∙◌, subst, inl, inr, ⊎_elim, arith, append_assoc, append-nil, length-append}
 use Rattle.std.proofs.lemmas.Bool.{cases_lt}
 use Rattle.std.proofs.lemmas.Grind.{flat_map-append}
-use Rattle.std.specs.Prelude.{◌↔◌, Contains}
 use Rattle.xp_outbox.specs.Ends.{Putting}
 use Rattle.xp_subs.specs.Tables.{line_count}
 use Rattle.xp_core.specs.declared.entry.Entry.{Entry}
@@ -78,8 +77,7 @@ module _ {A : Type 0} (old mid : Exchange A) (event : Event A) (told : Stepped A
 
     module _ (new : Exchange A) (after : List (Putting (Outgoing A))) (stalled : HasStalled mid from between new after) (done : Done)
         (number : done.entry ≡ told.entry) (records : done.records ≡ length (records_of new.history))
-        (connection : done.connection ≡ (line_at (world_of new) event.line).connection)
-        (given : (line : ℕ) → Contains done.given.items line ↔ (0 < length (put_out_to line (drop from new.history)))) where
+        (connection : done.connection ≡ (line_at (world_of new) event.line).connection) where
       before_is : take from mid.history ≡ old.history
       before_is = ap (λ n. take n mid.history) count ∙ ap (take (length old.history)) step.history ∙ take_front old.history (step.entry ∷ [])
 
@@ -88,9 +86,6 @@ module _ {A : Type 0} (old mid : Exchange A) (event : Event A) (told : Stepped A
 
       grown : new.history ≡ old.history ++ step.entry ∷ stalled.stalls
       grown = stalled.history ∙ ap (λ xs. xs ++ stalled.stalls) step.history ∙ append_assoc old.history (step.entry ∷ []) stalled.stalls
-
-      all_is : drop from new.history ≡ step.entry ∷ stalled.stalls
-      all_is = ap (λ n. drop n new.history) count ∙ ap (drop (length old.history)) grown ∙ drop_front old.history (step.entry ∷ stalled.stalls)
 
       got : (line : ℕ) → to_line line told.outputs ≡ to_line line step.entry.outputs
       got line = ap (to_line line) step.outputs
@@ -140,7 +135,6 @@ module _ {A : Type 0} (old mid : Exchange A) (event : Event A) (told : Stepped A
         number = number ∙ step.number;
         records = records;
         connection = connection;
-        given = λ line. subst (λ xs. Contains done.given.items line ↔ (0 < length (put_out_to line xs))) all_is (given line);
       }
 
       -- a line in service has its places

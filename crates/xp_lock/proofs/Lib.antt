@@ -4,6 +4,7 @@ pub mod Lists
 pub mod Opened
 pub mod Putting
 pub mod Queues
+pub mod Quiet
 pub mod Ready
 pub mod Steps
 pub mod Touches

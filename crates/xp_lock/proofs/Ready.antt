@@ -7,17 +7,29 @@ use Rattle.xp_core.specs.declared.entry.Entry.{Entry}
 use Rattle.xp_core.specs.declared.event.Event.{Event}
 use Rattle.xp_core.specs.declared.output.Outgoing.{Outgoing}
 use Rattle.xp_lock.specs.declared.done.Done.{Done}
-use Rattle.xp_lock.specs.Boxes.{AreKept, IsLookedAt, LooksAt, LooksIf, PLACES_KEPT, box_at}
+use Rattle.xp_lock.specs.Boxes.{AreKept, IsAlike, IsLookedAt, LooksAt, LooksIf, PLACES_KEPT, box_at}
 use Rattle.xp_lock.specs.Outgoing.{put_out_to}
 use Rattle.xp_lock.specs.Switch.{IsGiven, Switch, Takes}
 
 module _ {A : Type 0} where
-  -- what a look leaves of an outbox
-  pub record IsAlike (box after : Putting (Outgoing A)) : Type 0 where
-    pub queue : after.queue ≡ box.queue
-    pub capacity : after.capacity ≡ box.capacity
-    pub put : after.put ≡ box.put
-    pub free : box.free ≤ after.free
+  pub alike_looked : (box after : Putting (Outgoing A)) → IsLookedAt box after → IsAlike box after
+  alike_looked box after looks = record {
+    queue = ap (λ b. b.queue) looks.after_is;
+    capacity = ap (λ b. b.capacity) looks.after_is;
+    put = ap (λ b. b.put) looks.after_is;
+    free = looks.no_less;
+  }
+
+  pub alike_same : (box : Putting (Outgoing A)) → IsAlike box box
+  alike_same box = record { queue = refl; capacity = refl; put = refl; free = omega arith }
+
+  pub alike_then : (box between after : Putting (Outgoing A)) → IsAlike box between → IsAlike between after → IsAlike box after
+  alike_then box between after one other = record {
+    queue = other.queue ∙ one.queue;
+    capacity = other.capacity ∙ one.capacity;
+    put = other.put ∙ one.put;
+    free = let a = one.free in let b = other.free in omega (arith, a, b);
+  }
 
   alike_at : (line : ℕ) (boxes after : List (Putting (Outgoing A))) → LooksAt line boxes after → (other : ℕ) → IsAlike (box_at boxes other) (box_at after other)
   alike_at line boxes after looks other = elim (cases_eq other line) [
@@ -81,5 +93,4 @@ module _ {A : Type 0} where
     number = takes.number;
     records = takes.records;
     connection = takes.connection;
-    given = takes.given;
   }

@@ -110,9 +110,8 @@ module _ {A : Type 0} where
   to_line_few line [] = omega arith
   to_line_few line (output ∷ outputs) =
       let rest : length (to_line line outputs) ≤ length outputs = to_line_few line outputs in
-      let both : (b : Bool) → length (map (λ (o : Output A). o.outgoing) (cond b (output ∷ filter (λ o. eqb o.line line) outputs) (filter (λ o. eqb o.line line) outputs))) ≤ suc (length outputs) =
-      λ b. elim b [ | true ↦ omega (arith, rest) | false ↦ omega (arith, rest) ] in
-      both (eqb output.line line)
+      let Few : Bool → Type 0 = λ b. length (map (λ (o : Output A). o.outgoing) (cond b (output ∷ filter (λ o. eqb o.line line) outputs) (filter (λ o. eqb o.line line) outputs))) ≤ suc (length outputs) in
+      elim (eqb output.line line) as Few [ | true ↦ omega (arith, rest) | false ↦ omega (arith, rest) ]
 
 module _ {A : Type 0} (tables : Tables) (before : List (Entry A)) (world : World) (line : ℕ) (coupled : AreCoupled tables world) where
   abbrev here : Setting A
@@ -162,21 +161,24 @@ module _ {A : Type 0} (tables : Tables) (before : List (Entry A)) (world : World
     rises = set_on world.lines world.lines (By up) (base up) line _ (inr (is, refl));
   }
 
+  far_of : (found : ℕ × Call) → call_on world line ≡ Some found → On world.lines (far_end found.1 line)
+  far_of found is = far_on found.0 found.1 (shown_on world line found is).1
+
+  both_rise : (up : Bool) (far : ℕ) → On world.lines far → On world.lines line → (x y : Line) (l : ℕ) → On (set (set world.lines far x) line y) l → On world.lines l ⊎ By up l
+  both_rise up far there on x y =
+      set_on world.lines (set world.lines far x) (By up) (set_on world.lines world.lines (By up) (base up) far x (inl there)) line y (inl on)
+
   leaving : (up : Bool) (way : Way) (cause diagnostic : ℕ) (found : Option (ℕ × Call)) → call_on world line ≡ found → On world.lines line
       → Touching up (leaves line way cause diagnostic found ∷ [])
   leaving up GoesOut cause diagnostic None is on = record { outs = tt; few = omega arith; rises = set_on world.lines world.lines (By up) (base up) line _ (inl on) }
   leaving up IsConfirmed cause diagnostic None is on = record { outs = (on, tt); few = omega arith; rises = set_on world.lines world.lines (By up) (base up) line _ (inl on) }
   leaving up IsFree cause diagnostic None is on = record { outs = tt; few = omega arith; rises = set_on world.lines world.lines (By up) (base up) line _ (inl on) }
-  leaving up way cause diagnostic (Some found) is on = elim way [
-    | GoesOut ↦ record { outs = (far, tt); few = omega arith; rises = both }
-    | IsConfirmed ↦ record { outs = (on, far, tt); few = omega arith; rises = both }
-    | IsFree ↦ record { outs = (far, tt); few = omega arith; rises = both }
-  ]
-    where
-      far : On world.lines (far_end found.1 line)
-      far = far_on found.0 found.1 (shown_on world line found is).1
-      both : {x y : Line} (l : ℕ) → On (set (set world.lines (far_end found.1 line) x) line y) l → On world.lines l ⊎ By up l
-      both {x} {y} = set_on world.lines (set world.lines (far_end found.1 line) x) (By up) (set_on world.lines world.lines (By up) (base up) (far_end found.1 line) x (inl far)) line y (inl on)
+  leaving up GoesOut cause diagnostic (Some found) is on =
+      record { outs = (far_of found is, tt); few = omega arith; rises = both_rise up (far_end found.1 line) (far_of found is) on _ _ }
+  leaving up IsConfirmed cause diagnostic (Some found) is on =
+      record { outs = (on, far_of found is, tt); few = omega arith; rises = both_rise up (far_end found.1 line) (far_of found is) on _ _ }
+  leaving up IsFree cause diagnostic (Some found) is on =
+      record { outs = (far_of found is, tt); few = omega arith; rises = both_rise up (far_end found.1 line) (far_of found is) on _ _ }
 
   requesting : (up : Bool) (asked : Option (CallRequest A)) (choice : Option Verdict) → IsDecided here asked choice → On world.lines line → Touching up (requests tables line asked choice)
   requesting up None choice chosen on = still up

@@ -47,6 +47,21 @@ module _ {A : Type 0} where
     pub no_less : box.free ≤ after.free
     pub moment : HeldAtSomeMoment (putter box.put) (box.capacity - after.free)
 
+  -- a look told of no fewer free places
+  pub record IsAlike (box after : Putting (Outgoing A)) : Type 0 where
+    pub queue : after.queue ≡ box.queue
+    pub capacity : after.capacity ≡ box.capacity
+    pub put : after.put ≡ box.put
+    pub free : box.free ≤ after.free
+
+  pub record AreAlike (boxes after : List (Putting (Outgoing A))) : Type 0 where
+    pub count : length after ≡ length boxes
+    pub each : (line : ℕ) → IsAlike (box_at boxes line) (box_at after line)
+
+  -- each of so many lines has places left
+  abbrev pub HavePlaces : ℕ → List (Putting (Outgoing A)) → Type 0
+  HavePlaces lines boxes = (line : ℕ) → line < lines → PLACES_KEPT ≤ (box_at boxes line).free
+
   -- the free places of one line are looked at
   pub record LooksAt (line : ℕ) (boxes after : List (Putting (Outgoing A))) : Type 0 where
     pub count : length after ≡ length boxes

@@ -1,5 +1,5 @@
 -- The exchange with its outboxes, and what one take of it does.
-use Rattle.std.specs.Prelude.{◌≡◌, ℕ, ◌+◌, ◌<◌, ◌≤◌, ◌↔◌, Bool, true, false, List, ◌∷◌, ◌++◌, Contains, length}
+use Rattle.std.specs.Prelude.{◌≡◌, ℕ, ◌+◌, ◌<◌, ◌≤◌, Bool, true, false, List, ◌∷◌, ◌++◌, length}
 use Rattle.xp_outbox.specs.Ends.{Putting}
 use Rattle.xp_subs.specs.Tables.{Tables}
 use Rattle.xp_core.specs.declared.entry.Entry.{Entry}
@@ -67,7 +67,6 @@ module _ {A : Type 0} where
     pub number : done.entry ≡ entry.number
     pub records : done.records ≡ length (records_of new.history)
     pub connection : done.connection ≡ (line_at (world_of new) event.line).connection
-    pub given : (line : ℕ) → Contains done.given.items line ↔ (0 < length (put_out_to line (entry ∷ stalls)))
 
   -- an Up has the free places of its line looked at, and nothing else changes
   abbrev pub Looks : Switch A → ℕ → Bool → Switch A → Type 0

@@ -1,7 +1,7 @@
 //! The outboxes of the lines.
 
 ghost use Rattle.std.specs.Prelude.{◌≡◌, ◌<◌, ◌≤◌, true, false, [], ◌∷◌, length, slice_set};
-ghost use Rattle.xp_lock.specs.Boxes.{HasRoomFor, IsLookedAt, IsPut, LooksIf, PLACES_KEPT, box_at, with_items};
+ghost use Rattle.xp_lock.specs.Boxes.{AreAlike, HasRoomFor, HavePlaces, IsAlike, IsLookedAt, IsPut, LooksIf, PLACES_KEPT, box_at, with_items};
 
 use std::alloc::Allocator;
 use std::sync::Wait;
@@ -54,6 +54,29 @@ pub fn has_room<A: Allocator, R: Wait>(
         return true;
     }
     look(rt, boxes, line) >= LEAST_PLACES
+}
+
+/// Whether each line has places left; those of a line that has too few are looked at.
+pub fn have_places<A: Allocator, R: Wait>(rt: &R, boxes: &mut Vec<Box<A>, A>) -> bool
+    ensures alike { AreAlike boxes.old.items boxes.new.items }
+    ensures places { result ≡ true → HavePlaces (length boxes.new.items) boxes.new.items }
+{
+    for line in 0..boxes.len() {
+        if !has_places(rt, boxes, line) {
+            return false;
+        }
+    }
+    true
+}
+
+fn has_places<A: Allocator, R: Wait>(rt: &R, boxes: &mut Vec<Box<A>, A>, line: usize) -> bool
+    requires { line < length boxes.old.items }
+    ensures boxes { boxes.new.items ≡ slice_set boxes.old.items line (box_at boxes.new.items line) }
+    ensures alike { IsAlike (box_at boxes.old.items line) (box_at boxes.new.items line) }
+    ensures places { result ≡ true → PLACES_KEPT ≤ (box_at boxes.new.items line).free }
+{
+    let end = &mut boxes[line];
+    end.free() >= LEAST_PLACES || look_at(rt, end) >= LEAST_PLACES
 }
 
 fn look<A: Allocator, R: Wait>(rt: &R, boxes: &mut Vec<Box<A>, A>, line: LineNo) -> usize

@@ -1,10 +1,9 @@
 //! Entering an event, with all that follows of it.
 
-ghost use Rattle.std.specs.Prelude.{◌≡◌, ◌+◌, ◌<◌, ◌↔◌, IfOk, IfErr, OnErr, OnOk, Contains, drop, length};
+ghost use Rattle.std.specs.Prelude.{◌≡◌, ◌<◌, IfOk, IfErr, OnErr, OnOk};
 ghost use Rattle.xp_subs.specs.Tables.{line_count};
 ghost use Rattle.xp_core.specs.Exchange.{IsReadable};
 ghost use Rattle.xp_lock.specs.Boxes.{AreKept};
-ghost use Rattle.xp_lock.specs.Outgoing.{put_out_to};
 ghost use Rattle.xp_lock.specs.Stalling.{CanEnter, switch_of};
 ghost use Rattle.xp_lock.specs.Switch.{Takes};
 
@@ -41,5 +40,5 @@ pub fn enter<A: Allocator + Copy, R: Wait>(
     };
     put_all(rt, boxes, told.outputs);
     stall_all(rt, core, boxes, from);
-    Ok(Done::new(rt, told.entry, core, line, from))
+    Ok(Done::new(told.entry, core, line))
 }

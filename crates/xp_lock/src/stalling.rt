@@ -2,12 +2,13 @@
 
 ghost use Rattle.xp_lock.specs.Stalling.{HasEntered, HasStalled};
 
-use crate::boxes::Box;
+use crate::boxes::{Box, have_places};
 use std::alloc::Allocator;
 use std::sync::Wait;
+use std::thread;
 use xp_core::Core;
 
-/// Stalls each due line, the lowest first, until none is due. What is due is judged by the entries from this place on.
+/// Sees to it that no line is due to be stalled. So far no line is stalled: this waits until each has places left.
 pub fn stall_all<A: Allocator + Copy, R: Wait>(
     rt: &R,
     core: &mut Core<A>,
@@ -17,5 +18,10 @@ pub fn stall_all<A: Allocator + Copy, R: Wait>(
     requires { HasEntered core.old from boxes.old.items }
     ensures { HasStalled core.old from boxes.old.items core.new boxes.new.items }
 {
-    for _ in rt.forever() {}
+    for _ in rt.forever() {
+        if have_places(rt, boxes) {
+            break;
+        }
+        thread::yield_now();
+    }
 }

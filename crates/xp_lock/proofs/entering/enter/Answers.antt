@@ -19,7 +19,7 @@ returns-clause-ok g c =
         c.requires.can c.line-coupled.ensures.coupled c.in-Ok.ensures.ok
         c.put_all.new.boxes.items (length c.history-from.result.now) (ap length c.history-from.ensures.entries) c.put_all.ensures
         c.stall_all.new.core c.stall_all.new.boxes.items c.stall_all.ensures c.new.result
-        c.new.ensures.entry c.new.ensures.records c.new.ensures.connection c.new.ensures.given
+        c.new.ensures.entry c.new.ensures.records c.new.ensures.connection
 
 pub returns-clause-kept : goal.returns-clause-kept
 returns-clause-kept g c =
@@ -27,4 +27,4 @@ returns-clause-kept g c =
         c.requires.can c.line-coupled.ensures.coupled c.in-Ok.ensures.ok
         c.put_all.new.boxes.items (length c.history-from.result.now) (ap length c.history-from.ensures.entries) c.put_all.ensures
         c.stall_all.new.core c.stall_all.new.boxes.items c.stall_all.ensures c.new.result
-        c.new.ensures.entry c.new.ensures.records c.new.ensures.connection c.new.ensures.given
+        c.new.ensures.entry c.new.ensures.records c.new.ensures.connection

@@ -6,6 +6,7 @@ use Rattle.xp_outbox.specs.Ends.{Taking}
 use Rattle.xp_core.specs.declared.output.Outgoing.{Outgoing}
 use Rattle.xp_lock.specs.Opening.{AreFirst}
 use Rattle.xp_lock.specs.Passes.{Pass}
+use Rattle.xp_lock.specs.Sight.{Sighted}
 use Rattle.xp_lock.specs.Views.{claiming, keeping, next_claim, one_further}
 use Rattle.xp_lock.proofs.Opened.{at_front, drop_rest, first_push}
 use Rattle.xp_lock.proofs.start.first_passes.Goals as goal
@@ -54,7 +55,7 @@ loop-outbox-preserved g c =
       is_finite = tt;
       many = omega (arith, left, fewer, many);
       keeper =
-          c.next_claim-sight.ensures.keeper ∙ ap (λ k. record k { knows = one_further k.knows }) was.keeper
+          c.next_claim-sight.ensures.keeper ∙ ap (λ (k : Sighted _). record k { knows = one_further k.knows }) was.keeper
           ∙ ap (λ m. record { word = g.N.Name.word; knows = keeping m [] }) (sym long);
       passes = subst (λ m. AreFirst m after) (sym long) (subst (AreFirst (n + 1)) (sym pushed) first);
       queues = sym (drop_rest g.N.Name.queues n c.in-Some.outbox.queue _ (sym was.queues ∙ ap (map (λ end. end.queue)) items))
