@@ -176,7 +176,7 @@ module _ {A : Type 0} (tables : Tables) (before : List (Entry A)) (world : World
   leaving up GoesOut cause diagnostic (Some found) is on =
       record { outs = (far_of found is, tt); few = omega arith; rises = both_rise up (far_end found.1 line) (far_of found is) on _ _ }
   leaving up IsConfirmed cause diagnostic (Some found) is on =
-      record { outs = (on, far_of found is, tt); few = omega arith; rises = both_rise up (far_end found.1 line) (far_of found is) on _ _ }
+      record { outs = (on, (far_of found is, tt)); few = omega arith; rises = both_rise up (far_end found.1 line) (far_of found is) on _ _ }
   leaving up IsFree cause diagnostic (Some found) is on =
       record { outs = (far_of found is, tt); few = omega arith; rises = both_rise up (far_end found.1 line) (far_of found is) on _ _ }
 

@@ -1,4 +1,4 @@
-use Rattle.std.proofs.Common.{◌≡◌, ap, subst, sym}
+use Rattle.std.proofs.Common.{◌≡◌, ap, subst, sym, true≢false}
 use Rattle.std.specs.Prelude.{IsSome}
 use Rattle.xp_lock.specs.Stalling.{HasStalled}
 use Rattle.xp_lock.proofs.Quiet.{all_same, all_then, none_stalled}
@@ -13,7 +13,7 @@ loop-preserved g c = all_then _ _ _ c.loop.invariant c.have_places.ensures.alike
 
 pub returns : goal.returns
 returns g c = elim c.match-next.branch [
-  | in-None w ↦ absurd (subst IsSome w.in-None.is c.next.ensures.steps)
+  | in-None w ↦ absurd (true≢false (sym (subst IsSome w.in-None.is c.next.ensures.steps)))
   | in-Some+then-have_places w ↦
       let looked = w.have_places in
       let items : c.match-next.boxes.items ≡ looked.new.boxes.items = ap (λ v. v.items) w.boxes-is in
