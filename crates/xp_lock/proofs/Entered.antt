@@ -1,5 +1,5 @@
 -- An event is entered, and the stalls that it forces.
-use Rattle.std.proofs.Common.{◌≡◌, ◌≢◌, ℕ, zero, suc, ◌+◌, ◌-◌, ◌<◌, ◌≤◌, ◌⊎◌, Bool, true, false, List, [], ◌∷◌, ◌++◌, take, drop, length, sym, refl, ap, ◌∙◌, subst, inl, inr, ⊎_elim, arith, append_assoc, append-nil, length-append}
+use Rattle.std.proofs.Common.{◌≡◌, ℕ, ◌+◌, ◌-◌, ◌<◌, ◌≤◌, false, List, [], ◌∷◌, ◌++◌, take, drop, length, sym, refl, ap, ◌∙◌, subst, inl, inr, arith, append_assoc, append-nil}
 use Rattle.std.proofs.lemmas.Bool.{cases_lt}
 use Rattle.std.proofs.lemmas.Grind.{flat_map-append}
 use Rattle.xp_outbox.specs.Ends.{Putting}
@@ -16,8 +16,8 @@ use Rattle.xp_core.specs.Run.{world_after}
 use Rattle.xp_core.specs.Step.{Step}
 use Rattle.xp_core.specs.World.{line_at, state_at}
 use Rattle.xp_lock.specs.declared.done.Done.{Done}
-use Rattle.xp_lock.specs.Boxes.{AreKept, HasRoomFor, IsPut, PLACES_KEPT, box_at, with_items}
-use Rattle.xp_lock.specs.Forced.{Forces, IsQuiet, Stalls}
+use Rattle.xp_lock.specs.Boxes.{AreKept, HasRoomFor, IsPut, PLACES_KEPT, box_at}
+use Rattle.xp_lock.specs.Forced.{IsQuiet, Stalls}
 use Rattle.xp_lock.specs.Handed.{is_stall}
 use Rattle.xp_lock.specs.Outgoing.{put_out_to, to_line}
 use Rattle.xp_lock.specs.Stalling.{CanEnter, HasEntered, HasStalled, switch_of}

@@ -1,5 +1,5 @@
 -- What a take shows a pass.
-use Rattle.std.proofs.Common.{◌≡◌, ◌≢◌, ℕ, zero, suc, ◌+◌, ◌<◌, true, false, cond, eqb, not, List, [], ◌∷◌, ◌++◌, drop, length, filter, sym, refl, ap, ◌∙◌, subst, arith, append_assoc, append-nil, length-append, eq-eqb}
+use Rattle.std.proofs.Common.{◌≡◌, ◌≢◌, ℕ, true, false, cond, eqb, not, List, [], ◌∷◌, ◌++◌, length, sym, refl, ap, ◌∙◌, subst, eq-eqb}
 use Rattle.std.proofs.lemmas.Bool.{ne_eqb}
 use Rattle.std.proofs.lemmas.List.Elements.{All-cons, All-nil}
 use Rattle.std.specs.Prelude.{◌&&◌}
@@ -11,7 +11,7 @@ use Rattle.xp_core.specs.Run.{world_after}
 use Rattle.xp_core.specs.World.{World, line_at}
 use Rattle.xp_lock.specs.declared.done.Done.{Done}
 use Rattle.xp_lock.specs.Forced.{Stalls}
-use Rattle.xp_lock.specs.Handed.{handed, is_from, is_stall}
+use Rattle.xp_lock.specs.Handed.{handed, is_stall}
 use Rattle.xp_lock.specs.Passes.{AreStalls, Freshens, IsLegal, Pass}
 use Rattle.xp_lock.specs.Switch.{Switch, Takes}
 use Rattle.xp_lock.specs.Views.{IsGrown, StartsWith}

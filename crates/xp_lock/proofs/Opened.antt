@@ -1,5 +1,5 @@
 -- What an exchange begins with.
-use Rattle.std.proofs.Common.{◌≡◌, ℕ, zero, suc, ◌+◌, ◌<◌, true, false, true≢false, Some, List, [], ◌∷◌, ◌++◌, drop, get_or, length, map, sym, refl, ap, ◌∙◌, subst, inl, inr, arith, length-append}
+use Rattle.std.proofs.Common.{◌≡◌, ℕ, zero, suc, ◌+◌, ◌<◌, true, true≢false, Some, List, [], ◌∷◌, ◌++◌, drop, length, sym, refl, ap, ◌∙◌, inl, inr, arith, length-append}
 use Rattle.std.proofs.lemmas.Bool.{cases_lt}
 use Rattle.std.proofs.lemmas.List.{get_or_past, get_or-replicate, length-replicate, map-append}
 use Rattle.std.proofs.lemmas.List.Elements.{All-get_or, All-push}
@@ -8,7 +8,7 @@ use Rattle.xp_outbox.specs.Ends.{Putting, Taking}
 use Rattle.xp_subs.specs.Tables.{Tables, line_count}
 use Rattle.xp_core.specs.declared.output.Outgoing.{Outgoing}
 use Rattle.xp_core.specs.Channel.{is_off}
-use Rattle.xp_core.specs.World.{line_at, off_line, opening, state_at}
+use Rattle.xp_core.specs.World.{off_line, opening, state_at}
 use Rattle.xp_lock.specs.Boxes.{AreKept, no_box}
 use Rattle.xp_lock.specs.Opening.{AreFirst, AreNew, first_pass}
 use Rattle.xp_lock.specs.Passes.{Pass}

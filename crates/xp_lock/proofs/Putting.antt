@@ -1,5 +1,5 @@
 -- Outputs are put into the outboxes of their lines.
-use Rattle.std.proofs.Common.{◌≡◌, ◌≢◌, ℕ, ◌+◌, ◌-◌, ◌<◌, ◌≤◌, eqb, true, false, cond, List, [], ◌∷◌, ◌++◌, length, map, filter, get_or, set, sym, refl, ap, ◌∙◌, subst, inl, inr, arith, append_assoc, append-nil, length-append, length-set, get_or-set_other, eq-eqb}
+use Rattle.std.proofs.Common.{◌≡◌, ◌≢◌, ℕ, ◌-◌, ◌<◌, ◌≤◌, eqb, cond, List, [], ◌∷◌, ◌++◌, length, map, filter, set, sym, refl, ap, ◌∙◌, inl, inr, arith, append_assoc, append-nil, length-append, length-set, get_or-set_other, eq-eqb}
 use Rattle.std.proofs.lemmas.Bool.{cases_eq, cases_lt, ne_eqb}
 use Rattle.std.proofs.lemmas.Grind.{get_or-set_at}
 use Rattle.std.proofs.lemmas.List.{get_or_past}
@@ -60,9 +60,9 @@ module _ {A : Type 0} where
             let left : (box_at (put_first output boxes) line).free ≡ (box_at boxes output.line).free - 1 = ap (λ b. b.free) now in
             let place : (box_at boxes line).free ≡ (box_at boxes output.line).free = ap (λ l. (box_at boxes l).free) same in (
               ap (λ b. with_items b (to_line line rest)) now
-              ∙ with_items_more (box_at boxes output.line) (output.outgoing ∷ []) (to_line line rest)
-              ∙ ap (λ l. with_items (box_at boxes l) (output.outgoing ∷ to_line line rest)) (sym same)
-              ∙ ap (with_items (box_at boxes line)) (sym items),
+                  ∙ with_items_more (box_at boxes output.line) (output.outgoing ∷ []) (to_line line rest)
+                  ∙ ap (λ l. with_items (box_at boxes l) (output.outgoing ∷ to_line line rest)) (sym same)
+                  ∙ ap (with_items (box_at boxes line)) (sym items),
               omega (arith, many, enough, left, place),
             )
         | inr other ↦

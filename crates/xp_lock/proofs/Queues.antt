@@ -1,5 +1,5 @@
 -- A take leaves each outbox the one that it was.
-use Rattle.std.proofs.Common.{◌≡◌, ℕ, zero, suc, ◌+◌, ◌<◌, Bool, true, false, List, [], ◌∷◌, length, get_or, map, sym, refl, ap, ◌∙◌, arith}
+use Rattle.std.proofs.Common.{◌≡◌, ℕ, suc, Bool, true, List, [], ◌∷◌, length, map, refl, ap, arith}
 use Rattle.atomic_table.specs.Seated.{TableId}
 use Rattle.xp_outbox.specs.Ends.{Putting}
 use Rattle.xp_core.specs.declared.event.Event.{Event}
@@ -7,7 +7,7 @@ use Rattle.xp_core.specs.declared.output.Outgoing.{Outgoing}
 use Rattle.xp_lock.specs.declared.done.Done.{Done}
 use Rattle.xp_lock.specs.declared.fault.OfferFault.{OfferFault}
 use Rattle.xp_lock.specs.declared.fault.OfferFault.TheVariants.{Halted, JournalFull, NoRoom, Memory}
-use Rattle.xp_lock.specs.Boxes.{LooksIf, box_at, no_box}
+use Rattle.xp_lock.specs.Boxes.{LooksIf, box_at}
 use Rattle.xp_lock.specs.Switch.{Refuses, Switch, Takes, is_up}
 use Rattle.xp_lock.proofs.Ready.{alike, as_many}
 

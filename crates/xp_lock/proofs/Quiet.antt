@@ -1,10 +1,9 @@
 -- Where each line has places left, none is due to be stalled.
-use Rattle.std.proofs.Common.{◌≡◌, ◌≢◌, ℕ, ◌+◌, ◌<◌, ◌≤◌, List, [], ◌∷◌, ◌++◌, drop, length, set, sym, refl, ap, ◌∙◌, subst, inl, inr, arith, append-nil, length-set, get_or-set_other}
-use Rattle.std.proofs.lemmas.Bool.{cases_eq, cases_lt}
+use Rattle.std.proofs.Common.{◌≡◌, ℕ, ◌+◌, ◌<◌, ◌≤◌, List, [], ◌++◌, drop, length, set, sym, refl, ap, ◌∙◌, subst, inl, inr, arith, append-nil, length-set, get_or-set_other}
+use Rattle.std.proofs.lemmas.Bool.{cases_eq}
 use Rattle.xp_outbox.specs.Ends.{Putting}
-use Rattle.xp_core.specs.declared.entry.Entry.{Entry}
 use Rattle.xp_core.specs.declared.output.Outgoing.{Outgoing}
-use Rattle.xp_core.specs.Exchange.{Exchange, world_of}
+use Rattle.xp_core.specs.Exchange.{Exchange}
 use Rattle.xp_lock.specs.Boxes.{AreAlike, HavePlaces, IsAlike, box_at, no_box}
 use Rattle.xp_lock.specs.Outgoing.{put_out_to}
 use Rattle.xp_lock.specs.Stalling.{HasEntered, HasStalled}

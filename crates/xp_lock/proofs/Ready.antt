@@ -1,5 +1,5 @@
 -- A look before an Up.
-use Rattle.std.proofs.Common.{◌≡◌, ℕ, ◌<◌, ◌≤◌, Bool, true, false, List, ◌∷◌, ◌++◌, length, sym, refl, ap, ◌∙◌, subst, inl, inr, arith}
+use Rattle.std.proofs.Common.{◌≡◌, ℕ, ◌≤◌, Bool, true, false, List, ◌∷◌, ◌++◌, length, sym, refl, ap, ◌∙◌, subst, inl, inr, arith}
 use Rattle.std.proofs.lemmas.Bool.{cases_eq}
 use Rattle.xp_outbox.specs.Ends.{Putting}
 use Rattle.xp_subs.specs.Tables.{Tables}
@@ -7,9 +7,9 @@ use Rattle.xp_core.specs.declared.entry.Entry.{Entry}
 use Rattle.xp_core.specs.declared.event.Event.{Event}
 use Rattle.xp_core.specs.declared.output.Outgoing.{Outgoing}
 use Rattle.xp_lock.specs.declared.done.Done.{Done}
-use Rattle.xp_lock.specs.Boxes.{AreKept, IsAlike, IsLookedAt, LooksAt, LooksIf, PLACES_KEPT, box_at}
+use Rattle.xp_lock.specs.Boxes.{AreKept, IsAlike, IsLookedAt, LooksAt, LooksIf, box_at}
 use Rattle.xp_lock.specs.Outgoing.{put_out_to}
-use Rattle.xp_lock.specs.Switch.{IsGiven, Switch, Takes}
+use Rattle.xp_lock.specs.Switch.{Switch, Takes}
 
 module _ {A : Type 0} where
   pub alike_looked : (box after : Putting (Outgoing A)) → IsLookedAt box after → IsAlike box after

@@ -1,18 +1,18 @@
 -- Each step on the word keeps its rule.
-use Rattle.std.proofs.Common.{◌≡◌, ◌≢◌, ℕ, zero, suc, ◌+◌, ◌<◌, true, false, true≢false, cond, eqb, List, [], ◌∷◌, ◌++◌, length, set, get_or, sym, refl, ap, ◌∙◌, subst, inl, inr, ⊎_elim, arith, length-append, length-set, get_or-set_same, eq-eqb}
+use Rattle.std.proofs.Common.{◌≡◌, ◌≢◌, ℕ, ◌+◌, ◌<◌, true, false, true≢false, cond, eqb, List, [], ◌∷◌, ◌++◌, length, set, sym, refl, ap, ◌∙◌, subst, ⊎_elim, arith, length-append, length-set, get_or-set_same, eq-eqb}
 use Rattle.std.proofs.lemmas.Bool.{ne_eqb}
 use Rattle.std.specs.Prelude.{slice_index}
-use mathlib.Core.Option.{some, some-injective, some-ne-none}
+use mathlib.Core.Option.{some, some-ne-none}
 use lib.ListN.{get_elem?}
 use prog.Atomic.{either}
 use Rattle.atomic_table.proofs.Lists.{at_set, exchanged}
-use Rattle.atomic_table.specs.Table.{Allows, Joins, Splits, State, keeps}
+use Rattle.atomic_table.specs.Table.{Allows, Joins, Splits, keeps}
 use Rattle.xp_core.specs.declared.entry.Entry.{Entry}
 use Rattle.xp_core.specs.Exchange.{Exchange}
 use Rattle.xp_lock.specs.declared.word.View.{View}
 use Rattle.xp_lock.specs.Handed.{handed}
-use Rattle.xp_lock.specs.Views.{Claims, Fits, HasSeenOwn, IsChecked, IsGrown, IsShared, IsShown, StartsWith, claim_of, claiming, holding, joined, keeping, next_claim, nobody, one_further, unclaimed}
-use Rattle.xp_lock.proofs.Lists.{Each, each_new, each_set, handed-append, handed-none, starts_empty, starts_longer, starts_whole}
+use Rattle.xp_lock.specs.Views.{Fits, HasSeenOwn, IsChecked, IsGrown, IsShared, IsShown, StartsWith, claim_of, holding, joined, keeping, next_claim, nobody, one_further, unclaimed}
+use Rattle.xp_lock.proofs.Lists.{Each, each_new, each_set, handed-none, starts_empty, starts_longer, starts_whole}
 
 off : false ≡ true → ⊥
 off e = true≢false (sym e)
@@ -68,16 +68,16 @@ module _ {A : Type 0} where
                 };
               })
               (each_set F views seat (one_further v)
-                  (record { keeps = λ _. (mine.0, mine.1, refl); claims = λ c. absurd (off c) })
-                  (λ j u other e. record {
-                    keeps = λ k. absurd (other (((h.each j u e).keeps k).0 ∙ sym mine.0));
-                    claims = λ c. let was = (h.each j u e).claims c in record {
-                      owned = given_else h.owner v.next (length vs) u.line (λ same. let below : u.line < h.next = was.given in omega (arith, below, same, mine.2)) ∙ was.owned;
-                      given = let below : u.line < h.next = was.given in omega (arith, below, mine.2);
-                      front = was.front;
-                      own = was.own;
-                    };
-                  }));
+              (record { keeps = λ _. (mine.0, mine.1, refl); claims = λ c. absurd (off c) })
+              (λ j u other e. record {
+                keeps = λ k. absurd (other (((h.each j u e).keeps k).0 ∙ sym mine.0));
+                claims = λ c. let was = (h.each j u e).claims c in record {
+                  owned = given_else h.owner v.next (length vs) u.line (λ same. let below : u.line < h.next = was.given in omega (arith, below, same, mine.2)) ∙ was.owned;
+                  given = let below : u.line < h.next = was.given in omega (arith, below, mine.2);
+                  front = was.front;
+                  own = was.own;
+                };
+              }));
         }
 
     -- a claim goes to a new seat
@@ -101,16 +101,16 @@ module _ {A : Type 0} where
                 claims = λ _. record { owned = given_here h.owner v.line (length vs); given = mine.given; front = mine.front; own = mine.own };
               })
               (each_set F views seat (unclaimed v)
-                  (record { keeps = λ k. (h.each seat v at).keeps k; claims = λ c. absurd (off c) })
-                  (λ j u other e. record {
-                    keeps = λ k. (h.each j u e).keeps k;
-                    claims = λ c. let was = (h.each j u e).claims c in record {
-                      owned = given_else h.owner v.line (length vs) u.line (λ same. other (sym was.owned ∙ ap h.owner same ∙ mine.owned)) ∙ was.owned;
-                      given = was.given;
-                      front = was.front;
-                      own = was.own;
-                    };
-                  }));
+              (record { keeps = λ k. (h.each seat v at).keeps k; claims = λ c. absurd (off c) })
+              (λ j u other e. record {
+                keeps = λ k. (h.each j u e).keeps k;
+                claims = λ c. let was = (h.each j u e).claims c in record {
+                  owned = given_else h.owner v.line (length vs) u.line (λ same. other (sym was.owned ∙ ap h.owner same ∙ mine.owned)) ∙ was.owned;
+                  given = was.given;
+                  front = was.front;
+                  own = was.own;
+                };
+              }));
         }
 
     -- a claim comes to a seat that has none
@@ -124,19 +124,19 @@ module _ {A : Type 0} where
         let F : ℕ → View A → Type 0 = Fits h.keeper_seat owner h.next h.history in
         let G : ℕ → View A → Type 0 = λ j w. j ≢ other → F j w in
         let inner : Each G (set views seat (joined v u)) = each_set G views seat (joined v u)
-            (λ _. record {
-              keeps = λ k. (h.each seat v at).keeps k;
-              claims = λ _. record { owned = given_here h.owner u.line seat; given = theirs.given; front = theirs.front; own = theirs.own };
-            })
-            (λ j w _ e apart. record {
-              keeps = λ k. (h.each j w e).keeps k;
-              claims = λ c. let was = (h.each j w e).claims c in record {
-                owned = given_else h.owner u.line seat w.line (λ same. apart (sym was.owned ∙ ap h.owner same ∙ theirs.owned)) ∙ was.owned;
-                given = was.given;
-                front = was.front;
-                own = was.own;
-              };
-            }) in
+        (λ _. record {
+          keeps = λ k. (h.each seat v at).keeps k;
+          claims = λ _. record { owned = given_here h.owner u.line seat; given = theirs.given; front = theirs.front; own = theirs.own };
+        })
+        (λ j w _ e apart. record {
+          keeps = λ k. (h.each j w e).keeps k;
+          claims = λ c. let was = (h.each j w e).claims c in record {
+            owned = given_else h.owner u.line seat w.line (λ same. apart (sym was.owned ∙ ap h.owner same ∙ theirs.owned)) ∙ was.owned;
+            given = was.given;
+            front = was.front;
+            own = was.own;
+          };
+        }) in
         record {
           keeper_seat = h.keeper_seat;
           owner = owner;
@@ -236,10 +236,13 @@ module _ {A : Type 0} where
       let after : View A = holding v.next core.history v.line core.history in
       let Shown : ℕ → List (Entry A) → Type 0 = λ word xs. IsShared (set s.words 0 word) (set s.views seat (holding v.next xs v.line xs)) in
       let found : n ≡ before = h.word ∙ ap length (sym ((h.each seat v at).keeps may).1) ∙ sym was in
-      let added = adds_to s.words s.views h seat v grown.more count at may claims (now ∙ ap length grown.grown_is ∙ length-append v.all grown.more) grown.others in
-      (after, keeps, tt,
-       exchanged n before count (λ word. Shown word core.history) (λ _. subst (Shown count) (sym grown.grown_is) added) (λ other. absurd (other found)),
-       (record { shown = refl; seen = seen_own s.words s.views h seat v at may claims }, refl))
+      let added = adds_to s.words s.views h seat v grown.more count at may claims (now ∙ ap length grown.grown_is ∙ length-append v.all grown.more) grown.others in (
+        after,
+        keeps,
+        tt,
+        exchanged n before count (λ word. Shown word core.history) (λ _. subst (Shown count) (sym grown.grown_is) added) (λ other. absurd (other found)),
+        (record { shown = refl; seen = seen_own s.words s.views h seat v at may claims }, refl),
+      )
 
   pub checks : {S : Type 0} (slots seat : ℕ) (me : View A × List (ℕ × S)) → me.0.keeps ≡ true → me.0.claims ≡ true
       → Allows {S = S} (λ s. IsShared s.words s.views) slots seat me 0 (λ n. n) (λ _ m. IsChecked me.0 m.0 × (m.1 ≡ me.1))

@@ -1,8 +1,6 @@
 -- Whom a step puts something out to, and who comes into service by it.
-use Rattle.std.proofs.Common.{◌≡◌, ◌≢◌, ℕ, zero, suc, ◌+◌, ◌<◌, ◌≤◌, ◌⊎◌, Bool, true, false, cond, eqb, Option, Some, None, List, [], ◌∷◌, ◌++◌, filter, length, map, set, get_or, refl, ap, sym, subst, ◌∙◌, inl, inr, ⊎_elim, arith, eq-eqb}
-use Rattle.std.proofs.lemmas.Bool.{cases_eq, cases_lt, cond_both, ne_eqb}
-use Rattle.std.proofs.lemmas.Grind.{get_or-set_at}
-use Rattle.std.proofs.lemmas.List.{set_past}
+use Rattle.std.proofs.Common.{◌≡◌, ◌≢◌, ℕ, suc, ◌<◌, ◌≤◌, ◌⊎◌, Bool, true, false, cond, eqb, Option, Some, None, List, [], ◌∷◌, filter, length, map, set, get_or, refl, ap, sym, subst, ◌∙◌, inl, inr, arith}
+use Rattle.std.proofs.lemmas.Bool.{cases_eq, cond_both, ne_eqb}
 use Rattle.std.proofs.Common.{get_or-set_other}
 use Rattle.xp_packets.specs.declared.packet.Packet.{Packet}
 use Rattle.xp_packets.specs.declared.packet.Packet.TheVariants as packets
@@ -18,15 +16,14 @@ use Rattle.xp_core.specs.declared.table.Kind.TheVariants as kinds
 use Rattle.xp_core.specs.declared.verdict.Verdict.{Verdict}
 use Rattle.xp_core.specs.declared.verdict.Verdict.TheVariants.{Take, Refuse}
 use Rattle.xp_core.specs.Causes.{OUT_OF_ORDER, NO_ADDITIONAL_INFORMATION}
-use Rattle.xp_core.specs.Changes.{Change, Rises, Leaves, Begins, IsRefused, Connects, Ends, Way, GoesOut, IsConfirmed, IsFree, all_changed, outputs_of}
+use Rattle.xp_core.specs.Changes.{Change, Rises, Way, GoesOut, IsConfirmed, IsFree, all_changed, outputs_of}
 use Rattle.xp_core.specs.Channel.{State, Off, Ready, Waiting, Ringing, Talking, Cleared, call_of, is_off}
 use Rattle.xp_core.specs.Clearing.{cause_told, diagnostic_told}
-use Rattle.xp_core.specs.Coupling.{AreCoupled, IsHeld}
-use Rattle.xp_core.specs.Packets.{connected, incoming}
+use Rattle.xp_core.specs.Coupling.{AreCoupled}
 use Rattle.xp_core.specs.Setting.{Setting, setting}
 use Rattle.xp_core.specs.Step.{Chooses, IsDecided, Step, action_at, answers, confirms, does, leaves, requests}
 use Rattle.xp_core.specs.Table.{CallRequest, accepted_in, cell, clear_in, kind_of, packet_kind, request_in}
-use Rattle.xp_core.specs.World.{Call, Line, World, call_numbered, call_on, far_end, line_at, off_line, state_at}
+use Rattle.xp_core.specs.World.{Call, Line, World, call_numbered, call_on, far_end, off_line, state_at}
 use Rattle.xp_core.proofs.Idle.{idle_ready}
 use Rattle.xp_core.proofs.InCall.{shown_on}
 use Rattle.xp_lock.specs.Outgoing.{to_line}
@@ -111,7 +108,7 @@ module _ {A : Type 0} where
   to_line_few line (output ∷ outputs) =
       let rest : length (to_line line outputs) ≤ length outputs = to_line_few line outputs in
       let Few : Bool → Type 0 = λ b. length (map (λ (o : Output A). o.outgoing) (cond b (output ∷ filter (λ o. eqb o.line line) outputs) (filter (λ o. eqb o.line line) outputs))) ≤ suc (length outputs) in
-      elim (eqb output.line line) as Few [ | true ↦ omega (arith, rest) | false ↦ omega (arith, rest) ]
+      elim (eqb output.line line) as Few [ true ↦ omega (arith, rest) | false ↦ omega (arith, rest) ]
 
 module _ {A : Type 0} (tables : Tables) (before : List (Entry A)) (world : World) (line : ℕ) (coupled : AreCoupled tables world) where
   abbrev here : Setting A

@@ -1,5 +1,5 @@
 -- The outboxes of the lines, by line.
-use Rattle.std.specs.Prelude.{◌≡◌, ◌≢◌, ℕ, ◌+◌, ◌-◌, ◌<◌, ◌≤◌, Bool, true, false, List, [], ◌++◌, length, slice_index_or}
+use Rattle.std.specs.Prelude.{◌≡◌, ◌≢◌, ℕ, ◌-◌, ◌<◌, ◌≤◌, Bool, true, false, List, [], ◌++◌, length, slice_index_or}
 use Rattle.xp_outbox.specs.Ends.{Putting}
 use Rattle.xp_outbox.specs.Rule.{HeldAtSomeMoment, putter}
 use Rattle.xp_subs.specs.Tables.{Tables, line_count}

@@ -1,7 +1,6 @@
 -- How the stalls that an event forces are entered.
 use Rattle.std.specs.Prelude.{◌≡◌, ℕ, ◌+◌, ◌≤◌, true, false, List, [], ◌∷◌, ◌++◌, drop, length, take}
 use Rattle.xp_outbox.specs.Ends.{Putting}
-use Rattle.xp_subs.specs.Tables.{line_count}
 use Rattle.xp_core.specs.declared.entry.Entry.{Entry}
 use Rattle.xp_core.specs.declared.event.Event.{Event}
 use Rattle.xp_core.specs.declared.output.Outgoing.{Outgoing}

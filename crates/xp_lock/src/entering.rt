@@ -36,7 +36,9 @@ pub fn enter<A: Allocator + Copy, R: Wait>(
     let _coupled = core.line(line);
     let told = match core.step(event) {
         Ok(told) => told,
-        Err(StepFault::Memory(event) | StepFault::JournalFull(event)) => return Err(OfferFault::Memory(event)),
+        Err(StepFault::Memory(event) | StepFault::JournalFull(event)) => return Err(
+            OfferFault::Memory(event),
+        ),
     };
     put_all(rt, boxes, told.outputs);
     stall_all(rt, core, boxes, from);

@@ -96,12 +96,7 @@ impl<N: Name, A: Allocator + Copy> Keeper<N, A> {
     }
 
     /// Compares what each pass has seen and taken with the history.
-    pub fn close<R: Wait>(
-        self,
-        rt: &R,
-        word: &Word<A>,
-        passes: Vec<LinePass<N, A>, A>,
-    ) -> Book<A>
+    pub fn close<R: Wait>(self, rt: &R, word: &Word<A>, passes: Vec<LinePass<N, A>, A>) -> Book<A>
         requires word { word.now ≡ N.word }
         ensures subs { result.subs ≡ N.subs }
         ensures history { result.history ≡ self.history }

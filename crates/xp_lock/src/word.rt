@@ -205,13 +205,9 @@ impl<A: Allocator> Word<A> {
         ensures shown { IsShown core.now.history keeper.old.knows keeper.new.knows }
     {
         let count = core.history().len() as u64;
-        self.table.shared.compare_exchange_with::<Shows>(
-            &mut keeper.seat,
-            0,
-            before,
-            count,
-            core,
-        );
+        self.table
+            .shared
+            .compare_exchange_with::<Shows>(&mut keeper.seat, 0, before, count, core);
     }
 
     /// Compares what a pass has seen with the history.

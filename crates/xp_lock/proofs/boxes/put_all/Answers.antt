@@ -1,11 +1,11 @@
-use Rattle.std.proofs.Common.{◌≡◌, List, [], ◌∷◌, ap, arith, length, sym, subst, ◌∙◌}
+use Rattle.std.proofs.Common.{List, ◌∷◌, ap, arith, length, sym, subst, ◌∙◌}
 use Rattle.std.proofs.lemmas.List.{nil_from_length}
 use Rattle.std.specs.Vec.Iter.{into_iter_items}
 use Rattle.xp_outbox.specs.Ends.{Putting}
 use Rattle.xp_core.specs.declared.output.Outgoing.{Outgoing}
 use Rattle.xp_core.specs.declared.output.Output.{Output}
 use Rattle.xp_lock.specs.Boxes.{HasRoomFor, IsPut}
-use Rattle.xp_lock.proofs.Putting.{put_first, put_none, put_rest, room_rest}
+use Rattle.xp_lock.proofs.Putting.{put_none, put_rest, room_rest}
 use Rattle.xp_lock.proofs.boxes.put_all.Goals as goal
 
 pub loop-output-preserved : goal.loop-output-preserved

@@ -1,4 +1,3 @@
-use Rattle.std.proofs.Common.{◌≡◌}
 use Rattle.xp_lock.specs.Boxes.{AreAlike}
 use Rattle.xp_lock.proofs.stalling.stall_all.Given as goal
 

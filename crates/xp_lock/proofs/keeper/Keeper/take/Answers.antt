@@ -1,6 +1,5 @@
-use Rattle.std.proofs.Common.{◌≡◌, List, ap, length, refl, subst, sym, ◌∙◌}
+use Rattle.std.proofs.Common.{ap, length, refl, subst, sym, ◌∙◌}
 use Rattle.xp_subs.specs.Tables.{line_count}
-use Rattle.xp_core.specs.declared.entry.Entry.{Entry}
 use Rattle.xp_lock.specs.Handed.{handed}
 use Rattle.xp_lock.specs.Passes.{Freshens, IsLegal, Pass}
 use Rattle.xp_lock.specs.Views.{IsGrown, StartsWith, keeping}
