@@ -16,3 +16,13 @@ mod stalling;
 mod start;
 mod switch;
 mod word;
+
+pub use blanks::{Blanks, prepare};
+pub use book::Book;
+pub use done::Done;
+pub use exchange::Exchange;
+pub use fault::{CloseFault, OfferFault};
+pub use keeper::Keeper;
+pub use name::Name;
+pub use pass::LinePass;
+pub use word::Word;
