@@ -72,6 +72,13 @@ impl<A: Allocator> Outputs<A> {
     {
         self.outputs.as_slice()
     }
+
+    /// The outputs in order, to be put out.
+    pub fn into_items(self) -> Vec<Output<A>, A>
+        ensures { result.items ≡ self }
+    {
+        self.outputs
+    }
 }
 
 impl<A: Allocator + Copy> Outputs<A> {

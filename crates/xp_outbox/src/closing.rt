@@ -8,17 +8,19 @@ use std::alloc::Allocator;
 use std::sync::Wait;
 
 /// Puts the two ends of one outbox together, and tells how many items were put and not taken. What was taken is a front
-/// of what was put.
+/// of what was put. The put end is as it was.
 pub fn settle<T: Drop, A: Allocator, R: Wait>(
     rt: &R,
-    put: PutEnd<T, A>,
+    put: &mut PutEnd<T, A>,
     taken: TakeEnd<T, A>,
 ) -> usize
-    requires { put.queue ≡ taken.queue }
-    ensures front { IsPrefix taken.taken put.put }
-    ensures rest { length taken.taken + result ≡ length put.put }
+    requires { put.old.queue ≡ taken.queue }
+    ensures same { put.new ≡ put.old }
+    ensures front { IsPrefix taken.taken put.old.put }
+    ensures rest { length taken.taken + result ≡ length put.old.put }
 {
-    let mut put = put;
     put.queue.absorb::<Ends>(&mut put.pass, taken.pass);
-    put.queue.len_as::<Rest, R>(rt, &mut put.pass)
+    let rest = put.queue.len_as::<Rest, R>(rt, &mut put.pass);
+    put.queue.another::<Ends>(&mut put.pass);
+    rest
 }

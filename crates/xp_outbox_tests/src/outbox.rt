@@ -62,7 +62,7 @@ fn take_all<R: Wait>(
 fn two_threads_hand_items_over_in_order(rt: HostRuntime) -> Result<(), Fail> {
     let (put, taken) = outbox(rt.alloc(), PLACES)?;
     let into = Vec::with_capacity(rt.alloc(), ITEMS)?;
-    let (put, (taken, items)) = thread::join(
+    let (mut put, (taken, items)) = thread::join(
         &rt,
         move ||
             ensures { result.queue ≡ put.queue }
@@ -71,7 +71,7 @@ fn two_threads_hand_items_over_in_order(rt: HostRuntime) -> Result<(), Fail> {
             ensures { result.0.queue ≡ taken.queue }
         { take_all(&rt, taken, into) },
     );
-    assert_eq!(rt; settle(&rt, put, taken), 0);
+    assert_eq!(rt; settle(&rt, &mut put, taken), 0);
     assert_eq!(rt; items.len(), ITEMS);
     for (place, item) in items.iter().enumerate() {
         assert_eq!(rt; place, *item);

@@ -1,0 +1,165 @@
+-- An event is entered, and the stalls that it forces.
+use Rattle.std.proofs.Common.{◌≡◌, ℕ, ◌+◌, ◌-◌, ◌<◌, ◌≤◌, false, List, [], ◌∷◌, ◌++◌, take, drop, length, sym, refl, ap, ◌∙◌, subst, inl, inr, arith, append_assoc, append-nil}
+use Rattle.std.proofs.lemmas.Bool.{cases_lt}
+use Rattle.std.proofs.lemmas.Grind.{flat_map-append}
+use Rattle.xp_outbox.specs.Ends.{Putting}
+use Rattle.xp_subs.specs.Tables.{line_count}
+use Rattle.xp_core.specs.declared.entry.Entry.{Entry}
+use Rattle.xp_core.specs.declared.event.Event.{Event}
+use Rattle.xp_core.specs.declared.output.Outgoing.{Outgoing}
+use Rattle.xp_core.specs.declared.stepped.Stepped.{Stepped}
+use Rattle.xp_core.specs.Channel.{is_off}
+use Rattle.xp_core.specs.Coupling.{AreCoupled}
+use Rattle.xp_core.specs.Exchange.{Advances, Exchange, world_of}
+use Rattle.xp_core.specs.Records.{records_of}
+use Rattle.xp_core.specs.Run.{world_after}
+use Rattle.xp_core.specs.Step.{Step}
+use Rattle.xp_core.specs.World.{line_at, state_at}
+use Rattle.xp_lock.specs.declared.done.Done.{Done}
+use Rattle.xp_lock.specs.Boxes.{AreKept, HasRoomFor, IsPut, PLACES_KEPT, box_at}
+use Rattle.xp_lock.specs.Forced.{IsQuiet, Stalls}
+use Rattle.xp_lock.specs.Handed.{is_stall}
+use Rattle.xp_lock.specs.Outgoing.{put_out_to, to_line}
+use Rattle.xp_lock.specs.Stalling.{CanEnter, HasEntered, HasStalled, switch_of}
+use Rattle.xp_lock.specs.Switch.{IsGiven, Takes, is_up}
+use Rattle.xp_lock.proofs.Touches.{Touches, few_to_each, touches}
+
+pub take_front : {X : Type 0} (xs ys : List X) → take (length xs) (xs ++ ys) ≡ xs
+take_front [] [] = refl
+take_front [] (y ∷ ys) = refl
+take_front (x ∷ xs) ys = ap (λ zs. x ∷ zs) (take_front xs ys)
+
+pub drop_front : {X : Type 0} (xs ys : List X) → drop (length xs) (xs ++ ys) ≡ ys
+drop_front [] ys = refl
+drop_front (x ∷ xs) ys = drop_front xs ys
+
+module _ {A : Type 0} (old mid : Exchange A) (event : Event A) (told : Stepped A) (boxes : List (Putting (Outgoing A)))
+    (can : CanEnter old event boxes) (coupled : AreCoupled old.subs (world_of old)) (step : Advances old event mid told) where
+  touched : Touches (world_of old) step.entry (world_of mid)
+  touched = touches old.subs old.history (world_of old) step.entry (world_of mid) coupled step.step
+
+  few : (line : ℕ) → length (to_line line told.outputs) ≤ 17
+  few line = subst (λ os. length (to_line line os) ≤ 17) (sym step.outputs) (few_to_each old.subs old.history (world_of old) step.entry (world_of mid) coupled step.step line)
+
+  -- a line that is given something was in service
+  served : (line : ℕ) → 0 < length (to_line line told.outputs) → is_off (state_at (world_of old) line) ≡ false
+  served line some = touched.served line (subst (λ os. 0 < length (to_line line os)) step.outputs some)
+
+  pub room_for : HasRoomFor told.outputs boxes
+  room_for line = elim (cases_lt 0 (length (to_line line told.outputs))) [
+    | inl some ↦ let enough : 24 ≤ (box_at boxes line).free = can.kept.places line (served line some) in omega (arith, few line, enough)
+    | inr none ↦ omega (arith, none)
+  ]
+
+  -- a line that is in service afterwards had its places
+  had : (line : ℕ) → is_off (state_at (world_of mid) line) ≡ false → 24 ≤ (box_at boxes line).free
+  had line on = elim (touched.rises line on) [
+    | inl was ↦ can.kept.places line was
+    | inr up ↦
+        subst (λ l. 24 ≤ (box_at boxes l).free) (sym (up.1 ∙ ap (λ e. e.line) step.event_is)) (can.room (ap (λ e. is_up e.what) (sym step.event_is) ∙ up.0))
+  ]
+
+  module _ (between : List (Putting (Outgoing A))) (from : ℕ) (count : from ≡ length old.history) (put : IsPut told.outputs boxes between) where
+    free_between : (line : ℕ) → (box_at between line).free ≡ (box_at boxes line).free - length (to_line line told.outputs)
+    free_between line = ap (λ b. b.free) (put.each line)
+
+    pub entered : HasEntered mid from between
+    entered = record {
+      before = old.history;
+      entry = step.entry;
+      history = step.history;
+      count = count;
+      kind = ap (λ e. is_stall e.what) step.event_is ∙ can.kind;
+      step = subst (λ t. Step t old.history (world_after t old.history) step.entry (world_of mid)) (sym step.subs) step.step;
+      journal = subst (λ t. length old.history + 4 ≤ t.journal) (sym step.subs) can.places;
+      places = λ line on. let enough = had line on in let left = free_between line in omega (arith, enough, left, few line);
+    }
+
+    module _ (new : Exchange A) (after : List (Putting (Outgoing A))) (stalled : HasStalled mid from between new after) (done : Done)
+        (number : done.entry ≡ told.entry) (records : done.records ≡ length (records_of new.history))
+        (connection : done.connection ≡ (line_at (world_of new) event.line).connection) where
+      before_is : take from mid.history ≡ old.history
+      before_is = ap (λ n. take n mid.history) count ∙ ap (take (length old.history)) step.history ∙ take_front old.history (step.entry ∷ [])
+
+      since_is : drop from mid.history ≡ step.entry ∷ []
+      since_is = ap (λ n. drop n mid.history) count ∙ ap (drop (length old.history)) step.history ∙ drop_front old.history (step.entry ∷ [])
+
+      grown : new.history ≡ old.history ++ step.entry ∷ stalled.stalls
+      grown = stalled.history ∙ ap (λ xs. xs ++ stalled.stalls) step.history ∙ append_assoc old.history (step.entry ∷ []) stalled.stalls
+
+      got : (line : ℕ) → to_line line told.outputs ≡ to_line line step.entry.outputs
+      got line = ap (to_line line) step.outputs
+
+      box_given : (line : ℕ) → IsGiven (put_out_to line (step.entry ∷ stalled.stalls)) (stalled.known line) (box_at boxes line) (box_at after line)
+      box_given line =
+          let was = put.each line in
+          let one = to_line line step.entry.outputs in
+          let more = put_out_to line stalled.stalls in
+          let free : (box_at after line).free + length (put_out_to line (step.entry ∷ stalled.stalls)) ≡ stalled.known line =
+          subst (λ xs. (box_at after line).free + length (put_out_to line (xs ++ stalled.stalls)) ≡ stalled.known line) since_is (stalled.free line) in
+          let least : (box_at between line).free + length (put_out_to line (step.entry ∷ [])) ≤ stalled.known line =
+          subst (λ xs. (box_at between line).free + length (put_out_to line xs) ≤ stalled.known line) since_is (stalled.least line) in
+          let long : length (one ++ []) ≡ length (to_line line told.outputs) = ap length (append-nil one ∙ sym (got line)) in
+          record {
+            queue = stalled.queues line ∙ ap (λ b. b.queue) was;
+            capacity = stalled.capacities line ∙ ap (λ b. b.capacity) was;
+            put = stalled.put line ∙ ap (λ xs. xs ++ more) (ap (λ b. b.put) was ∙ ap (λ xs. (box_at boxes line).put ++ xs) (got line)) ∙ append_assoc (box_at boxes line).put one more;
+            free = free;
+            known = let left = free_between line in let room = room_for line in omega (arith, least, long, left, room);
+          }
+
+      pub taken : Takes (switch_of old boxes) event done (switch_of new after)
+      taken = record {
+        running = refl;
+        places = can.places;
+        entry = step.entry;
+        event_is = step.event_is;
+        stalls = stalled.stalls;
+        history = grown;
+        known = stalled.known;
+        forces = record {
+          next = world_of mid;
+          step = step.step;
+          forced =
+              let Q : List (Entry A) → List (Entry A) → Type 0 = λ before since. Stalls old.subs before (world_of mid) stalled.known since stalled.stalls (world_of new) in
+              let given_subs = subst (λ t. Stalls t (take from mid.history) (world_of mid) stalled.known (drop from mid.history) stalled.stalls (world_of new)) step.subs stalled.forced in
+              subst (Q old.history) since_is (subst (λ before. Q before (drop from mid.history)) before_is given_subs);
+          quiet = subst (λ xs. IsQuiet (world_of new) stalled.known (xs ++ stalled.stalls)) since_is stalled.quiet;
+        };
+        few = stalled.few;
+        count = stalled.count ∙ put.count;
+        boxes = box_given;
+        room = λ up. let enough = can.room up in let least = (box_given event.line).known in omega (arith, enough, least);
+        subs = stalled.subs ∙ step.subs;
+        halted = refl;
+        number = number ∙ step.number;
+        records = records;
+        connection = connection;
+      }
+
+      -- a line in service has its places
+      places_kept : (line : ℕ) → is_off (state_at (world_of new) line) ≡ false → PLACES_KEPT ≤ (box_at after line).free
+      places_kept line on =
+          let given_to = box_given line in
+          let items : ℕ = length (put_out_to line (step.entry ∷ stalled.stalls)) in
+          let free : (box_at after line).free + items ≡ stalled.known line = given_to.free in
+          let places : 24 ≤ (box_at boxes line).free = had line (stalled.stays line on) in
+          let quiet = subst (λ xs. IsQuiet (world_of new) stalled.known (xs ++ stalled.stalls)) since_is stalled.quiet line in
+          elim (cases_lt (stalled.known line) (24 + items)) [
+            | inl short ↦ elim (cases_lt 0 items) [
+              | inl some ↦ absurd (quiet (record { in_service = on; given = some; short = short }))
+              | inr none ↦ let known : (box_at boxes line).free ≤ stalled.known line = given_to.known in omega (arith, free, places, none, known)
+            ]
+            | inr long ↦ omega (arith, free, long)
+          ]
+
+      pub kept : AreKept new.subs new.history after
+      kept = record {
+        count = stalled.count ∙ put.count ∙ can.kept.count ∙ ap line_count (sym (stalled.subs ∙ step.subs));
+        put = λ line within.
+            let was : (box_at boxes line).put ≡ put_out_to line old.history =
+            can.kept.put line (let same = stalled.count in let before = put.count in omega (arith, within, same, before)) in
+            (box_given line).put ∙ ap (λ xs. xs ++ put_out_to line (step.entry ∷ stalled.stalls)) was
+            ∙ sym (flat_map-append (λ (e : Entry A). to_line line e.outputs) old.history (step.entry ∷ stalled.stalls)) ∙ ap (put_out_to line) (sym grown);
+        places = places_kept;
+      }

@@ -1,0 +1,96 @@
+-- What a take shows a pass.
+use Rattle.std.proofs.Common.{◌≡◌, ◌≢◌, ℕ, true, false, cond, eqb, not, List, [], ◌∷◌, ◌++◌, length, sym, refl, ap, ◌∙◌, subst, eq-eqb}
+use Rattle.std.proofs.lemmas.Bool.{ne_eqb}
+use Rattle.std.proofs.lemmas.List.Elements.{All-cons, All-nil}
+use Rattle.std.specs.Prelude.{◌&&◌}
+use Rattle.xp_subs.specs.Tables.{Tables}
+use Rattle.xp_core.specs.declared.entry.Entry.{Entry}
+use Rattle.xp_core.specs.declared.event.Event.{Event}
+use Rattle.xp_core.specs.Records.{records_of}
+use Rattle.xp_core.specs.Run.{world_after}
+use Rattle.xp_core.specs.World.{World, line_at}
+use Rattle.xp_lock.specs.declared.done.Done.{Done}
+use Rattle.xp_lock.specs.Forced.{Stalls}
+use Rattle.xp_lock.specs.Handed.{handed, is_stall}
+use Rattle.xp_lock.specs.Passes.{AreStalls, Freshens, IsLegal, Pass}
+use Rattle.xp_lock.specs.Switch.{Switch, Takes}
+use Rattle.xp_lock.specs.Views.{IsGrown, StartsWith}
+use Rattle.xp_lock.proofs.Lists.{handed-append}
+
+module _ {A : Type 0} where
+  -- entries that are stalls, one by one
+  abbrev pub AllStalls : List (Entry A) → Type 0
+  AllStalls [] = Unit {0}
+  AllStalls (entry ∷ entries) = (is_stall entry.event.what ≡ true) × AllStalls entries
+
+  all_stalls : (subs : Tables) (before : List (Entry A)) (world : World) (places : ℕ → ℕ) (entries stalls : List (Entry A)) (last : World)
+      → Stalls subs before world places entries stalls last → AllStalls stalls
+  all_stalls subs before world places entries [] last same = tt
+  all_stalls subs before world places entries (stall ∷ stalls) last h =
+      (ap is_stall h.1, all_stalls subs before h.0 places (entries ++ stall ∷ []) stalls last h.4)
+
+  are_stalls : (stalls : List (Entry A)) → AllStalls stalls → AreStalls stalls
+  are_stalls [] h = All-nil (λ entry. is_stall entry.event.what ≡ true)
+  are_stalls (stall ∷ stalls) h = All-cons (λ entry. is_stall entry.event.what ≡ true) stall stalls h.0 (are_stalls stalls h.1)
+
+  -- no line hands in stalls
+  handed_stalls : (line : ℕ) (stalls : List (Entry A)) → AllStalls stalls → handed line stalls ≡ []
+  handed_stalls line [] h = refl
+  handed_stalls line (stall ∷ stalls) h =
+      let rest = handed line stalls in
+      ap (λ b. cond (eqb stall.event.line line && not b) (stall ∷ rest) rest) h.0 ∙ neither (eqb stall.event.line line) ∙ handed_stalls line stalls h.1
+    where
+      neither : (b : _) → cond (b && false) (stall ∷ handed line stalls) (handed line stalls) ≡ handed line stalls
+      neither true = refl
+      neither false = refl
+
+  handed_other : (line : ℕ) (entry : Entry A) (stalls : List (Entry A)) → AllStalls stalls → entry.event.line ≢ line → handed line (entry ∷ stalls) ≡ []
+  handed_other line entry stalls h other =
+      ap (λ b. cond (b && not (is_stall entry.event.what)) (entry ∷ handed line stalls) (handed line stalls)) (ne_eqb entry.event.line line other) ∙ handed_stalls line stalls h
+
+  handed_own : (line : ℕ) (entry : Entry A) (stalls : List (Entry A)) → AllStalls stalls → entry.event.line ≡ line → is_stall entry.event.what ≡ false
+      → handed line (entry ∷ stalls) ≡ entry ∷ []
+  handed_own line entry stalls h own kind =
+      ap (λ b. cond (b && not (is_stall entry.event.what)) (entry ∷ handed line stalls) (handed line stalls)) (eq-eqb entry.event.line line own)
+      ∙ ap (λ b. cond (not b) (entry ∷ handed line stalls) (handed line stalls)) kind
+      ∙ ap (λ xs. entry ∷ xs) (handed_stalls line stalls h)
+
+  module _ (old : Switch A) (event : Event A) (done : Done) (new : Switch A) (takes : Takes old event done new) where
+    stalls_are : AllStalls takes.stalls
+    stalls_are = all_stalls old.subs old.history takes.forces.next takes.known (takes.entry ∷ []) takes.stalls _ takes.forces.forced
+
+    -- what is added is of the event's line
+    pub grown : (line : ℕ) → event.line ≡ line → IsGrown line old.history new.history
+    grown line own = record {
+      more = takes.entry ∷ takes.stalls;
+      grown_is = takes.history;
+      others = λ other apart. handed_other other takes.entry takes.stalls stalls_are (λ same. apart (sym same ∙ ap (λ e. e.line) takes.event_is ∙ own));
+    }
+
+    pub freshened : (pass after : Pass A) (subs : Tables) → new.subs ≡ subs → is_stall event.what ≡ false → event.line ≡ pass.line → StartsWith old.history pass.seen
+        → handed pass.line old.history ≡ handed pass.line pass.seen → IsLegal new.subs new.history
+        → after.line ≡ pass.line → after.taken ≡ pass.taken → after.seen ≡ new.history → Freshens subs pass event done after
+    freshened pass after subs same kind own front all legal line taken seen =
+        let own_entry = handed_own pass.line takes.entry takes.stalls stalls_are (ap (λ e. e.line) takes.event_is ∙ own) (ap (λ e. is_stall e.what) takes.event_is ∙ kind) in
+        let Of : Tables → List (Entry A) → Type 0 = λ t xs. IsLegal t xs in
+        record {
+          line = line;
+          taken = taken;
+          between = front.0;
+          entry = takes.entry;
+          event_is = takes.event_is;
+          stalls = takes.stalls;
+          are_stalls = are_stalls takes.stalls stalls_are;
+          few = takes.few;
+          seen = seen ∙ takes.history ∙ ap (λ xs. xs ++ takes.entry ∷ takes.stalls) front.1;
+          mine_is =
+              ap (λ l. handed l after.seen) line ∙ ap (handed pass.line) (seen ∙ takes.history)
+              ∙ handed-append pass.line old.history (takes.entry ∷ takes.stalls)
+              ∙ ap (λ xs. xs ++ handed pass.line (takes.entry ∷ takes.stalls)) all
+              ∙ ap (λ xs. handed pass.line pass.seen ++ xs) own_entry;
+          legal = subst (Of subs) (sym seen) (subst (λ t. Of t new.history) same legal);
+          number = takes.number;
+          records = takes.records ∙ ap (λ xs. length (records_of xs)) (sym seen);
+          connection = takes.connection ∙ ap (λ t. (line_at (world_after t new.history) event.line).connection) same
+              ∙ ap (λ xs. (line_at (world_after subs xs) event.line).connection) (sym seen);
+        }

@@ -1,0 +1,10 @@
+pub mod Entered
+pub mod Fresh
+pub mod Lists
+pub mod Opened
+pub mod Putting
+pub mod Queues
+pub mod Quiet
+pub mod Ready
+pub mod Steps
+pub mod Touches

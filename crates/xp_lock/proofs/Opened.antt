@@ -1,0 +1,79 @@
+-- What an exchange begins with.
+use Rattle.std.proofs.Common.{◌≡◌, ℕ, zero, suc, ◌+◌, ◌<◌, true, true≢false, Some, List, [], ◌∷◌, ◌++◌, drop, length, sym, refl, ap, ◌∙◌, inl, inr, arith, length-append}
+use Rattle.std.proofs.lemmas.Bool.{cases_lt}
+use Rattle.std.proofs.lemmas.List.{get_or_past, get_or-replicate, length-replicate, map-append}
+use Rattle.std.proofs.lemmas.List.Elements.{All-get_or, All-push}
+use Rattle.std.specs.Prelude.{replicate, slice_get}
+use Rattle.xp_outbox.specs.Ends.{Putting, Taking}
+use Rattle.xp_subs.specs.Tables.{Tables, line_count}
+use Rattle.xp_core.specs.declared.output.Outgoing.{Outgoing}
+use Rattle.xp_core.specs.Channel.{is_off}
+use Rattle.xp_core.specs.World.{off_line, opening, state_at}
+use Rattle.xp_lock.specs.Boxes.{AreKept, no_box}
+use Rattle.xp_lock.specs.Opening.{AreFirst, AreNew, first_pass}
+use Rattle.xp_lock.specs.Passes.{Pass}
+
+all_off : (count line : ℕ) → is_off (state_at (opening count) line) ≡ true
+all_off count line = elim (cases_lt line count) [
+  | inl within ↦ ap (λ l. is_off l.state) (get_or-replicate count line off_line off_line within)
+  | inr past ↦ ap (λ l. is_off l.state) (get_or_past (replicate count off_line) line off_line (omega (arith, length-replicate count off_line)))
+]
+
+pub at_front : {X : Type 0} (xs : List X) (n : ℕ) (x : X) (rest : List X) → drop n xs ≡ x ∷ rest → slice_get xs n ≡ Some x
+at_front [] zero x rest e = absurd (cc)
+at_front [] (suc n) x rest e = absurd (cc)
+at_front (y ∷ ys) zero x rest e = cc
+at_front (y ∷ ys) (suc n) x rest e = at_front ys n x rest e
+
+pub drop_rest : {X : Type 0} (xs : List X) (n : ℕ) (x : X) (rest : List X) → drop n xs ≡ x ∷ rest → drop (suc n) xs ≡ rest
+drop_rest [] zero x rest e = absurd (cc)
+drop_rest [] (suc n) x rest e = absurd (cc)
+drop_rest (y ∷ ys) zero x rest e = cc
+drop_rest (y ∷ ys) (suc n) x rest e = drop_rest ys n x rest e
+
+module _ {A : Type 0} where
+  pub new_kept : (subs : Tables) (boxes : List (Putting (Outgoing A))) (ends : List (Taking (Outgoing A))) → AreNew (line_count subs) boxes ends → AreKept {A = A} subs [] boxes
+  new_kept subs boxes ends new = record {
+    count = new.box_count;
+    put = λ line within. All-get_or (λ (box : Putting (Outgoing A)). box.put ≡ []) boxes line no_box within new.put;
+    places = λ line on. absurd (true≢false (sym (all_off (line_count subs) line) ∙ on));
+  }
+
+  pub new_push : (lines : ℕ) (boxes : List (Putting (Outgoing A))) (ends : List (Taking (Outgoing A))) (box : Putting (Outgoing A)) (end : Taking (Outgoing A))
+      → AreNew lines boxes ends → box.queue ≡ end.queue → box.put ≡ [] → end.taken ≡ [] → AreNew (lines + 1) (boxes ++ box ∷ []) (ends ++ end ∷ [])
+  new_push lines boxes ends box end new tied put taken =
+      let one = length-append boxes (box ∷ []) in
+      let other = length-append ends (end ∷ []) in
+      let was = new.box_count in
+      let had = new.end_count in
+      record {
+        box_count = omega (arith, one, was);
+        end_count = omega (arith, other, had);
+        queues = map-append (λ (e : Taking (Outgoing A)). e.queue) ends (end ∷ []) ∙ (λ i. new.queues i ++ sym tied i ∷ []) ∙ sym (map-append (λ (b : Putting (Outgoing A)). b.queue) boxes (box ∷ []));
+        put = All-push (λ (b : Putting (Outgoing A)). b.put ≡ []) boxes box new.put put;
+        taken = All-push (λ (e : Taking (Outgoing A)). e.taken ≡ []) ends end new.taken taken;
+      }
+
+  get_push : (xs : List (Pass A)) (x : Pass A) (k : ℕ) → k < length xs → slice_get (xs ++ x ∷ []) k ≡ slice_get xs k
+  get_push [] x k within = absurd (omega arith)
+  get_push (y ∷ ys) x zero within = refl
+  get_push (y ∷ ys) x (suc k) within = get_push ys x k (omega arith)
+
+  get_last : (xs : List (Pass A)) (x : Pass A) (k : ℕ) → k ≡ length xs → slice_get (xs ++ x ∷ []) k ≡ Some x
+  get_last [] x zero is = refl
+  get_last [] x (suc k) is = absurd (omega (arith, is))
+  get_last (y ∷ ys) x zero is = absurd (omega (arith, is))
+  get_last (y ∷ ys) x (suc k) is = get_last ys x k (omega (arith, is))
+
+  pub first_push : (lines : ℕ) (passes : List (Pass A)) (pass : Pass A) → AreFirst lines passes → pass ≡ first_pass lines → AreFirst (lines + 1) (passes ++ pass ∷ [])
+  first_push lines passes pass first is =
+      let count : length passes ≡ lines = first.count in
+      record {
+        count = omega (arith, count, length-append passes (pass ∷ []));
+        each = λ line within. elim (cases_lt line lines) [
+          | inl below ↦ get_push passes pass line (omega (arith, below, count)) ∙ first.each line below
+          | inr last ↦
+              let here : line ≡ length passes = omega (arith, within, last, count) in
+              get_last passes pass line here ∙ ap Some (is ∙ ap first_pass (sym (here ∙ count)))
+        ];
+      }

@@ -1,0 +1,251 @@
+-- Each step on the word keeps its rule.
+use Rattle.std.proofs.Common.{◌≡◌, ◌≢◌, ℕ, ◌+◌, ◌<◌, true, false, true≢false, cond, eqb, List, [], ◌∷◌, ◌++◌, length, set, sym, refl, ap, ◌∙◌, subst, ⊎_elim, arith, length-append, length-set, get_or-set_same, eq-eqb}
+use Rattle.std.proofs.lemmas.Bool.{ne_eqb}
+use Rattle.std.specs.Prelude.{slice_index}
+use mathlib.Core.Option.{some, some-ne-none}
+use lib.ListN.{get_elem?}
+use prog.Atomic.{either}
+use Rattle.atomic_table.proofs.Lists.{at_set, exchanged}
+use Rattle.atomic_table.specs.Table.{Allows, Joins, Splits, keeps}
+use Rattle.xp_core.specs.declared.entry.Entry.{Entry}
+use Rattle.xp_core.specs.Exchange.{Exchange}
+use Rattle.xp_lock.specs.declared.word.View.{View}
+use Rattle.xp_lock.specs.Handed.{handed}
+use Rattle.xp_lock.specs.Views.{Fits, HasSeenOwn, IsChecked, IsGrown, IsShared, IsShown, StartsWith, claim_of, holding, joined, keeping, next_claim, nobody, one_further, unclaimed}
+use Rattle.xp_lock.proofs.Lists.{Each, each_new, each_set, handed-none, starts_empty, starts_longer, starts_whole}
+
+off : false ≡ true → ⊥
+off e = true≢false (sym e)
+
+-- the owners, where one more line has this seat
+abbrev given_to : (ℕ → ℕ) → ℕ → ℕ → ℕ → ℕ
+given_to owner line seat other = cond (eqb other line) seat (owner other)
+
+given_here : (owner : ℕ → ℕ) (line seat : ℕ) → given_to owner line seat line ≡ seat
+given_here owner line seat = ap (λ b. cond b seat (owner line)) (eq-eqb line line refl)
+
+given_else : (owner : ℕ → ℕ) (line seat other : ℕ) → other ≢ line → given_to owner line seat other ≡ owner other
+given_else owner line seat other apart = ap (λ b. cond b seat (owner other)) (ne_eqb other line apart)
+
+module _ {A : Type 0} where
+  -- making the word
+  pub begins : IsShared {A = A} (0 ∷ []) (keeping 0 [] ∷ [])
+  begins = record {
+    keeper_seat = 0;
+    owner = λ _. 0;
+    next = 0;
+    history = [];
+    one = omega arith;
+    word = refl;
+    each = λ seat view e. each_new (Fits 0 (λ _. 0) 0 []) [] (keeping 0 []) (record { keeps = λ _. (refl, refl, refl); claims = λ c. absurd (off c) })
+        (λ j u none. absurd (some-ne-none u (sym none))) seat view e;
+  }
+
+  module _ (words : List ℕ) (views : List (View A)) (h : IsShared words views) where
+    -- the claim of the next line is given out, before there are entries
+    pub starts : (seat : ℕ) (v : View A) → get_elem? views seat ≡ some v → v.keeps ≡ true → v.all ≡ []
+        → IsShared words (set views seat (one_further v) ++ next_claim v ∷ [])
+    starts seat v at may none =
+        let mine = (h.each seat v at).keeps may in
+        let vs : List (View A) = set views seat (one_further v) in
+        let owner : ℕ → ℕ = given_to h.owner v.next (length vs) in
+        let F : ℕ → View A → Type 0 = Fits h.keeper_seat owner (v.next + 1) h.history in
+        record {
+          keeper_seat = h.keeper_seat;
+          owner = owner;
+          next = v.next + 1;
+          history = h.history;
+          one = h.one;
+          word = h.word;
+          each = each_new F vs (next_claim v)
+              (record {
+                keeps = λ k. absurd (off k);
+                claims = λ _. record {
+                  owned = given_here h.owner v.next (length vs);
+                  given = omega arith;
+                  front = starts_empty h.history;
+                  own = ap (handed v.next) (sym mine.1 ∙ none);
+                };
+              })
+              (each_set F views seat (one_further v)
+              (record { keeps = λ _. (mine.0, mine.1, refl); claims = λ c. absurd (off c) })
+              (λ j u other e. record {
+                keeps = λ k. absurd (other (((h.each j u e).keeps k).0 ∙ sym mine.0));
+                claims = λ c. let was = (h.each j u e).claims c in record {
+                  owned = given_else h.owner v.next (length vs) u.line (λ same. let below : u.line < h.next = was.given in omega (arith, below, same, mine.2)) ∙ was.owned;
+                  given = let below : u.line < h.next = was.given in omega (arith, below, mine.2);
+                  front = was.front;
+                  own = was.own;
+                };
+              }));
+        }
+
+    -- a claim goes to a new seat
+    pub gives : (seat : ℕ) (v : View A) → get_elem? views seat ≡ some v → v.claims ≡ true
+        → IsShared words (set views seat (unclaimed v) ++ claim_of v ∷ [])
+    gives seat v at may =
+        let mine = (h.each seat v at).claims may in
+        let vs : List (View A) = set views seat (unclaimed v) in
+        let owner : ℕ → ℕ = given_to h.owner v.line (length vs) in
+        let F : ℕ → View A → Type 0 = Fits h.keeper_seat owner h.next h.history in
+        record {
+          keeper_seat = h.keeper_seat;
+          owner = owner;
+          next = h.next;
+          history = h.history;
+          one = h.one;
+          word = h.word;
+          each = each_new F vs (claim_of v)
+              (record {
+                keeps = λ k. absurd (off k);
+                claims = λ _. record { owned = given_here h.owner v.line (length vs); given = mine.given; front = mine.front; own = mine.own };
+              })
+              (each_set F views seat (unclaimed v)
+              (record { keeps = λ k. (h.each seat v at).keeps k; claims = λ c. absurd (off c) })
+              (λ j u other e. record {
+                keeps = λ k. (h.each j u e).keeps k;
+                claims = λ c. let was = (h.each j u e).claims c in record {
+                  owned = given_else h.owner v.line (length vs) u.line (λ same. other (sym was.owned ∙ ap h.owner same ∙ mine.owned)) ∙ was.owned;
+                  given = was.given;
+                  front = was.front;
+                  own = was.own;
+                };
+              }));
+        }
+
+    -- a claim comes to a seat that has none
+    pub takes_in : (seat : ℕ) (v : View A) (other : ℕ) (u : View A) → get_elem? views seat ≡ some v → (other ≡ seat → ⊥)
+        → get_elem? (set views seat (joined v u)) other ≡ some u → u.claims ≡ true
+        → IsShared words (set (set views seat (joined v u)) other nobody)
+    takes_in seat v other u at two at' may =
+        let was_there : get_elem? views other ≡ some u = ⊎_elim (λ x. absurd (two x.0)) (λ x. x.1) (at_set views seat other (joined v u) u at') in
+        let theirs = (h.each other u was_there).claims may in
+        let owner : ℕ → ℕ = given_to h.owner u.line seat in
+        let F : ℕ → View A → Type 0 = Fits h.keeper_seat owner h.next h.history in
+        let G : ℕ → View A → Type 0 = λ j w. j ≢ other → F j w in
+        let inner : Each G (set views seat (joined v u)) = each_set G views seat (joined v u)
+        (λ _. record {
+          keeps = λ k. (h.each seat v at).keeps k;
+          claims = λ _. record { owned = given_here h.owner u.line seat; given = theirs.given; front = theirs.front; own = theirs.own };
+        })
+        (λ j w _ e apart. record {
+          keeps = λ k. (h.each j w e).keeps k;
+          claims = λ c. let was = (h.each j w e).claims c in record {
+            owned = given_else h.owner u.line seat w.line (λ same. apart (sym was.owned ∙ ap h.owner same ∙ theirs.owned)) ∙ was.owned;
+            given = was.given;
+            front = was.front;
+            own = was.own;
+          };
+        }) in
+        record {
+          keeper_seat = h.keeper_seat;
+          owner = owner;
+          next = h.next;
+          history = h.history;
+          one = h.one;
+          word = h.word;
+          each = each_set F (set views seat (joined v u)) other nobody
+              (record { keeps = λ k. absurd (off k); claims = λ c. absurd (off c) })
+              (λ j w apart e. inner j w e apart);
+        }
+
+    seen_own : (seat : ℕ) (v : View A) → get_elem? views seat ≡ some v → v.keeps ≡ true → v.claims ≡ true → HasSeenOwn v
+    seen_own seat v at may claims =
+        let kept = (h.each seat v at).keeps may in
+        let claimed = (h.each seat v at).claims claims in
+        record {
+          front = subst (λ xs. StartsWith xs v.seen) (sym kept.1) claimed.front;
+          own = ap (handed v.line) kept.1 ∙ claimed.own;
+        }
+
+    -- the keeper adds entries of the line whose claim it holds
+    adds_to : (seat : ℕ) (v : View A) (more : List (Entry A)) (n : ℕ) → get_elem? views seat ≡ some v → v.keeps ≡ true → v.claims ≡ true
+        → n ≡ length v.all + length more → ((line : ℕ) → line ≢ v.line → handed line more ≡ [])
+        → IsShared (set words 0 n) (set views seat (holding v.next (v.all ++ more) v.line (v.all ++ more)))
+    adds_to seat v more n at may claims long none =
+        let kept = (h.each seat v at).keeps may in
+        let claimed = (h.each seat v at).claims claims in
+        let now : List (Entry A) = h.history ++ more in
+        let F : ℕ → View A → Type 0 = Fits h.keeper_seat h.owner h.next now in
+        record {
+          keeper_seat = h.keeper_seat;
+          owner = h.owner;
+          next = h.next;
+          history = now;
+          one = subst (λ k. 0 < k) (sym (length-set words 0 n)) h.one;
+          word = get_or-set_same words 0 n 0 h.one ∙ long ∙ ap (λ xs. length xs + length more) kept.1 ∙ sym (length-append h.history more);
+          each = each_set F views seat (holding v.next (v.all ++ more) v.line (v.all ++ more))
+              (record {
+                keeps = λ _. (kept.0, ap (λ xs. xs ++ more) kept.1, kept.2);
+                claims = λ _. record {
+                  owned = claimed.owned;
+                  given = claimed.given;
+                  front = starts_whole now (v.all ++ more) (ap (λ xs. xs ++ more) (sym kept.1));
+                  own = ap (λ xs. handed v.line (xs ++ more)) (sym kept.1);
+                };
+              })
+              (λ j u other e. record {
+                keeps = λ k. absurd (other (((h.each j u e).keeps k).0 ∙ sym kept.0));
+                claims = λ c. let was = (h.each j u e).claims c in record {
+                  owned = was.owned;
+                  given = was.given;
+                  front = starts_longer h.history u.seen more was.front;
+                  own = handed-none u.line h.history more (none u.line (λ same. other (sym was.owned ∙ ap h.owner same ∙ claimed.owned))) ∙ was.own;
+                };
+              });
+        }
+
+    -- the keeper compares a claim
+    checks_at : (seat : ℕ) (v : View A) → get_elem? views seat ≡ some v → v.keeps ≡ true → v.claims ≡ true
+        → IsShared (set words 0 (slice_index words 0)) (set views seat (keeping v.next v.all))
+    checks_at seat v at may claims =
+        let kept = (h.each seat v at).keeps may in
+        let n : ℕ = slice_index words 0 in
+        let F : ℕ → View A → Type 0 = Fits h.keeper_seat h.owner h.next h.history in
+        record {
+          keeper_seat = h.keeper_seat;
+          owner = h.owner;
+          next = h.next;
+          history = h.history;
+          one = subst (λ k. 0 < k) (sym (length-set words 0 n)) h.one;
+          word = get_or-set_same words 0 n 0 h.one ∙ h.word;
+          each = each_set F views seat (keeping v.next v.all)
+              (record { keeps = λ _. kept; claims = λ c. absurd (off c) })
+              (λ j u other e. h.each j u e);
+        }
+
+  -- the same as steps of a table
+  pub starts_at : {S : Type 0} (seat : ℕ) (v : View A) → v.keeps ≡ true → v.all ≡ []
+      → Splits {S = S} (λ s. IsShared s.words s.views) seat v (one_further v) (next_claim v)
+  starts_at seat v may none s h at = starts s.words s.views h seat v at may none
+
+  pub gives_at : {S : Type 0} (seat : ℕ) (v : View A) → v.claims ≡ true
+      → Splits {S = S} (λ s. IsShared s.words s.views) seat v (unclaimed v) (claim_of v)
+  gives_at seat v may s h at = gives s.words s.views h seat v at may
+
+  pub takes_in_at : {S : Type 0} (seat : ℕ) (v : View A) (other : ℕ) (u : View A) → u.claims ≡ true
+      → Joins {S = S} (λ s. IsShared s.words s.views) seat v other u (joined v u) nobody
+  takes_in_at seat v other u may s h at two at' = takes_in s.words s.views h seat v other u at two at' may
+
+  pub shows : (slots seat : ℕ) (me : View A × List (ℕ × Exchange A)) (core : Exchange A) (before count : ℕ) → me.0.keeps ≡ true → me.0.claims ≡ true
+      → before ≡ length me.0.all → count ≡ length core.history → IsGrown me.0.line me.0.all core.history
+      → Allows {S = Exchange A} (λ s. IsShared s.words s.views) slots seat me 0 (λ n. either (eqb n before) count n) (λ _ m. IsShown core.history me.0 m.0 × (m.1 ≡ me.1))
+  shows slots seat me core before count may claims was now grown s h long at below =
+      let v = me.0 in
+      let n : ℕ = slice_index s.words 0 in
+      let after : View A = holding v.next core.history v.line core.history in
+      let Shown : ℕ → List (Entry A) → Type 0 = λ word xs. IsShared (set s.words 0 word) (set s.views seat (holding v.next xs v.line xs)) in
+      let found : n ≡ before = h.word ∙ ap length (sym ((h.each seat v at).keeps may).1) ∙ sym was in
+      let added = adds_to s.words s.views h seat v grown.more count at may claims (now ∙ ap length grown.grown_is ∙ length-append v.all grown.more) grown.others in (
+        after,
+        keeps,
+        tt,
+        exchanged n before count (λ word. Shown word core.history) (λ _. subst (Shown count) (sym grown.grown_is) added) (λ other. absurd (other found)),
+        (record { shown = refl; seen = seen_own s.words s.views h seat v at may claims }, refl),
+      )
+
+  pub checks : {S : Type 0} (slots seat : ℕ) (me : View A × List (ℕ × S)) → me.0.keeps ≡ true → me.0.claims ≡ true
+      → Allows {S = S} (λ s. IsShared s.words s.views) slots seat me 0 (λ n. n) (λ _ m. IsChecked me.0 m.0 × (m.1 ≡ me.1))
+  checks slots seat me may claims s h count at below =
+      let v = me.0 in
+      (keeping v.next v.all, keeps, tt, checks_at s.words s.views h seat v at may claims, (record { left = refl; seen = seen_own s.words s.views h seat v at may claims }, refl))

@@ -1,0 +1,22 @@
+use Rattle.std.proofs.Common.{ap, subst, sym, ◌∙◌, ◌≤◌}
+use Rattle.xp_subs.specs.Tables.{line_count}
+use Rattle.xp_lock.specs.Opening.{AreNew}
+use Rattle.xp_lock.proofs.Opened.{new_kept}
+use Rattle.xp_lock.proofs.blanks.prepare.Goals as goal
+
+pub invariant_of-result : goal.invariant_of-result
+invariant_of-result g c =
+    let subs = ap (λ e. e.subs) c.in_ok-core.ensures in
+    let lines = c.counts-lines.ensures.lines ∙ ap line_count (sym subs) in
+    let boxes = c.in_ok-boxes.boxes.items in
+    let ends = c.in_ok-boxes.ends.items in
+    let new = subst (λ n. AreNew n boxes ends) lines c.in_ok-boxes.ensures in (
+      ap (λ e. e.history) c.in_ok-core.ensures,
+      c.in_ok-word.ensures,
+      new_kept _ boxes ends new,
+      new.queues,
+      new.taken,
+      lines,
+      subst (λ t. line_count t ≤ 512) (sym subs) c.counts-lines.ensures.sound.few_lines,
+      new.end_count,
+    )

@@ -1,0 +1,6 @@
+use Rattle.std.proofs.Common.{ap, sym, ◌∙◌}
+use Rattle.xp_subs.specs.Tables.{line_count}
+use Rattle.xp_lock.proofs.exchange.Exchange.start.Goals as goal
+
+pub first_passes-requires-clause-count : goal.first_passes-requires-clause-count
+first_passes-requires-clause-count g c = c.blanks.invariant.7 ∙ ap line_count (ap (λ b. b.subs) c.blanks.view_is ∙ sym c.requires.subs)

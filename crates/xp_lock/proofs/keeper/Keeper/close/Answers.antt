@@ -1,0 +1,71 @@
+use Rattle.std.proofs.Common.{◌≡◌, ◌<◌, ap, arith, length, map, refl, subst, sym, ◌∙◌}
+use Rattle.std.proofs.lemmas.List.{nil_from_length}
+use Rattle.std.proofs.lemmas.List.Elements.{All-cons, All-nil}
+use Rattle.std.specs.Vec.Iter.{into_iter_items}
+use mathlib.Core.List.{IsPrefix}
+use Rattle.xp_lock.specs.Boxes.{box_at}
+use Rattle.xp_lock.specs.Closing.{AreTold, IsTold}
+use Rattle.xp_lock.specs.Handed.{handed}
+use Rattle.xp_lock.specs.Outgoing.{put_out_to}
+use Rattle.xp_lock.specs.Views.{StartsWith, keeping}
+use Rattle.xp_lock.proofs.keeper.Keeper.close.Goals as goal
+
+pub hear-requires-clause-word : goal.hear-requires-clause-word
+hear-requires-clause-word g c = (c.requires.word, ap (λ s. s.word) c.loop-pass.invariant.sight ∙ c.self.invariant.0)
+
+pub hear-requires-clause-keeper : goal.hear-requires-clause-keeper
+hear-requires-clause-keeper g c =
+    let kept = c.self.invariant.1 in
+    subst (λ s. s.knows ≡ keeping s.knows.next s.knows.all) (sym c.loop-pass.invariant.sight)
+    (kept ∙ (λ i. keeping (sym (ap (λ v. v.next) kept) i) (sym (ap (λ v. v.all) kept) i)))
+
+pub hear-requires-clause-boxes : goal.hear-requires-clause-boxes
+hear-requires-clause-boxes g c = ap (map (λ b. b.queue)) (c.loop-pass.invariant.boxes ∙ c.into_parts-core.ensures.boxes) ∙ c.self.invariant.3
+
+pub loop-pass-init : goal.loop-pass-init
+loop-pass-init g c =
+    let gives = c.into_iter-pass-iterator.ensures.into_iter_gives in
+    record {
+      can_next = tt;
+      is_finite = tt;
+      many = ap length gives.0 ∙ sym c.args.passes.ok.0 ∙ sym gives.1;
+      sight = refl;
+      boxes = refl;
+      told = λ told. subst (AreTold c.args.self.history) gives.0 told;
+    }
+
+pub loop-pass-preserved : goal.loop-pass-preserved
+loop-pass-preserved g c =
+    let was = c.loop-pass.invariant in
+    let pass = c.in-Some.pass in
+    let history = c.args.self.history in
+    let rest = into_iter_items c.next.new.self in
+    let items = c.in-Some.ensures.steps.0 in
+    let fewer = c.in-Some.ensures.steps.1 in
+    let left = ap length items in
+    let many = was.many in
+    let all = ap (λ s. s.knows.all) was.sight ∙ ap (λ v. v.all) c.self.invariant.1 ∙ ap (λ s. s.history) c.self.view_is in
+    let boxes = was.boxes ∙ c.into_parts-core.ensures.boxes in
+    let there : pass.line < length c.self.inside.switch.boxes = let before = c.hear.ensures.there in let same = ap length boxes in omega (arith, before, same) in
+    let put = ap (λ bs. (box_at bs pass.line).put) boxes ∙ c.into_parts-core.ensures.kept.put pass.line there ∙ ap (λ s. put_out_to pass.line s.history) c.self.view_is in
+    let one : IsTold history pass = record {
+      seen = subst (λ h. StartsWith h pass.seen) all c.hear.ensures.seen;
+      own = ap (handed pass.line) (sym all) ∙ c.hear.ensures.own;
+      taken = subst (IsPrefix pass.taken) put c.hear.ensures.taken;
+    } in
+    record {
+      can_next = tt;
+      is_finite = tt;
+      many = omega (arith, left, fewer, many);
+      sight = c.hear.ensures.keeper ∙ was.sight;
+      boxes = c.hear.ensures.boxes ∙ was.boxes;
+      told = λ told. was.told (subst (AreTold history) (sym items) (All-cons (IsTold history) pass rest one told));
+    }
+
+pub returns-clause-told : goal.returns-clause-told
+returns-clause-told g c =
+    let was = c.loop-pass.invariant in
+    let history = c.args.self.history in
+    let none = nil_from_length (into_iter_items c.loop-pass.pass-iterator) (was.many ∙ c.in-None.ensures.steps.0) in
+    let book = ap (λ b. b.history) c.new.ensures ∙ c.into_parts-core.ensures.history ∙ ap (λ s. s.history) c.self.view_is in
+    subst (λ h. AreTold h c.args.passes.items) (sym book) (was.told (subst (AreTold history) (sym none) (All-nil (IsTold history))))

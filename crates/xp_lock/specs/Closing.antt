@@ -1,0 +1,38 @@
+-- What the passes of a closed exchange tell, and which pass is missing.
+use Rattle.std.specs.Prelude.{◌≡◌, ℕ, ◌<◌, ◌==◌, ◌||◌, Bool, true, false, List, [], ◌∷◌, All}
+use mathlib.Core.List.{IsPrefix}
+use Rattle.xp_subs.specs.Tables.{Tables}
+use Rattle.xp_core.specs.declared.entry.Entry.{Entry}
+use Rattle.xp_lock.specs.Handed.{handed}
+use Rattle.xp_lock.specs.Outgoing.{put_out_to}
+use Rattle.xp_lock.specs.Passes.{Pass, mine}
+use Rattle.xp_lock.specs.Views.{StartsWith}
+
+pub record Closed (A : Type 0) : Type 0 where
+  pub subs : Tables
+  pub history : List (Entry A)
+
+module _ {A : Type 0} where
+  -- what the line saw is a front of the history, its own entries there are those that it knows, and what it took is a
+  -- front of what was put out to it
+  pub record IsTold (history : List (Entry A)) (pass : Pass A) : Type 0 where
+    pub seen : StartsWith history pass.seen
+    pub own : handed pass.line history ≡ mine pass
+    pub taken : IsPrefix pass.taken (put_out_to pass.line history)
+
+  abbrev pub AreTold : List (Entry A) → List (Pass A) → Type 0
+  AreTold history passes = All (IsTold history) passes
+
+  abbrev pub has_line : ℕ → List (Pass A) → Bool
+  has_line line [] = false
+  has_line line (pass ∷ passes) = (pass.line == line) || has_line line passes
+
+  -- of so many lines, each has its pass here
+  abbrev pub HasAll : ℕ → List (Pass A) → Type 0
+  HasAll lines passes = (line : ℕ) → line < lines → has_line line passes ≡ true
+
+  -- the lowest line whose pass is not here
+  pub record IsMissing (lines : ℕ) (passes : List (Pass A)) (line : ℕ) : Type 0 where
+    pub within : line < lines
+    pub missing : has_line line passes ≡ false
+    pub lowest : HasAll line passes

@@ -1,0 +1,60 @@
+-- How the stalls that an event forces are entered.
+use Rattle.std.specs.Prelude.{◌≡◌, ℕ, ◌+◌, ◌≤◌, true, false, List, [], ◌∷◌, ◌++◌, drop, length, take}
+use Rattle.xp_outbox.specs.Ends.{Putting}
+use Rattle.xp_core.specs.declared.entry.Entry.{Entry}
+use Rattle.xp_core.specs.declared.event.Event.{Event}
+use Rattle.xp_core.specs.declared.output.Outgoing.{Outgoing}
+use Rattle.xp_core.specs.Channel.{is_off}
+use Rattle.xp_core.specs.Exchange.{Exchange, world_of}
+use Rattle.xp_core.specs.Run.{world_after}
+use Rattle.xp_core.specs.Step.{Step}
+use Rattle.xp_core.specs.World.{state_at}
+use Rattle.xp_lock.specs.Boxes.{AreKept, PLACES_KEPT, box_at}
+use Rattle.xp_lock.specs.Forced.{IsQuiet, Stalls}
+use Rattle.xp_lock.specs.Handed.{is_stall}
+use Rattle.xp_lock.specs.Outgoing.{put_out_to}
+use Rattle.xp_lock.specs.Switch.{HasPlaces, Switch, is_up}
+
+-- how many places are left to a line in service after an event: some for stalls
+abbrev pub PLACES_LEFT : ℕ
+PLACES_LEFT = 7
+
+module _ {A : Type 0} where
+  abbrev pub switch_of : Exchange A → List (Putting (Outgoing A)) → Switch A
+  switch_of core boxes = record { subs = core.subs; history = core.history; boxes = boxes; halted = false }
+
+  -- the event can be entered
+  pub record CanEnter (core : Exchange A) (event : Event A) (boxes : List (Putting (Outgoing A))) : Type 0 where
+    pub kept : AreKept core.subs core.history boxes
+    pub places : HasPlaces (switch_of core boxes)
+    pub kind : is_stall event.what ≡ false
+    pub room : is_up event.what ≡ true → PLACES_KEPT ≤ (box_at boxes event.line).free
+
+  -- the event's entry is the last, and what it put out is in the outboxes
+  pub record HasEntered (core : Exchange A) (from : ℕ) (boxes : List (Putting (Outgoing A))) : Type 0 where
+    pub before : List (Entry A)
+    pub entry : Entry A
+    pub history : core.history ≡ before ++ entry ∷ []
+    pub count : from ≡ length before
+    pub kind : is_stall entry.event.what ≡ false
+    pub step : Step core.subs before (world_after core.subs before) entry (world_of core)
+    pub journal : length before + 4 ≤ core.subs.journal
+    pub places : (line : ℕ) → is_off (state_at (world_of core) line) ≡ false → PLACES_LEFT ≤ (box_at boxes line).free
+
+  -- the stalls that it forces are entered too
+  pub record HasStalled (core : Exchange A) (from : ℕ) (boxes : List (Putting (Outgoing A))) (new : Exchange A) (after : List (Putting (Outgoing A))) : Type 0 where
+    pub stalls : List (Entry A)
+    pub known : ℕ → ℕ
+    pub forced : Stalls core.subs (take from core.history) (world_of core) known (drop from core.history) stalls (world_of new)
+    pub quiet : IsQuiet (world_of new) known (drop from core.history ++ stalls)
+    pub few : length stalls ≤ 3
+    pub history : new.history ≡ core.history ++ stalls
+    pub subs : new.subs ≡ core.subs
+    -- no line comes into service
+    pub stays : (line : ℕ) → is_off (state_at (world_of new) line) ≡ false → is_off (state_at (world_of core) line) ≡ false
+    pub count : length after ≡ length boxes
+    pub queues : (line : ℕ) → (box_at after line).queue ≡ (box_at boxes line).queue
+    pub capacities : (line : ℕ) → (box_at after line).capacity ≡ (box_at boxes line).capacity
+    pub put : (line : ℕ) → (box_at after line).put ≡ (box_at boxes line).put ++ put_out_to line stalls
+    pub free : (line : ℕ) → (box_at after line).free + length (put_out_to line (drop from core.history ++ stalls)) ≡ known line
+    pub least : (line : ℕ) → (box_at boxes line).free + length (put_out_to line (drop from core.history)) ≤ known line

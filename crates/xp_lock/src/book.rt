@@ -1,0 +1,66 @@
+//! The closed book of an exchange.
+
+ghost use Rattle.std.specs.Prelude.{◌≡◌};
+ghost use Rattle.xp_core.specs.Coupling.{AreCoupled};
+ghost use Rattle.xp_core.specs.Records.{OneRecordEach, records_of};
+ghost use Rattle.xp_core.specs.Run.{Run, world_after};
+ghost use Rattle.xp_core.specs.View.{view_of};
+ghost use Rattle.xp_core.specs.World.{line_at};
+
+use std::alloc::{Allocator, Global};
+use std::marker::Model;
+use xp_core::{Core, Entry, LineView, Record};
+use xp_subs::{LineNo, Subs};
+
+/// What a closed exchange leaves: its history, and all that can be read off it.
+#[derive(Drop)]
+pub struct Book<A: Allocator = Global> {
+    core: Core<A>,
+}
+
+impl<A: Allocator> Model for Book<A> {
+    ghost use Rattle.xp_lock.specs.Closing.{Closed};
+
+    ghost Value = { Closed A };
+
+    ghost view = { λ b. record { subs = b.core.subs; history = b.core.history } };
+}
+
+impl<A: Allocator> Book<A> {
+    pub(crate) fn new(core: Core<A>) -> Book<A>
+        ensures { result ≡ record { subs = core.subs; history = core.history } }
+    {
+        Book { core }
+    }
+
+    /// All entries, which lead to the last state.
+    pub fn history(&self) -> &[Entry<A>]
+        ensures entries { result.now ≡ self.now.history }
+        ensures run { Run self.now.subs self.now.history (world_after self.now.subs self.now.history) }
+    {
+        self.core.history()
+    }
+
+    /// The records of the ended calls, in the order in which they ended: one for each of them, and no other.
+    pub fn records(&self) -> &[Record]
+        ensures records { result.now ≡ records_of self.now.history }
+        ensures one_each { OneRecordEach self.now.subs self.now.history (world_after self.now.subs self.now.history) }
+    {
+        self.core.records()
+    }
+
+    /// What could be seen of a line at last.
+    pub fn line(&self, line: LineNo) -> LineView
+        ensures view { result ≡ view_of (line_at (world_after self.now.subs self.now.history) line) }
+        ensures coupled { AreCoupled self.now.subs (world_after self.now.subs self.now.history) }
+    {
+        self.core.line(line)
+    }
+
+    /// The subscriptions.
+    pub fn subs(&self) -> &Subs
+        ensures { result.now ≡ self.now.subs }
+    {
+        self.core.subs()
+    }
+}

@@ -1,0 +1,130 @@
+//! The exchange that threads share.
+
+ghost use Rattle.std.specs.Prelude.{◌≡◌, [], ◌∷◌, ◌++◌, false, IfErr, IfNone, IfOk, IfSome, OnErr};
+ghost use Rattle.xp_outbox.specs.Rule.{HeldAtSomeMoment, taker};
+ghost use Rattle.xp_subs.specs.Tables.{line_count};
+ghost use Rattle.xp_core.specs.Exchange.{IsReadable};
+ghost use Rattle.xp_lock.specs.Closing.{AreTold, HasAll, IsMissing};
+ghost use Rattle.xp_lock.specs.Faults.{event_in};
+ghost use Rattle.xp_lock.specs.Handed.{is_stall};
+ghost use Rattle.xp_lock.specs.Passes.{Freshens, IsLegal};
+
+use crate::book::Book;
+use crate::done::Done;
+use crate::fault::{CloseFault, OfferFault};
+use crate::keeper::Keeper;
+use crate::missing::first_missing;
+use crate::name::Name;
+use crate::pass::LinePass;
+use crate::word::Word;
+use std::alloc::{Allocator, Global};
+use std::marker::Model;
+use std::sync::{Mutex, Wait};
+use xp_core::{Event, Outgoing};
+use xp_subs::LineNo;
+
+/// The exchange that threads share.
+#[derive(Drop)]
+pub struct Exchange<N: Name, A: Allocator = Global> {
+    lock: Mutex<Keeper<N, A>>,
+    word: Word<A>,
+    lines: LineNo,
+}
+
+impl<N: Name, A: Allocator> Model for Exchange<N, A> {
+    ghost use Rattle.std.specs.Prelude.{◌≡◌, ℕ};
+    ghost use Rattle.xp_subs.specs.Tables.{line_count};
+
+    ghost Value = { ℕ };
+
+    ghost view = { λ _. 0 };
+
+    ghost invariant = { λ x. (x.word ≡ N.word) × (x.lines ≡ line_count N.subs) };
+}
+
+impl<N: Name, A: Allocator + Copy> Exchange<N, A> {
+    pub(crate) fn new(keeper: Keeper<N, A>, word: Word<A>, lines: LineNo) -> Exchange<N, A>
+        requires word { word ≡ N.word }
+        requires lines { lines ≡ line_count N.subs }
+    {
+        Exchange {
+            lock: Mutex::new(keeper),
+            word,
+            lines,
+        }
+    }
+
+    /// Takes the lock, and one event of the pass's line, with the stalls that it forces.
+    ///
+    /// # Errors
+    ///
+    /// Those of `Keeper::take`. Then the event comes back, and the pass is as it was.
+    pub fn offer<R: Wait>(
+        &self,
+        rt: &R,
+        pass: &mut LinePass<N, A>,
+        event: Event<A>,
+    ) -> Result<Done, OfferFault<A>>
+        requires line { event.line ≡ pass.old.line }
+        requires readable { IsReadable event.what }
+        requires kind { is_stall event.what ≡ false }
+        ensures ok { IfOk result (λ done. Freshens N.subs pass.old event done pass.new) }
+        ensures err { IfErr result (λ fault. event_in fault ≡ event) }
+        ensures pass { OnErr result (pass.new ≡ pass.old) }
+    {
+        self.lock.lock(rt).take(rt, &self.word, pass, event)
+    }
+
+    /// Takes the oldest output of the pass's line. It takes no lock.
+    pub fn next_out<R: Wait>(&self, rt: &R, pass: &mut LinePass<N, A>) -> Option<Outgoing<A>>
+        ensures item { IfSome result (λ item. pass.new ≡ record pass.old { taken = pass.old.taken ++ item ∷ [] }) }
+        ensures none { IfNone result (pass.new ≡ pass.old) }
+        ensures empty { IfNone result (HeldAtSomeMoment (taker pass.old.taken) 0) }
+    {
+        pass.next_out(rt)
+    }
+
+    /// Refuses every later offer.
+    pub fn halt<R: Wait>(&self, rt: &R) {
+        self.lock.lock(rt).halt();
+    }
+
+    /// Whether every offer is refused.
+    pub fn halted<R: Wait>(&self, rt: &R) -> bool {
+        self.lock.lock(rt).is_halted()
+    }
+
+    /// Closes the exchange, where all passes are here.
+    ///
+    /// # Errors
+    ///
+    /// The lowest line whose pass is not here. Then all is handed back.
+    pub fn close<R: Wait>(
+        self,
+        rt: &R,
+        passes: Vec<LinePass<N, A>, A>,
+    ) -> Result<Book<A>, CloseFault<N, A>>
+        ensures all { IfOk result (λ _. HasAll (line_count N.subs) passes.items) }
+        ensures subs { IfOk result (λ book. book.subs ≡ N.subs) }
+        ensures legal { IfOk result (λ book. IsLegal book.subs book.history) }
+        ensures told { IfOk result (λ book. AreTold book.history passes.items) }
+        ensures missing { IfErr result (λ fault. IsMissing (line_count N.subs) passes.items fault.line) }
+        ensures passes { IfErr result (λ fault. fault.passes.items ≡ passes.items) }
+    {
+        if let Some(line) = first_missing(self.lines, passes.as_slice()) {
+            return Err(CloseFault {
+                line,
+                exchange: self,
+                passes,
+            });
+        }
+        let Exchange {
+            lock,
+            word,
+            lines: _,
+        } = self;
+        let book = lock.into_inner().close(rt, &word, passes);
+        let _legal = book.history();
+        Ok(book)
+    }
+}

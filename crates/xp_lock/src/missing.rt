@@ -1,0 +1,36 @@
+//! Which pass is missing.
+
+ghost use Rattle.std.specs.Prelude.{◌≡◌, IfNone, IfSome};
+ghost use Rattle.xp_lock.specs.Closing.{HasAll, IsMissing, has_line};
+
+use crate::name::Name;
+use crate::pass::LinePass;
+use std::alloc::Allocator;
+use xp_subs::LineNo;
+
+/// The lowest of so many lines whose pass is not here.
+pub fn first_missing<N: Name, A: Allocator>(
+    lines: LineNo,
+    passes: &[LinePass<N, A>],
+) -> Option<LineNo>
+    ensures missing { IfSome result (IsMissing lines passes.now) }
+    ensures all { IfNone result (HasAll lines passes.now) }
+{
+    for line in 0..lines {
+        if !is_here(line, passes) {
+            return Some(line);
+        }
+    }
+    None
+}
+
+fn is_here<N: Name, A: Allocator>(line: LineNo, passes: &[LinePass<N, A>]) -> bool
+    ensures { result ≡ has_line line passes.now }
+{
+    for pass in passes {
+        if pass.line() == line {
+            return true;
+        }
+    }
+    false
+}

@@ -1,0 +1,5 @@
+//! Tests of the exchange under a lock.
+#![tactic(auto)]
+
+#[cfg(test)]
+mod offers;
