@@ -1,31 +1,37 @@
 -- Whom a step puts something out to, and who comes into service by it.
-use Rattle.std.proofs.Common.{◌≡◌, ◌≢◌, ℕ, suc, ◌<◌, ◌≤◌, ◌⊎◌, Bool, true, false, cond, eqb, Option, Some, None, List, [], ◌∷◌, filter, length, map, set, get_or, refl, ap, sym, subst, ◌∙◌, inl, inr, arith}
+use Rattle.std.proofs.Common.{◌≡◌, ℕ, suc, ◌<◌, ◌≤◌, ◌⊎◌, Bool, true, false, cond, eqb, Option, Some, None, List, [], ◌∷◌, ◌++◌, All, filter, length, map, set, get_or, refl, ap, sym, subst, ◌∙◌, inl, inr, arith, length-append}
 use Rattle.std.proofs.lemmas.Bool.{cases_eq, cond_both, ne_eqb}
+use Rattle.std.proofs.lemmas.List.Elements.{All-head, All-nil, All-tail, All-weaker}
 use Rattle.std.proofs.Common.{get_or-set_other}
+use Rattle.std.specs.List.{AllByRecursion}
+use Rattle.xp_causes.specs.declared.clearing_cause.TheConstants.{NUMBER_BUSY, OUT_OF_ORDER, REMOTE_PROCEDURE_ERROR}
+use Rattle.xp_causes.specs.declared.diagnostic.TheConstants.{CALL_COLLISION, NO_ADDITIONAL_INFORMATION, TIMER_EXPIRED_FOR_INCOMING_CALL}
+use Rattle.xp_channel.specs.declared.action.Action.{Action}
+use Rattle.xp_channel.specs.declared.action.Action.TheVariants.{Nothing, Rise, Fall, NewCall, Collision, Answer, Confirm, Free, Error, Relayed, Expired}
+use Rattle.xp_channel.specs.declared.kind.Kind.{Kind}
+use Rattle.xp_channel.specs.declared.kind.Kind.TheVariants as kinds
+use Rattle.xp_channel.specs.Kinds.{kind_of as packet_kind}
+use Rattle.xp_channel.specs.Table.{cell}
 use Rattle.xp_packets.specs.declared.packet.Packet.{Packet}
 use Rattle.xp_packets.specs.declared.packet.Packet.TheVariants as packets
 use Rattle.xp_subs.specs.Tables.{Tables}
 use Rattle.xp_core.specs.declared.entry.Entry.{Entry}
 use Rattle.xp_core.specs.declared.event.What.{What}
 use Rattle.xp_core.specs.declared.event.What.TheVariants as events
+use Rattle.xp_core.specs.declared.outcome.Outcome.{Outcome}
+use Rattle.xp_core.specs.declared.outcome.Outcome.TheVariants.{Plain, Put, Refused, Connected, Declined}
 use Rattle.xp_core.specs.declared.output.Output.{Output}
-use Rattle.xp_core.specs.declared.table.Action.{Action}
-use Rattle.xp_core.specs.declared.table.Action.TheVariants.{Nothing, Rise, Fall, NewCall, Answer, Confirm, Free}
-use Rattle.xp_core.specs.declared.table.Kind.{Kind}
-use Rattle.xp_core.specs.declared.table.Kind.TheVariants as kinds
-use Rattle.xp_core.specs.declared.verdict.Verdict.{Verdict}
-use Rattle.xp_core.specs.declared.verdict.Verdict.TheVariants.{Take, Refuse}
-use Rattle.xp_core.specs.Causes.{OUT_OF_ORDER, NO_ADDITIONAL_INFORMATION}
-use Rattle.xp_core.specs.Changes.{Change, Rises, Way, GoesOut, IsConfirmed, IsFree, all_changed, outputs_of}
-use Rattle.xp_core.specs.Channel.{State, Off, Ready, Waiting, Ringing, Talking, Cleared, call_of, is_off}
-use Rattle.xp_core.specs.Clearing.{cause_told, diagnostic_told}
+use Rattle.xp_core.specs.Acts.{Acts, Answers, Confirms, IsAnswered, IsPlain, IsRequested, Requests, cancelled_told, closed, told_of_error, told_of_fall}
+use Rattle.xp_core.specs.Changes.{Change, Rises, Leaves, Begins, IsRefused, Connects, Ends, Way, all_changed, changed}
+use Rattle.xp_core.specs.Channel.{State, Off, Ready, Waiting, Ringing, Talking, Cleared, channel_of, is_off}
 use Rattle.xp_core.specs.Coupling.{AreCoupled}
 use Rattle.xp_core.specs.Setting.{Setting, setting}
-use Rattle.xp_core.specs.Step.{Chooses, IsDecided, Step, action_at, answers, confirms, does, leaves, requests}
-use Rattle.xp_core.specs.Table.{CallRequest, accepted_in, cell, clear_in, kind_of, packet_kind, request_in}
+use Rattle.xp_core.specs.Step.{Step, changes_of, does}
+use Rattle.xp_core.specs.Table.{CallAccepted, CallRequest, ClearRequest, accepted_in, action_at, clear_in, kind_of, request_in}
+use Rattle.xp_core.specs.Told.{Told, clear_indication, nothing_told, outputs_of, send_far}
 use Rattle.xp_core.specs.World.{Call, Line, World, call_numbered, call_on, far_end, off_line, state_at}
-use Rattle.xp_core.proofs.Idle.{idle_ready}
-use Rattle.xp_core.proofs.InCall.{shown_on}
+use Rattle.xp_core.proofs.Idle.{IsReadyFor, taken_ready}
+use Rattle.xp_core.proofs.Origins.{ComesOf, IsSent, all_come, all_sent, closing, confirming, clearing, refusing, clearing_far, carrying_on, connecting, ringing}
 use Rattle.xp_lock.specs.Outgoing.{to_line}
 use Rattle.xp_lock.specs.Switch.{is_up}
 
@@ -40,13 +46,36 @@ pub record Touches {A : Type 0} (world : World) (entry : Entry A) (next : World)
 abbrev On : List Line → ℕ → Type 0
 On lines line = is_off (get_or lines line off_line).state ≡ false
 
--- a line comes to another state: those in service before were so, or it is this line
-set_on : (base lines : List Line) (P : ℕ → Type 0) → ((line : ℕ) → On lines line → On base line ⊎ P line) → (at : ℕ) (becomes : Line) → On base at ⊎ P at
-    → (line : ℕ) → On (set lines at becomes) line → On base line ⊎ P line
-set_on base lines P was at becomes here line on = elim (cases_eq line at) [
-  | inl same ↦ subst (λ l. On base l ⊎ P l) (sym same) here
+-- each line of these in service is one of them
+abbrev Brought : (ℕ → Type 0) → List Line → Type 0
+Brought P lines = (line : ℕ) → On lines line → P line
+
+-- one of them comes to another state
+set_on : (P : ℕ → Type 0) (lines : List Line) → Brought P lines → (at : ℕ) (becomes : Line) → P at → Brought P (set lines at becomes)
+set_on P lines was at becomes here line on = elim (cases_eq line at) [
+  | inl same ↦ subst P (sym same) here
   | inr other ↦ was line (ap (λ l. is_off l.state) (sym (get_or-set_other lines at line becomes off_line other)) ∙ on)
 ]
+
+-- the lines that a change moves
+abbrev Moves : (ℕ → Type 0) → Change → Type 0
+Moves P (Rises line) = P line
+Moves P (Leaves line way) = P line
+Moves P (Begins line identifier called dialled setup) = P line × P called
+Moves P (IsRefused line identifier dialled why) = P line
+Moves P (Connects number call agreement) = P call.caller × P call.called
+Moves P (Ends number call line way cause diagnostic) = P line × P (far_end call line)
+
+change_brings : (P : ℕ → Type 0) (change : Change) (world : World) → Moves P change → Brought P world.lines → Brought P (changed change world).lines
+change_brings P (Rises line) world moves was = set_on P world.lines was line _ moves
+change_brings P (Leaves line way) world moves was = set_on P world.lines was line _ moves
+change_brings P (Begins line identifier called dialled setup) world moves was =
+    set_on P (set world.lines line _) (set_on P world.lines was line _ moves.0) called _ moves.1
+change_brings P (IsRefused line identifier dialled why) world moves was = set_on P world.lines was line _ moves
+change_brings P (Connects number call agreement) world moves was =
+    set_on P (set world.lines call.called _) (set_on P world.lines was call.called _ moves.1) call.caller _ moves.0
+change_brings P (Ends number call line way cause diagnostic) world moves was =
+    set_on P (set world.lines (far_end call line) _) (set_on P world.lines was (far_end call line) _ moves.1) line _ moves.0
 
 packet_not_up : {A : Type 0} (packet : Packet A) → packet_kind packet ≡ kinds.Up → ⊥
 packet_not_up (packets.Call d block) e = absurd (cc)
@@ -70,37 +99,27 @@ kind_up (events.WrongFrame wrong) e = absurd (cc)
 kind_up events.Expire e = absurd (cc)
 kind_up events.Stall e = absurd (cc)
 
-rise_kind : (state : State) (kind : Kind) → cell state kind ≡ Rise → kind ≡ kinds.Up
-rise_kind Off kinds.Up e = refl
-rise_kind Off kind e = absurd (cc)
-rise_kind Ready kinds.Up e = refl
-rise_kind Ready kind e = absurd (cc)
-rise_kind (Waiting number) kinds.Up e = refl
-rise_kind (Waiting number) kind e = absurd (cc)
-rise_kind (Ringing number) kinds.Up e = refl
-rise_kind (Ringing number) kind e = absurd (cc)
-rise_kind (Talking number) kinds.Up e = refl
-rise_kind (Talking number) kind e = absurd (cc)
-rise_kind Cleared kinds.Up e = refl
-rise_kind Cleared kind e = absurd (cc)
-
 -- a line out of service only comes into it
-acts_on : (state : State) (kind : Kind) (action : Action) → cell state kind ≡ action → (action ≢ Nothing) → (action ≢ Rise) → is_off state ≡ false
-acts_on Off kinds.Up action e still up = absurd (up (sym e))
-acts_on Off kind action e still up = absurd (still (sym e))
-acts_on Ready kind action e still up = refl
-acts_on (Waiting number) kind action e still up = refl
-acts_on (Ringing number) kind action e still up = refl
-acts_on (Talking number) kind action e still up = refl
-acts_on Cleared kind action e still up = refl
+data AtLine (state : State) (kind : Kind) : Type 0 where
+  in_service : is_off state ≡ false → AtLine state kind
+  rising : kind ≡ kinds.Up → cell (channel_of state) kind ≡ Rise → AtLine state kind
+  unmoved : cell (channel_of state) kind ≡ Nothing → AtLine state kind
 
-in_call : (state : State) (number : ℕ) → call_of state ≡ Some number → is_off state ≡ false
-in_call Off number e = absurd (cc)
-in_call Ready number e = refl
-in_call (Waiting n) number e = refl
-in_call (Ringing n) number e = refl
-in_call (Talking n) number e = refl
-in_call Cleared number e = refl
+at_line : (state : State) (kind : Kind) → AtLine state kind
+at_line Off kinds.Up = rising refl refl
+at_line Off kinds.Down = unmoved refl
+at_line Off kinds.Call = unmoved refl
+at_line Off kinds.Accepted = unmoved refl
+at_line Off kinds.Clear = unmoved refl
+at_line Off kinds.ClearConfirm = unmoved refl
+at_line Off kinds.Relayed = unmoved refl
+at_line Off kinds.Expire = unmoved refl
+at_line Off (kinds.Wrong diagnostic) = unmoved refl
+at_line Ready kind = in_service refl
+at_line (Waiting number) kind = in_service refl
+at_line (Ringing number) kind = in_service refl
+at_line (Talking number) kind = in_service refl
+at_line Cleared kind = in_service refl
 
 module _ {A : Type 0} where
   to_line_few : (line : ℕ) (outputs : List (Output A)) → length (to_line line outputs) ≤ length outputs
@@ -110,134 +129,193 @@ module _ {A : Type 0} where
       let Few : Bool → Type 0 = λ b. length (map (λ (o : Output A). o.outgoing) (cond b (output ∷ filter (λ o. eqb o.line line) outputs) (filter (λ o. eqb o.line line) outputs))) ≤ suc (length outputs) in
       elim (eqb output.line line) as Few [ true ↦ omega (arith, rest) | false ↦ omega (arith, rest) ]
 
-module _ {A : Type 0} (tables : Tables) (before : List (Entry A)) (world : World) (line : ℕ) (coupled : AreCoupled tables world) where
-  abbrev here : Setting A
-  here = setting tables before world line
-
-  abbrev AllOn : List (Output A) → Type 0
-  AllOn [] = Unit {0}
-  AllOn (output ∷ outputs) = On world.lines output.line × AllOn outputs
-
-  served_on : (outputs : List (Output A)) → AllOn outputs → (l : ℕ) → 0 < length (to_line l outputs) → On world.lines l
-  served_on [] all l some = absurd (omega (arith, some))
-  served_on (output ∷ outputs) all l some = elim (cases_eq output.line l) [
-    | inl same ↦ subst (On world.lines) same all.0
-    | inr other ↦ served_on outputs all.1 l
+  -- outputs to such lines go to no other
+  sent_to : (P : ℕ → Type 0) (outputs : List (Output A)) → All (λ (o : Output A). P o.line) outputs → (l : ℕ) → 0 < length (to_line l outputs) → P l
+  sent_to P [] all l some = absurd (omega (arith, some))
+  sent_to P (output ∷ outputs) all l some = elim (cases_eq output.line l) [
+    | inl same ↦ subst P same (All-head (λ (o : Output A). P o.line) output outputs all)
+    | inr other ↦ sent_to P outputs (All-tail (λ (o : Output A). P o.line) output outputs all) l
         (subst (λ b. 0 < length (map (λ (o : Output A). o.outgoing) (cond b (output ∷ filter (λ o. eqb o.line l) outputs) (filter (λ o. eqb o.line l) outputs)))) (ne_eqb output.line l other) some)
   ]
 
-  record Touching (up : Bool) (changes : List (Change A)) : Type 0 where
-    outs : AllOn (outputs_of world changes)
-    few : length (outputs_of world changes) ≤ 17
-    rises : (l : ℕ) → On (all_changed changes world).lines l → On world.lines l ⊎ ((up ≡ true) × (l ≡ line))
+  -- ---- how much is put out
 
-  still : (up : Bool) → Touching up []
-  still up = record { outs = tt; few = omega arith; rises = λ l on. inl on }
+  abbrev Few : Told A → Type 0
+  Few told = (length told.own ≤ 1) × (length told.far ≤ 1) × (length told.taken ≤ 1)
 
-  base : (up : Bool) (l : ℕ) → On world.lines l → On world.lines l ⊎ ((up ≡ true) × (l ≡ line))
-  base up l on = inl on
+  few_in_all : (told : Told A) → Few told → length (outputs_of told) ≤ 17
+  few_in_all told few =
+      let all = length-append (told.own ++ told.far) told.taken in
+      let two = length-append told.own told.far in
+      let a = few.0 in
+      let b = few.1 in
+      let c = few.2 in omega (arith, all, two, a, b, c)
 
-  abbrev By : Bool → ℕ → Type 0
-  By up l = (up ≡ true) × (l ≡ line)
+  these : (this told : Told A) → told ≡ this → Few this → Few told
+  these this told is few = subst Few (sym is) few
 
-  -- both lines of a live call are in service
-  held_on : (number : ℕ) (call : Call) → call_numbered world number ≡ Some call → On world.lines call.caller × On world.lines call.called
-  held_on number call live = elim (coupled.held number call live).stage [
-    | inl put ↦ (ap is_off put.0, ap is_off put.1)
-    | inr accepted ↦ (ap is_off accepted.0, ap is_off accepted.1)
-  ]
+  none_few : (outcome : Outcome) (told : Told A) → IsPlain nothing_told outcome told → Few told
+  none_few outcome told is = these nothing_told told is.1 (omega arith, omega arith, omega arith)
 
-  far_on : (number : ℕ) (call : Call) → call_numbered world number ≡ Some call → On world.lines (far_end call line)
-  far_on number call live = let ends = held_on number call live in
-      cond_both (eqb call.caller line) call.called call.caller (On world.lines) (λ first. ends.1) (λ second. ends.0)
+  far_few : (world : World) (line : ℕ) (found : Option (ℕ × Call)) (packet : Packet A) → length (send_far world line found packet) ≤ 1
+  far_few world line None packet = omega arith
+  far_few world line (Some found) packet = omega arith
 
-  rising : (up : Bool) → up ≡ true → Touching up (Rises line ∷ [])
-  rising up is = record {
-    outs = tt;
-    few = omega arith;
-    rises = set_on world.lines world.lines (By up) (base up) line _ (inr (is, refl));
-  }
+  closed_few : (world : World) (line : ℕ) (what : What A) → length (closed world line what) ≤ 1
+  closed_few world line events.Stall = omega arith
+  closed_few world line events.Up = omega arith
+  closed_few world line events.Down = omega arith
+  closed_few world line (events.Frame identifier packet) = omega arith
+  closed_few world line (events.WrongFrame wrong) = omega arith
+  closed_few world line events.Expire = omega arith
 
-  far_of : (found : ℕ × Call) → call_on world line ≡ Some found → On world.lines (far_end found.1 line)
-  far_of found is = far_on found.0 found.1 (shown_on world line found is).1
+module _ {A : Type 0} (tables : Tables) (world : World) (line : ℕ) where
+  error_few : (diagnostic : ℕ) (told : Told A) → told ≡ told_of_error world line diagnostic → Few told
+  error_few diagnostic told is =
+      these (told_of_error world line diagnostic) told is (omega arith, far_few world line (call_on world line) (clear_indication REMOTE_PROCEDURE_ERROR diagnostic), omega arith)
 
-  both_rise : (up : Bool) (far : ℕ) → On world.lines far → On world.lines line → (x y : Line) (l : ℕ) → On (set (set world.lines far x) line y) l → On world.lines l ⊎ By up l
-  both_rise up far there on x y =
-      set_on world.lines (set world.lines far x) (By up) (set_on world.lines world.lines (By up) (base up) far x (inl there)) line y (inl on)
+  request_few : (far : List (Output A)) (request : CallRequest A) (outcome : Outcome) (told : Told A) → length far ≤ 1
+      → IsRequested tables world line far request outcome told → Few told
+  request_few far request (Put called setup) told few is = these _ told is.told_is (omega arith, few, omega arith)
+  request_few far request (Refused why) told few is = these _ told is.told_is (omega arith, few, omega arith)
+  request_few far request Plain told few is = absurd is
+  request_few far request (Connected agreement) told few is = absurd is
+  request_few far request (Declined diagnostic) told few is = absurd is
 
-  leaving : (up : Bool) (way : Way) (cause diagnostic : ℕ) (found : Option (ℕ × Call)) → call_on world line ≡ found → On world.lines line
-      → Touching up (leaves line way cause diagnostic found ∷ [])
-  leaving up GoesOut cause diagnostic None is on = record { outs = tt; few = omega arith; rises = set_on world.lines world.lines (By up) (base up) line _ (inl on) }
-  leaving up IsConfirmed cause diagnostic None is on = record { outs = (on, tt); few = omega arith; rises = set_on world.lines world.lines (By up) (base up) line _ (inl on) }
-  leaving up IsFree cause diagnostic None is on = record { outs = tt; few = omega arith; rises = set_on world.lines world.lines (By up) (base up) line _ (inl on) }
-  leaving up GoesOut cause diagnostic (Some found) is on =
-      record { outs = (far_of found is, tt); few = omega arith; rises = both_rise up (far_end found.1 line) (far_of found is) on _ _ }
-  leaving up IsConfirmed cause diagnostic (Some found) is on =
-      record { outs = (on, (far_of found is, tt)); few = omega arith; rises = both_rise up (far_end found.1 line) (far_of found is) on _ _ }
-  leaving up IsFree cause diagnostic (Some found) is on =
-      record { outs = (far_of found is, tt); few = omega arith; rises = both_rise up (far_end found.1 line) (far_of found is) on _ _ }
+  requests_few : (far : List (Output A)) (asked : Option (CallRequest A)) (outcome : Outcome) (told : Told A) → length far ≤ 1
+      → Requests tables world line far asked outcome told → Few told
+  requests_few far None outcome told few is = none_few outcome told is
+  requests_few far (Some request) outcome told few is = request_few far request outcome told few is
 
-  requesting : (up : Bool) (asked : Option (CallRequest A)) (choice : Option Verdict) → IsDecided here asked choice → On world.lines line → Touching up (requests tables line asked choice)
-  requesting up None choice chosen on = still up
-  requesting up (Some request) None chosen on = absurd chosen
-  requesting up (Some request) (Some (Take called)) chosen on =
-      let idle = ap is_off (idle_ready world line called chosen.among.1).1 in
-      record {
-        outs = (idle, tt);
-        few = omega arith;
-        rises = set_on world.lines (set world.lines line _) (By up) (set_on world.lines world.lines (By up) (base up) line _ (inl on)) called _ (inl idle);
-      }
-  requesting up (Some request) (Some (Refuse why)) chosen on =
-      record { outs = (on, tt); few = omega arith; rises = set_on world.lines world.lines (By up) (base up) line _ (inl on) }
+  answer_few : (answer : CallAccepted A) (call : Call) (outcome : Outcome) (told : Told A) → IsAnswered tables world line answer call outcome told → Few told
+  answer_few answer call (Connected agreement) told is = these _ told is.told_is (omega arith, omega arith, omega arith)
+  answer_few answer call (Declined diagnostic) told is = error_few diagnostic told is.told_is
+  answer_few answer call Plain told is = absurd is
+  answer_few answer call (Put called setup) told is = absurd is
+  answer_few answer call (Refused why) told is = absurd is
 
-  answering : (up : Bool) (accepted : Option Bool) (found : Option (ℕ × Call)) → call_on world line ≡ found → Touching up (answers tables line accepted found)
-  answering up None found is = still up
-  answering up (Some d) None is = still up
-  answering up (Some d) (Some found) is =
-      let ends = held_on found.0 found.1 (shown_on world line found is).1 in
-      record {
-        outs = (ends.0, tt);
-        few = omega arith;
-        rises = set_on world.lines (set world.lines found.1.called _) (By up) (set_on world.lines world.lines (By up) (base up) found.1.called _ (inl ends.1)) found.1.caller _ (inl ends.0);
-      }
+  answers_few : (accepted : Option (CallAccepted A)) (found : Option (ℕ × Call)) (outcome : Outcome) (told : Told A) → Answers tables world line accepted found outcome told → Few told
+  answers_few None found outcome told is = none_few outcome told is
+  answers_few (Some answer) None outcome told is = none_few outcome told is
+  answers_few (Some answer) (Some found) outcome told is = answer_few answer found.1 outcome told is
 
-  confirming : (up : Bool) (clear : Option (ℕ × Option ℕ)) → On world.lines line → Touching up (confirms line clear (call_on world line))
-  confirming up None on = still up
-  confirming up (Some clear) on = leaving up IsConfirmed (cause_told clear.0) (diagnostic_told clear.1) (call_on world line) refl on
+  confirms_few : (clear : Option (ClearRequest A)) (found : Option (ℕ × Call)) (outcome : Outcome) (told : Told A) → Confirms world line clear found outcome told → Few told
+  confirms_few None found outcome told is = none_few outcome told is
+  confirms_few (Some clear) None outcome told is = these _ told is.1 (omega arith, omega arith, omega arith)
+  confirms_few (Some clear) (Some found) outcome told is = these _ told is.told_is (omega arith, omega arith, omega arith)
 
-  acting : (what : What A) (action : Action) (choice : Option Verdict) → cell (state_at world line) (kind_of what) ≡ action → Chooses here what action choice
-      → Touching (is_up what) (does here what action choice)
-  acting what Nothing choice e chosen = still (is_up what)
-  acting what Rise choice e chosen = rising (is_up what) (kind_up what (rise_kind (state_at world line) (kind_of what) e))
-  acting what Fall choice e chosen =
-      leaving (is_up what) GoesOut OUT_OF_ORDER NO_ADDITIONAL_INFORMATION (call_on world line) refl (acts_on (state_at world line) (kind_of what) Fall e (λ x. absurd (cc)) (λ x. absurd (cc)))
-  acting what NewCall choice e chosen =
-      requesting (is_up what) (request_in what) choice chosen (acts_on (state_at world line) (kind_of what) NewCall e (λ x. absurd (cc)) (λ x. absurd (cc)))
-  acting what Answer choice e chosen = answering (is_up what) (accepted_in what) (call_on world line) refl
-  acting what Confirm choice e chosen =
-      confirming (is_up what) (clear_in what) (acts_on (state_at world line) (kind_of what) Confirm e (λ x. absurd (cc)) (λ x. absurd (cc)))
-  acting what Free choice e chosen = record {
-    outs = tt;
-    few = omega arith;
-    rises = set_on world.lines world.lines (By (is_up what)) (base (is_up what)) line _ (inl (acts_on (state_at world line) (kind_of what) Free e (λ x. absurd (cc)) (λ x. absurd (cc))));
-  }
+module _ {A : Type 0} (at : Setting A) (what : What A) where
+  few_told : (action : Action) (outcome : Outcome) (told : Told A) → Acts at what action outcome told → Few told
+  few_told Nothing outcome told acts = none_few outcome told acts
+  few_told Rise outcome told acts = none_few outcome told acts
+  few_told Fall outcome told acts = these (told_of_fall at.world at.line what) told acts.1
+      (closed_few at.world at.line what, far_few at.world at.line (call_on at.world at.line) (clear_indication OUT_OF_ORDER NO_ADDITIONAL_INFORMATION), omega arith)
+  few_told NewCall outcome told acts = requests_few at.tables at.world at.line [] (request_in what) outcome told (omega arith) acts
+  few_told Collision outcome told acts = requests_few at.tables at.world at.line (cancelled_told at.world at.line) (request_in what) outcome told
+      (far_few at.world at.line (call_on at.world at.line) (clear_indication NUMBER_BUSY CALL_COLLISION)) acts
+  few_told Answer outcome told acts = answers_few at.tables at.world at.line (accepted_in what) (call_on at.world at.line) outcome told acts
+  few_told Confirm outcome told acts = confirms_few at.tables at.world at.line (clear_in what) (call_on at.world at.line) outcome told acts
+  few_told Free outcome told acts = none_few outcome told acts
+  few_told (Error diagnostic) outcome told acts = error_few at.tables at.world at.line diagnostic told acts.1
+  few_told Relayed outcome told acts = none_few outcome told acts
+  few_told Expired outcome told acts = error_few at.tables at.world at.line TIMER_EXPIRED_FOR_INCOMING_CALL told acts.1
+
+  -- ---- whom it goes to, and whom the changes move
+
+  module _ (coupled : AreCoupled at.tables at.world) (P : ℕ → Type 0) (served : Brought P at.world.lines) (own : P at.line) where
+    -- both lines of a live call are in service
+    held_on : (number : ℕ) (call : Call) → call_numbered at.world number ≡ Some call → P call.caller × P call.called
+    held_on number call live = elim (coupled.held number call live).stage [
+      | inl put ↦ (served call.caller (ap is_off put.0), served call.called (ap is_off put.1))
+      | inr accepted ↦ (served call.caller (ap is_off accepted.0), served call.called (ap is_off accepted.1))
+    ]
+
+    far_on : (number : ℕ) (call : Call) → call_numbered at.world number ≡ Some call → P (far_end call at.line)
+    far_on number call live = let ends = held_on number call live in
+        cond_both (eqb call.caller at.line) call.called call.caller P (λ first. ends.1) (λ second. ends.0)
+
+    ready_on : (called : ℕ) → IsReadyFor at.world at.line called → P called
+    ready_on called ready = served called (ap is_off ready.ready)
+
+    to : (l : ℕ) (output : Output A) → output.line ≡ l → P l → P output.line
+    to l output is p = subst P (sym is) p
+
+    sent_on : (output : Output A) → IsSent at what output → P output.line
+    sent_on output (closing is) = to at.line output (ap (λ o. o.line) is) own
+    sent_on output (confirming is) = to at.line output (ap (λ o. o.line) is) own
+    sent_on output (clearing cause diagnostic is) = to at.line output (ap (λ o. o.line) is) own
+    sent_on output (refusing request why asks is) = to at.line output (ap (λ o. o.line) is) own
+    sent_on output (clearing_far found cause diagnostic live is) = to (far_end found.1 at.line) output (ap (λ o. o.line) is) (far_on found.0 found.1 live)
+    sent_on output (carrying_on found clear packet live clears carried is) = to (far_end found.1 at.line) output (ap (λ o. o.line) is) (far_on found.0 found.1 live)
+    sent_on output (connecting found answer connection live accepts answered is) = to found.1.caller output (ap (λ o. o.line) is) (held_on found.0 found.1 live).0
+    sent_on output (ringing request ring packet asks decided incoming is) =
+        to ring.line output (ap (λ o. o.line) is) (ready_on ring.line (taken_ready at.tables at.world at.line request.block ring decided))
+
+    moves_on : (change : Change) → ComesOf at what change → Moves P change
+    moves_on (Rises line) from = subst P (sym from) own
+    moves_on (Leaves line way) from = subst P (sym from) own
+    moves_on (Begins line identifier called dialled setup) from = (
+      subst P (sym from.asked.line_is) own,
+      subst P (sym from.called_is) (ready_on from.ring.line (taken_ready at.tables at.world at.line from.asked.request.block from.ring from.decided)),
+    )
+    moves_on (IsRefused line identifier dialled why) from = subst P (sym from.line_is) own
+    moves_on (Connects number call agreement) from = held_on number call from.live
+    moves_on (Ends number call line way cause diagnostic) from =
+        (subst P (sym from.1) own, subst (λ l. P (far_end call l)) (sym from.1) (far_on number call from.0))
+
+    changes_bring : (changes : List Change) (world : World) → AllByRecursion (ComesOf at what) changes → Brought P world.lines → Brought P (all_changed changes world).lines
+    changes_bring [] world from was = was
+    changes_bring (change ∷ changes) world from was =
+        changes_bring changes (changed change world) from.1 (change_brings P change world (moves_on change from.0) was)
 
 module _ {A : Type 0} (tables : Tables) (before : List (Entry A)) (world : World) (entry : Entry A) (next : World) (coupled : AreCoupled tables world) (step : Step tables before world entry next) where
-  touching : Touching tables before world entry.event.line coupled (is_up entry.event.what) step.changes
-  touching =
-      subst (λ changes. Touching tables before world entry.event.line coupled (is_up entry.event.what) changes) (sym step.acts)
-      (acting tables before world entry.event.line coupled entry.event.what (action_at world entry.event) step.choice refl step.chosen)
+  abbrev here : Setting A
+  here = setting tables before world entry.event.line
+
+  abbrev action : Action
+  action = action_at world entry.event
+
+  -- in service before, or by this event
+  abbrev Known : ℕ → Type 0
+  Known line = On world.lines line ⊎ ((is_up entry.event.what ≡ true) × (line ≡ entry.event.line))
+
+  base : Brought Known world.lines
+  base line on = inl on
+
+  -- nothing is told
+  silent : step.told ≡ nothing_told → (line : ℕ) → 0 < length (to_line line entry.outputs) → On world.lines line
+  silent is line some =
+      sent_to (On world.lines) [] (All-nil (λ (o : Output A). On world.lines o.line)) line (subst (λ os. 0 < length (to_line line os)) (step.outputs ∙ ap outputs_of is) some)
+
+  moved : Known entry.event.line → Brought Known next.lines
+  moved own =
+      subst (λ (w : World). Brought Known w.lines) (sym step.leads)
+      (changes_bring here entry.event.what coupled Known base own (changes_of tables before world entry) world
+      (all_come here entry.event.what action entry.outcome step.told step.acts) base)
 
   pub touches : Touches world entry next
-  touches = record {
-    served = λ line some.
-        served_on tables before world entry.event.line coupled (outputs_of world step.changes) touching.outs line
-        (subst (λ os. 0 < length (to_line line os)) step.outputs some);
-    rises = λ line on. touching.rises line (ap (λ w. is_off (state_at w line)) (sym step.leads) ∙ on);
-  }
+  touches = elim (at_line (state_at world entry.event.line) (kind_of entry.event.what)) [
+    | in_service on ↦ record {
+      served = λ line some.
+          sent_to (On world.lines) (outputs_of step.told)
+          (All-weaker (IsSent here entry.event.what) (λ (o : Output A). On world.lines o.line)
+          (sent_on here entry.event.what coupled (On world.lines) (λ l is. is) on) (outputs_of step.told)
+          (all_sent here entry.event.what action entry.outcome step.told step.acts))
+          line (subst (λ os. 0 < length (to_line line os)) step.outputs some);
+      rises = moved (inl on);
+    }
+    | rising up is ↦
+        let acts : Acts here entry.event.what Rise entry.outcome step.told = subst (λ a. Acts here entry.event.what a entry.outcome step.told) is step.acts in
+        record { served = silent acts.1; rises = moved (inr (kind_up entry.event.what up, refl)) }
+    | unmoved is ↦
+        let acts : Acts here entry.event.what Nothing entry.outcome step.told = subst (λ a. Acts here entry.event.what a entry.outcome step.told) is step.acts in
+        let same : next ≡ world = step.leads ∙ ap (λ a. all_changed (does here entry.event.what a entry.outcome) world) is in
+        record { served = silent acts.1; rises = subst (λ (w : World). Brought Known w.lines) (sym same) base }
+  ]
 
   pub few_to_each : (line : ℕ) → length (to_line line entry.outputs) ≤ 17
   few_to_each line =
-      let most : length (outputs_of world step.changes) ≤ 17 = touching.few in
-      let fewer = to_line_few line (outputs_of world step.changes) in
-      subst (λ os. length (to_line line os) ≤ 17) (sym step.outputs) (omega (arith, most, fewer))
+      let each : length (to_line line entry.outputs) ≤ length entry.outputs = to_line_few line entry.outputs in
+      let few : length (outputs_of step.told) ≤ 17 = few_in_all step.told (few_told here entry.event.what action entry.outcome step.told step.acts) in
+      let same : length entry.outputs ≡ length (outputs_of step.told) = ap length step.outputs in
+      omega (arith, each, few, same)

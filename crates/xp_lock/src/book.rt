@@ -9,7 +9,8 @@ ghost use Rattle.xp_core.specs.World.{line_at};
 
 use std::alloc::{Allocator, Global};
 use std::marker::Model;
-use xp_core::{Core, Entry, LineView, Record};
+use xp_charge::Record;
+use xp_core::{Core, Entry, LineView};
 use xp_subs::{LineNo, Subs};
 
 /// What a closed exchange leaves: its history, and all that can be read off it.
