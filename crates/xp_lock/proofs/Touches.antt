@@ -22,7 +22,7 @@ use Rattle.xp_core.specs.declared.outcome.Outcome.{Outcome}
 use Rattle.xp_core.specs.declared.outcome.Outcome.TheVariants.{Plain, Put, Refused, Connected, Declined}
 use Rattle.xp_core.specs.declared.output.Output.{Output}
 use Rattle.xp_core.specs.Acts.{Acts, Answers, Confirms, IsAnswered, IsPlain, IsRequested, Requests, cancelled_told, closed, told_of_error, told_of_fall}
-use Rattle.xp_core.specs.Changes.{Change, Rises, Leaves, Begins, IsRefused, Connects, Ends, Way, all_changed, changed}
+use Rattle.xp_core.specs.Changes.{Change, Rises, Leaves, Begins, IsRefused, Connects, Ends, all_changed, changed}
 use Rattle.xp_core.specs.Channel.{State, Off, Ready, Waiting, Ringing, Talking, Cleared, channel_of, is_off}
 use Rattle.xp_core.specs.Coupling.{AreCoupled}
 use Rattle.xp_core.specs.Setting.{Setting, setting}
