@@ -41,10 +41,7 @@ pub fn push_octet<A: Allocator>(text: &mut Vec<u8, A>, octet: u8) -> Result<(), 
 }
 
 /// Adds a space and the digits of an address.
-pub fn push_digits<A: Allocator>(
-    text: &mut Vec<u8, A>,
-    digits: &Digits,
-) -> Result<(), AllocError>
+pub fn push_digits<A: Allocator>(text: &mut Vec<u8, A>, digits: &Digits) -> Result<(), AllocError>
     ensures ok { OnOk result (text.new.items ≡ text.old.items ++ field (digits_text digits.now)) }
     ensures kept { Keeps text.old.items text.new.items }
 {
@@ -56,10 +53,7 @@ pub fn push_digits<A: Allocator>(
 }
 
 /// Adds the characters of digits.
-fn push_characters<A: Allocator>(
-    text: &mut Vec<u8, A>,
-    digits: &Digits,
-) -> Result<(), AllocError>
+fn push_characters<A: Allocator>(text: &mut Vec<u8, A>, digits: &Digits) -> Result<(), AllocError>
     ensures ok { OnOk result (text.new.items ≡ text.old.items ++ text_of digits.now) }
     ensures kept { Keeps text.old.items text.new.items }
 {

@@ -141,6 +141,7 @@ module _ {A : Type 0} where
       gone change leads from = ap (λ w. call_numbered w number) leads ∙ by change from where
         missing : call_numbered mid number ≡ None
         missing = get_gone moment.world.calls number number refl
+
         by : (c : Change) → Comes c → call_numbered (changed c mid) number ≡ None
         by (Begins line identifier called dialled setup) comes =
             get_other mid.calls mid.next _ number (λ same. absurd (omega (arith, same, below))) ∙ missing

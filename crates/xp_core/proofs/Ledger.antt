@@ -155,7 +155,7 @@ module _ {A : Type 0} where
             let mid : World = changed ends world in
             let after = cancel_right tables entries world number call entry.event.line right first in
             let both = tallies_both world mid (changed change mid) (recorded world ends) (recorded mid change) refl
-                (changed_tallies world ends right.sound.fresh first) (changed_tallies mid change after.sound.fresh can) in
+            (changed_tallies world ends right.sound.fresh first) (changed_tallies mid change after.sound.fresh can) in
             subst R (sym is) (subst (P (changed change mid)) (ap (λ more. recorded world ends ++ more) (sym (append-nil (recorded mid change)))) both)
       ]))
 

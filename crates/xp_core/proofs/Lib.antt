@@ -7,6 +7,7 @@ pub mod Coupled
 pub mod Endings
 pub mod Events
 pub mod Existence
+pub mod Few
 pub mod Fitting
 pub mod Fronts
 pub mod Idle

@@ -143,24 +143,24 @@ module _ {A : Type 0} (tables : Tables) (before : List (Entry A)) (world : World
   falling what outcome told is =
       leaving what Fall outcome told GoesOut OUT_OF_ORDER NO_ADDITIONAL_INFORMATION (call_on world line) refl not_new (λ found shows.
       (None, ap (λ t. clears_to (far_end found.1 line) (outputs_of t)) is ∙ fall_told world line found shows what)) where
-    not_new : IsNew Fall → ⊥
-    not_new (inl e) = absurd (cc)
-    not_new (inr e) = absurd (cc)
+        not_new : IsNew Fall → ⊥
+        not_new (inl e) = absurd (cc)
+        not_new (inr e) = absurd (cc)
 
   answering_one : (what : What A) (outcome : Outcome) (told : Told A) (answer : CallAccepted A) (found : ℕ × Call) → call_on world line ≡ Some found
       → IsAnswered tables world line answer found.1 outcome told → Shape here what Answer outcome told (answers line (Some found) outcome)
   answering_one what (Connected agreement) told answer found is acts =
       one (Connects found.0 found.1 agreement) refl (shown_on world line found is).1
       (record { old = not_new; settled = refl; on = is; answer = answer; connected = acts }) where
-    not_new : IsNew Answer → ⊥
-    not_new (inl e) = absurd (cc)
-    not_new (inr e) = absurd (cc)
+        not_new : IsNew Answer → ⊥
+        not_new (inl e) = absurd (cc)
+        not_new (inr e) = absurd (cc)
   answering_one what (Declined diagnostic) told answer found is acts =
       let P : Option (ℕ × Call) → Type 0 = λ c. Shape here what Answer (Declined diagnostic) told (leaves line IsCleared REMOTE_PROCEDURE_ERROR diagnostic c ∷ []) in
       subst P is (erring what Answer (Declined diagnostic) told diagnostic not_new acts.told_is) where
-    not_new : IsNew Answer → ⊥
-    not_new (inl e) = absurd (cc)
-    not_new (inr e) = absurd (cc)
+        not_new : IsNew Answer → ⊥
+        not_new (inl e) = absurd (cc)
+        not_new (inr e) = absurd (cc)
   answering_one what Plain told answer found is acts = absurd acts
   answering_one what (Put called setup) told answer found is acts = absurd acts
   answering_one what (Refused why) told answer found is acts = absurd acts
@@ -174,6 +174,7 @@ module _ {A : Type 0} (tables : Tables) (before : List (Entry A)) (world : World
   answering what outcome told None (Some found) is acts = none (nothing outcome acts.0) (λ request asks new. not_new new) where
     nothing : (o : Outcome) → o ≡ Plain → answers line (Some found) o ≡ []
     nothing o plain = ap (answers line (Some found)) plain
+
     not_new : IsNew Answer → ⊥
     not_new (inl e) = absurd (cc)
     not_new (inr e) = absurd (cc)
@@ -187,9 +188,9 @@ module _ {A : Type 0} (tables : Tables) (before : List (Entry A)) (world : World
     not_new (inr e) = absurd (cc)
   confirming what outcome told (Some clear) None is acts =
       leaving what Confirm outcome told IsFree (cause_told clear.cause) (diagnostic_told clear.diagnostic) None is not_new (λ found shows. absurd (cc)) where
-    not_new : IsNew Confirm → ⊥
-    not_new (inl e) = absurd (cc)
-    not_new (inr e) = absurd (cc)
+        not_new : IsNew Confirm → ⊥
+        not_new (inl e) = absurd (cc)
+        not_new (inr e) = absurd (cc)
   confirming what outcome told (Some clear) (Some found) is acts =
       one (Ends found.0 found.1 line IsFree (cause_told clear.cause) (diagnostic_told clear.diagnostic)) refl (in_call found is) (record {
         old = not_new;
@@ -197,9 +198,9 @@ module _ {A : Type 0} (tables : Tables) (before : List (Entry A)) (world : World
         block = block_with acts.carried.field acts.carried.user;
         tells = ap (λ t. clears_to (far_end found.1 line) (outputs_of t)) acts.told_is ∙ confirmed_told world line found is clear acts.packet acts.carried;
       }) where
-    not_new : IsNew Confirm → ⊥
-    not_new (inl e) = absurd (cc)
-    not_new (inr e) = absurd (cc)
+        not_new : IsNew Confirm → ⊥
+        not_new (inl e) = absurd (cc)
+        not_new (inr e) = absurd (cc)
 
   -- ---- a call request
 

@@ -9,6 +9,7 @@ pub mod Coupling
 pub mod Determined
 pub mod Exchange
 pub mod Existence
+pub mod Few
 pub mod Joined
 pub mod Kept
 pub mod Keyed

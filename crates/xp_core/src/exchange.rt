@@ -46,6 +46,7 @@ impl<A: Allocator> Model for Core<A> {
 
 impl<A: Allocator + Copy> Core<A> {
     ghost use Rattle.xp_core.specs.Exchange.{Advances, IsReadable};
+    ghost use Rattle.xp_core.specs.Few.{AreFew};
     ghost use Rattle.xp_core.specs.Writable.{AreWritable};
 
     /// The exchange of these subscriptions: all lines off, no call made yet, an empty history.
@@ -74,6 +75,7 @@ impl<A: Allocator + Copy> Core<A> {
         requires readable { IsReadable event.what }
         ensures ok { IfOk result (λ told. Advances self.old event self.new told) }
         ensures writable { IfOk result (λ told. AreWritable told.outputs) }
+        ensures few { IfOk result (λ told. AreFew told.outputs) }
         ensures full { self.old.subs.journal < length self.old.history + 4 → result ≡ Err (StepFault.JournalFull event) }
         ensures room { length self.old.history + 4 ≤ self.old.subs.journal → IfErr result (λ fault. fault ≡ StepFault.Memory event) }
         ensures err { OnErr result (self.new ≡ self.old) }

@@ -21,10 +21,7 @@ pub enum Outcome {
     #[default]
     Plain,
     /// A call request: the call was put to this line.
-    Put {
-        line: LineNo,
-        setup: Setup,
-    },
+    Put { line: LineNo, setup: Setup },
     /// A call request: the call was refused.
     Refused(Refusal),
     /// An answer: the call is connected.
@@ -40,10 +37,8 @@ impl Outcome {
     {
         match self {
             Outcome::Put { line, setup: _ } => Some(line),
-            Outcome::Plain
-            | Outcome::Refused(_)
-            | Outcome::Connected(_)
-            | Outcome::Declined(_) => None,
+            Outcome::Plain | Outcome::Refused(_) | Outcome::Connected(_) | Outcome::Declined(_) =>
+                None,
         }
     }
 }

@@ -39,7 +39,14 @@ pub fn answer<A: Allocator + Copy>(
         return Ok(Plan::of(Buffer::with_room(alloc, 0)?));
     };
     let address = subs.address_of(line);
-    match examine(alloc, &call.setup, address, &call.dialled, answer.d, answer.block)? {
+    match examine(
+        alloc,
+        &call.setup,
+        address,
+        &call.dialled,
+        answer.d,
+        answer.block,
+    )? {
         Answer::Connected(connection) => {
             let outputs = Buffer::with_room(alloc, 1)?;
             Ok(connect(machine, line, call, connection, outputs))

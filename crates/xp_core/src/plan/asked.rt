@@ -67,12 +67,11 @@ pub fn clear_in<'a, A: Allocator>(what: &'a What<A>) -> Option<ClearRequest<'a, 
 {
     match what {
         What::Frame {
-            packet:
-                Packet::Clear {
-                    cause,
-                    diagnostic,
-                    block,
-                },
+            packet: Packet::Clear {
+                cause,
+                diagnostic,
+                block,
+            },
             ..
         } => Some(ClearRequest {
             cause: *cause,

@@ -105,11 +105,7 @@ fn closing<A: Allocator>(machine: &Machine<A>, line: LineNo, what: &What<A>) -> 
 {
     match what {
         What::Stall => Some(close(machine, line)),
-        What::Up
-        | What::Down
-        | What::Frame { .. }
-        | What::WrongFrame(_)
-        | What::Expire => None,
+        What::Up | What::Down | What::Frame { .. } | What::WrongFrame(_) | What::Expire => None,
     }
 }
 
@@ -122,11 +118,21 @@ pub fn clear_both<A: Allocator>(
 ) -> Result<Plan<A>, AllocError>
     ensures { IfOk result (λ plan. IsPlainPlan plan machine.now (told_of_error machine.now line diagnostic) (leaves line IsCleared REMOTE_ERROR diagnostic (call_on machine.now line) ∷ [])) }
 {
-    let own = send(machine, line, clear_indication(LOCAL_PROCEDURE_ERROR, diagnostic));
+    let own = send(
+        machine,
+        line,
+        clear_indication(LOCAL_PROCEDURE_ERROR, diagnostic),
+    );
     let indication = clear_indication(REMOTE_PROCEDURE_ERROR, diagnostic);
     let far = send_far(machine, line, indication);
     let outputs = Buffer::with_room(alloc, 2)?.with(own).with_some(far);
-    let withdrawal = withdraw(machine, line, Way::IsCleared, REMOTE_PROCEDURE_ERROR, diagnostic);
+    let withdrawal = withdraw(
+        machine,
+        line,
+        Way::IsCleared,
+        REMOTE_PROCEDURE_ERROR,
+        diagnostic,
+    );
     Ok(Plan::of(outputs).withdrawing(withdrawal))
 }
 
@@ -161,6 +167,13 @@ fn carry_on<A: Allocator + Copy>(
         return Ok(None);
     };
     let fast = call.setup.fast;
-    let packet = carry_clear(alloc, fast, clear.cause, clear.diagnostic, clear.block, None)?;
+    let packet = carry_clear(
+        alloc,
+        fast,
+        clear.cause,
+        clear.diagnostic,
+        clear.block,
+        None,
+    )?;
     Ok(Some(send(machine, call.far_end(line), packet)))
 }

@@ -88,7 +88,9 @@ pub fn request<A: Allocator + Copy>(
             let packet = incoming_call(alloc, &ring, called, calling, request.d, request.block)?;
             let setup = Setup::of(&ring);
             let line = ring.line;
-            Ok(put(machine, caller, request, line, setup, packet, cancelled, outputs))
+            Ok(put(
+                machine, caller, request, line, setup, packet, cancelled, outputs,
+            ))
         }
     }
 }
@@ -109,7 +111,7 @@ fn put<A: Allocator>(
     ensures outcome { result.outcome ≡ Outcome.Put called setup }
     ensures planned { (ended : List Changing) (far : List (Sent A)) → IsCancelled cancelled machine.now ended far
         → IsPlan result machine.now (taken_told machine.now far called packet)
-            (ended ++ Begins caller request.now.identifier called request.now.block.now.called setup ∷ []) }
+        (ended ++ Begins caller request.now.identifier called request.now.block.now.called setup ∷ []) }
 {
     let begins = Change::Begin {
         caller,
@@ -148,7 +150,7 @@ fn refused<A: Allocator>(
     ensures outcome { result.outcome ≡ Outcome.Refused why }
     ensures planned { (ended : List Changing) (far : List (Sent A)) → IsCancelled cancelled machine.now ended far
         → IsPlan result machine.now (refused_told machine.now far caller request.now.identifier why)
-            (ended ++ IsRefused caller request.now.identifier request.now.block.now.called why ∷ []) }
+        (ended ++ IsRefused caller request.now.identifier request.now.block.now.called why ∷ []) }
 {
     let identifier = request.identifier;
     let indication = clear_indication(why.cause, why.diagnostic);

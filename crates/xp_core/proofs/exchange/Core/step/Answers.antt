@@ -1,3 +1,4 @@
+use Rattle.xp_core.proofs.Few.{outcome_few}
 use Rattle.xp_core.proofs.Showing.{kept_terms, outcome_advances, outcome_fits, outcome_keeps, outcome_shows}
 use Rattle.xp_core.proofs.Sounds.{right_here}
 use Rattle.xp_core.proofs.exchange.Core.step.Goals as goal
@@ -20,3 +21,6 @@ returns-clause-writable g c = outcome_fits _ _ _ _ c.args.event _ _ _ c.advance.
 
 pub returns-clause-err : goal.returns-clause-err
 returns-clause-err g c = outcome_keeps _ _ _ c.advance.result _ c.advance.ensures.history c.self.view_is
+
+pub returns-clause-few : goal.returns-clause-few
+returns-clause-few g c = outcome_few _ _ _ _ c.args.event _ _ _ c.advance.result c.advance.ensures.ok

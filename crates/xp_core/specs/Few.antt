@@ -1,0 +1,13 @@
+-- How much one entry puts out to a line.
+use Rattle.std.specs.Prelude.{ℕ, ◌==◌, ◌≤◌, List, filter, length, map}
+use Rattle.xp_core.specs.declared.output.Outgoing.{Outgoing}
+use Rattle.xp_core.specs.declared.output.Output.{Output}
+
+module _ {A : Type 0} where
+  -- what these outputs are to a line, in order
+  abbrev pub to_line : ℕ → List (Output A) → List (Outgoing A)
+  to_line line outputs = map (λ output. output.outgoing) (filter (λ output. output.line == line) outputs)
+
+  -- a line gets at most so many: windows may be up to 15 packets, with RNR and an interrupt before them
+  abbrev pub AreFew : List (Output A) → Type 0
+  AreFew outputs = (line : ℕ) → length (to_line line outputs) ≤ 17
