@@ -22,7 +22,8 @@ use Rattle.xp_lock.specs.Handed.{is_stall}
 use Rattle.xp_lock.specs.Outgoing.{put_out_to, to_line}
 use Rattle.xp_lock.specs.Stalling.{CanEnter, HasEntered, HasStalled, switch_of}
 use Rattle.xp_lock.specs.Switch.{IsGiven, Takes, is_up}
-use Rattle.xp_lock.proofs.Touches.{Touches, few_to_each, touches}
+use Rattle.xp_core.proofs.Few.{few_of_step}
+use Rattle.xp_lock.proofs.Touches.{Touches, touches}
 
 pub take_front : {X : Type 0} (xs ys : List X) → take (length xs) (xs ++ ys) ≡ xs
 take_front [] [] = refl
@@ -39,7 +40,7 @@ module _ {A : Type 0} (old mid : Exchange A) (event : Event A) (told : Stepped A
   touched = touches old.subs old.history (world_of old) step.entry (world_of mid) coupled step.step
 
   few : (line : ℕ) → length (to_line line told.outputs) ≤ 17
-  few line = subst (λ os. length (to_line line os) ≤ 17) (sym step.outputs) (few_to_each old.subs old.history (world_of old) step.entry (world_of mid) coupled step.step line)
+  few line = subst (λ os. length (to_line line os) ≤ 17) (sym step.outputs) (few_of_step old.subs old.history (world_of old) step.entry (world_of mid) step.step line)
 
   -- a line that is given something was in service
   served : (line : ℕ) → 0 < length (to_line line told.outputs) → is_off (state_at (world_of old) line) ≡ false

@@ -1,13 +1,11 @@
 -- Whom a step puts something out to, and who comes into service by it.
-use Rattle.std.proofs.Common.{◌≡◌, ℕ, suc, ◌<◌, ◌≤◌, ◌⊎◌, Bool, true, false, cond, eqb, Option, Some, None, List, [], ◌∷◌, ◌++◌, All, filter, length, map, set, get_or, refl, ap, sym, subst, ◌∙◌, inl, inr, arith, length-append}
+use Rattle.std.proofs.Common.{◌≡◌, ℕ, ◌<◌, ◌⊎◌, true, false, cond, eqb, Some, List, [], ◌∷◌, All, filter, length, map, set, get_or, refl, ap, sym, subst, ◌∙◌, inl, inr, arith}
 use Rattle.std.proofs.lemmas.Bool.{cases_eq, cond_both, ne_eqb}
 use Rattle.std.proofs.lemmas.List.Elements.{All-head, All-nil, All-tail, All-weaker}
 use Rattle.std.proofs.Common.{get_or-set_other}
 use Rattle.std.specs.List.{AllByRecursion}
-use Rattle.xp_causes.specs.declared.clearing_cause.TheConstants.{NUMBER_BUSY, OUT_OF_ORDER, REMOTE_PROCEDURE_ERROR}
-use Rattle.xp_causes.specs.declared.diagnostic.TheConstants.{CALL_COLLISION, NO_ADDITIONAL_INFORMATION, TIMER_EXPIRED_FOR_INCOMING_CALL}
 use Rattle.xp_channel.specs.declared.action.Action.{Action}
-use Rattle.xp_channel.specs.declared.action.Action.TheVariants.{Nothing, Rise, Fall, NewCall, Collision, Answer, Confirm, Free, Error, Relayed, Expired}
+use Rattle.xp_channel.specs.declared.action.Action.TheVariants.{Nothing, Rise}
 use Rattle.xp_channel.specs.declared.kind.Kind.{Kind}
 use Rattle.xp_channel.specs.declared.kind.Kind.TheVariants as kinds
 use Rattle.xp_channel.specs.Kinds.{kind_of as packet_kind}
@@ -18,18 +16,16 @@ use Rattle.xp_subs.specs.Tables.{Tables}
 use Rattle.xp_core.specs.declared.entry.Entry.{Entry}
 use Rattle.xp_core.specs.declared.event.What.{What}
 use Rattle.xp_core.specs.declared.event.What.TheVariants as events
-use Rattle.xp_core.specs.declared.outcome.Outcome.{Outcome}
-use Rattle.xp_core.specs.declared.outcome.Outcome.TheVariants.{Plain, Put, Refused, Connected, Declined}
 use Rattle.xp_core.specs.declared.output.Output.{Output}
-use Rattle.xp_core.specs.Acts.{Acts, Answers, Confirms, IsAnswered, IsPlain, IsRequested, Requests, cancelled_told, closed, told_of_error, told_of_fall}
+use Rattle.xp_core.specs.Acts.{Acts}
 use Rattle.xp_core.specs.Changes.{Change, Rises, Leaves, Begins, IsRefused, Connects, Ends, all_changed, changed}
 use Rattle.xp_core.specs.Channel.{State, Off, Ready, Waiting, Ringing, Talking, Cleared, channel_of, is_off}
 use Rattle.xp_core.specs.Coupling.{AreCoupled}
 use Rattle.xp_core.specs.Setting.{Setting, setting}
 use Rattle.xp_core.specs.Step.{Step, changes_of, does}
-use Rattle.xp_core.specs.Table.{CallAccepted, CallRequest, ClearRequest, accepted_in, action_at, clear_in, kind_of, request_in}
-use Rattle.xp_core.specs.Told.{Told, clear_indication, nothing_told, outputs_of, send_far}
-use Rattle.xp_core.specs.World.{Call, Line, World, call_numbered, call_on, far_end, off_line, state_at}
+use Rattle.xp_core.specs.Table.{action_at, kind_of}
+use Rattle.xp_core.specs.Told.{nothing_told, outputs_of}
+use Rattle.xp_core.specs.World.{Call, Line, World, call_numbered, far_end, off_line, state_at}
 use Rattle.xp_core.proofs.Idle.{IsReadyFor, taken_ready}
 use Rattle.xp_core.proofs.Origins.{ComesOf, IsSent, all_come, all_sent, closing, confirming, clearing, refusing, clearing_far, carrying_on, connecting, ringing}
 use Rattle.xp_lock.specs.Outgoing.{to_line}
@@ -122,13 +118,6 @@ at_line (Talking number) kind = in_service refl
 at_line Cleared kind = in_service refl
 
 module _ {A : Type 0} where
-  to_line_few : (line : ℕ) (outputs : List (Output A)) → length (to_line line outputs) ≤ length outputs
-  to_line_few line [] = omega arith
-  to_line_few line (output ∷ outputs) =
-      let rest : length (to_line line outputs) ≤ length outputs = to_line_few line outputs in
-      let Few : Bool → Type 0 = λ b. length (map (λ (o : Output A). o.outgoing) (cond b (output ∷ filter (λ o. eqb o.line line) outputs) (filter (λ o. eqb o.line line) outputs))) ≤ suc (length outputs) in
-      elim (eqb output.line line) as Few [ true ↦ omega (arith, rest) | false ↦ omega (arith, rest) ]
-
   -- outputs to such lines go to no other
   sent_to : (P : ℕ → Type 0) (outputs : List (Output A)) → All (λ (o : Output A). P o.line) outputs → (l : ℕ) → 0 < length (to_line l outputs) → P l
   sent_to P [] all l some = absurd (omega (arith, some))
@@ -138,88 +127,7 @@ module _ {A : Type 0} where
         (subst (λ b. 0 < length (map (λ (o : Output A). o.outgoing) (cond b (output ∷ filter (λ o. eqb o.line l) outputs) (filter (λ o. eqb o.line l) outputs)))) (ne_eqb output.line l other) some)
   ]
 
-  -- ---- how much is put out
-
-  abbrev Few : Told A → Type 0
-  Few told = (length told.own ≤ 1) × (length told.far ≤ 1) × (length told.taken ≤ 1)
-
-  few_in_all : (told : Told A) → Few told → length (outputs_of told) ≤ 17
-  few_in_all told few =
-      let all = length-append (told.own ++ told.far) told.taken in
-      let two = length-append told.own told.far in
-      let a = few.0 in
-      let b = few.1 in
-      let c = few.2 in omega (arith, all, two, a, b, c)
-
-  these : (this told : Told A) → told ≡ this → Few this → Few told
-  these this told is few = subst Few (sym is) few
-
-  none_few : (outcome : Outcome) (told : Told A) → IsPlain nothing_told outcome told → Few told
-  none_few outcome told is = these nothing_told told is.1 (omega arith, omega arith, omega arith)
-
-  far_few : (world : World) (line : ℕ) (found : Option (ℕ × Call)) (packet : Packet A) → length (send_far world line found packet) ≤ 1
-  far_few world line None packet = omega arith
-  far_few world line (Some found) packet = omega arith
-
-  closed_few : (world : World) (line : ℕ) (what : What A) → length (closed world line what) ≤ 1
-  closed_few world line events.Stall = omega arith
-  closed_few world line events.Up = omega arith
-  closed_few world line events.Down = omega arith
-  closed_few world line (events.Frame identifier packet) = omega arith
-  closed_few world line (events.WrongFrame wrong) = omega arith
-  closed_few world line events.Expire = omega arith
-
-module _ {A : Type 0} (tables : Tables) (world : World) (line : ℕ) where
-  error_few : (diagnostic : ℕ) (told : Told A) → told ≡ told_of_error world line diagnostic → Few told
-  error_few diagnostic told is =
-      these (told_of_error world line diagnostic) told is (omega arith, far_few world line (call_on world line) (clear_indication REMOTE_PROCEDURE_ERROR diagnostic), omega arith)
-
-  request_few : (far : List (Output A)) (request : CallRequest A) (outcome : Outcome) (told : Told A) → length far ≤ 1
-      → IsRequested tables world line far request outcome told → Few told
-  request_few far request (Put called setup) told few is = these _ told is.told_is (omega arith, few, omega arith)
-  request_few far request (Refused why) told few is = these _ told is.told_is (omega arith, few, omega arith)
-  request_few far request Plain told few is = absurd is
-  request_few far request (Connected agreement) told few is = absurd is
-  request_few far request (Declined diagnostic) told few is = absurd is
-
-  requests_few : (far : List (Output A)) (asked : Option (CallRequest A)) (outcome : Outcome) (told : Told A) → length far ≤ 1
-      → Requests tables world line far asked outcome told → Few told
-  requests_few far None outcome told few is = none_few outcome told is
-  requests_few far (Some request) outcome told few is = request_few far request outcome told few is
-
-  answer_few : (answer : CallAccepted A) (call : Call) (outcome : Outcome) (told : Told A) → IsAnswered tables world line answer call outcome told → Few told
-  answer_few answer call (Connected agreement) told is = these _ told is.told_is (omega arith, omega arith, omega arith)
-  answer_few answer call (Declined diagnostic) told is = error_few diagnostic told is.told_is
-  answer_few answer call Plain told is = absurd is
-  answer_few answer call (Put called setup) told is = absurd is
-  answer_few answer call (Refused why) told is = absurd is
-
-  answers_few : (accepted : Option (CallAccepted A)) (found : Option (ℕ × Call)) (outcome : Outcome) (told : Told A) → Answers tables world line accepted found outcome told → Few told
-  answers_few None found outcome told is = none_few outcome told is
-  answers_few (Some answer) None outcome told is = none_few outcome told is
-  answers_few (Some answer) (Some found) outcome told is = answer_few answer found.1 outcome told is
-
-  confirms_few : (clear : Option (ClearRequest A)) (found : Option (ℕ × Call)) (outcome : Outcome) (told : Told A) → Confirms world line clear found outcome told → Few told
-  confirms_few None found outcome told is = none_few outcome told is
-  confirms_few (Some clear) None outcome told is = these _ told is.1 (omega arith, omega arith, omega arith)
-  confirms_few (Some clear) (Some found) outcome told is = these _ told is.told_is (omega arith, omega arith, omega arith)
-
 module _ {A : Type 0} (at : Setting A) (what : What A) where
-  few_told : (action : Action) (outcome : Outcome) (told : Told A) → Acts at what action outcome told → Few told
-  few_told Nothing outcome told acts = none_few outcome told acts
-  few_told Rise outcome told acts = none_few outcome told acts
-  few_told Fall outcome told acts = these (told_of_fall at.world at.line what) told acts.1
-      (closed_few at.world at.line what, far_few at.world at.line (call_on at.world at.line) (clear_indication OUT_OF_ORDER NO_ADDITIONAL_INFORMATION), omega arith)
-  few_told NewCall outcome told acts = requests_few at.tables at.world at.line [] (request_in what) outcome told (omega arith) acts
-  few_told Collision outcome told acts = requests_few at.tables at.world at.line (cancelled_told at.world at.line) (request_in what) outcome told
-      (far_few at.world at.line (call_on at.world at.line) (clear_indication NUMBER_BUSY CALL_COLLISION)) acts
-  few_told Answer outcome told acts = answers_few at.tables at.world at.line (accepted_in what) (call_on at.world at.line) outcome told acts
-  few_told Confirm outcome told acts = confirms_few at.tables at.world at.line (clear_in what) (call_on at.world at.line) outcome told acts
-  few_told Free outcome told acts = none_few outcome told acts
-  few_told (Error diagnostic) outcome told acts = error_few at.tables at.world at.line diagnostic told acts.1
-  few_told Relayed outcome told acts = none_few outcome told acts
-  few_told Expired outcome told acts = error_few at.tables at.world at.line TIMER_EXPIRED_FOR_INCOMING_CALL told acts.1
-
   -- ---- whom it goes to, and whom the changes move
 
   module _ (coupled : AreCoupled at.tables at.world) (P : ℕ → Type 0) (served : Brought P at.world.lines) (own : P at.line) where
@@ -312,10 +220,3 @@ module _ {A : Type 0} (tables : Tables) (before : List (Entry A)) (world : World
         let same : next ≡ world = step.leads ∙ ap (λ a. all_changed (does here entry.event.what a entry.outcome) world) is in
         record { served = silent acts.1; rises = subst (λ (w : World). Brought Known w.lines) (sym same) base }
   ]
-
-  pub few_to_each : (line : ℕ) → length (to_line line entry.outputs) ≤ 17
-  few_to_each line =
-      let each : length (to_line line entry.outputs) ≤ length entry.outputs = to_line_few line entry.outputs in
-      let few : length (outputs_of step.told) ≤ 17 = few_in_all step.told (few_told here entry.event.what action entry.outcome step.told step.acts) in
-      let same : length entry.outputs ≡ length (outputs_of step.told) = ap length step.outputs in
-      omega (arith, each, few, same)
