@@ -17,7 +17,8 @@ use Rattle.xp_core.specs.Agreed.{AllHaveTerms, HasTerms}
 use Rattle.xp_core.specs.Changes.{Change, Rises, Leaves, Begins, IsRefused, Connects, Ends, all_changed, changed}
 use Rattle.xp_core.specs.Run.{Run}
 use Rattle.xp_core.specs.Setting.{Setting, setting}
-use Rattle.xp_core.specs.Step.{Step, changes_of}
+use Rattle.xp_core.specs.Step.{Step}
+use Rattle.xp_core.specs.Does.{changes_of}
 use Rattle.xp_core.specs.Table.{action_at}
 use Rattle.xp_core.specs.World.{Call, World, call_numbered, opening}
 use Rattle.xp_core.proofs.Maps.{new_or_old, was_there}

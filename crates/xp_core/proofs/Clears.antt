@@ -57,7 +57,7 @@ module _ {A : Type 0} (world : World) (line : ℕ) (found : ℕ × Call) (is : c
 
   -- with its confirmation before it
   pub confirmed_told : (clear : ClearRequest A) (packet : Packet A) (carried : CarriedOn found.1.setup.fast clear.cause clear.diagnostic clear.block None packet)
-      → clears_to (far_end found.1 line) (outputs_of (record { own = send world line (ClearConfirm None) ∷ []; far = send_far world line (Some found) packet; taken = [] }))
+      → clears_to (far_end found.1 line) (outputs_of (record { carried = []; own = send world line (ClearConfirm None) ∷ []; far = send_far world line (Some found) packet; taken = [] }))
       ≡ Clear (cause_told clear.cause) (Some (diagnostic_told clear.diagnostic)) (block_with carried.field carried.user) ∷ []
   confirmed_told clear packet carried =
       ap (λ p. cleared_by (send world line (ClearConfirm None) ∷ []) p (Some found)) carried.whole

@@ -162,6 +162,7 @@ module _ (tables : Tables) (world : World) (coupled : AreCoupled tables world) (
           | early is now ↦ absurd (two.differ (sym is))
           | never not_caller not_called now ↦ absurd (not_called refl)
         ],
+        refl,
       );
     }
 
@@ -236,7 +237,7 @@ module _ (tables : Tables) (world : World) (coupled : AreCoupled tables world) (
       caller = was.caller;
       called = was.called;
       two = was.two;
-      stage = inr (talks call.caller (caller_shows tables world number call was), talks call.called (called_shows tables world number call was));
+      stage = inr (talks call.caller (caller_shows tables world number call was), talks call.called (called_shows tables world number call was), refl);
     }
 
     -- the lines of a call of another number stay as they were

@@ -15,7 +15,7 @@ use Rattle.xp_core.specs.Records.{Begins as HasBegun, Ends as HasEnded, IsLive, 
 use Rattle.xp_core.specs.Run.{Run}
 use Rattle.xp_core.specs.Outcomes.{payer_of, taken_by}
 use Rattle.xp_core.specs.Setting.{setting}
-use Rattle.xp_core.specs.Step.{changes_of}
+use Rattle.xp_core.specs.Does.{changes_of}
 use Rattle.xp_core.specs.Table.{CallRequest, action_at}
 use Rattle.xp_core.specs.Told.{outputs_of}
 use Rattle.xp_core.specs.World.{Call, World, call_numbered, far_end, opening}

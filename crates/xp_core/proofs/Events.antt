@@ -7,13 +7,15 @@ use Rattle.xp_channel.specs.declared.action.Action.TheVariants.{Nothing, Rise, F
 use Rattle.xp_core.specs.declared.event.What.{What}
 use Rattle.xp_core.specs.declared.plan.Plan.{Plan}
 use Rattle.xp_core.specs.Acts.{IsPlain, Requests, cancelled_told, told_of_error, told_of_fall}
+use Rattle.xp_core.specs.Carried.{carried_by}
 use Rattle.xp_core.specs.Changes.{Change, GoesOut, IsCleared, IsFree, Leaves, Rises}
-use Rattle.xp_core.specs.Plan.{IsPlainPlan, IsPlan, Plans, PlansRequest}
+use Rattle.xp_core.specs.Plan.{IsPlainPlan, IsPlan, Plans, PlansCarried, PlansRequest}
 use Rattle.xp_core.specs.Setting.{Setting}
-use Rattle.xp_core.specs.Step.{cancels, collides, does, leaves, requests}
-use Rattle.xp_core.specs.Table.{CallRequest, request_in}
-use Rattle.xp_core.specs.Told.{Told, nothing_told}
+use Rattle.xp_core.specs.Does.{cancels, collides, does, leaves, requests}
+use Rattle.xp_core.specs.Table.{CallRequest, packet_in, request_in}
+use Rattle.xp_core.specs.Told.{Told, carried_told, nothing_told}
 use Rattle.xp_core.specs.World.{Call, call_on}
+use Rattle.xp_core.proofs.Quiet.{collides_quiet, leaves_quiet, requests_quiet}
 
 if_ok : {X E : Type 0} (result : Result X E) (P Q : X → Type 0) → ((x : X) → P x → Q x) → IfOk result P → IfOk result Q
 if_ok (Ok x) P Q leads holds = leads x holds
@@ -30,43 +32,49 @@ module _ {A E : Type 0} (at : Setting A) (what : What A) (action : Action) (resu
   plain told plan changes planned = (planned.plain, refl)
 
   pub nothing_planned : Nothing ≡ action → PlainOf nothing_told [] → ArePlanned action
-  nothing_planned is planned = subst ArePlanned is (if_ok result _ _ (λ plan p. record { told = nothing_told; acts = plain nothing_told plan [] p; planned = p.planned }) planned)
+  nothing_planned is planned = subst ArePlanned is (if_ok result _ _ (λ plan p. record { told = nothing_told; acts = plain nothing_told plan [] p; relays = p.quiet; planned = p.planned }) planned)
 
-  pub relayed_planned : Relayed ≡ action → PlainOf nothing_told [] → ArePlanned action
-  relayed_planned is planned = subst ArePlanned is (if_ok result _ _ (λ plan p. record { told = nothing_told; acts = plain nothing_told plan [] p; planned = p.planned }) planned)
+  pub relayed_planned : Relayed ≡ action → IfOk result (PlansCarried at what) → ArePlanned action
+  relayed_planned is planned = subst ArePlanned is (if_ok result _ _ (λ plan p.
+      record {
+        told = carried_told at.tables at.before at.world (carried_by at.line (call_on at.world at.line) (packet_in what));
+        acts = (p.plain, refl);
+        relays = p.relays;
+        planned = p.planned;
+      }) planned)
 
   pub rise_planned : Rise ≡ action → PlainOf nothing_told (Rises at.line ∷ []) → ArePlanned action
-  rise_planned is planned = subst ArePlanned is (if_ok result _ _ (λ plan p. record { told = nothing_told; acts = plain nothing_told plan _ p; planned = p.planned }) planned)
+  rise_planned is planned = subst ArePlanned is (if_ok result _ _ (λ plan p. record { told = nothing_told; acts = plain nothing_told plan _ p; relays = p.quiet; planned = p.planned }) planned)
 
   pub free_planned : Free ≡ action → PlainOf nothing_told (Leaves at.line IsFree ∷ []) → ArePlanned action
-  free_planned is planned = subst ArePlanned is (if_ok result _ _ (λ plan p. record { told = nothing_told; acts = plain nothing_told plan _ p; planned = p.planned }) planned)
+  free_planned is planned = subst ArePlanned is (if_ok result _ _ (λ plan p. record { told = nothing_told; acts = plain nothing_told plan _ p; relays = p.quiet; planned = p.planned }) planned)
 
   pub fall_planned : Fall ≡ action
       → PlainOf (told_of_fall at.world at.line what) (leaves at.line GoesOut OUT_OF_ORDER NO_ADDITIONAL_INFORMATION (call_on at.world at.line) ∷ []) → ArePlanned action
   fall_planned is planned = subst ArePlanned is (if_ok result _ _
-      (λ plan p. record { told = told_of_fall at.world at.line what; acts = plain (told_of_fall at.world at.line what) plan _ p; planned = p.planned }) planned)
+      (λ plan p. record { told = told_of_fall at.world at.line what; acts = plain (told_of_fall at.world at.line what) plan _ p; relays = leaves_quiet at.line _ _ _ (call_on at.world at.line) plan.carriage p.quiet; planned = p.planned }) planned)
 
   pub error_planned : (diagnostic : ℕ) → Error diagnostic ≡ action
       → PlainOf (told_of_error at.world at.line diagnostic) (leaves at.line IsCleared REMOTE_PROCEDURE_ERROR diagnostic (call_on at.world at.line) ∷ []) → ArePlanned action
   error_planned diagnostic is planned = subst ArePlanned is (if_ok result _ _
-      (λ plan p. record { told = told_of_error at.world at.line diagnostic; acts = plain (told_of_error at.world at.line diagnostic) plan _ p; planned = p.planned }) planned)
+      (λ plan p. record { told = told_of_error at.world at.line diagnostic; acts = plain (told_of_error at.world at.line diagnostic) plan _ p; relays = leaves_quiet at.line _ _ _ (call_on at.world at.line) plan.carriage p.quiet; planned = p.planned }) planned)
 
   pub expired_planned : Expired ≡ action
       → PlainOf (told_of_error at.world at.line TIMER_EXPIRED_FOR_INCOMING_CALL) (leaves at.line IsCleared REMOTE_PROCEDURE_ERROR TIMER_EXPIRED_FOR_INCOMING_CALL (call_on at.world at.line) ∷ [])
       → ArePlanned action
   expired_planned is planned = subst ArePlanned is (if_ok result _ _
-      (λ plan p. record { told = told_of_error at.world at.line TIMER_EXPIRED_FOR_INCOMING_CALL; acts = plain (told_of_error at.world at.line TIMER_EXPIRED_FOR_INCOMING_CALL) plan _ p; planned = p.planned }) planned)
+      (λ plan p. record { told = told_of_error at.world at.line TIMER_EXPIRED_FOR_INCOMING_CALL; acts = plain (told_of_error at.world at.line TIMER_EXPIRED_FOR_INCOMING_CALL) plan _ p; relays = leaves_quiet at.line _ _ _ (call_on at.world at.line) plan.carriage p.quiet; planned = p.planned }) planned)
 
   pub request_planned : (request : CallRequest A) → NewCall ≡ action → Some request ≡ request_in what
       → IfOk result (PlansRequest at.tables at.world at.line request [] []) → ArePlanned action
   request_planned request is asks planned = subst ArePlanned is (if_ok result _ _ (λ plan p.
       let P : Option (CallRequest A) → Type 0 = λ asked. Requests at.tables at.world at.line [] asked plan.outcome p.told in
       let Q : Option (CallRequest A) → Type 0 = λ asked. IsPlan plan at.world p.told (requests at.line asked plan.outcome) in
-      record { told = p.told; acts = subst P asks p.acts; planned = subst Q asks p.planned }) planned)
+      record { told = p.told; acts = subst P asks p.acts; relays = requests_quiet at.line (request_in what) plan.outcome plan.carriage p.quiet; planned = subst Q asks p.planned }) planned)
 
   pub collision_planned : (request : CallRequest A) → Collision ≡ action → Some request ≡ request_in what
       → IfOk result (PlansRequest at.tables at.world at.line request (cancels at.line (call_on at.world at.line)) (cancelled_told at.world at.line)) → ArePlanned action
   collision_planned request is asks planned = subst ArePlanned is (if_ok result _ _ (λ plan p.
       let P : Option (CallRequest A) → Type 0 = λ asked. Requests at.tables at.world at.line (cancelled_told at.world at.line) asked plan.outcome p.told in
       let Q : Option (CallRequest A) → Type 0 = λ asked. IsPlan plan at.world p.told (collides at.line asked (call_on at.world at.line) plan.outcome) in
-      record { told = p.told; acts = subst P asks p.acts; planned = subst Q asks p.planned }) planned)
+      record { told = p.told; acts = subst P asks p.acts; relays = collides_quiet at.line (request_in what) (call_on at.world at.line) plan.outcome plan.carriage p.quiet; planned = subst Q asks p.planned }) planned)

@@ -28,9 +28,10 @@ use Rattle.xp_core.specs.Agreed.{AllHaveTerms}
 use Rattle.xp_core.specs.Changes.{recorded_by}
 use Rattle.xp_core.specs.Exchange.{IsReadable}
 use Rattle.xp_core.specs.Existence.{HasStep}
-use Rattle.xp_core.specs.Run.{Run, world_next}
+use Rattle.xp_core.specs.Run.{Run}
+use Rattle.xp_core.specs.Worlds.{world_next}
 use Rattle.xp_core.specs.Setting.{Setting, setting}
-use Rattle.xp_core.specs.Step.{changes_of}
+use Rattle.xp_core.specs.Does.{changes_of}
 use Rattle.xp_core.specs.Table.{CallAccepted, CallRequest, ClearRequest, accepted_in, action_at, clear_in, request_in}
 use Rattle.xp_core.specs.Told.{Told, outputs_of}
 use Rattle.xp_core.specs.World.{Call, World, call_on}

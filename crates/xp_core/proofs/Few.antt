@@ -1,11 +1,14 @@
 -- An entry puts out few packets to a line.
-use Rattle.std.proofs.Common.{◌≡◌, ℕ, suc, ◌≤◌, Bool, true, false, cond, eqb, IfOk, Result, Ok, Err, Option, Some, None, List, [], ◌∷◌, ◌++◌, filter, length, map, ap, sym, subst, ◌∙◌, arith, length-append}
+use Rattle.std.proofs.Common.{◌≡◌, ℕ, suc, ◌≤◌, Bool, true, false, cond, eqb, IfOk, Result, Ok, Err, Option, Some, None, List, [], ◌∷◌, ◌++◌, filter, length, length-map, map, ap, sym, subst, ◌∙◌, arith, length-append}
 use Rattle.xp_causes.specs.declared.clearing_cause.TheConstants.{NUMBER_BUSY, OUT_OF_ORDER, REMOTE_PROCEDURE_ERROR}
 use Rattle.xp_causes.specs.declared.diagnostic.TheConstants.{CALL_COLLISION, NO_ADDITIONAL_INFORMATION, TIMER_EXPIRED_FOR_INCOMING_CALL}
 use Rattle.xp_channel.specs.declared.action.Action.{Action}
 use Rattle.xp_channel.specs.declared.action.Action.TheVariants.{Nothing, Rise, Fall, NewCall, Collision, Answer, Confirm, Free, Error, Relayed, Expired}
 use Rattle.xp_charge.specs.declared.record.Record.{Record}
 use Rattle.xp_packets.specs.declared.packet.Packet.{Packet}
+use Rattle.xp_answer.specs.Terms.{AreTerms}
+use Rattle.xp_relay.proofs.Few.{puts_out_few}
+use Rattle.xp_relay.specs.Coupled.{KeptPair}
 use Rattle.xp_subs.specs.Tables.{Tables}
 use Rattle.xp_core.specs.declared.entry.Entry.{Entry}
 use Rattle.xp_core.specs.declared.event.Event.{Event}
@@ -16,13 +19,19 @@ use Rattle.xp_core.specs.declared.outcome.Outcome.TheVariants.{Plain, Put, Refus
 use Rattle.xp_core.specs.declared.output.Output.{Output}
 use Rattle.xp_core.specs.declared.stepped.Stepped.{Stepped}
 use Rattle.xp_core.specs.Acts.{Acts, Answers, Confirms, IsAnswered, IsPlain, IsRequested, Requests, cancelled_told, closed, told_of_error, told_of_fall}
+use Rattle.xp_core.specs.Agreed.{AllHaveTerms, HasTerms}
+use Rattle.xp_core.specs.Carried.{Carried, arrivals, carried_by, terms_of, turn_of_carried}
 use Rattle.xp_core.specs.Few.{AreFew, to_line}
 use Rattle.xp_core.specs.Setting.{Setting, setting}
 use Rattle.xp_core.specs.Step.{Step}
-use Rattle.xp_core.specs.Table.{CallAccepted, CallRequest, ClearRequest, accepted_in, action_at, clear_in, request_in}
-use Rattle.xp_core.specs.Told.{Told, clear_indication, nothing_told, outputs_of, send_far}
+use Rattle.xp_core.specs.Table.{CallAccepted, CallRequest, ClearRequest, accepted_in, action_at, clear_in, packet_in, request_in}
+use Rattle.xp_core.specs.Told.{Told, carried_told, clear_indication, nothing_told, outputs_of, send_far, send_on}
 use Rattle.xp_core.specs.Work.{Enters}
 use Rattle.xp_core.specs.World.{Call, World, call_on}
+use Rattle.xp_core.proofs.Carried.{of_carried}
+use Rattle.xp_core.proofs.Delivered.{agreed_terms}
+use Rattle.xp_core.proofs.InCall.{shown_on}
+use Rattle.xp_core.proofs.Terms.{terms_within}
 
 module _ {A : Type 0} where
   to_line_few : (line : ℕ) (outputs : List (Output A)) → length (to_line line outputs) ≤ length outputs
@@ -33,21 +42,23 @@ module _ {A : Type 0} where
       elim (eqb output.line line) as Few [ true ↦ omega (arith, rest) | false ↦ omega (arith, rest) ]
 
   abbrev Few : Told A → Type 0
-  Few told = (length told.own ≤ 1) × (length told.far ≤ 1) × (length told.taken ≤ 1)
+  Few told = (length told.carried ≤ 9) × (length told.own ≤ 1) × (length told.far ≤ 1) × (length told.taken ≤ 1)
 
   few_in_all : (told : Told A) → Few told → length (outputs_of told) ≤ 17
   few_in_all told few =
-      let all = length-append (told.own ++ told.far) told.taken in
-      let two = length-append told.own told.far in
+      let all = length-append told.carried (told.own ++ told.far ++ told.taken) in
+      let three = length-append told.own (told.far ++ told.taken) in
+      let two = length-append told.far told.taken in
       let a = few.0 in
       let b = few.1 in
-      let c = few.2 in omega (arith, all, two, a, b, c)
+      let c = few.2 in
+      let d = few.3 in omega (arith, all, three, two, a, b, c, d)
 
   these : (this told : Told A) → told ≡ this → Few this → Few told
   these this told is few = subst Few (sym is) few
 
   none_few : (outcome : Outcome) (told : Told A) → IsPlain nothing_told outcome told → Few told
-  none_few outcome told is = these nothing_told told is.1 (omega arith, omega arith, omega arith)
+  none_few outcome told is = these nothing_told told is.1 (omega arith, omega arith, omega arith, omega arith)
 
   far_few : (world : World) (line : ℕ) (found : Option (ℕ × Call)) (packet : Packet A) → length (send_far world line found packet) ≤ 1
   far_few world line None packet = omega arith
@@ -64,12 +75,12 @@ module _ {A : Type 0} where
 module _ {A : Type 0} (tables : Tables) (world : World) (line : ℕ) where
   error_few : (diagnostic : ℕ) (told : Told A) → told ≡ told_of_error world line diagnostic → Few told
   error_few diagnostic told is =
-      these (told_of_error world line diagnostic) told is (omega arith, far_few world line (call_on world line) (clear_indication REMOTE_PROCEDURE_ERROR diagnostic), omega arith)
+      these (told_of_error world line diagnostic) told is (omega arith, omega arith, far_few world line (call_on world line) (clear_indication REMOTE_PROCEDURE_ERROR diagnostic), omega arith)
 
   request_few : (far : List (Output A)) (request : CallRequest A) (outcome : Outcome) (told : Told A) → length far ≤ 1
       → IsRequested tables world line far request outcome told → Few told
-  request_few far request (Put called setup) told few is = these _ told is.told_is (omega arith, few, omega arith)
-  request_few far request (Refused why) told few is = these _ told is.told_is (omega arith, few, omega arith)
+  request_few far request (Put called setup) told few is = these _ told is.told_is (omega arith, omega arith, few, omega arith)
+  request_few far request (Refused why) told few is = these _ told is.told_is (omega arith, omega arith, few, omega arith)
   request_few far request Plain told few is = absurd is
   request_few far request (Connected agreement) told few is = absurd is
   request_few far request (Declined diagnostic) told few is = absurd is
@@ -80,7 +91,7 @@ module _ {A : Type 0} (tables : Tables) (world : World) (line : ℕ) where
   requests_few far (Some request) outcome told few is = request_few far request outcome told few is
 
   answer_few : (answer : CallAccepted A) (call : Call) (outcome : Outcome) (told : Told A) → IsAnswered tables world line answer call outcome told → Few told
-  answer_few answer call (Connected agreement) told is = these _ told is.told_is (omega arith, omega arith, omega arith)
+  answer_few answer call (Connected agreement) told is = these _ told is.told_is (omega arith, omega arith, omega arith, omega arith)
   answer_few answer call (Declined diagnostic) told is = error_few diagnostic told is.told_is
   answer_few answer call Plain told is = absurd is
   answer_few answer call (Put called setup) told is = absurd is
@@ -93,15 +104,26 @@ module _ {A : Type 0} (tables : Tables) (world : World) (line : ℕ) where
 
   confirms_few : (clear : Option (ClearRequest A)) (found : Option (ℕ × Call)) (outcome : Outcome) (told : Told A) → Confirms world line clear found outcome told → Few told
   confirms_few None found outcome told is = none_few outcome told is
-  confirms_few (Some clear) None outcome told is = these _ told is.1 (omega arith, omega arith, omega arith)
-  confirms_few (Some clear) (Some found) outcome told is = these _ told is.told_is (omega arith, omega arith, omega arith)
+  confirms_few (Some clear) None outcome told is = these _ told is.1 (omega arith, omega arith, omega arith, omega arith)
+  confirms_few (Some clear) (Some found) outcome told is = these _ told is.told_is (omega arith, omega arith, omega arith, omega arith)
 
-module _ {A : Type 0} (at : Setting A) (what : What A) where
+module _ {A : Type 0} (at : Setting A) (what : What A) (terms : AllHaveTerms at.world) where
+  carried_few : (carried : Option (Carried A)) → carried_by at.line (call_on at.world at.line) (packet_in what) ≡ carried → (told : Told A)
+      → told ≡ carried_told at.tables at.before at.world carried → Few told
+  carried_few None by told is = these nothing_told told is (omega arith, omega arith, omega arith, omega arith)
+  carried_few (Some carried) by told is =
+      let it = of_carried at.line (call_on at.world at.line) (packet_in what) carried by in
+      let has : HasTerms carried.call = terms carried.number carried.call (shown_on at.world at.line (carried.number, carried.call) it.on).1 in
+      let sizes : AreTerms carried.agreement.terms = agreed_terms carried.call carried.agreement it.agreed has in
+      let moves = (turn_of_carried at.tables at.before carried).moves in
+      let few = puts_out_few (terms_of carried.agreement) (terms_within carried.agreement sizes) (arrivals at.tables at.before carried.number) carried.arrival in
+      these _ told is (omega (arith, few, sizes.window.called_most, sizes.window.calling_most, length-map (send_on at.world carried.call) moves), omega arith, omega arith, omega arith)
+
   few_told : (action : Action) (outcome : Outcome) (told : Told A) → Acts at what action outcome told → Few told
   few_told Nothing outcome told acts = none_few outcome told acts
   few_told Rise outcome told acts = none_few outcome told acts
   few_told Fall outcome told acts = these (told_of_fall at.world at.line what) told acts.1
-      (closed_few at.world at.line what, far_few at.world at.line (call_on at.world at.line) (clear_indication OUT_OF_ORDER NO_ADDITIONAL_INFORMATION), omega arith)
+      (omega arith, closed_few at.world at.line what, far_few at.world at.line (call_on at.world at.line) (clear_indication OUT_OF_ORDER NO_ADDITIONAL_INFORMATION), omega arith)
   few_told NewCall outcome told acts = requests_few at.tables at.world at.line [] (request_in what) outcome told (omega arith) acts
   few_told Collision outcome told acts = requests_few at.tables at.world at.line (cancelled_told at.world at.line) (request_in what) outcome told
       (far_few at.world at.line (call_on at.world at.line) (clear_indication NUMBER_BUSY CALL_COLLISION)) acts
@@ -109,22 +131,22 @@ module _ {A : Type 0} (at : Setting A) (what : What A) where
   few_told Confirm outcome told acts = confirms_few at.tables at.world at.line (clear_in what) (call_on at.world at.line) outcome told acts
   few_told Free outcome told acts = none_few outcome told acts
   few_told (Error diagnostic) outcome told acts = error_few at.tables at.world at.line diagnostic told acts.1
-  few_told Relayed outcome told acts = none_few outcome told acts
+  few_told Relayed outcome told acts = carried_few (carried_by at.line (call_on at.world at.line) (packet_in what)) refl told acts.1
   few_told Expired outcome told acts = error_few at.tables at.world at.line TIMER_EXPIRED_FOR_INCOMING_CALL told acts.1
 
 module _ {A : Type 0} where
-  pub few_of_step : (tables : Tables) (before : List (Entry A)) (world : World) (entry : Entry A) (next : World) → Step tables before world entry next → AreFew entry.outputs
-  few_of_step tables before world entry next step line =
+  pub few_of_step : (tables : Tables) (before : List (Entry A)) (world : World) (entry : Entry A) (next : World) → AllHaveTerms world → Step tables before world entry next → AreFew entry.outputs
+  few_of_step tables before world entry next terms step line =
       let at : Setting A = setting tables before world entry.event.line in
       let each : length (to_line line entry.outputs) ≤ length entry.outputs = to_line_few line entry.outputs in
-      let few : length (outputs_of step.told) ≤ 17 = few_in_all step.told (few_told at entry.event.what (action_at world entry.event) entry.outcome step.told step.acts) in
+      let few : length (outputs_of step.told) ≤ 17 = few_in_all step.told (few_told at entry.event.what terms (action_at world entry.event) entry.outcome step.told step.acts) in
       omega (arith, each, few, ap length step.outputs)
 
   -- a call that hands on its outcome
-  pub outcome_few : {E : Type 0} (tables : Tables) (old : World) (history : List (Entry A)) (records : List Record) (event : Event A) (new : World) (entries : List (Entry A))
-      (charged : List Record) (outcome : Result (Stepped A) E) → IfOk outcome (λ told. Enters tables old history records event new entries charged told)
-      → IfOk outcome (λ told. AreFew told.outputs)
-  outcome_few tables old history records event new entries charged (Ok told) done =
+  pub outcome_few : {E : Type 0} (tables : Tables) (old : World) (relays : List (Option (KeptPair A))) (history : List (Entry A)) (records : List Record) (event : Event A)
+      (new : World) (later : List (Option (KeptPair A))) (entries : List (Entry A)) (charged : List Record) (outcome : Result (Stepped A) E) → AllHaveTerms old
+      → IfOk outcome (λ told. Enters tables old relays history records event new later entries charged told) → IfOk outcome (λ told. AreFew told.outputs)
+  outcome_few tables old relays history records event new later entries charged (Ok told) terms done =
       let P : List (Output A) → Type 0 = λ outputs. AreFew outputs in
-      subst P (sym done.outputs) (few_of_step tables history old done.entry new done.step)
-  outcome_few tables old history records event new entries charged (Err fault) done = tt
+      subst P (sym done.outputs) (few_of_step tables history old done.entry new terms done.step)
+  outcome_few tables old relays history records event new later entries charged (Err fault) terms done = tt

@@ -23,7 +23,8 @@ use Rattle.xp_core.specs.Changes.{Change, Rises, Leaves, Begins, IsRefused, Conn
 use Rattle.xp_core.specs.Exchange.{IsReadable}
 use Rattle.xp_core.specs.Run.{Run}
 use Rattle.xp_core.specs.Setting.{Setting, setting}
-use Rattle.xp_core.specs.Step.{Step, changes_of}
+use Rattle.xp_core.specs.Step.{Step}
+use Rattle.xp_core.specs.Does.{changes_of}
 use Rattle.xp_core.specs.Table.{CallAccepted, CallRequest, ClearRequest, accepted_in, action_at, clear_in, request_in}
 use Rattle.xp_core.specs.Told.{clear_indication, outputs_of, send, send_as}
 use Rattle.xp_core.specs.World.{Line, World, far_end, line_at, off_line, opening}

@@ -81,8 +81,8 @@ module _ (tables : Tables) (world : World) (number : ℕ) (call : Call) (held : 
         called = held.called;
         two = held.two;
         stage = elim held.stage [
-          | inl put ↦ inl (caller ∙ put.0, called ∙ put.1)
-          | inr accepted ↦ inr (caller ∙ accepted.0, called ∙ accepted.1)
+          | inl put ↦ inl (caller ∙ put.0, called ∙ put.1, put.2)
+          | inr accepted ↦ inr (caller ∙ accepted.0, called ∙ accepted.1, accepted.2)
         ];
       }
 

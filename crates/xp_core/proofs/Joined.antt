@@ -21,7 +21,8 @@ use Rattle.xp_core.specs.Joined.{AreJoined, MayTalk}
 use Rattle.xp_core.specs.Outcomes.{taken_by}
 use Rattle.xp_core.specs.Run.{Run}
 use Rattle.xp_core.specs.Setting.{Setting, setting}
-use Rattle.xp_core.specs.Step.{Step, changes_of}
+use Rattle.xp_core.specs.Step.{Step}
+use Rattle.xp_core.specs.Does.{changes_of}
 use Rattle.xp_core.specs.Table.{CallAccepted, CallRequest, ClearRequest, accepted_in, action_at, clear_in, request_in}
 use Rattle.xp_core.specs.Told.{Told}
 use Rattle.xp_core.specs.World.{Call, World, call_numbered, call_on, opening}

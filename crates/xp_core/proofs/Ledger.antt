@@ -13,7 +13,8 @@ use Rattle.xp_core.specs.Records.{Begins as HasBegun, Moment, count_of, holders,
 use Rattle.xp_core.specs.Outcomes.{payer_of, taken_by}
 use Rattle.xp_core.specs.Run.{Run}
 use Rattle.xp_core.specs.Setting.{setting}
-use Rattle.xp_core.specs.Step.{Step, changes_of}
+use Rattle.xp_core.specs.Step.{Step}
+use Rattle.xp_core.specs.Does.{changes_of}
 use Rattle.xp_core.specs.Table.{CallRequest, action_at}
 use Rattle.xp_core.specs.World.{Call, World, call_numbered, opening}
 use Rattle.xp_core.proofs.Counts.{count_by-append, count_by-cons}

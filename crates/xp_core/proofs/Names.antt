@@ -6,23 +6,29 @@ use Rattle.std.specs.List.{AllByRecursion}
 use Rattle.xp_charge.specs.Lines.{HasLines as NamesLines}
 use Rattle.xp_charge.specs.declared.record.Record.{Record}
 use Rattle.xp_decide.proofs.Joined.{taken_is_free}
+use Rattle.xp_packets.specs.declared.end.End.{End}
+use Rattle.xp_packets.specs.declared.end.End.TheVariants.{Caller, Called}
 use Rattle.xp_subs.specs.Sound.{IsSound}
 use Rattle.xp_subs.specs.Tables.{Tables, line_count}
 use Rattle.xp_core.specs.declared.entry.Entry.{Entry}
 use Rattle.xp_core.specs.declared.event.What.{What}
 use Rattle.xp_core.specs.declared.output.Output.{Output}
 use Rattle.xp_core.specs.Acts.{lines_seen}
+use Rattle.xp_core.specs.Carried.{line_at_end}
 use Rattle.xp_core.specs.Changes.{Change, Rises, Leaves, Begins, IsRefused, Connects, Ends, changed, recorded, recorded_by}
 use Rattle.xp_core.specs.Clearing.{record_of, refused_record}
 use Rattle.xp_core.specs.Coupling.{AreCoupled, IsHeld}
 use Rattle.xp_core.specs.Lines.{HasLines}
 use Rattle.xp_core.specs.Run.{Run}
 use Rattle.xp_core.specs.Setting.{Setting, setting}
-use Rattle.xp_core.specs.Step.{Step, changes_of}
-use Rattle.xp_core.specs.Table.{action_at}
+use Rattle.xp_core.specs.Step.{Step}
+use Rattle.xp_core.specs.Does.{changes_of}
+use Rattle.xp_core.specs.Table.{action_at, packet_in}
 use Rattle.xp_core.specs.Told.{outputs_of}
-use Rattle.xp_core.specs.World.{Call, World, call_numbered, far_end, opening}
-use Rattle.xp_core.proofs.Origins.{ComesOf, IsSent, all_come, all_sent, closing, confirming, clearing, refusing, clearing_far, carrying_on, connecting, ringing}
+use Rattle.xp_core.specs.World.{Call, World, call_numbered, call_on, far_end, opening}
+use Rattle.xp_core.proofs.Carried.{of_carried}
+use Rattle.xp_core.proofs.InCall.{shown_on}
+use Rattle.xp_core.proofs.Origins.{ComesOf, IsSent, all_come, all_sent, closing, confirming, clearing, refusing, clearing_far, carrying_on, connecting, ringing, carrying}
 use Rattle.xp_core.proofs.RunLemmas.{run_keeps, run_push}
 use Rattle.xp_core.proofs.Sounds.{IsRight, run_right}
 
@@ -36,6 +42,10 @@ module _ {A : Type 0} (at : Setting A) (what : What A) (sound : IsSound at.table
   far_within number call line live =
       let held : IsHeld at.tables at.world number call = coupled.held number call live in
       cond_both (eqb call.caller line) call.called call.caller (λ l. l < line_count at.tables) (λ first. held.called) (λ second. held.caller)
+
+  end_within : (number : ℕ) (call : Call) (end : End) → call_numbered at.world number ≡ Some call → line_at_end call end < line_count at.tables
+  end_within number call Caller live = (coupled.held number call live).caller
+  end_within number call Called live = (coupled.held number call live).called
 
   to : (line : ℕ) (output : Output A) → output.line ≡ line → line < line_count at.tables → IsNamed output
   to line output is below = omega (arith, is, below)
@@ -53,6 +63,11 @@ module _ {A : Type 0} (at : Setting A) (what : What A) (sound : IsSound at.table
       to found.1.caller output (ap (λ o. o.line) is) (coupled.held found.0 found.1 live).caller
   sent_named output (ringing request ring packet asks decided incoming is) =
       to ring.line output (ap (λ o. o.line) is) (taken_is_free at.tables (lines_seen at.world) at.line request.block ring sound decided).known
+
+  sent_named output (carrying carried move by in_it is) =
+      let it = of_carried at.line (call_on at.world at.line) (packet_in what) carried by in
+      let live = (shown_on at.world at.line (carried.number, carried.call) it.on).1 in
+      to (line_at_end carried.call move.side) output (ap (λ o. o.line) is) (end_within carried.number carried.call move.side live)
 
   -- ---- what is recorded
 

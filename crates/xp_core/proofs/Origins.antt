@@ -1,7 +1,7 @@
 -- What each change of a step, and each thing that it puts out, comes of.
-use Rattle.std.proofs.Common.{◌≡◌, ℕ, Option, Some, None, List, [], ◌∷◌, ◌++◌, All, refl, sym, subst}
-use Rattle.std.proofs.lemmas.List.Elements.{All-append, All-from_recursion}
-use Rattle.std.specs.List.{AllByRecursion}
+use Rattle.std.proofs.Common.{◌≡◌, ℕ, Option, Some, None, List, [], ◌∷◌, ◌++◌, All, append-nil, map, refl, sym, subst}
+use Rattle.std.proofs.lemmas.List.Elements.{All-append, All-contains_itself, All-from_recursion, All-map, All-same, All-weaker}
+use Rattle.std.specs.List.{AllByRecursion, Contains}
 use Rattle.xp_answer.specs.Answered.{Answered}
 use Rattle.xp_answer.specs.CarriedOn.{CarriedOn}
 use Rattle.xp_answer.specs.Incoming.{IsIncomingCall}
@@ -20,6 +20,7 @@ use Rattle.xp_decide.specs.declared.verdict.Ring.{Ring}
 use Rattle.xp_decide.specs.declared.verdict.Verdict.TheVariants.{Take}
 use Rattle.xp_packets.specs.declared.packet.Packet.{Packet}
 use Rattle.xp_packets.specs.declared.packet.Packet.TheVariants.{ClearConfirm}
+use Rattle.xp_relay.specs.declared.moves.Move.{Move}
 use Rattle.xp_subs.specs.Tables.{address_of}
 use Rattle.xp_core.specs.declared.event.What.{What}
 use Rattle.xp_core.specs.declared.event.What.TheVariants as events
@@ -28,12 +29,13 @@ use Rattle.xp_core.specs.declared.outcome.Outcome.{Outcome}
 use Rattle.xp_core.specs.declared.outcome.Outcome.TheVariants.{Plain, Put, Refused, Connected, Declined}
 use Rattle.xp_core.specs.declared.output.Output.{Output}
 use Rattle.xp_core.specs.Acts.{Acts, Answers, Confirms, IsAnswered, IsPlain, IsRequested, Requests, agreement_of, cancelled_told, closed, lines_seen, told_of_error, told_of_fall}
+use Rattle.xp_core.specs.Carried.{Carried, carried_by, turn_of_carried}
 use Rattle.xp_core.specs.Changes.{Change, Rises, Leaves, Begins, IsRefused, Connects, Ends, Way, GoesOut, IsFree, IsCleared}
 use Rattle.xp_core.specs.Channel.{INITIAL_IDENTIFIER}
 use Rattle.xp_core.specs.Setting.{Setting}
-use Rattle.xp_core.specs.Step.{answers, collides, confirms, does, leaves, requests}
-use Rattle.xp_core.specs.Table.{CallAccepted, CallRequest, ClearRequest, accepted_in, clear_in, request_in}
-use Rattle.xp_core.specs.Told.{Told, clear_indication, close, nothing_told, outputs_of, send, send_as, send_far}
+use Rattle.xp_core.specs.Does.{answers, collides, confirms, does, leaves, requests}
+use Rattle.xp_core.specs.Table.{CallAccepted, CallRequest, ClearRequest, accepted_in, clear_in, packet_in, request_in}
+use Rattle.xp_core.specs.Told.{Told, carried_told, clear_indication, close, nothing_told, outputs_of, send, send_as, send_far, send_on}
 use Rattle.xp_core.specs.World.{Call, call_numbered, call_on, far_end}
 use Rattle.xp_core.proofs.InCall.{shown_on}
 
@@ -90,6 +92,8 @@ module _ {A : Type 0} where
         → Decided at.tables (lines_seen at.world) at.line request.block (Take ring)
         → IsIncomingCall ring (address_of at.tables ring.line) (address_of at.tables at.line) request.d request.block packet
         → output ≡ send_as at.world ring.line INITIAL_IDENTIFIER packet → IsSent at what output
+    carrying : (carried : Carried A) (move : Move A) → carried_by at.line (call_on at.world at.line) (packet_in what) ≡ Some carried
+        → Contains (turn_of_carried at.tables at.before carried).moves move → output ≡ send_on at.world carried.call move → IsSent at what output
 
   module _ (at : Setting A) (what : What A) where
     abbrev AllCome : List Change → Type 0
@@ -180,13 +184,14 @@ module _ {A : Type 0} where
         (All-append (IsSent at what) own far (All-from_recursion (IsSent at what) own of_own) (All-from_recursion (IsSent at what) far of_far))
         (All-from_recursion (IsSent at what) taken of_taken)
 
-    these : (this told : Told A) → told ≡ this → AreSent this.own → AreSent this.far → AreSent this.taken → All (IsSent at what) (outputs_of told)
-    these this told is own far taken =
+    these : (this told : Told A) → told ≡ this → this.carried ≡ [] → AreSent this.own → AreSent this.far → AreSent this.taken → All (IsSent at what) (outputs_of told)
+    these this told is nothing own far taken =
         let P : Told A → Type 0 = λ t. All (IsSent at what) (outputs_of t) in
-        subst P (sym is) (together this.own this.far this.taken own far taken)
+        let Q : List (Output A) → Type 0 = λ carried. All (IsSent at what) (carried ++ this.own ++ this.far ++ this.taken) in
+        subst P (sym is) (subst Q (sym nothing) (together this.own this.far this.taken own far taken))
 
     none_sent : (outcome : Outcome) (told : Told A) → IsPlain nothing_told outcome told → All (IsSent at what) (outputs_of told)
-    none_sent outcome told is = these nothing_told told is.1 tt tt tt
+    none_sent outcome told is = these nothing_told told is.1 refl tt tt tt
 
     far_cleared : (cause diagnostic : ℕ) (found : Option (ℕ × Call)) → call_on at.world at.line ≡ found
         → AreSent (send_far at.world at.line found (clear_indication cause diagnostic))
@@ -202,7 +207,7 @@ module _ {A : Type 0} where
     fall_sent events.Expire = tt
 
     error_sent : (diagnostic : ℕ) (told : Told A) → told ≡ told_of_error at.world at.line diagnostic → All (IsSent at what) (outputs_of told)
-    error_sent diagnostic told is = these (told_of_error at.world at.line diagnostic) told is
+    error_sent diagnostic told is = these (told_of_error at.world at.line diagnostic) told is refl
         (clearing _ diagnostic refl, tt) (far_cleared REMOTE_PROCEDURE_ERROR diagnostic (call_on at.world at.line) refl) tt
 
     request_sent : (request : CallRequest A) (far : List (Output A)) (outcome : Outcome) (told : Told A) → request_in what ≡ Some request → AreSent far
@@ -210,9 +215,9 @@ module _ {A : Type 0} where
     request_sent request far (Put called setup) told asks of_far is =
         let P : ℕ → Type 0 = λ c. IsSent at what (send_as at.world c INITIAL_IDENTIFIER is.packet) in
         let I : ℕ → Type 0 = λ c. IsIncomingCall is.ring (address_of at.tables c) (address_of at.tables at.line) request.d request.block is.packet in
-        these _ told is.told_is tt of_far
+        these _ told is.told_is refl tt of_far
         (subst P (sym is.called_is) (ringing request is.ring is.packet asks is.decided (subst I is.called_is is.incoming) refl), tt)
-    request_sent request far (Refused why) told asks of_far is = these _ told is.told_is (refusing request why asks refl, tt) of_far tt
+    request_sent request far (Refused why) told asks of_far is = these _ told is.told_is refl (refusing request why asks refl, tt) of_far tt
     request_sent request far Plain told asks of_far is = absurd is
     request_sent request far (Connected agreement) told asks of_far is = absurd is
     request_sent request far (Declined diagnostic) told asks of_far is = absurd is
@@ -225,7 +230,7 @@ module _ {A : Type 0} where
     answer_sent : (answer : CallAccepted A) (found : ℕ × Call) (outcome : Outcome) (told : Told A) → accepted_in what ≡ Some answer → call_on at.world at.line ≡ Some found
         → IsAnswered at.tables at.world at.line answer found.1 outcome told → All (IsSent at what) (outputs_of told)
     answer_sent answer found (Connected agreement) told accepts on is =
-        these _ told is.told_is tt (connecting found answer is.connection (shown_on at.world at.line found on).1 accepts is.answered refl, tt) tt
+        these _ told is.told_is refl tt (connecting found answer is.connection (shown_on at.world at.line found on).1 accepts is.answered refl, tt) tt
     answer_sent answer found (Declined diagnostic) told accepts on is = error_sent diagnostic told is.told_is
     answer_sent answer found Plain told accepts on is = absurd is
     answer_sent answer found (Put called setup) told accepts on is = absurd is
@@ -240,16 +245,28 @@ module _ {A : Type 0} where
     confirms_sent : (asked : Option (ClearRequest A)) (found : Option (ℕ × Call)) (outcome : Outcome) (told : Told A) → clear_in what ≡ asked → call_on at.world at.line ≡ found
         → Confirms at.world at.line asked found outcome told → All (IsSent at what) (outputs_of told)
     confirms_sent None found outcome told clears on is = none_sent outcome told is
-    confirms_sent (Some clear) None outcome told clears on is = these _ told is.1 (confirming refl, tt) tt tt
+    confirms_sent (Some clear) None outcome told clears on is = these _ told is.1 refl (confirming refl, tt) tt tt
     confirms_sent (Some clear) (Some found) outcome told clears on is =
-        these _ told is.told_is (confirming refl, tt)
+        these _ told is.told_is refl (confirming refl, tt)
         (carrying_on found clear is.packet (shown_on at.world at.line found on).1 clears is.carried refl, tt) tt
+
+    carried_sent : (carried : Option (Carried A)) (told : Told A) → carried_by at.line (call_on at.world at.line) (packet_in what) ≡ carried
+        → told ≡ carried_told at.tables at.before at.world carried → All (IsSent at what) (outputs_of told)
+    carried_sent None told by is = these nothing_told told is refl tt tt tt
+    carried_sent (Some carried) told by is =
+        let moves : List (Move A) = (turn_of_carried at.tables at.before carried).moves in
+        let P : Told A → Type 0 = λ t. All (IsSent at what) (outputs_of t) in
+        subst P (sym is) (All-same (IsSent at what) (map (send_on at.world carried.call) moves ++ []) (map (send_on at.world carried.call) moves)
+        (append-nil (map (send_on at.world carried.call) moves))
+        (All-map (IsSent at what) (send_on at.world carried.call) moves
+        (All-weaker (Contains moves) (λ move. IsSent at what (send_on at.world carried.call move)) (λ move in_it. carrying carried move by in_it refl) moves
+        (All-contains_itself moves))))
 
     -- all that an action puts out
     pub all_sent : (action : Action) (outcome : Outcome) (told : Told A) → Acts at what action outcome told → All (IsSent at what) (outputs_of told)
     all_sent Nothing outcome told acts = none_sent outcome told acts
     all_sent Rise outcome told acts = none_sent outcome told acts
-    all_sent Fall outcome told acts = these (told_of_fall at.world at.line what) told acts.1
+    all_sent Fall outcome told acts = these (told_of_fall at.world at.line what) told acts.1 refl
         (fall_sent what) (far_cleared OUT_OF_ORDER NO_ADDITIONAL_INFORMATION (call_on at.world at.line) refl) tt
     all_sent NewCall outcome told acts = requests_sent [] (request_in what) outcome told refl tt acts
     all_sent Collision outcome told acts =
@@ -259,5 +276,5 @@ module _ {A : Type 0} where
     all_sent Confirm outcome told acts = confirms_sent (clear_in what) (call_on at.world at.line) outcome told refl refl acts
     all_sent Free outcome told acts = none_sent outcome told acts
     all_sent (Error diagnostic) outcome told acts = error_sent diagnostic told acts.1
-    all_sent Relayed outcome told acts = none_sent outcome told acts
+    all_sent Relayed outcome told acts = carried_sent (carried_by at.line (call_on at.world at.line) (packet_in what)) told refl acts.1
     all_sent Expired outcome told acts = error_sent TIMER_EXPIRED_FOR_INCOMING_CALL told acts.1

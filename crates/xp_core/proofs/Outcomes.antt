@@ -26,7 +26,8 @@ use Rattle.xp_core.specs.Changes.{Change, all_changed, recorded_by}
 use Rattle.xp_core.specs.Determined.{IsSameButLine}
 use Rattle.xp_core.specs.Outcomes.{taken_by, with_line}
 use Rattle.xp_core.specs.Setting.{Setting, setting}
-use Rattle.xp_core.specs.Step.{Step, answers, collides, does, requests}
+use Rattle.xp_core.specs.Step.{Step}
+use Rattle.xp_core.specs.Does.{answers, collides, does, requests}
 use Rattle.xp_core.specs.Table.{CallAccepted, CallRequest, ClearRequest, accepted_in, action_at, clear_in, request_in}
 use Rattle.xp_core.specs.Told.{Told, outputs_of, refused_told, send, send_far, taken_told}
 use Rattle.xp_core.specs.World.{Call, World, call_on}

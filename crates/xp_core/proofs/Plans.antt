@@ -11,7 +11,7 @@ use Rattle.xp_core.specs.Acts.{cancelled_told}
 use Rattle.xp_core.specs.Changes.{Change, IsFree, all_changed, changed, recorded, recorded_by}
 use Rattle.xp_core.specs.Clearing.{record_of}
 use Rattle.xp_core.specs.Plan.{IsCancelled, IsPlan, applied, applied_if_any, freed_if_any, left}
-use Rattle.xp_core.specs.Step.{cancels}
+use Rattle.xp_core.specs.Does.{cancels}
 use Rattle.xp_core.specs.Told.{clear_indication, send_far}
 use Rattle.xp_core.specs.World.{Call, World, call_on}
 
@@ -33,7 +33,7 @@ pub planned : {A : Type 0} (plan : Plan A) (world : World) (cancelled : Cancelle
     → plan.cancelled ≡ cancelled.line → plan.change ≡ Some kept
     → plan.records.items ≡ option_to_list cancelled.charged ++ records
     → ((w : World) → applied kept w ≡ changed change w) → records ≡ recorded (all_changed ended world) change
-    → IsPlan plan world (record { own = own; far = far; taken = taken }) (ended ++ change ∷ [])
+    → IsPlan plan world (record { carried = []; own = own; far = far; taken = taken }) (ended ++ change ∷ [])
 planned plan world cancelled ended far kept change own taken records ends outputs cancels changes charged does recorded_is = record {
   outputs = outputs ∙ ap (λ told. own ++ told ++ taken) ends.told;
   records = charged ∙ ap (λ front. front ++ records) ends.records

@@ -1,5 +1,5 @@
 -- What is planned for a call request, by the decision.
-use Rattle.std.proofs.Common.{◌≡◌, ℕ, Some, List, [], ◌∷◌, ◌++◌, refl, ap, sym, subst}
+use Rattle.std.proofs.Common.{◌≡◌, ℕ, None, Some, List, [], ◌∷◌, ◌++◌, refl, ap, sym, subst}
 use Rattle.xp_answer.specs.Incoming.{IsIncomingCall}
 use Rattle.xp_answer.specs.Setup.{setup_of}
 use Rattle.xp_answer.specs.declared.setup.Setup.{Setup}
@@ -17,7 +17,7 @@ use Rattle.xp_core.specs.declared.plan.Plan.{Plan}
 use Rattle.xp_core.specs.Acts.{IsRequested, lines_seen}
 use Rattle.xp_core.specs.Changes.{Change, Begins, IsRefused}
 use Rattle.xp_core.specs.Plan.{IsPlan, PlansRequest}
-use Rattle.xp_core.specs.Step.{requests}
+use Rattle.xp_core.specs.Does.{requests}
 use Rattle.xp_core.specs.Table.{CallRequest}
 use Rattle.xp_core.specs.Told.{Told, refused_told, taken_told}
 use Rattle.xp_core.specs.World.{World}
@@ -33,21 +33,22 @@ module _ {A : Type 0} (tables : Tables) (world : World) (line : ℕ) (request : 
   abbrev IsOf : Verdict A → Type 0
   IsOf v = Decided tables (lines_seen world) line request.block v
 
-  pub turned_down : (why : Refusal) → verdict ≡ Refuse why → plan.outcome ≡ Refused why
+  pub turned_down : (why : Refusal) → verdict ≡ Refuse why → plan.outcome ≡ Refused why → plan.carriage ≡ None
       → IsPlan plan world (refused_told world far line request.identifier why) (ended ++ IsRefused line request.identifier request.block.called why ∷ [])
       → PlansRequest tables world line request ended far plan
-  turned_down why is outcome planned = let told = refused_told world far line request.identifier why in record {
+  turned_down why is outcome quiet planned = let told = refused_told world far line request.identifier why in record {
     told = told;
     acts = subst (Acts told) (sym outcome) (record { decided = subst IsOf is decided; told_is = refl });
+    quiet = quiet;
     planned = subst (Planned told) (sym outcome) planned;
   }
 
   pub put_through : (ring : Ring A) (called calling : List ℕ) (packet : Packet A) (setup : Setup) → verdict ≡ Take ring
       → called ≡ address_of tables ring.line → calling ≡ address_of tables line
-      → IsIncomingCall ring called calling request.d request.block packet → setup ≡ setup_of ring → plan.outcome ≡ Put ring.line setup
+      → IsIncomingCall ring called calling request.d request.block packet → setup ≡ setup_of ring → plan.outcome ≡ Put ring.line setup → plan.carriage ≡ None
       → IsPlan plan world (taken_told world far ring.line packet) (ended ++ Begins line request.identifier ring.line request.block.called setup ∷ [])
       → PlansRequest tables world line request ended far plan
-  put_through ring called calling packet setup is called_is calling_is incoming setup_is outcome planned =
+  put_through ring called calling packet setup is called_is calling_is incoming setup_is outcome quiet planned =
       let told = taken_told world far ring.line packet in
       let P : List ℕ → Type 0 = λ address. IsIncomingCall ring address calling request.d request.block packet in
       let Q : List ℕ → Type 0 = λ address. IsIncomingCall ring (address_of tables ring.line) address request.d request.block packet in
@@ -62,5 +63,6 @@ module _ {A : Type 0} (tables : Tables) (world : World) (line : ℕ) (request : 
           incoming = subst Q calling_is (subst P called_is incoming);
           told_is = refl;
         });
+        quiet = quiet;
         planned = subst (Planned told) (sym outcome) planned;
       }

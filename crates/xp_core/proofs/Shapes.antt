@@ -24,7 +24,8 @@ use Rattle.xp_core.specs.Channel.{Cleared, INITIAL_IDENTIFIER, Ready, Ringing, c
 use Rattle.xp_core.specs.Coupling.{AreCoupled, IsEnd, IsHeld}
 use Rattle.xp_core.specs.Records.{clears_to}
 use Rattle.xp_core.specs.Setting.{Setting, setting}
-use Rattle.xp_core.specs.Step.{Step, answers, cancels, changes_of, collides, confirms, does, leaves, requests}
+use Rattle.xp_core.specs.Step.{Step}
+use Rattle.xp_core.specs.Does.{answers, cancels, changes_of, collides, confirms, does, leaves, requests}
 use Rattle.xp_core.specs.Table.{CallAccepted, CallRequest, ClearRequest, accepted_in, action_at, clear_in, kind_of, request_in}
 use Rattle.xp_core.specs.Told.{Told, nothing_told, outputs_of}
 use Rattle.xp_core.specs.World.{Call, Line, World, call_numbered, call_on, far_end, line_at, state_at}
@@ -66,6 +67,7 @@ module _ {A : Type 0} where
 
   pub record IsJoined (at : Setting A) (action : Action) (outcome : Outcome) (told : Told A) (number : ℕ) (call : Call) (agreement : Agreement) : Type 0 where
     pub old : IsNew action → ⊥
+    pub answers : action ≡ Answer
     pub settled : outcome ≡ Connected agreement
     pub on : call_on at.world at.line ≡ Some (number, call)
     pub answer : CallAccepted A
@@ -151,7 +153,7 @@ module _ {A : Type 0} (tables : Tables) (before : List (Entry A)) (world : World
       → IsAnswered tables world line answer found.1 outcome told → Shape here what Answer outcome told (answers line (Some found) outcome)
   answering_one what (Connected agreement) told answer found is acts =
       one (Connects found.0 found.1 agreement) refl (shown_on world line found is).1
-      (record { old = not_new; settled = refl; on = is; answer = answer; connected = acts }) where
+      (record { old = not_new; answers = refl; settled = refl; on = is; answer = answer; connected = acts }) where
         not_new : IsNew Answer → ⊥
         not_new (inl e) = absurd (cc)
         not_new (inr e) = absurd (cc)

@@ -1,8 +1,12 @@
 -- As an event is entered, what is kept goes on to show where the history leads.
-use Rattle.std.proofs.Common.{◌≡◌, ◌∙◌, ◌+◌, ◌<◌, IfOk, OnErr, Result, Ok, Err, Option, Some, List, [], ◌∷◌, ◌++◌, length, refl, ap, sym, subst, append-nil}
+use Rattle.std.proofs.Common.{◌≡◌, ◌∙◌, ◌+◌, ◌<◌, IfOk, OnErr, Result, Ok, Err, Option, Some, List, [], ◌∷◌, ◌++◌, length, length-set, replicate, refl, ap, sym, subst, append-nil}
+use Rattle.std.proofs.lemmas.List.{length-replicate}
 use Rattle.std.proofs.lemmas.List.Concat.{flat_map-append}
 use Rattle.std.proofs.lemmas.List.Elements.{All-nil, All-pop, All-push}
+use Rattle.std.specs.FinMap.{get-empty}
+use Rattle.std.specs.Ordering.{nat_cmp}
 use Rattle.xp_charge.specs.declared.record.Record.{Record}
+use Rattle.xp_relay.specs.Coupled.{KeptPair}
 use Rattle.xp_subs.specs.Sound.{IsSound}
 use Rattle.xp_subs.specs.Tables.{Tables, line_count}
 use Rattle.xp_core.specs.declared.advance.Work.{Work}
@@ -10,51 +14,59 @@ use Rattle.xp_core.specs.declared.entry.Entry.{Entry}
 use Rattle.xp_core.specs.declared.event.Event.{Event}
 use Rattle.xp_core.specs.declared.outcome.Outcome.{Outcome}
 use Rattle.xp_core.specs.declared.plan.Plan.{Plan}
+use Rattle.xp_core.specs.declared.relays.Carriage.{Carriage}
 use Rattle.xp_core.specs.declared.stepped.Stepped.{Stepped}
 use Rattle.xp_core.specs.Agreed.{AllHaveTerms}
 use Rattle.xp_core.specs.Exchange.{Advances, Exchange, IsReadable, world_of}
 use Rattle.xp_core.specs.Plan.{Plans, applied_by}
 use Rattle.xp_core.specs.Records.{records_of}
+use Rattle.xp_core.specs.Relays.{AreCarried, relays_with}
 use Rattle.xp_core.specs.Run.{Run}
 use Rattle.xp_core.specs.Setting.{setting}
 use Rattle.xp_core.specs.Shown.{Shows}
 use Rattle.xp_core.specs.Step.{Step}
 use Rattle.xp_core.specs.Table.{action_at}
-use Rattle.xp_core.specs.Work.{Enters, Works}
-use Rattle.xp_core.specs.World.{World, opening}
+use Rattle.xp_core.specs.Work.{Enters, GoOn, Works}
+use Rattle.xp_core.specs.World.{World, call_numbered, opening}
 use Rattle.xp_core.specs.Writable.{AreWritable}
 use Rattle.xp_core.proofs.Agreed.{run_agreed}
 use Rattle.xp_core.proofs.Fitting.{run_fits}
+use Rattle.xp_core.proofs.Relays.{carried_next}
 use Rattle.xp_core.proofs.RunLemmas.{run_push}
 use Rattle.xp_core.proofs.Worlds.{run_world}
+
+places_kept : {A : Type 0} (carriage : Option (Carriage A)) (relays later : List (Option (KeptPair A))) → later ≡ relays_with carriage relays → length later ≡ length relays
+places_kept None relays later is = ap length is
+places_kept (Some carriage) relays later is = ap length is ∙ length-set relays carriage.caller (Some carriage.relay)
 
 module _ {A : Type 0} where
   -- what was planned and applied
   pub works_out : (tables : Tables) (before : List (Entry A)) (old : World) (event : Event A) (plan : Plan A) (work : Work A) (new : World)
-      → Plans (setting tables before old event.line) event.what (action_at old event) plan
+      (relays later : List (Option (KeptPair A))) → Plans (setting tables before old event.line) event.what (action_at old event) plan
       → work.outcome ≡ plan.outcome → work.outputs ≡ plan.outputs.outputs → work.told ≡ work.outputs → work.records ≡ plan.records
-      → new ≡ applied_by plan old → Works tables before old event work new
-  works_out tables before old event plan work new plans outcome outputs copied records applied =
-      let made : Works tables before old event (record work { outcome = plan.outcome }) new = record {
+      → new ≡ applied_by plan old → later ≡ relays_with plan.carriage relays → Works tables before old relays event work new later
+  works_out tables before old event plan work new relays later plans outcome outputs copied records applied relayed =
+      let made : Works tables before old relays event (record work { outcome = plan.outcome }) new later = record {
         told = plans.told;
         acts = plans.acts;
         outputs = outputs ∙ plans.planned.outputs;
         copied = copied;
         records = ap (λ r. r.items) records ∙ plans.planned.records;
+        relays_on = record { carriage = plan.carriage; is = plans.relays; become = relayed };
         leads = applied ∙ plans.planned.does;
       } in
-      let P : Outcome → Type 0 = λ o. Works tables before old event (record work { outcome = o }) new in
+      let P : Outcome → Type 0 = λ o. Works tables before old relays event (record work { outcome = o }) new later in
       subst P (sym outcome) made
 
   -- and entered
-  pub enters : (tables : Tables) (old : World) (history : List (Entry A)) (records : List Record) (event : Event A) (work : Work A)
-      (new : World) (entries : List (Entry A)) (charged : List Record) (told : Stepped A) (entry : Entry A)
-      → Works tables history old event work new
+  pub enters : (tables : Tables) (old : World) (relays : List (Option (KeptPair A))) (history : List (Entry A)) (records : List Record) (event : Event A) (work : Work A)
+      (new : World) (later : List (Option (KeptPair A))) (entries : List (Entry A)) (charged : List Record) (told : Stepped A) (entry : Entry A)
+      → Works tables history old relays event work new later
       → entry ≡ record { number = length history + 1; event = event; outcome = work.outcome; outputs = work.outputs; records = work.records }
       → event.line < length old.lines
       → entries ≡ history ++ entry ∷ [] → charged ≡ records ++ work.records.items → told.entry ≡ length history + 1 → told.outputs ≡ work.told
-      → Enters tables old history records event new entries charged told
-  enters tables old history records event work new entries charged told entry works is line grown recorded number outputs =
+      → Enters tables old relays history records event new later entries charged told
+  enters tables old relays history records event work new later entries charged told entry works is line grown recorded number outputs =
       let made : Entry A = record { number = length history + 1; event = event; outcome = work.outcome; outputs = work.outputs; records = work.records } in
       record {
         entry = made;
@@ -68,21 +80,27 @@ module _ {A : Type 0} where
           records = works.records;
           leads = works.leads;
         };
+        relays_on = works.relays_on;
         grown = grown ∙ ap (λ e. history ++ e ∷ []) is;
         recorded = recorded;
         number = number;
         outputs = outputs ∙ works.copied;
       }
 
-  module _ (tables : Tables) (history : List (Entry A)) (machine : World) (records : List Record) (shows : Shows tables history machine records)
-      (event : Event A) (readable : IsReadable event.what) (new : World) (entries : List (Entry A)) (charged : List Record) (told : Stepped A)
-      (done : Enters tables machine history records event new entries charged told) where
-    led : Run tables (history ++ done.entry ∷ []) new
-    led =
-        let P : World → Type 0 = λ w. Run tables history w in
-        run_push tables [] (opening (line_count tables)) history machine done.entry new (subst P (sym shows.shown) shows.run) done.step
+  module _ (tables : Tables) (history : List (Entry A)) (machine : World) (relays : List (Option (KeptPair A))) (records : List Record) (shows : Shows tables history machine relays records)
+      (event : Event A) (readable : IsReadable event.what) (new : World) (later : List (Option (KeptPair A))) (entries : List (Entry A)) (charged : List Record) (told : Stepped A)
+      (done : Enters tables machine relays history records event new later entries charged told) where
+    led_here : Run tables history machine
+    led_here = let P : World → Type 0 = λ w. Run tables history w in subst P (sym shows.shown) shows.run
 
-    entered : Shows tables (history ++ done.entry ∷ []) new charged
+    led : Run tables (history ++ done.entry ∷ []) new
+    led = run_push tables [] (opening (line_count tables)) history machine done.entry new led_here done.step
+
+    -- the relays of what was entered
+    went_on : GoOn tables history machine done.entry.event done.entry.outcome relays later
+    went_on = let P : Event A → Type 0 = λ e. GoOn tables history machine e done.entry.outcome relays later in subst P (sym done.event_is) done.relays_on
+
+    entered : Shows tables (history ++ done.entry ∷ []) new later charged
     entered =
         let P : World → Type 0 = λ w. Run tables (history ++ done.entry ∷ []) w in
         let E : Event A → Type 0 = λ e. IsReadable e.what in
@@ -91,13 +109,15 @@ module _ {A : Type 0} where
           run = subst P (run_world tables (history ++ done.entry ∷ []) new led) led;
           readable = All-push (λ e. IsReadable e.event.what) history done.entry shows.readable (subst E (sym done.event_is) readable);
           shown = run_world tables (history ++ done.entry ∷ []) new led;
+          carried = carried_next tables history machine done.entry new led_here done.step relays later shows.carried shows.places went_on;
+          places = places_kept went_on.carriage relays later went_on.become ∙ shows.places;
           charged = done.recorded ∙ ap (λ r. r ++ done.entry.records.items) shows.charged
               ∙ ap (λ r. records_of history ++ r) (sym (append-nil done.entry.records.items))
               ∙ sym (flat_map-append (λ e. e.records.items) history (done.entry ∷ []));
         }
 
-    pub shows_next : Shows tables entries new charged
-    shows_next = let P : List (Entry A) → Type 0 = λ h. Shows tables h new charged in subst P (sym done.grown) entered
+    pub shows_next : Shows tables entries new later charged
+    shows_next = let P : List (Entry A) → Type 0 = λ h. Shows tables h new later charged in subst P (sym done.grown) entered
 
     abbrev before : Exchange A
     before = record { subs = tables; history = history }
@@ -126,41 +146,42 @@ module _ {A : Type 0} where
         (All-pop (λ e. AreWritable e.outputs) entries history (Some done.entry) done.grown (run_fits tables entries _ shows_next.sound shows_next.run shows_next.readable)).1
 
   -- the live calls that are kept have their terms
-  pub kept_terms : (tables : Tables) (history : List (Entry A)) (machine : World) (records : List Record) → Shows tables history machine records → AllHaveTerms machine
-  kept_terms tables history machine records shows =
+  pub kept_terms : (tables : Tables) (history : List (Entry A)) (machine : World) (relays : List (Option (KeptPair A))) (records : List Record) → Shows tables history machine relays records → AllHaveTerms machine
+  kept_terms tables history machine relays records shows =
       let P : World → Type 0 = λ w. AllHaveTerms w in subst P (sym shows.shown) (run_agreed tables history _ shows.run)
 
   -- a call that hands on its outcome
-  pub outcome_shows : {E : Type 0} (tables : Tables) (history : List (Entry A)) (machine : World) (records : List Record) (event : Event A) (new : World) (entries : List (Entry A))
-      (charged : List Record) (outcome : Result (Stepped A) E) → Shows tables history machine records → IsReadable event.what
-      → IfOk outcome (λ told. Enters tables machine history records event new entries charged told)
-      → OnErr outcome (new ≡ machine) → OnErr outcome (entries ≡ history) → OnErr outcome (charged ≡ records) → Shows tables entries new charged
-  outcome_shows tables history machine records event new entries charged (Ok told) shows readable done same_world same_history same_records =
-      shows_next tables history machine records shows event readable new entries charged told done
-  outcome_shows tables history machine records event new entries charged (Err fault) shows readable done same_world same_history same_records =
-      let P : World → Type 0 = λ w. Shows tables entries w charged in
-      let Q : List (Entry A) → Type 0 = λ h. Shows tables h machine charged in
-      let R : List Record → Type 0 = λ r. Shows tables history machine r in
-      subst P (sym same_world) (subst Q (sym same_history) (subst R (sym same_records) shows))
+  pub outcome_shows : {E : Type 0} (tables : Tables) (history : List (Entry A)) (machine : World) (relays : List (Option (KeptPair A))) (records : List Record) (event : Event A) (new : World) (later : List (Option (KeptPair A))) (entries : List (Entry A))
+      (charged : List Record) (outcome : Result (Stepped A) E) → Shows tables history machine relays records → IsReadable event.what
+      → IfOk outcome (λ told. Enters tables machine relays history records event new later entries charged told)
+      → OnErr outcome (new ≡ machine) → OnErr outcome (later ≡ relays) → OnErr outcome (entries ≡ history) → OnErr outcome (charged ≡ records) → Shows tables entries new later charged
+  outcome_shows tables history machine relays records event new later entries charged (Ok told) shows readable done same_world same_relays same_history same_records =
+      shows_next tables history machine relays records shows event readable new later entries charged told done
+  outcome_shows tables history machine relays records event new later entries charged (Err fault) shows readable done same_world same_relays same_history same_records =
+      let P : World → Type 0 = λ w. Shows tables entries w later charged in
+      let K : List (Option (KeptPair A)) → Type 0 = λ r. Shows tables entries machine r charged in
+      let Q : List (Entry A) → Type 0 = λ h. Shows tables h machine relays charged in
+      let R : List Record → Type 0 = λ r. Shows tables history machine relays r in
+      subst P (sym same_world) (subst K (sym same_relays) (subst Q (sym same_history) (subst R (sym same_records) shows)))
 
   abbrev pub exchange_of : Tables → List (Entry A) → Exchange A
   exchange_of subs history = record { subs = subs; history = history }
 
-  pub outcome_advances : {E : Type 0} (tables : Tables) (history : List (Entry A)) (machine : World) (records : List Record) (event : Event A) (new : World) (entries : List (Entry A))
-      (charged : List Record) (outcome : Result (Stepped A) E) (old : Exchange A) → Shows tables history machine records → IsReadable event.what
-      → IfOk outcome (λ told. Enters tables machine history records event new entries charged told) → exchange_of tables history ≡ old
+  pub outcome_advances : {E : Type 0} (tables : Tables) (history : List (Entry A)) (machine : World) (relays : List (Option (KeptPair A))) (records : List Record) (event : Event A) (new : World) (later : List (Option (KeptPair A))) (entries : List (Entry A))
+      (charged : List Record) (outcome : Result (Stepped A) E) (old : Exchange A) → Shows tables history machine relays records → IsReadable event.what
+      → IfOk outcome (λ told. Enters tables machine relays history records event new later entries charged told) → exchange_of tables history ≡ old
       → IfOk outcome (λ told. Advances old event (exchange_of tables entries) told)
-  outcome_advances tables history machine records event new entries charged (Ok told) old shows readable done is =
+  outcome_advances tables history machine relays records event new later entries charged (Ok told) old shows readable done is =
       let P : Exchange A → Type 0 = λ e. Advances e event (exchange_of tables entries) told in
-      subst P is (advances tables history machine records shows event readable new entries charged told done)
-  outcome_advances tables history machine records event new entries charged (Err fault) old shows readable done is = tt
+      subst P is (advances tables history machine relays records shows event readable new later entries charged told done)
+  outcome_advances tables history machine relays records event new later entries charged (Err fault) old shows readable done is = tt
 
-  pub outcome_fits : {E : Type 0} (tables : Tables) (history : List (Entry A)) (machine : World) (records : List Record) (event : Event A) (new : World) (entries : List (Entry A))
-      (charged : List Record) (outcome : Result (Stepped A) E) → Shows tables history machine records → IsReadable event.what
-      → IfOk outcome (λ told. Enters tables machine history records event new entries charged told) → IfOk outcome (λ told. AreWritable told.outputs)
-  outcome_fits tables history machine records event new entries charged (Ok told) shows readable done =
-      told_fits tables history machine records shows event readable new entries charged told done
-  outcome_fits tables history machine records event new entries charged (Err fault) shows readable done = tt
+  pub outcome_fits : {E : Type 0} (tables : Tables) (history : List (Entry A)) (machine : World) (relays : List (Option (KeptPair A))) (records : List Record) (event : Event A) (new : World) (later : List (Option (KeptPair A))) (entries : List (Entry A))
+      (charged : List Record) (outcome : Result (Stepped A) E) → Shows tables history machine relays records → IsReadable event.what
+      → IfOk outcome (λ told. Enters tables machine relays history records event new later entries charged told) → IfOk outcome (λ told. AreWritable told.outputs)
+  outcome_fits tables history machine relays records event new later entries charged (Ok told) shows readable done =
+      told_fits tables history machine relays records shows event readable new later entries charged told done
+  outcome_fits tables history machine relays records event new later entries charged (Err fault) shows readable done = tt
 
   -- a call that hands on a failure has changed nothing
   pub outcome_keeps : {E : Type 0} (subs : Tables) (history entries : List (Entry A)) (outcome : Result (Stepped A) E) (old : Exchange A)
@@ -169,8 +190,22 @@ module _ {A : Type 0} where
   outcome_keeps subs history entries (Err fault) old same shown = ap (exchange_of subs) same ∙ shown
 
   -- nothing was entered yet
-  pub opening_shows : (tables : Tables) (history : List (Entry A)) (machine : World) (records : List Record) → IsSound tables → history ≡ [] → machine ≡ opening (line_count tables) → records ≡ []
-      → Shows tables history machine records
-  opening_shows tables history machine records sound none at nothing =
-      let P : List (Entry A) → Type 0 = λ entries. Shows tables entries machine records in
-      subst P (sym none) (record { sound = sound; run = refl; readable = All-nil (λ e. IsReadable e.event.what); shown = at; charged = nothing })
+  pub opening_shows : (tables : Tables) (history : List (Entry A)) (machine : World) (relays : List (Option (KeptPair A))) (records : List Record) → IsSound tables → history ≡ []
+      → machine ≡ opening (line_count tables) → relays ≡ replicate (line_count tables) None → records ≡ [] → Shows tables history machine relays records
+  opening_shows tables history machine relays records sound none at unused nothing =
+      let P : List (Entry A) → Type 0 = λ entries. Shows tables entries machine relays records in
+      let W : World → Type 0 = λ w. AreCarried tables [] w relays in
+      subst P (sym none) (record {
+        sound = sound;
+        run = refl;
+        readable = All-nil (λ e. IsReadable e.event.what);
+        shown = at;
+        carried = subst W (sym at) (λ number call agreement is agreed. let gone : call_numbered (opening (line_count tables)) number ≡ None = get-empty nat_cmp number in absurd (cc));
+        places = ap length unused ∙ length-replicate (line_count tables) None;
+        charged = nothing;
+      })
+
+  -- the relays of the calls that are live now
+  pub kept_relays : (tables : Tables) (history : List (Entry A)) (machine : World) (relays : List (Option (KeptPair A))) (records : List Record)
+      → Shows tables history machine relays records → AreCarried tables history machine relays
+  kept_relays tables history machine relays records shows = shows.carried

@@ -14,7 +14,8 @@ use Rattle.xp_core.specs.Coupling.{AreCoupled}
 use Rattle.xp_core.specs.Run.{Run}
 use Rattle.xp_core.specs.Sound.{IsSound}
 use Rattle.xp_core.specs.Setting.{setting}
-use Rattle.xp_core.specs.Step.{Step, changes_of}
+use Rattle.xp_core.specs.Step.{Step}
+use Rattle.xp_core.specs.Does.{changes_of}
 use Rattle.xp_core.specs.Table.{action_at}
 use Rattle.xp_core.specs.World.{Call, Line, World, call_numbered, far_end, off_line, opening, state_at}
 use Rattle.xp_core.proofs.Coupled.{CanBe, changed_coupled}

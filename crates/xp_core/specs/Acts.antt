@@ -25,10 +25,11 @@ use Rattle.xp_core.specs.declared.outcome.Agreement.{Agreement}
 use Rattle.xp_core.specs.declared.outcome.Outcome.{Outcome}
 use Rattle.xp_core.specs.declared.outcome.Outcome.TheVariants.{Plain, Put, Refused, Connected, Declined}
 use Rattle.xp_core.specs.declared.output.Output.{Output}
+use Rattle.xp_core.specs.Carried.{carried_by}
 use Rattle.xp_core.specs.Channel.{seen_as}
 use Rattle.xp_core.specs.Setting.{Setting}
-use Rattle.xp_core.specs.Table.{CallAccepted, CallRequest, ClearRequest, accepted_in, clear_in, request_in}
-use Rattle.xp_core.specs.Told.{Told, clear_indication, close, nothing_told, refused_told, send, send_far, taken_told}
+use Rattle.xp_core.specs.Table.{CallAccepted, CallRequest, ClearRequest, accepted_in, clear_in, packet_in, request_in}
+use Rattle.xp_core.specs.Told.{Told, carried_told, clear_indication, close, nothing_told, refused_told, send, send_far, taken_told}
 use Rattle.xp_core.specs.World.{Call, World, call_on, state_at}
 
 -- the lines as a call request finds them
@@ -48,6 +49,7 @@ module _ {A : Type 0} where
   -- a line goes out of service
   abbrev pub told_of_fall : World → ℕ → What A → Told A
   told_of_fall world line what = record {
+    carried = [];
     own = closed world line what;
     far = send_far world line (call_on world line) (clear_indication OUT_OF_ORDER NO_ADDITIONAL_INFORMATION);
     taken = [];
@@ -56,6 +58,7 @@ module _ {A : Type 0} where
   -- a procedure error clears both ends
   abbrev pub told_of_error : World → ℕ → ℕ → Told A
   told_of_error world line diagnostic = record {
+    carried = [];
     own = send world line (clear_indication LOCAL_PROCEDURE_ERROR diagnostic) ∷ [];
     far = send_far world line (call_on world line) (clear_indication REMOTE_PROCEDURE_ERROR diagnostic);
     taken = [];
@@ -101,7 +104,7 @@ module _ {A : Type 0} where
   agreement_of connection = record { terms = connection.terms; charging = connection.charging }
 
   abbrev pub told_connected : World → ℕ → Packet A → Told A
-  told_connected world caller packet = record { own = []; far = send world caller packet ∷ []; taken = [] }
+  told_connected world caller packet = record { carried = []; own = []; far = send world caller packet ∷ []; taken = [] }
 
   pub record IsConnected (tables : Tables) (world : World) (line : ℕ) (answer : CallAccepted A) (call : Call) (agreement : Agreement) (told : Told A) : Type 0 where
     pub connection : Connection A
@@ -134,6 +137,7 @@ module _ {A : Type 0} where
     pub packet : Packet A
     pub carried : CarriedOn found.1.setup.fast clear.cause clear.diagnostic clear.block None packet
     pub told_is : told ≡ record {
+      carried = [];
       own = send world line (ClearConfirm None) ∷ [];
       far = send_far world line (Some found) packet;
       taken = [];
@@ -141,7 +145,7 @@ module _ {A : Type 0} where
 
   abbrev pub IsConfirmed : World → ℕ → ClearRequest A → Option (ℕ × Call) → Outcome → Told A → Type 0
   IsConfirmed world line clear None outcome told =
-      IsPlain (record { own = send world line (ClearConfirm None) ∷ []; far = []; taken = [] }) outcome told
+      IsPlain (record { carried = []; own = send world line (ClearConfirm None) ∷ []; far = []; taken = [] }) outcome told
   IsConfirmed world line clear (Some found) outcome told = IsCarriedOn world line clear found outcome told
 
   abbrev pub Confirms : World → ℕ → Option (ClearRequest A) → Option (ℕ × Call) → Outcome → Told A → Type 0
@@ -161,6 +165,6 @@ module _ {A : Type 0} where
   Acts at what Confirm outcome told = Confirms at.world at.line (clear_in what) (call_on at.world at.line) outcome told
   Acts at what Free outcome told = IsPlain nothing_told outcome told
   Acts at what (Error diagnostic) outcome told = IsPlain (told_of_error at.world at.line diagnostic) outcome told
-  -- data, flow control, interrupts and resets are not relayed yet
-  Acts at what Relayed outcome told = IsPlain nothing_told outcome told
+  Acts at what Relayed outcome told =
+      IsPlain (carried_told at.tables at.before at.world (carried_by at.line (call_on at.world at.line) (packet_in what))) outcome told
   Acts at what Expired outcome told = IsPlain (told_of_error at.world at.line TIMER_EXPIRED_FOR_INCOMING_CALL) outcome told

@@ -1,16 +1,18 @@
 -- The coupling of lines and live calls.
-use Rattle.std.specs.Prelude.{◌≡◌, ◌≢◌, ℕ, ◌<◌, ◌⊎◌, Some}
+use Rattle.std.specs.Prelude.{◌≡◌, ◌≢◌, ℕ, ◌<◌, ◌⊎◌, None, Some, IsSome}
 use Rattle.xp_subs.specs.Tables.{Tables, line_count}
 use Rattle.xp_core.specs.Channel.{Waiting, Ringing, Talking, call_of}
 use Rattle.xp_core.specs.World.{Call, World, call_numbered, state_at}
 
 -- put to the called line: the calling one is DTE waiting (p2, clause 4.1.2), the called one DCE waiting (p3, clause 4.1.3)
 abbrev pub IsPut : World → ℕ → Call → Type 0
-IsPut world number call = (state_at world call.caller ≡ Waiting number) × (state_at world call.called ≡ Ringing number)
+IsPut world number call =
+    (state_at world call.caller ≡ Waiting number) × (state_at world call.called ≡ Ringing number) × (call.agreed ≡ None)
 
--- accepted: both lines are in data transfer (p4, clauses 4.1.4 and 4.1.5)
+-- accepted: both lines are in data transfer (p4, clauses 4.1.4 and 4.1.5), as was agreed
 abbrev pub IsAccepted : World → ℕ → Call → Type 0
-IsAccepted world number call = (state_at world call.caller ≡ Talking number) × (state_at world call.called ≡ Talking number)
+IsAccepted world number call =
+    (state_at world call.caller ≡ Talking number) × (state_at world call.called ≡ Talking number) × IsSome call.agreed
 
 -- a call between two lines of the subscriptions, which both are in it
 pub record IsHeld (tables : Tables) (world : World) (number : ℕ) (call : Call) : Type 0 where

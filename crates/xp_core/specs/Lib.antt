@@ -2,11 +2,14 @@ pub mod Acts
 pub mod Agreed
 pub mod Asked
 pub mod Buffered
+pub mod Carried
 pub mod Changes
 pub mod Channel
 pub mod Clearing
 pub mod Coupling
+pub mod Delivered
 pub mod Determined
+pub mod Does
 pub mod Exchange
 pub mod Existence
 pub mod Few
@@ -17,6 +20,7 @@ pub mod Lines
 pub mod Outcomes
 pub mod Plan
 pub mod Records
+pub mod Relays
 pub mod Run
 pub mod Setting
 pub mod Shown
@@ -27,4 +31,5 @@ pub mod Told
 pub mod View
 pub mod Work
 pub mod World
+pub mod Worlds
 pub mod Writable

@@ -57,3 +57,12 @@ module _ {A : Type 0} where
   clear_in (events.Frame identifier (packets.Clear cause diagnostic block)) =
       Some (record { cause = cause; diagnostic = diagnostic; block = block })
   clear_in what = None
+
+  -- the packet in it, if it is one
+  abbrev pub packet_in : What A → Option (Packet A)
+  packet_in (events.Frame identifier packet) = Some packet
+  packet_in events.Up = None
+  packet_in events.Down = None
+  packet_in (events.WrongFrame wrong) = None
+  packet_in events.Expire = None
+  packet_in events.Stall = None

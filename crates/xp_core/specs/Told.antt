@@ -1,15 +1,21 @@
 -- What is put out.
-use Rattle.std.specs.Prelude.{ℕ, Option, None, Some, List, [], ◌∷◌, ◌++◌}
+use Rattle.std.specs.Prelude.{ℕ, Option, None, Some, List, [], ◌∷◌, ◌++◌, map}
 use Rattle.xp_packets.specs.declared.packet.Packet.{Packet}
 use Rattle.xp_packets.specs.declared.packet.Packet.TheVariants.{Clear}
+use Rattle.xp_relay.specs.declared.moves.Move.{Move}
+use Rattle.xp_subs.specs.Tables.{Tables}
+use Rattle.xp_core.specs.declared.entry.Entry.{Entry}
 use Rattle.xp_core.specs.declared.output.Output.{Output}
 use Rattle.xp_core.specs.declared.output.Put.TheVariants.{Send, Close}
+use Rattle.xp_core.specs.Carried.{Carried, line_at_end, turn_of_carried}
 use Rattle.xp_core.specs.Channel.{INITIAL_IDENTIFIER}
 use Rattle.xp_core.specs.World.{Call, World, far_end, line_at}
 use Rattle.xp_causes.specs.declared.refusal.Refusal.{Refusal}
 
--- to the line of the event, to the far end of its call, and to a line that a new call is put to
+-- what a call carries to its two lines; and to the line of the event, to the far end of its call, and to a line that a new
+-- call is put to
 pub record Told (A : Type 0) : Type 0 where
+  pub carried : List (Output A)
   pub own : List (Output A)
   pub far : List (Output A)
   pub taken : List (Output A)
@@ -17,10 +23,10 @@ pub record Told (A : Type 0) : Type 0 where
 module _ {A : Type 0} where
   -- in this order
   abbrev pub outputs_of : Told A → List (Output A)
-  outputs_of told = told.own ++ told.far ++ told.taken
+  outputs_of told = told.carried ++ told.own ++ told.far ++ told.taken
 
   abbrev pub nothing_told : Told A
-  nothing_told = record { own = []; far = []; taken = [] }
+  nothing_told = record { carried = []; own = []; far = []; taken = [] }
 
   -- a packet to a line, under this identifier
   abbrev pub send_as : World → ℕ → ℕ → Packet A → Output A
@@ -40,11 +46,12 @@ module _ {A : Type 0} where
 
   -- an incoming call to a line that is taken, and to a far end these
   abbrev pub taken_told : World → List (Output A) → ℕ → Packet A → Told A
-  taken_told world far called packet = record { own = []; far = far; taken = send_as world called INITIAL_IDENTIFIER packet ∷ [] }
+  taken_told world far called packet = record { carried = []; own = []; far = far; taken = send_as world called INITIAL_IDENTIFIER packet ∷ [] }
 
   -- the refusal of a call request under its identifier, and to a far end these
   abbrev pub refused_told : World → List (Output A) → ℕ → ℕ → Refusal → Told A
   refused_told world far line identifier why = record {
+    carried = [];
     own = send_as world line identifier (clear_indication why.cause why.diagnostic) ∷ [];
     far = far;
     taken = [];
@@ -54,3 +61,13 @@ module _ {A : Type 0} where
   abbrev pub send_far : World → ℕ → Option (ℕ × Call) → Packet A → List (Output A)
   send_far world line None packet = []
   send_far world line (Some found) packet = send world (far_end found.1 line) packet ∷ []
+
+  -- a packet that a call carries to its line at an end
+  abbrev pub send_on : World → Call → Move A → Output A
+  send_on world call move = send world (line_at_end call move.side) move.packet
+
+  -- what a packet for a connected call leads to, if there is one
+  abbrev pub carried_told : Tables → List (Entry A) → World → Option (Carried A) → Told A
+  carried_told tables before world None = nothing_told
+  carried_told tables before world (Some carried) =
+      record nothing_told { carried = map (send_on world carried.call) (turn_of_carried tables before carried).moves }

@@ -1,12 +1,28 @@
 -- What can be seen of a line.
+use Rattle.std.specs.Prelude.{ℕ, Option, None, Some, option_map, List}
+use Rattle.xp_relay.specs.Coupled.{state_at}
+use Rattle.xp_relay.specs.declared.state.FlowState.{FlowState}
+use Rattle.xp_subs.specs.Tables.{Tables}
+use Rattle.xp_core.specs.declared.entry.Entry.{Entry}
 use Rattle.xp_core.specs.declared.view.LineView.{LineView}
+use Rattle.xp_core.specs.Carried.{directions, end_of}
 use Rattle.xp_core.specs.Channel.{call_of, channel_of}
-use Rattle.xp_core.specs.World.{Line}
+use Rattle.xp_core.specs.World.{Call, Line, World, call_on}
 
-abbrev pub view_of : Line → LineView
-view_of line = record {
+-- the state of flow control of a line of this call, where it is connected (X.25 clause 4.4.3)
+abbrev pub flow_in : {A : Type 0} → Tables → List (Entry A) → ℕ → Option (ℕ × Call) → Option FlowState
+flow_in tables history line None = None
+flow_in tables history line (Some found) =
+    option_map (λ agreement. state_at (end_of found.1 line) (directions tables history found.0 agreement)) found.1.agreed
+
+abbrev pub flow_at : {A : Type 0} → Tables → List (Entry A) → World → ℕ → Option FlowState
+flow_at tables history world line = flow_in tables history line (call_on world line)
+
+abbrev pub view_of : Line → Option FlowState → LineView
+view_of line flow = record {
   channel = channel_of line.state;
   identifier = line.identifier;
   call = call_of line.state;
+  flow = flow;
   connection = line.connection;
 }

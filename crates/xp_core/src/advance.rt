@@ -3,6 +3,7 @@
 ghost use Rattle.std.specs.Prelude.{◌≡◌, ◌+◌, ◌<◌, ◌≤◌, ◌^◌, ◌++◌, IfOk, IfErr, OnOk, OnErr, length, vec_len, vec_capacity};
 ghost use Rattle.xp_subs.specs.Tables.{line_count};
 ghost use Rattle.xp_core.specs.Agreed.{AllHaveTerms};
+ghost use Rattle.xp_core.specs.Relays.{AreCarried};
 ghost use Rattle.xp_core.specs.Sound.{IsSound};
 ghost use Rattle.xp_core.specs.Work.{Enters, Works};
 
@@ -14,6 +15,7 @@ use crate::outcome::Outcome;
 use crate::output::Outputs;
 use crate::plan::{Plan, plan_of};
 use crate::records::Records;
+use crate::relays::Relays;
 use crate::stepped::Stepped;
 use std::alloc::{AllocError, Allocator};
 use xp_charge::Record;
@@ -34,6 +36,7 @@ pub fn advance<A: Allocator + Copy>(
     alloc: A,
     subs: &Subs,
     machine: &mut Machine<A>,
+    relays: &mut Relays<A>,
     history: &mut Vec<Entry<A>, A>,
     charged: &mut Vec<Record, A>,
     event: Event<A>,
@@ -41,14 +44,16 @@ pub fn advance<A: Allocator + Copy>(
     requires line { event.line < line_count subs.now }
     requires sound { IsSound subs.now (length history.old.items) machine.old }
     requires terms { AllHaveTerms machine.old }
+    requires carried { AreCarried subs.now history.old.items machine.old relays.old }
     requires few { length history.old.items < 2 ^ 32 }
-    ensures ok { IfOk result (λ told. Enters subs.now machine.old history.old.items charged.old.items event machine.new history.new.items charged.new.items told) }
+    ensures ok { IfOk result (λ told. Enters subs.now machine.old relays.old history.old.items charged.old.items event machine.new relays.new history.new.items charged.new.items told) }
     ensures memory { IfErr result (λ fault. fault ≡ StepFault.Memory event) }
     ensures machine { OnErr result (machine.new ≡ machine.old) }
+    ensures relays { OnErr result (relays.new ≡ relays.old) }
     ensures history { OnErr result (history.new.items ≡ history.old.items) }
     ensures records { OnErr result (charged.new.items ≡ charged.old.items) }
 {
-    let Ok(work) = work_out(alloc, subs, machine, history, charged, &event) else {
+    let Ok(work) = work_out(alloc, subs, machine, relays, history, charged, &event) else {
         return Err(StepFault::Memory(event));
     };
     let Work {
@@ -77,6 +82,7 @@ fn work_out<A: Allocator + Copy>(
     alloc: A,
     subs: &Subs,
     machine: &mut Machine<A>,
+    relays: &mut Relays<A>,
     history: &mut Vec<Entry<A>, A>,
     charged: &mut Vec<Record, A>,
     event: &Event<A>,
@@ -84,13 +90,15 @@ fn work_out<A: Allocator + Copy>(
     requires line { event.now.line < line_count subs.now }
     requires sound { IsSound subs.now (length history.old.items) machine.old }
     requires terms { AllHaveTerms machine.old }
+    requires carried { AreCarried subs.now history.old.items machine.old relays.old }
     requires few { length history.old.items < 2 ^ 32 }
-    ensures ok { IfOk result (λ work. Works subs.now history.old.items machine.old event.now work machine.new) }
+    ensures ok { IfOk result (λ work. Works subs.now history.old.items machine.old relays.old event.now work machine.new relays.new) }
     ensures room { OnOk result (vec_len history.new < vec_capacity history.new) }
     ensures places { IfOk result (λ work. vec_len charged.new + length work.records.items ≤ vec_capacity charged.new) }
     ensures items { history.new.items ≡ history.old.items }
     ensures records { charged.new.items ≡ charged.old.items }
-    ensures err { OnErr result (machine.new ≡ machine.old) }
+    ensures machine { OnErr result (machine.new ≡ machine.old) }
+    ensures relays { OnErr result (relays.new ≡ relays.old) }
 {
     let Plan {
         outcome,
@@ -98,12 +106,14 @@ fn work_out<A: Allocator + Copy>(
         cancelled,
         change,
         records,
-    } = plan_of(alloc, subs, machine, history.as_slice(), event)?;
+        carriage,
+    } = plan_of(alloc, subs, machine, relays, history.as_slice(), event)?;
     let outputs = outputs.into_outputs();
     let told = outputs.copy()?;
     history.reserve(1)?;
     charged.reserve(records.len())?;
     machine.apply(cancelled, change)?;
+    relays.put_if_any(carriage);
     Ok(Work {
         outcome,
         outputs,

@@ -1,12 +1,13 @@
 ghost use Rattle.std.specs.Prelude.{◌≡◌};
 ghost use Rattle.xp_core.specs.Clearing.{record_of};
 ghost use Rattle.xp_core.specs.Kept.{call_of_kept};
+ghost use Rattle.xp_core.specs.Carried.{end_of, line_at_end};
 ghost use Rattle.xp_core.specs.World.{far_end as other_line};
 
 use crate::outcome::Agreement;
 use xp_answer::Setup;
 use xp_charge::Record;
-use xp_packets::Digits;
+use xp_packets::{Digits, End};
 use xp_subs::LineNo;
 
 /// A virtual call between two lines, from its call request to its clearing.
@@ -44,6 +45,27 @@ impl LiveCall {
             self.called
         } else {
             self.caller
+        }
+    }
+
+    /// Which end of the call a line of it is.
+    pub fn end_of(&self, line: LineNo) -> End
+        ensures { result ≡ end_of (call_of_kept self.now) line }
+    {
+        if self.caller == line {
+            End::Caller
+        } else {
+            End::Called
+        }
+    }
+
+    /// The line at an end of the call.
+    pub fn line_at(&self, end: End) -> LineNo
+        ensures { result ≡ line_at_end (call_of_kept self.now) end }
+    {
+        match end {
+            End::Caller => self.caller,
+            End::Called => self.called,
         }
     }
 

@@ -3,7 +3,7 @@
 ghost use Rattle.std.specs.Prelude.{◌≡◌, ◌+◌, ◌<◌, ◌≤◌, [], All, IfOk, IfErr, OnErr, Err, length};
 ghost use Rattle.xp_subs.specs.Tables.{line_count};
 ghost use Rattle.xp_core.specs.Exchange.{world_of};
-ghost use Rattle.xp_core.specs.View.{view_of};
+ghost use Rattle.xp_core.specs.View.{flow_at, view_of};
 ghost use Rattle.xp_core.specs.World.{line_at};
 
 use crate::advance::advance;
@@ -11,11 +11,13 @@ use crate::entry::Entry;
 use crate::event::Event;
 use crate::fault::StepFault;
 use crate::machine::Machine;
+use crate::relays::Relays;
 use crate::stepped::Stepped;
 use crate::view::LineView;
 use std::alloc::{AllocError, Allocator, Global};
 use std::marker::Model;
 use xp_charge::Record;
+use xp_relay::FlowState;
 use xp_subs::{LineNo, Subs};
 
 /// How many places of the history have to be left for an event: one for its entry, and three for stalls that may
@@ -28,6 +30,7 @@ pub struct Core<A: Allocator = Global> {
     alloc: A,
     subs: Subs,
     machine: Machine<A>,
+    relays: Relays<A>,
     history: Vec<Entry<A>, A>,
     records: Vec<Record, A>,
 }
@@ -41,7 +44,7 @@ impl<A: Allocator> Model for Core<A> {
 
     ghost view = { λ c. record { subs = c.subs; history = c.history.items } };
 
-    ghost invariant = { λ c. Shows c.subs c.history.items c.machine c.records.items };
+    ghost invariant = { λ c. Shows c.subs c.history.items c.machine c.relays c.records.items };
 }
 
 impl<A: Allocator + Copy> Core<A> {
@@ -53,11 +56,14 @@ impl<A: Allocator + Copy> Core<A> {
     pub fn new(alloc: A, subs: Subs) -> Result<Core<A>, AllocError>
         ensures { IfOk result (λ core. core ≡ record { subs = subs; history = [] }) }
     {
-        let machine = Machine::new(alloc, subs.counts().lines)?;
+        let lines = subs.counts().lines;
+        let machine = Machine::new(alloc, lines)?;
+        let relays = Relays::new(alloc, lines)?;
         Ok(Core {
             alloc,
             subs,
             machine,
+            relays,
             history: Vec::new(alloc),
             records: Vec::new(alloc),
         })
@@ -87,16 +93,18 @@ impl<A: Allocator + Copy> Core<A> {
             alloc,
             subs,
             machine,
+            relays,
             history,
             records,
         } = self;
-        advance(*alloc, subs, machine, history, records, event)
+        advance(*alloc, subs, machine, relays, history, records, event)
     }
 }
 
 impl<A: Allocator> Core<A> {
     ghost use Rattle.xp_core.specs.Agreed.{AllHaveTerms};
     ghost use Rattle.xp_core.specs.Coupling.{AreCoupled};
+    ghost use Rattle.xp_core.specs.Delivered.{AreDelivered};
     ghost use Rattle.xp_core.specs.Joined.{AreJoined};
     ghost use Rattle.xp_core.specs.Lines.{HasLines};
     ghost use Rattle.xp_core.specs.Records.{OneRecordEach, records_of};
@@ -106,11 +114,21 @@ impl<A: Allocator> Core<A> {
     /// What can be seen of a line. In p2, p3 and p4 it is one of the two lines of the live call that it shows. A line
     /// that there is not shows as out of service.
     pub fn line(&self, line: LineNo) -> LineView
-        ensures view { result ≡ view_of (line_at (world_of self.now) line) }
+        ensures view { result ≡ view_of (line_at (world_of self.now) line) (flow_at self.now.subs self.now.history (world_of self.now) line) }
         ensures identifier { result.identifier < 4096 }
         ensures coupled { AreCoupled self.now.subs (world_of self.now) }
     {
-        self.machine.line(line).view()
+        self.machine.line(line).view(self.flow(line))
+    }
+
+    /// The state of flow control of a line in data transfer.
+    fn flow(&self, line: LineNo) -> Option<FlowState>
+        ensures { result ≡ flow_at self.now.subs self.now.history (world_of self.now) line }
+    {
+        let call = self.machine.call_on(line)?;
+        call.agreed?;
+        let relay = self.relays.under(call.caller)?;
+        Some(relay.state(call.end_of(line)))
     }
 
     /// The records of the ended calls, in the order in which they ended: one for each of them, and no other.
@@ -123,7 +141,7 @@ impl<A: Allocator> Core<A> {
 
     /// All entries, which lead to the present state. Each packet that they put out can be encoded, and each line that
     /// they put something out to or record is one of the subscriptions'. Closed user groups let the stations of each call
-    /// be joined, and the sizes of each live call are in their ranges.
+    /// be joined, the sizes of each live call are in their ranges, and what a connected call accepts arrives.
     pub fn history(&self) -> &[Entry<A>]
         ensures entries { result.now ≡ self.now.history }
         ensures run { Run self.now.subs self.now.history (world_of self.now) }
@@ -131,6 +149,7 @@ impl<A: Allocator> Core<A> {
         ensures lines { All (HasLines (line_count self.now.subs)) self.now.history }
         ensures joined { AreJoined self.now.subs self.now.history (world_of self.now) }
         ensures terms { AllHaveTerms (world_of self.now) }
+        ensures delivered { AreDelivered self.now.subs self.now.history (world_of self.now) }
     {
         self.history.as_slice()
     }

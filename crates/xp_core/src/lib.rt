@@ -15,6 +15,7 @@ mod outcome;
 mod output;
 mod plan;
 mod records;
+mod relays;
 mod stepped;
 mod table;
 mod view;

@@ -1,8 +1,10 @@
 ghost use Rattle.std.specs.Prelude.{◌≡◌};
+ghost use Rattle.xp_core.specs.Carried.{terms_of};
 ghost use Rattle.xp_core.specs.Outcomes.{taken_by};
 
 use xp_answer::{Setup, Terms};
 use xp_causes::Refusal;
+use xp_relay::{Agreed, Modulus};
 use xp_subs::LineNo;
 
 /// What the answer to an incoming call settles.
@@ -28,6 +30,27 @@ pub enum Outcome {
     Connected(Agreement),
     /// An answer: it is a procedure error with this diagnostic (X.25 Annex E).
     Declined(u8),
+}
+
+impl Agreement {
+    /// What was agreed for the data of each end. The packets of all lines are numbered modulo 8.
+    pub(crate) fn relay_terms(self) -> xp_relay::Terms
+        ensures { result ≡ terms_of self }
+    {
+        let Terms { packet, window } = self.terms;
+        xp_relay::Terms {
+            from_caller: Agreed {
+                size: packet.from_calling,
+                window: window.from_calling,
+            },
+            from_called: Agreed {
+                size: packet.from_called,
+                window: window.from_called,
+            },
+            caller: Modulus::Eight,
+            called: Modulus::Eight,
+        }
+    }
 }
 
 impl Outcome {

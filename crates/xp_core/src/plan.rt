@@ -2,6 +2,7 @@
 
 mod answer;
 mod asked;
+mod carrying;
 mod clearing;
 mod event;
 mod request;
@@ -16,6 +17,7 @@ use crate::change::Change;
 use crate::outcome::Outcome;
 use crate::output::Buffer;
 use crate::records::Records;
+use crate::relays::Carriage;
 use arrayvec::ArrayVec;
 pub use event::plan_of;
 use std::alloc::{Allocator, Global};
@@ -31,6 +33,8 @@ pub struct Plan<A: Allocator = Global> {
     pub cancelled: Option<LineNo>,
     pub change: Option<Change>,
     pub records: Records,
+    /// The relay that a call has from now on, if another.
+    pub carriage: Option<Carriage<A>>,
 }
 
 impl<A: Allocator> Plan<A> {
@@ -42,6 +46,7 @@ impl<A: Allocator> Plan<A> {
         ensures change { result.change ≡ None }
         ensures records { result.records.items ≡ [] }
         ensures no_records { array_vec_len result.records ≡ 0 }
+        ensures carriage { result.carriage ≡ None }
     {
         Plan {
             outcome: Outcome::Plain,
@@ -49,6 +54,7 @@ impl<A: Allocator> Plan<A> {
             cancelled: None,
             change: None,
             records: ArrayVec::new(),
+            carriage: None,
         }
     }
 
@@ -76,6 +82,16 @@ impl<A: Allocator> Plan<A> {
         }
     }
 
+    /// The plan with this relay of a call.
+    pub fn carrying(self, carriage: Carriage<A>) -> Plan<A>
+        ensures { result ≡ record self { carriage = Some carriage } }
+    {
+        Plan {
+            carriage: Some(carriage),
+            ..self
+        }
+    }
+
     /// The plan with a line that leaves its call.
     pub fn withdrawing(self, withdrawal: Withdrawal) -> Plan<A>
         requires { array_vec_len self.records < MOST_RECORDS }
@@ -84,6 +100,7 @@ impl<A: Allocator> Plan<A> {
         ensures cancelled { result.cancelled ≡ self.cancelled }
         ensures change { result.change ≡ Some withdrawal.change }
         ensures records { result.records.items ≡ self.records.items ++ option_to_list withdrawal.charged }
+        ensures carriage { result.carriage ≡ self.carriage }
     {
         let Withdrawal { change, charged } = withdrawal;
         self.changing(change).with_some_record(charged)
@@ -97,6 +114,7 @@ impl<A: Allocator> Plan<A> {
         ensures cancelled { result.cancelled ≡ self.cancelled }
         ensures change { result.change ≡ self.change }
         ensures records { result.records.items ≡ self.records.items ++ option_to_list charged }
+        ensures carriage { result.carriage ≡ self.carriage }
         ensures count { array_vec_len result.records ≤ array_vec_len self.records + 1 }
     {
         match charged {
@@ -113,6 +131,7 @@ impl<A: Allocator> Plan<A> {
         ensures cancelled { result.cancelled ≡ self.cancelled }
         ensures change { result.change ≡ self.change }
         ensures records { result.records.items ≡ self.records.items ++ charged ∷ [] }
+        ensures carriage { result.carriage ≡ self.carriage }
         ensures count { array_vec_len result.records ≡ array_vec_len self.records + 1 }
     {
         self.records.push(charged);

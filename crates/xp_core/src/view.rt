@@ -4,6 +4,7 @@ ghost use Rattle.xp_core.specs.View.{view_of};
 
 use crate::channel::LogicalChannel;
 use xp_channel::Channel;
+use xp_relay::FlowState;
 
 /// What can be seen of a line.
 #[derive(Clone, Copy, Debug, PartialEq, Eq)]
@@ -13,19 +14,22 @@ pub struct LineView {
     pub identifier: u16,
     /// The number of the call that the line is in.
     pub call: Option<u64>,
+    /// Whether the line owes a reset confirmation; None but in data transfer.
+    pub flow: Option<FlowState>,
     /// How often the line came into service.
     pub connection: u64,
 }
 
 impl LogicalChannel {
-    /// What can be seen of the line.
-    pub fn view(self) -> LineView
-        ensures { result ≡ view_of (line_of self) }
+    /// What can be seen of the line, in this state of flow control.
+    pub fn view(self, flow: Option<FlowState>) -> LineView
+        ensures { result ≡ view_of (line_of self) flow }
     {
         LineView {
             channel: self.state.channel(),
             identifier: self.identifier,
             call: self.state.call(),
+            flow,
             connection: self.connection,
         }
     }

@@ -12,7 +12,7 @@ use Rattle.xp_core.specs.Channel.{is_off}
 use Rattle.xp_core.specs.Coupling.{AreCoupled}
 use Rattle.xp_core.specs.Exchange.{Advances, Exchange, world_of}
 use Rattle.xp_core.specs.Records.{records_of}
-use Rattle.xp_core.specs.Run.{world_after}
+use Rattle.xp_core.specs.Worlds.{world_after}
 use Rattle.xp_core.specs.Step.{Step}
 use Rattle.xp_core.specs.World.{line_at, state_at}
 use Rattle.xp_lock.specs.declared.done.Done.{Done}

@@ -22,7 +22,8 @@ use Rattle.xp_core.specs.Changes.{Change, Rises, Leaves, Begins, IsRefused, Conn
 use Rattle.xp_core.specs.Channel.{State, Off, Ready, Waiting, Ringing, Talking, Cleared, channel_of, is_off}
 use Rattle.xp_core.specs.Coupling.{AreCoupled}
 use Rattle.xp_core.specs.Setting.{Setting, setting}
-use Rattle.xp_core.specs.Step.{Step, changes_of, does}
+use Rattle.xp_core.specs.Step.{Step}
+use Rattle.xp_core.specs.Does.{changes_of, does}
 use Rattle.xp_core.specs.Table.{action_at, kind_of}
 use Rattle.xp_core.specs.Told.{nothing_told, outputs_of}
 use Rattle.xp_core.specs.World.{Call, Line, World, call_numbered, far_end, off_line, state_at}

@@ -5,7 +5,8 @@ use Rattle.xp_core.specs.declared.entry.Entry.{Entry}
 use Rattle.xp_core.specs.declared.event.Event.{Event}
 use Rattle.xp_core.specs.declared.output.Outgoing.{Outgoing}
 use Rattle.xp_core.specs.Records.{records_of}
-use Rattle.xp_core.specs.Run.{Run, world_after}
+use Rattle.xp_core.specs.Run.{Run}
+use Rattle.xp_core.specs.Worlds.{world_after}
 use Rattle.xp_core.specs.World.{line_at}
 use Rattle.xp_lock.specs.declared.done.Done.{Done}
 use Rattle.xp_lock.specs.Handed.{handed, is_stall}

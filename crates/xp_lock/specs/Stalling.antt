@@ -6,7 +6,7 @@ use Rattle.xp_core.specs.declared.event.Event.{Event}
 use Rattle.xp_core.specs.declared.output.Outgoing.{Outgoing}
 use Rattle.xp_core.specs.Channel.{is_off}
 use Rattle.xp_core.specs.Exchange.{Exchange, world_of}
-use Rattle.xp_core.specs.Run.{world_after}
+use Rattle.xp_core.specs.Worlds.{world_after}
 use Rattle.xp_core.specs.Step.{Step}
 use Rattle.xp_core.specs.World.{state_at}
 use Rattle.xp_lock.specs.Boxes.{AreKept, PLACES_KEPT, box_at}

@@ -8,7 +8,7 @@ use Rattle.xp_core.specs.declared.event.What.{What}
 use Rattle.xp_core.specs.declared.event.What.TheVariants.{Up}
 use Rattle.xp_core.specs.declared.output.Outgoing.{Outgoing}
 use Rattle.xp_core.specs.Records.{records_of}
-use Rattle.xp_core.specs.Run.{world_after}
+use Rattle.xp_core.specs.Worlds.{world_after}
 use Rattle.xp_core.specs.World.{World, line_at}
 use Rattle.xp_lock.specs.declared.done.Done.{Done}
 use Rattle.xp_lock.specs.declared.fault.OfferFault.{OfferFault}

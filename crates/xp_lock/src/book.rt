@@ -3,7 +3,8 @@
 ghost use Rattle.std.specs.Prelude.{◌≡◌};
 ghost use Rattle.xp_core.specs.Coupling.{AreCoupled};
 ghost use Rattle.xp_core.specs.Records.{OneRecordEach, records_of};
-ghost use Rattle.xp_core.specs.Run.{Run, world_after};
+ghost use Rattle.xp_core.specs.Run.{Run};
+ghost use Rattle.xp_core.specs.Worlds.{world_after};
 ghost use Rattle.xp_core.specs.View.{view_of};
 ghost use Rattle.xp_core.specs.World.{line_at};
 

@@ -1,7 +1,7 @@
 //! An incoming call is answered.
 
-ghost use Rattle.std.specs.Prelude.{◌≡◌, ◌<◌, [], ◌∷◌, Some, IfOk};
-ghost use Rattle.xp_core.specs.Acts.{agreement_of, told_connected};
+ghost use Rattle.std.specs.Prelude.{◌≡◌, ◌<◌, [], ◌∷◌, None, Some, IfOk};
+ghost use Rattle.xp_core.specs.Acts.{agreement_of as agreed_by, told_connected};
 ghost use Rattle.xp_core.specs.Agreed.{AllHaveTerms};
 ghost use Rattle.xp_core.specs.Asked.{answer_of};
 ghost use Rattle.xp_core.specs.Kept.{call_of_kept, entry_of};
@@ -19,8 +19,10 @@ use crate::change::Change;
 use crate::machine::Machine;
 use crate::outcome::{Agreement, Outcome};
 use crate::output::Buffer;
+use crate::relays::Carriage;
 use std::alloc::{AllocError, Allocator};
 use xp_answer::{Answer, Connection, examine};
+use xp_relay::Relay;
 use xp_subs::{LineNo, Subs};
 
 /// An answer connects the call, and the caller is told so (X.25 clause 4.1.5); a fault of it is a procedure error.
@@ -49,12 +51,27 @@ pub fn answer<A: Allocator + Copy>(
     )? {
         Answer::Connected(connection) => {
             let outputs = Buffer::with_room(alloc, 1)?;
-            Ok(connect(machine, line, call, connection, outputs))
+            let agreement = agreement_of(&connection);
+            let relay = Relay::new(alloc, agreement.relay_terms())?;
+            let plan = connect(machine, line, call, connection, outputs);
+            Ok(plan.carrying(Carriage {
+                caller: call.caller,
+                relay,
+            }))
         }
         Answer::Refused(diagnostic) => {
             let plan = clear_both(alloc, machine, line, diagnostic)?;
             Ok(plan.settling(Outcome::Declined(diagnostic)))
         }
+    }
+}
+
+fn agreement_of<A: Allocator>(connection: &Connection<A>) -> Agreement
+    ensures { result ≡ agreed_by connection.now }
+{
+    Agreement {
+        terms: connection.terms,
+        charging: connection.charging,
     }
 }
 
@@ -68,18 +85,14 @@ fn connect<A: Allocator>(
 ) -> Plan<A>
     requires empty { outputs.outputs ≡ [] }
     requires room { 0 < outputs.room }
-    ensures outcome { result.outcome ≡ Outcome.Connected (agreement_of connection) }
+    ensures outcome { result.outcome ≡ Outcome.Connected (agreed_by connection) }
+    ensures quiet { result.carriage ≡ None }
     ensures planned { call_on machine.now line ≡ Some (entry_of call.now)
-        → IsPlan result machine.now (told_connected machine.now call.now.caller connection.packet) (Connects call.now.number (call_of_kept call.now) (agreement_of connection) ∷ []) }
+        → IsPlan result machine.now (told_connected machine.now call.now.caller connection.packet) (Connects call.now.number (call_of_kept call.now) (agreed_by connection) ∷ []) }
 {
-    let Connection {
-        packet,
-        terms,
-        charging,
-    } = connection;
-    let agreement = Agreement { terms, charging };
+    let agreement = agreement_of(&connection);
     let change = Change::Connect { line, agreement };
-    Plan::of(outputs.with(send(machine, call.caller, packet)))
+    Plan::of(outputs.with(send(machine, call.caller, connection.packet)))
         .settling(Outcome::Connected(agreement))
         .changing(change)
 }

@@ -9,7 +9,7 @@ ghost use Rattle.xp_core.specs.Asked.{clear_of};
 ghost use Rattle.xp_core.specs.Changes.{Rises, Leaves, IsCleared, IsFree, GoesOut};
 ghost use Rattle.xp_core.specs.Kept.{way_of};
 ghost use Rattle.xp_core.specs.Plan.{IsPlan, IsPlainPlan, IsToldOn, IsWithdrawal, PlansClear};
-ghost use Rattle.xp_core.specs.Step.{leaves};
+ghost use Rattle.xp_core.specs.Does.{leaves};
 ghost use Rattle.xp_core.specs.Told.{nothing_told};
 ghost use Rattle.xp_core.specs.World.{call_on};
 

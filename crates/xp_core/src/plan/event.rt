@@ -5,6 +5,7 @@ ghost use Rattle.xp_channel.specs.Table.{cell};
 ghost use Rattle.xp_core.specs.Agreed.{AllHaveTerms};
 ghost use Rattle.xp_core.specs.Channel.{channel_of};
 ghost use Rattle.xp_core.specs.Plan.{IsPlainPlan, Plans};
+ghost use Rattle.xp_core.specs.Relays.{AreCarried};
 ghost use Rattle.xp_core.specs.Setting.{setting};
 ghost use Rattle.xp_core.specs.Table.{kind_of};
 ghost use Rattle.xp_core.specs.Told.{nothing_told};
@@ -14,12 +15,14 @@ ghost use Rattle.xp_subs.specs.Tables.{line_count};
 use super::Plan;
 use super::answer::answer;
 use super::asked::{accepted_in, clear_in, request_in};
+use super::carrying::carry;
 use super::clearing::{clear_both, confirm, fall, free, rise};
 use super::request::{Cancelled, request};
 use crate::entry::Entry;
 use crate::event::{Event, What};
 use crate::machine::Machine;
 use crate::output::Buffer;
+use crate::relays::Relays;
 use crate::table::action_of;
 use std::alloc::{AllocError, Allocator};
 use xp_causes::diagnostic::TIMER_EXPIRED_FOR_INCOMING_CALL;
@@ -31,19 +34,20 @@ pub fn plan_of<A: Allocator + Copy>(
     alloc: A,
     subs: &Subs,
     machine: &Machine<A>,
-    _before: &[Entry<A>],
+    relays: &Relays<A>,
+    before: &[Entry<A>],
     event: &Event<A>,
 ) -> Result<Plan<A>, AllocError>
     requires line { event.now.line < line_count subs.now }
     requires terms { AllHaveTerms machine.now }
-    ensures { IfOk result (λ plan. Plans (setting subs.now _before.now machine.now event.now.line) event.now.what (cell (channel_of (state_at machine.now event.now.line)) (kind_of event.now.what)) plan) }
+    requires carried { AreCarried subs.now before.now machine.now relays.now }
+    ensures { IfOk result (λ plan. Plans (setting subs.now before.now machine.now event.now.line) event.now.what (cell (channel_of (state_at machine.now event.now.line)) (kind_of event.now.what)) plan) }
 {
     let line = event.line;
     let what = &event.what;
     match action_of(machine.line(line).state, what) {
         Action::Nothing => nothing(alloc, machine),
-        // Data, flow control, interrupts and resets are not relayed yet.
-        Action::Relayed => nothing(alloc, machine),
+        Action::Relayed => carry(alloc, subs, machine, relays, before, line, what),
         Action::Rise => rise(alloc, machine, line),
         Action::Fall => fall(alloc, machine, line, what),
         Action::Free => free(alloc, machine, line),

@@ -1,11 +1,11 @@
 //! A call request: it is put to a line as an incoming call, or cleared.
 
-ghost use Rattle.std.specs.Prelude.{◌≡◌, ◌<◌, [], ◌∷◌, ◌++◌, List, IfOk};
+ghost use Rattle.std.specs.Prelude.{◌≡◌, ◌<◌, [], ◌∷◌, ◌++◌, List, None, IfOk};
 ghost use Rattle.xp_core.specs.Acts.{cancelled_told};
 ghost use Rattle.xp_core.specs.Asked.{request_of};
 ghost use Rattle.xp_core.specs.Changes.{Change as Changing, Begins, IsRefused};
 ghost use Rattle.xp_core.specs.Plan.{IsCancelled, IsPlan, PlansRequest};
-ghost use Rattle.xp_core.specs.Step.{cancels};
+ghost use Rattle.xp_core.specs.Does.{cancels};
 ghost use Rattle.xp_core.specs.Told.{refused_told, taken_told};
 ghost use Rattle.xp_core.specs.World.{World, call_on};
 ghost use Rattle.xp_core.specs.declared.output.Output.{Output as Sent};
@@ -109,6 +109,7 @@ fn put<A: Allocator>(
     requires empty { outputs.outputs ≡ [] }
     requires room { 1 < outputs.room }
     ensures outcome { result.outcome ≡ Outcome.Put called setup }
+    ensures quiet { result.carriage ≡ None }
     ensures planned { (ended : List Changing) (far : List (Sent A)) → IsCancelled cancelled machine.now ended far
         → IsPlan result machine.now (taken_told machine.now far called packet)
         (ended ++ Begins caller request.now.identifier called request.now.block.now.called setup ∷ []) }
@@ -148,6 +149,7 @@ fn refused<A: Allocator>(
     requires empty { outputs.outputs ≡ [] }
     requires room { 1 < outputs.room }
     ensures outcome { result.outcome ≡ Outcome.Refused why }
+    ensures quiet { result.carriage ≡ None }
     ensures planned { (ended : List Changing) (far : List (Sent A)) → IsCancelled cancelled machine.now ended far
         → IsPlan result machine.now (refused_told machine.now far caller request.now.identifier why)
         (ended ++ IsRefused caller request.now.identifier request.now.block.now.called why ∷ []) }

@@ -17,6 +17,6 @@ returns-clause-ok g c =
     c.push_reserved.ensures.items ∙ ap (λ h. h ++ made (c.len.result + 1) ∷ []) c.in-Ok.ensures.items in
     let charged : c.add_all.new.charged.items ≡ c.args.charged.now.items ++ c.in-Ok.work.records.items =
     c.add_all.ensures ∙ ap (λ r. r ++ c.as_slice.result.now) c.in-Ok.ensures.records ∙ ap (λ m. c.args.charged.now.items ++ m) c.as_slice.ensures.value in
-    enters c.args.subs.now c.args.machine.now c.args.history.now.items c.args.charged.now.items c.args.event c.in-Ok.work
-    c.work_out.new.machine c.push_reserved.new.self.items c.add_all.new.charged.items _ (made (c.len.result + 1))
+    enters c.args.subs.now c.args.machine.now c.args.relays.now c.args.history.now.items c.args.charged.now.items c.args.event c.in-Ok.work
+    c.work_out.new.machine c.work_out.new.relays c.push_reserved.new.self.items c.add_all.new.charged.items _ (made (c.len.result + 1))
     c.in-Ok.ensures.ok (ap (λ n. made (n + 1)) count) (omega (arith, c.requires.line, c.requires.sound.lines)) grown charged (ap (λ n. n + 1) count) refl

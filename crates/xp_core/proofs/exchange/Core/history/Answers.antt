@@ -1,12 +1,14 @@
 use Rattle.std.proofs.Common.{All, subst}
 use Rattle.xp_core.specs.Agreed.{AllHaveTerms}
+use Rattle.xp_core.specs.Delivered.{AreDelivered}
 use Rattle.xp_core.specs.Exchange.{Exchange, world_of}
 use Rattle.xp_core.specs.Joined.{AreJoined}
-use Rattle.xp_core.specs.Run.{world_after}
+use Rattle.xp_core.specs.Worlds.{world_after}
 use Rattle.xp_core.specs.Writable.{AreWritable}
 use Rattle.xp_subs.specs.Tables.{line_count}
 use Rattle.xp_core.specs.Lines.{HasLines}
 use Rattle.xp_core.proofs.Agreed.{run_agreed}
+use Rattle.xp_core.proofs.Delivered.{run_delivered}
 use Rattle.xp_core.proofs.Fitting.{run_fits}
 use Rattle.xp_core.proofs.Joined.{run_joined}
 use Rattle.xp_core.proofs.Names.{run_named}
@@ -34,3 +36,8 @@ pub returns-clause-terms : goal.returns-clause-terms
 returns-clause-terms g c =
     let P : Exchange _ → Type 0 = λ core. AllHaveTerms (world_of core) in
     subst P c.self.view_is (run_agreed c.self.inside.subs c.self.inside.history.items _ c.self.invariant.run)
+
+pub returns-clause-delivered : goal.returns-clause-delivered
+returns-clause-delivered g c =
+    let P : Exchange _ → Type 0 = λ core. AreDelivered core.subs core.history (world_of core) in
+    subst P c.self.view_is (run_delivered c.self.inside.subs c.self.inside.history.items _ c.self.invariant.run)

@@ -9,12 +9,13 @@ use Rattle.xp_core.proofs.exchange.Core.line.Goals as goal
 
 pub returns-clause-view : goal.returns-clause-view
 returns-clause-view g c =
-    c.view.ensures ∙ ap view_of c.line.ensures.line
-    ∙ ap (λ w. view_of (line_at w c.args.line)) (c.self.invariant.shown ∙ ap world_of c.self.view_is)
+    c.view.ensures ∙ ap (λ l. view_of l c.flow.result) c.line.ensures.line
+    ∙ ap (λ w. view_of (line_at w c.args.line) c.flow.result) (c.self.invariant.shown ∙ ap world_of c.self.view_is)
+    ∙ ap (view_of (line_at (world_of c.args.self.now) c.args.line)) c.flow.ensures
 
 pub returns-clause-identifier : goal.returns-clause-identifier
 returns-clause-identifier g c =
-    let shown = ap (λ v. v.identifier) (c.view.ensures ∙ ap view_of c.line.ensures.line ∙ ap (λ w. view_of (line_at w c.args.line)) c.self.invariant.shown) in
+    let shown = ap (λ v. v.identifier) (c.view.ensures ∙ ap (λ l. view_of l c.flow.result) c.line.ensures.line ∙ ap (λ w. view_of (line_at w c.args.line) c.flow.result) c.self.invariant.shown) in
     let narrow = run_narrow c.self.inside.subs c.self.inside.history.items _ c.self.invariant.sound c.self.invariant.run c.self.invariant.readable c.args.line in
     omega (arith, shown, narrow)
 

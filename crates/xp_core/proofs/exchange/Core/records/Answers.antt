@@ -1,7 +1,7 @@
 use Rattle.std.proofs.Common.{subst}
 use Rattle.xp_core.specs.Exchange.{Exchange, world_of}
 use Rattle.xp_core.specs.Records.{OneRecordEach}
-use Rattle.xp_core.specs.Run.{world_after}
+use Rattle.xp_core.specs.Worlds.{world_after}
 use Rattle.xp_core.proofs.Endings.{one_record_each}
 use Rattle.xp_core.proofs.exchange.Core.records.Goals as goal
 

@@ -1,12 +1,12 @@
 use Rattle.std.proofs.Common.{rules, ap, sym, ◌∙◌}
 use Rattle.xp_core.specs.Asked.{answer_of}
 use Rattle.xp_core.specs.declared.outcome.Outcome.TheVariants.{Declined}
-use Rattle.xp_core.proofs.Clearings.{connected, declined, indicated, not_called, settled_otherwise}
+use Rattle.xp_core.proofs.Clearings.{connected, declined, indicated, not_called, quiet_otherwise, settled_otherwise, terms_within}
 use Rattle.xp_core.proofs.plan.answer.answer.Goals as goal
 
 pub returns-in_default : goal.returns-in_default
 returns-in_default g c =
-    not_called c.args.subs.now c.args.machine.now c.args.line (answer_of c.args.answer.now) c.of.result c.in_default.ensures (search rules) (search rules)
+    not_called c.args.subs.now c.args.machine.now c.args.line (answer_of c.args.answer.now) c.of.result c.in_default.ensures (search rules) (search rules) (search rules)
 
 pub examine-requires : goal.examine-requires
 examine-requires g c = indicated c.args.machine.now c.args.line c.in-Some.call.now c.in-Some.ensures c.requires.terms
@@ -24,4 +24,5 @@ returns-in_ok-plan-in-Refused g c =
     let at = c.args.machine.now in
     declined c.args.subs.now at c.args.line (answer_of c.args.answer.now) c.settling.result c.in-Some.call.now c.in-Some.ensures c.address_of-address.result.now c.address_of-address.ensures
     c.in_ok-connection.field-0 c.in_ok-connection.ensures.answered c.in-Refused.diagnostic c.in-Refused.is (search rules)
+    (quiet_otherwise c.in_ok-plan-in-Refused.plan (Declined c.in-Refused.diagnostic) c.settling.result at _ _ c.settling.ensures c.in_ok-plan-in-Refused.ensures)
     (settled_otherwise c.in_ok-plan-in-Refused.plan (Declined c.in-Refused.diagnostic) c.settling.result at _ _ c.settling.ensures c.in_ok-plan-in-Refused.ensures)

@@ -1,0 +1,74 @@
+-- The changes that an event is, by what the table of actions has for it and by what was settled.
+use Rattle.std.specs.Prelude.{ℕ, Option, None, Some, List, [], ◌∷◌, ◌++◌}
+use Rattle.xp_causes.specs.Told.{cause_told, diagnostic_told}
+use Rattle.xp_causes.specs.declared.clearing_cause.TheConstants.{NUMBER_BUSY, OUT_OF_ORDER, REMOTE_PROCEDURE_ERROR}
+use Rattle.xp_causes.specs.declared.diagnostic.TheConstants.{CALL_COLLISION, NO_ADDITIONAL_INFORMATION, TIMER_EXPIRED_FOR_INCOMING_CALL}
+use Rattle.xp_channel.specs.declared.action.Action.{Action}
+use Rattle.xp_channel.specs.declared.action.Action.TheVariants.{Nothing, Rise, Fall, NewCall, Collision, Answer, Confirm, Free, Error, Relayed, Expired}
+use Rattle.xp_subs.specs.Tables.{Tables}
+use Rattle.xp_core.specs.declared.entry.Entry.{Entry}
+use Rattle.xp_core.specs.declared.event.What.{What}
+use Rattle.xp_core.specs.declared.outcome.Outcome.{Outcome}
+use Rattle.xp_core.specs.declared.outcome.Outcome.TheVariants.{Plain, Put, Refused, Connected, Declined}
+use Rattle.xp_core.specs.Changes.{Change, Rises, Leaves, Begins, IsRefused, Connects, Ends, Way, GoesOut, IsFree, IsCleared}
+use Rattle.xp_core.specs.Setting.{Setting, setting}
+use Rattle.xp_core.specs.Table.{CallRequest, ClearRequest, action_at, clear_in, request_in}
+use Rattle.xp_core.specs.World.{Call, World, call_on}
+
+-- the line leaves the call that it is in, if it is in one, and that call ends
+abbrev pub leaves : ℕ → Way → ℕ → ℕ → Option (ℕ × Call) → Change
+leaves line way cause diagnostic None = Leaves line way
+leaves line way cause diagnostic (Some found) = Ends found.0 found.1 line way cause diagnostic
+
+-- the call that was put to the line is cancelled
+abbrev pub cancels : ℕ → Option (ℕ × Call) → List Change
+cancels line None = []
+cancels line (Some found) = Ends found.0 found.1 line IsFree NUMBER_BUSY CALL_COLLISION ∷ []
+
+-- an incoming call is answered as was settled
+abbrev pub answers : ℕ → Option (ℕ × Call) → Outcome → List Change
+answers line None outcome = []
+answers line (Some found) (Connected agreement) = Connects found.0 found.1 agreement ∷ []
+answers line (Some found) (Declined diagnostic) = leaves line IsCleared REMOTE_PROCEDURE_ERROR diagnostic (Some found) ∷ []
+answers line (Some found) Plain = []
+answers line (Some found) (Put called setup) = []
+answers line (Some found) (Refused why) = []
+
+module _ {A : Type 0} where
+  -- a call request is put to a line, or refused, as was settled
+  abbrev pub requests : ℕ → Option (CallRequest A) → Outcome → List Change
+  requests line None outcome = []
+  requests line (Some request) (Put called setup) = Begins line request.identifier called request.block.called setup ∷ []
+  requests line (Some request) (Refused why) = IsRefused line request.identifier request.block.called why ∷ []
+  requests line (Some request) Plain = []
+  requests line (Some request) (Connected agreement) = []
+  requests line (Some request) (Declined diagnostic) = []
+
+  -- the call that was put to the line is cancelled, and its own request put to a line, or refused
+  abbrev pub collides : ℕ → Option (CallRequest A) → Option (ℕ × Call) → Outcome → List Change
+  collides line None found outcome = []
+  collides line (Some request) found outcome = cancels line found ++ requests line (Some request) outcome
+
+  -- a clear request: the line leaves the call that it is in, if it is in one
+  abbrev pub confirms : ℕ → Option (ClearRequest A) → Option (ℕ × Call) → List Change
+  confirms line None found = []
+  confirms line (Some clear) found = leaves line IsFree (cause_told clear.cause) (diagnostic_told clear.diagnostic) found ∷ []
+
+  -- the changes that an action is, by its event and by what was settled
+  abbrev pub does : Setting A → What A → Action → Outcome → List Change
+  does at what Nothing outcome = []
+  does at what Rise outcome = Rises at.line ∷ []
+  does at what Fall outcome = leaves at.line GoesOut OUT_OF_ORDER NO_ADDITIONAL_INFORMATION (call_on at.world at.line) ∷ []
+  does at what NewCall outcome = requests at.line (request_in what) outcome
+  does at what Collision outcome = collides at.line (request_in what) (call_on at.world at.line) outcome
+  does at what Answer outcome = answers at.line (call_on at.world at.line) outcome
+  does at what Confirm outcome = confirms at.line (clear_in what) (call_on at.world at.line)
+  does at what Free outcome = Leaves at.line IsFree ∷ []
+  does at what (Error diagnostic) outcome = leaves at.line IsCleared REMOTE_PROCEDURE_ERROR diagnostic (call_on at.world at.line) ∷ []
+  does at what Relayed outcome = []
+  does at what Expired outcome = leaves at.line IsCleared REMOTE_PROCEDURE_ERROR TIMER_EXPIRED_FOR_INCOMING_CALL (call_on at.world at.line) ∷ []
+
+  -- the changes of an entry, as it tells them
+  abbrev pub changes_of : Tables → List (Entry A) → World → Entry A → List Change
+  changes_of tables before world entry =
+      does (setting tables before world entry.event.line) entry.event.what (action_at world entry.event) entry.outcome
