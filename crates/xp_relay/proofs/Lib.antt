@@ -7,4 +7,5 @@ pub mod Steps
 pub mod Takes
 pub mod Deliveries
 pub mod Bounds
+pub mod Encodable
 pub mod Few

@@ -1,6 +1,7 @@
 //! Laws of the definitions, each the contract of a function with nothing to do.
 
 ghost use Rattle.xp_relay.specs.Bounds.{PutsOutFew, StandsForTheCount};
+ghost use Rattle.xp_relay.specs.Encodable.{EveryPacketCanBeEncoded};
 ghost use Rattle.xp_relay.specs.Runs.{EverythingIsDelivered};
 
 use std::alloc::Allocator;
@@ -20,4 +21,9 @@ pub fn received_number_stands_for_the_count<A: Allocator>()
 /// and 17 where they are to 15.
 pub fn a_turn_puts_out_few<A: Allocator>()
     ensures { PutsOutFew A }
+{}
+
+/// Between lines whose packets are numbered modulo 8, each packet that is put out after packets that came can be encoded.
+pub fn every_packet_put_out_can_be_encoded<A: Allocator>()
+    ensures { EveryPacketCanBeEncoded A }
 {}
