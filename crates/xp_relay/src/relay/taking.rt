@@ -24,7 +24,7 @@ impl<A: Allocator + Copy> Relay<A> {
         ensures ok { IfOk result (λ made. (call : Coupled A) → ShowsCall self.old call → Follows here (turn_of here packet.now) call self.new made.moves) }
         ensures err { OnErr result (self.new ≡ self.old) }
     {
-        Ok(match packet {
+        match packet {
             Packet::DataPacket {
                 q,
                 d,
@@ -39,23 +39,19 @@ impl<A: Allocator + Copy> Relay<A> {
                     more: *more,
                     octets: octets.copy()?,
                 };
-                self.data(here, carried, *ps, *pr, room)
+                Ok(self.data(here, carried, *ps, *pr, room))
             }
-            Packet::Ready { pr } => self.flow(here, true, *pr, room),
-            Packet::NotReady { pr } => self.flow(here, false, *pr, room),
-            Packet::Reject { pr: _ } => self.reject(here, room),
-            Packet::Interrupt { octets } => self.interrupt(here, octets.copy()?, room),
-            Packet::InterruptConfirm => self.interrupt_confirm(here, room),
-            Packet::Reset { cause, diagnostic } => self.reset(here, *cause, *diagnostic, room),
-            Packet::ResetConfirm => self.reset_confirm(here, room),
-            Packet::Call { d: _, block: _ }
-            | Packet::Accepted { d: _, block: _ }
-            | Packet::Clear {
-                cause: _,
-                diagnostic: _,
-                block: _,
-            }
-            | Packet::ClearConfirm { block: _ } => room,
-        })
+            Packet::Ready { pr } => Ok(self.flow(here, true, *pr, room)),
+            Packet::NotReady { pr } => Ok(self.flow(here, false, *pr, room)),
+            Packet::Reject { .. } => Ok(self.reject(here, room)),
+            Packet::Interrupt { octets } => Ok(self.interrupt(here, octets.copy()?, room)),
+            Packet::InterruptConfirm => Ok(self.interrupt_confirm(here, room)),
+            Packet::Reset { cause, diagnostic } => Ok(self.reset(here, *cause, *diagnostic, room)),
+            Packet::ResetConfirm => Ok(self.reset_confirm(here, room)),
+            Packet::Call { .. }
+            | Packet::Accepted { .. }
+            | Packet::Clear { .. }
+            | Packet::ClearConfirm { .. } => Ok(room),
+        }
     }
 }
