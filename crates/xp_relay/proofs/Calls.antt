@@ -1,12 +1,12 @@
 -- A turn of one end, as a change of the call.
-use Rattle.std.proofs.Common.{◌≡◌, List, sym, subst}
+use Rattle.std.proofs.Common.{◌≡◌, List, [], sym, subst}
 use Rattle.xp_packets.specs.declared.end.End.{End}
 use Rattle.xp_packets.specs.declared.end.End.TheVariants.{Caller, Called}
 use Rattle.xp_relay.specs.declared.moves.Move.{Move}
-use Rattle.xp_relay.specs.Coupled.{Coupled, Follows, KeptPair}
+use Rattle.xp_relay.specs.Coupled.{Coupled, Follows, KeptPair, ShowsCall}
 use Rattle.xp_relay.specs.Direction.{Direction}
 use Rattle.xp_relay.specs.Kept.{Ends}
-use Rattle.xp_relay.specs.Turns.{Turn}
+use Rattle.xp_relay.specs.Turns.{Turn, unchanged}
 
 pub follows_caller : {A : Type 0} (here : End) → here ≡ Caller → (turn : Direction A → Direction A → Turn A) (call : Coupled A) (new : KeptPair A) (made : List (Move A)) → Ends new.from_caller new.from_called made (turn call.from_caller call.from_called) → Follows here turn call new made
 follows_caller here is turn call new made h =
@@ -17,3 +17,11 @@ pub follows_called : {A : Type 0} (here : End) → here ≡ Called → (turn : D
 follows_called here is turn call new made h =
     let at_called : Follows Called turn call new made = record { shown = record { from_caller = h.received; from_called = h.sent }; moves = h.moves } in
     subst (λ end. Follows end turn call new made) (sym is) at_called
+
+still_at : {A : Type 0} (here : End) (call : Coupled A) (k : KeptPair A) (made : List (Move A)) → ShowsCall k call → made ≡ [] → Follows here unchanged call k made
+still_at Caller call k made h e = record { shown = record { from_caller = h.from_caller; from_called = h.from_called }; moves = e }
+still_at Called call k made h e = record { shown = record { from_caller = h.from_caller; from_called = h.from_called }; moves = e }
+
+-- a turn that changes nothing
+pub follows_unchanged : {A : Type 0} (here : End) (turn : Direction A → Direction A → Turn A) → turn ≡ unchanged → (call : Coupled A) (k : KeptPair A) (made : List (Move A)) → ShowsCall k call → made ≡ [] → Follows here turn call k made
+follows_unchanged here turn is call k made h e = subst (λ t. Follows here t call k made) (sym is) (still_at here call k made h e)

@@ -18,6 +18,8 @@ use std::alloc::{AllocError, Allocator, Global};
 use std::marker::Model;
 use xp_packets::{End, Octets};
 
+mod taking;
+
 /// What a live call carries between its ends. All calls but `new` and `copy` take no memory: the room for what can
 /// wait is made by these, and that for the moves comes with the call.
 #[derive(Debug, Drop)]

@@ -1,0 +1,57 @@
+//! Any packet of one end.
+
+ghost use Rattle.std.specs.Prelude.{◌≡◌, ◌≤◌, [], IfOk, OnErr};
+ghost use Rattle.xp_relay.specs.Coupled.{Coupled, Follows, ShowsCall};
+ghost use Rattle.xp_relay.specs.Turns.{turn_of};
+
+use crate::data::Data;
+use crate::moves::Moves;
+use crate::relay::Relay;
+use std::alloc::{AllocError, Allocator};
+use xp_packets::{End, Packet};
+
+impl<A: Allocator + Copy> Relay<A> {
+    /// Takes any packet of this end; those of call set-up and clearing change nothing. Only data and an interrupt, whose
+    /// octets are shared with the packet, may want for memory, and then nothing is changed.
+    pub fn take(
+        &mut self,
+        here: End,
+        packet: &Packet<A>,
+        room: Moves<A>,
+    ) -> Result<Moves<A>, AllocError>
+        requires empty { room.moves ≡ [] }
+        requires space { 17 ≤ room.room }
+        ensures ok { IfOk result (λ made. (call : Coupled A) → ShowsCall self.old call → Follows here (turn_of here packet.now) call self.new made.moves) }
+        ensures err { OnErr result (self.new ≡ self.old) }
+    {
+        match packet {
+            Packet::DataPacket {
+                q,
+                d,
+                more,
+                ps,
+                pr,
+                octets,
+            } => {
+                let carried = Data {
+                    q: *q,
+                    d: *d,
+                    more: *more,
+                    octets: octets.copy()?,
+                };
+                Ok(self.data(here, carried, *ps, *pr, room))
+            }
+            Packet::Ready { pr } => Ok(self.flow(here, true, *pr, room)),
+            Packet::NotReady { pr } => Ok(self.flow(here, false, *pr, room)),
+            Packet::Reject { .. } => Ok(self.reject(here, room)),
+            Packet::Interrupt { octets } => Ok(self.interrupt(here, octets.copy()?, room)),
+            Packet::InterruptConfirm => Ok(self.interrupt_confirm(here, room)),
+            Packet::Reset { cause, diagnostic } => Ok(self.reset(here, *cause, *diagnostic, room)),
+            Packet::ResetConfirm => Ok(self.reset_confirm(here, room)),
+            Packet::Call { .. }
+            | Packet::Accepted { .. }
+            | Packet::Clear { .. }
+            | Packet::ClearConfirm { .. } => Ok(room),
+        }
+    }
+}
