@@ -12,6 +12,7 @@ pub mod Existence
 pub mod Few
 pub mod Fitting
 pub mod Fronts
+pub mod Handed
 pub mod Idle
 pub mod InCall
 pub mod Joined

@@ -5,7 +5,7 @@ ghost use Rattle.xp_core.specs.Coupling.{AreCoupled};
 ghost use Rattle.xp_core.specs.Records.{OneRecordEach, records_of};
 ghost use Rattle.xp_core.specs.Run.{Run};
 ghost use Rattle.xp_core.specs.Worlds.{world_after};
-ghost use Rattle.xp_core.specs.View.{view_of};
+ghost use Rattle.xp_core.specs.View.{flow_at, view_of};
 ghost use Rattle.xp_core.specs.World.{line_at};
 
 use std::alloc::{Allocator, Global};
@@ -53,7 +53,7 @@ impl<A: Allocator> Book<A> {
 
     /// What could be seen of a line at last.
     pub fn line(&self, line: LineNo) -> LineView
-        ensures view { result ≡ view_of (line_at (world_after self.now.subs self.now.history) line) }
+        ensures view { result ≡ view_of (line_at (world_after self.now.subs self.now.history) line) (flow_at self.now.subs self.now.history (world_after self.now.subs self.now.history) line) }
         ensures coupled { AreCoupled self.now.subs (world_after self.now.subs self.now.history) }
     {
         self.core.line(line)
