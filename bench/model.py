@@ -1,0 +1,436 @@
+#!/usr/bin/env python3
+"""What a script comes to, by a plain model of the exchange (docs/PROTOCOL.md), written beside the program and not from it.
+
+It is whole for a call's data transfer: windows, flow control, interrupts, resets. Of the rest it knows what calls need:
+lines that come and go, calls between stations without groups and redirection, packet and window sizes, clearing,
+procedure errors. A script that asks for more is beyond it, and it says so.
+
+    model.py FOLDER ..          compares what rows expect with what the model says
+    model.py --write FOLDER ..  writes that as what they expect
+"""
+
+import argparse
+import pathlib
+import sys
+import tomllib
+from dataclasses import dataclass, field
+
+from packets import Block, Packet, Wrong, framed, read, written
+
+NUMBERS = 8
+USUAL_SIZES, USUAL_WINDOWS = (7, 7), (2, 2)
+MOST_SEGMENTS = 99_999_999
+KNOWN_KEYS = {"address", "line", "fast_select", "reverse_charging"}  # of a station that takes and makes calls
+
+
+class Beyond(Exception):
+    """The model does not know what comes of this."""
+
+
+# A call
+
+IDLE, HELD, PUT_OUT = "idle", "held", "put out"
+
+
+@dataclass
+class Direction:
+    """What one end sends to the other, since the call was last reset."""
+
+    size: int  # most octets of a packet
+    window: int
+    accepted: list = field(default_factory=list)
+    put: int = 0  # how many of them were put out to the receiver
+    acknowledged: int = 0  # how many of those it acknowledged
+    interrupt: str = IDLE
+    interruption: bytes = b""
+    ready: bool = True  # the receiver's state
+    owes: bool = False  # the receiver owes a reset confirmation
+    segments: int = 0  # since the call began
+
+    def reset(self, owes):
+        self.accepted, self.put, self.acknowledged = [], 0, 0
+        self.interrupt, self.ready, self.owes = IDLE, True, owes
+
+    def counts(self, number):
+        """What a P(R) of the receiver may stand for."""
+        return [count for count in range(self.acknowledged, self.put + 1) if count % NUMBERS == number]
+
+
+@dataclass
+class Call:
+    number: int
+    caller: object
+    called: object
+    dialled: str
+    sizes: tuple  # from the called, from the calling end
+    windows: tuple
+    reverse: bool
+    charging: set  # the ends that asked for charging information
+    sent_by: dict = None  # a Direction for each end, once the call is answered
+
+    def far(self, line):
+        return self.called if line is self.caller else self.caller
+
+
+class Transfer:
+    """What one packet of one end does during a call. What it puts out stands in `here` and `there`."""
+
+    def __init__(self, sent, received):
+        self.sent, self.received = sent, received
+        self.here, self.there = [], []
+
+    def act(self, packet):
+        name = packet.kind
+        if self.received.owes and name not in ("reset", "reset confirmation"):
+            return
+        {
+            "data": self.data,
+            "ready": self.flow,
+            "not ready": self.flow,
+            "reject": lambda _: self.error(37),
+            "interrupt": self.interrupt,
+            "interrupt confirmation": self.confirm_interrupt,
+            "reset": self.reset,
+            "reset confirmation": self.confirm_reset,
+        }[name](packet)
+
+    def fault_of(self, packet):
+        """The diagnostic of a data packet that is not accepted."""
+        sent = self.sent
+        if packet.ps != len(sent.accepted) % NUMBERS or len(sent.accepted) - sent.acknowledged >= sent.window:
+            return 1
+        if not self.received.counts(packet.pr):
+            return 2
+        return 39 if len(packet.octets) > sent.size else None
+
+    def data(self, packet):
+        fault = self.fault_of(packet)
+        if fault:
+            return self.error(fault)
+        sent, received = self.sent, self.received
+        sent.accepted.append(packet)
+        before, received.acknowledged = received.acknowledged, received.counts(packet.pr)[0]
+        self.there += released(sent, received.acknowledged)
+        if received.acknowledged != before and not self.there:
+            self.tell()
+
+    def flow(self, packet):
+        received = self.received
+        counts = received.counts(packet.pr)
+        if not counts:
+            return self.error(2)
+        before = received.acknowledged, received.ready
+        received.acknowledged, received.ready = counts[0], packet.kind == "ready"
+        self.here += released(received, self.sent.acknowledged)
+        if (received.acknowledged, received.ready) != before:
+            self.tell()
+
+    def tell(self):
+        """The far end is told of this end's count and whether it is ready."""
+        if not self.sent.owes:
+            self.there.append(flow_packet(self.received))
+
+    def interrupt(self, packet):
+        sent = self.sent
+        if sent.interrupt != IDLE:
+            return self.error(44)
+        sent.interruption = packet.octets
+        sent.interrupt = HELD if sent.owes else PUT_OUT
+        if not sent.owes:
+            self.there.append(packet)
+
+    def confirm_interrupt(self, packet):
+        if self.received.interrupt != PUT_OUT:
+            return self.error(43)
+        self.received.interrupt = IDLE
+        self.there.append(packet)
+
+    def error(self, diagnostic):
+        self.here.append(Packet("reset", cause=5, diagnostic=diagnostic))
+        self.indicate(3, diagnostic)
+        self.sent.reset(owes=True)
+        self.received.reset(owes=True)
+
+    def indicate(self, cause, diagnostic):
+        if not self.sent.owes:
+            self.there.append(Packet("reset", cause=cause, diagnostic=diagnostic))
+
+    def reset(self, packet):
+        if self.received.owes:
+            return self.settle()
+        self.here.append(Packet("reset confirmation"))
+        self.indicate(packet.cause if packet.cause >= 0x80 else 0, packet.diagnostic or 0)
+        self.sent.reset(owes=True)
+        self.received.reset(owes=False)
+
+    def confirm_reset(self, packet):
+        return self.settle() if self.received.owes else self.error(27)
+
+    def settle(self):
+        """This end owes no reset confirmation any more, and gets what was held for it."""
+        received = self.received
+        received.owes = False
+        if not self.sent.ready:
+            self.here.append(flow_packet(self.sent))
+        if received.interrupt == HELD:
+            received.interrupt = PUT_OUT
+            self.here.append(Packet("interrupt", octets=received.interruption))
+        self.here += released(received, self.sent.acknowledged)
+
+
+def flow_packet(direction):
+    return Packet("ready" if direction.ready else "not ready", pr=direction.acknowledged % NUMBERS)
+
+
+def released(direction, acknowledged):
+    """The data that goes out now, where its receiver takes data."""
+    if direction.owes or not direction.ready:
+        return []
+    first, direction.put = direction.put, len(direction.accepted)
+    numbered = enumerate(direction.accepted[first:], first)
+    return [packet._replace(ps=count % NUMBERS, pr=acknowledged % NUMBERS) for count, packet in numbered]
+
+
+# The exchange
+
+@dataclass(eq=False)
+class Line:
+    name: str
+    address: str
+    station: dict
+    state: str = "off"
+    identifier: int = 1
+    stream: bytes = b""
+    call: Call = None
+
+
+def items(facilities):
+    """The values of packet sizes, window sizes, reverse charging and the request of charging information."""
+    found = {}
+    while facilities:
+        code, length = facilities[0], 1 + {0: 1, 1: 2, 2: 3}.get(facilities[0] >> 6, 99)
+        value, facilities = facilities[1:length], facilities[length:]
+        limits = {0x42: range(4, 13), 0x43: range(1, 8), 0x01: range(2), 0x04: range(256)}.get(code, ())
+        if len(value) != length - 1 or any(octet not in limits for octet in value):
+            raise Beyond(f"facility {code:02x}{value.hex()}")
+        found[code] = tuple(value)
+    return found
+
+
+class Exchange:
+    def __init__(self, subscriptions, counting):
+        """`counting`: segments are counted, charging information is told, and the limit to segments acts."""
+        self.lines = {}
+        for station in subscriptions["station"]:
+            known = len(station["line"]) == 1 and not station.keys() - KNOWN_KEYS
+            for line in station["line"]:
+                address = line.get("address", station["address"]) if known else None
+                self.lines[line["name"]] = Line(line["name"], address, station)
+        self.counting = counting
+        self.limit = subscriptions.get("segment_limit", MOST_SEGMENTS)
+        self.calls = 0
+
+    def play(self, text):
+        """What a line of a script comes to, as lines."""
+        words = text.split()
+        if not words or text.startswith("#"):
+            return []
+        line, self.told = self.lines[words[1]], []
+        if words[0] == "up" and line.state == "off":
+            line.state, line.identifier, line.stream = "p1", 1, b""
+        elif words[0] == "down":
+            self.down(line)
+        elif words[0] == "expire" and line.state == "p3":
+            self.fail(line, 49, charged=False)
+        elif words[0] == "in" and line.state != "off":
+            self.feed(line, bytes.fromhex(words[2]))
+        return self.told
+
+    def feed(self, line, octets):
+        line.stream += octets
+        while len(line.stream) >= 4:
+            version, length = line.stream[:2], int.from_bytes(line.stream[2:4], "big")
+            if version != b"\0\0" or not 3 <= length <= 1028:
+                return self.down(line)
+            if len(line.stream) < 4 + length:
+                return
+            packet, line.stream = line.stream[4 : 4 + length], line.stream[4 + length :]
+            self.take(line, packet)
+
+    def out(self, line, packet):
+        self.told.append(f"out {line.name} {framed(written(line.identifier, packet)).hex()}")
+
+    def take(self, line, octets):
+        if line.state == "p7":
+            if octets[:1] and self.is_freeing(octets):
+                line.state = "p1"
+            return
+        try:
+            identifier, packet = read(octets)
+        except Wrong as wrong:
+            return self.fail(line, wrong.diagnostic)
+        kind = packet.kind
+        if kind == "clear":
+            self.clear(line, packet)
+        elif kind == "call" and line.state in ("p1", "p3"):
+            self.request(line, identifier, packet)
+        elif kind == "accepted" and line.state == "p3":
+            self.answer(line, packet)
+        elif line.state == "p4" and kind not in ("call", "accepted", "clear confirmation"):
+            self.transfer(line, packet)
+        else:
+            self.fail(line, {"p1": 20, "p2": 21, "p3": 22, "p4": 23}[line.state])
+
+    @staticmethod
+    def is_freeing(octets):
+        try:
+            return read(octets)[1].kind in ("clear", "clear confirmation")
+        except Wrong:
+            return False
+
+    def request(self, line, identifier, packet):
+        block = packet.block
+        asked = items(block.facilities)
+        found = next((other for other in self.lines.values() if other.address == block.called), None)
+        idle = line.state == "p1" and found is not None and found is not line and found.state == "p1"
+        if not idle or line.address is None or len(block.user) > 16:
+            raise Beyond("this call request")
+        reverse = asked.get(0x01) == (1,)
+        if reverse and not found.station.get("reverse_charging"):
+            raise Beyond("reverse charging")
+        self.calls += 1
+        sizes = tuple(min(size, 10) for size in asked.get(0x42, USUAL_SIZES))
+        windows = asked.get(0x43, USUAL_WINDOWS)
+        charging = {line} if asked.get(0x04, (0,))[0] & 1 else set()
+        line.call = found.call = Call(self.calls, line, found, block.called, sizes, windows, reverse, charging)
+        line.state, line.identifier = "p2", identifier
+        found.state, found.identifier = "p3", 1
+        told = (b"\x01\x01" if reverse else b"") + self.told_sizes(line.call)
+        self.out(found, packet._replace(block=Block(found.address, line.address, told, block.user)))
+
+    @staticmethod
+    def told_sizes(call):
+        return bytes([0x42, *call.sizes, 0x43, *call.windows])
+
+    def answer(self, line, packet):
+        call, block = line.call, packet.block or Block("", "", b"", b"")
+        given = items(block.facilities)
+        if block.user:
+            return self.fail(line, 39)
+        for code, mine, usual in ((0x42, call.sizes, USUAL_SIZES), (0x43, call.windows, USUAL_WINDOWS)):
+            for value, told, plain in zip(given.get(code, mine), mine, usual):
+                if not min(told, plain) <= value <= max(told, plain):
+                    return self.fail(line, 66)
+        call.sizes, call.windows = given.get(0x42, call.sizes), given.get(0x43, call.windows)
+        if given.get(0x04, (0,))[0] & 1:
+            call.charging.add(line)
+        agreed = zip((call.called, call.caller), call.sizes, call.windows)
+        call.sent_by = {end: Direction(2**size, window) for end, size, window in agreed}
+        call.caller.state = line.state = "p4"
+        self.out(call.caller, Packet("accepted", d=packet.d, block=Block("", "", self.told_sizes(call), b"")))
+
+    def transfer(self, line, packet):
+        call = line.call
+        far = call.far(line)
+        turn = Transfer(call.sent_by[line], call.sent_by[far])
+        accepted = packet.kind == "data" and not turn.received.owes and not turn.fault_of(packet)
+        if accepted and not self.counted(turn.sent, packet):
+            return self.congested(line, far)
+        turn.act(packet)
+        for end, packets in ((line, turn.here), (far, turn.there)):
+            for each in packets:
+                self.out(end, each)
+
+    def counted(self, sent, packet):
+        """Counts a packet that is accepted; says whether the limit allows it."""
+        more = max(1, -(-len(packet.octets) // 64))
+        if self.counting and sent.segments + more > self.limit:
+            return False
+        sent.segments += more if self.counting else 0
+        return True
+
+    def congested(self, line, far):
+        for end in (line, far):
+            self.indicate_clear(end, 5, 0, self.charge_of(line.call, end))
+        self.end(line.call, 5, 0)
+
+    # Endings
+
+    def charge_of(self, call, line):
+        """The facility field that tells the payer what the call cost."""
+        payer = call.called if call.reverse else call.caller
+        if not self.counting or not call.sent_by or line is not payer or line not in call.charging:
+            return b""
+        digits = f"{call.sent_by[call.far(line)].segments:08}{call.sent_by[line].segments:08}"
+        return b"\xc2\x08" + bytes.fromhex(digits)
+
+    def indicate_clear(self, line, cause, diagnostic, facilities=b""):
+        block = Block("", "", facilities, b"") if facilities else None
+        self.out(line, Packet("clear", cause=cause, diagnostic=diagnostic, block=block))
+        line.state = "p7"
+
+    def clear(self, line, packet):
+        call, cause = line.call, packet.cause if packet.cause >= 0x80 else 0
+        facilities = self.charge_of(call, line) if call else b""
+        self.out(line, Packet("clear confirmation", block=Block("", "", facilities, b"") if facilities else None))
+        line.state = "p1"
+        if call:
+            self.end_for(call.far(line), cause, packet.diagnostic or 0)
+
+    def fail(self, line, diagnostic, charged=True):
+        """A procedure error, or with 49 an expiry."""
+        call = line.call
+        self.indicate_clear(line, 0x13, diagnostic, self.charge_of(call, line) if call and charged else b"")
+        if call:
+            self.end_for(call.far(line), 0x11, diagnostic)
+
+    def down(self, line):
+        call, was = line.call, line.state
+        line.state = "off"
+        if call and was != "off":
+            self.end_for(call.far(line), 9, 0)
+
+    def end_for(self, far, cause, diagnostic):
+        self.indicate_clear(far, cause, diagnostic, self.charge_of(far.call, far))
+        self.end(far.call, cause, diagnostic)
+
+    def end(self, call, cause, diagnostic):
+        segments = [call.sent_by[end].segments if call.sent_by else 0 for end in (call.caller, call.called)]
+        payer = "called" if call.reverse else "caller"
+        names = f"{call.caller.name} {call.called.name} {call.dialled} {payer}"
+        self.told.append(f"record {call.number} {names} {segments[0]} {segments[1]} {cause:02x} {diagnostic}")
+        call.caller.call = call.called.call = None
+
+
+def text_of(folder, counting):
+    """What the script of a row comes to."""
+    if (folder / "status").exists():
+        raise Beyond("a replay that ends with a fault")
+    exchange = Exchange(tomllib.loads((folder / "subs.toml").read_text()), counting)
+    lines = (folder / "script").read_text().splitlines()
+    return "".join(told + "\n" for line in lines for told in exchange.play(line))
+
+
+def main():
+    parser = argparse.ArgumentParser(description=__doc__.splitlines()[0])
+    parser.add_argument("folders", nargs="+", type=pathlib.Path, metavar="FOLDER", help="rows, as in crates/xp_rows/data")
+    parser.add_argument("--write", action="store_true", help="write what the model says as what the row expects")
+    parser.add_argument("--segments", action="store_true", help="segments are counted, and charging acts by them")
+    arguments = parser.parse_args()
+    other = 0
+    for folder in arguments.folders:
+        try:
+            text = text_of(folder, arguments.segments)
+        except (Beyond, OSError, ValueError, KeyError, IndexError) as reason:
+            print(f"{folder.name}: beyond the model: {reason!r}")
+            continue
+        if arguments.write:
+            (folder / "expected").write_text(text)
+        same = text == (folder / "expected").read_text()
+        other += not same
+        print(f"{folder.name}: {'as expected' if same else 'the model says another thing'}")
+    sys.exit(1 if other else 0)
+
+
+if __name__ == "__main__":
+    main()
