@@ -1,5 +1,6 @@
 pub mod Agreed
 pub mod Carried
+pub mod Carrying
 pub mod Cells
 pub mod Clearings
 pub mod Clears
@@ -11,6 +12,7 @@ pub mod Events
 pub mod Existence
 pub mod Few
 pub mod Fitting
+pub mod Flows
 pub mod Fronts
 pub mod Handed
 pub mod Idle
