@@ -8,3 +8,5 @@ pub mod Takes
 pub mod Deliveries
 pub mod Bounds
 pub mod Few
+pub mod Extends
+pub mod Encodable

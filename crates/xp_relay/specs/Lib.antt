@@ -6,3 +6,4 @@ pub mod Kept
 pub mod Coupled
 pub mod Runs
 pub mod Bounds
+pub mod Encodable

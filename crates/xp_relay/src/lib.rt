@@ -14,7 +14,8 @@ mod turns;
 pub use data::{Data, Interruption};
 pub use judged::Judged;
 pub use laws::{
-    a_turn_puts_out_few, everything_is_delivered, received_number_stands_for_the_count,
+    a_turn_puts_out_few, every_packet_put_out_can_be_encoded, everything_is_delivered,
+    received_number_stands_for_the_count,
 };
 pub use moves::{Move, Moves};
 pub use relay::Relay;
