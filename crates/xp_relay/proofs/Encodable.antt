@@ -1,5 +1,5 @@
 -- Each packet that a call puts out can be encoded.
-use Rattle.std.proofs.Common.{◌≡◌, ℕ, suc, ◌+◌, ◌%◌, ◌≤◌, Bool, true, false, not, ◌&&◌, ◌||◌, ◌==◌, cond, eqb, ltb, List, [], ◌∷◌, ◌++◌, All, length, drop, Option, Some, None, refl, sym, ap, subst, arith}
+use Rattle.std.proofs.Common.{◌≡◌, ℕ, suc, ◌%◌, ◌≤◌, Bool, true, false, not, ◌&&◌, ◌||◌, ◌==◌, cond, eqb, ltb, List, [], ◌∷◌, ◌++◌, All, length, drop, Option, Some, None, refl, sym, ap, subst, arith}
 use Rattle.std.proofs.lemmas.Bool.{cond_both, eqb-false, le-ltb, ltb-false, ne_eqb, or_from}
 use Rattle.std.proofs.lemmas.List.Elements.{All-append, All-cons, All-drop, All-head, All-nil, All-push, All-tail}
 use Rattle.xp_causes.specs.declared.diagnostic.TheConstants.{INVALID_RECEIVE_NUMBER, INVALID_IN_D1, REJECT_NOT_SUBSCRIBED, UNAUTHORIZED_INTERRUPT_CONFIRMATION, UNAUTHORIZED_INTERRUPT}
@@ -21,11 +21,11 @@ use Rattle.xp_relay.specs.declared.judged.Judged.TheVariants.{Accept, Discard, R
 use Rattle.xp_relay.specs.declared.moves.Move.{Move}
 use Rattle.xp_relay.specs.declared.terms.Terms.{Terms}
 use Rattle.xp_relay.specs.Coupled.{Coupled, after, coupled}
-use Rattle.xp_relay.specs.Direction.{Direction, emptied, far, is_open, numbered, opening, put_all, received_number, release, released, told}
+use Rattle.xp_relay.specs.Direction.{Direction, emptied, far, is_open, numbered, put_all, received_number, release, released, told}
 use Rattle.xp_relay.specs.Encodable.{CameEncoded, HasShortNumbers}
 use Rattle.xp_relay.specs.Judgement.{judgement}
 use Rattle.xp_relay.specs.Runs.{Arrival, run, turn_on}
-use Rattle.xp_relay.specs.Terms.{numbers, way_from}
+use Rattle.xp_relay.specs.Terms.{numbers}
 use Rattle.xp_relay.specs.Turns.{Turn, accepting, acknowledged_to, acknowledging, data_as, failing, flow, flow_as, flow_packet, held_interrupt, indicating, interrupts, interrupting, is_idle, is_news, is_put_out, put_out, resetting, settled, settling, telling, telling_not_ready, turn_of, unchanged, with_data}
 
 -- ---- four conditions, none of which holds
