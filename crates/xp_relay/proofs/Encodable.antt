@@ -1,302 +1,310 @@
--- Each packet that is put out can be encoded.
-use Rattle.std.proofs.Common.{◌≡◌, ◌∙◌, ℕ, suc, ◌+◌, ◌<◌, ◌≤◌, ◌%◌, Bool, true, false, not, ◌&&◌, ◌==◌, cond, eqb, ltb, ◌||◌, ◌≢◌, List, [], ◌∷◌, ◌++◌, All, length, drop, Option, Some, None, is_none, refl, sym, ap, subst, inl, inr, arith}
-use Rattle.std.proofs.lemmas.Bool.{cases_Bool, cond_both, eqb-false, le-ltb, ltb-false, ne_eqb}
+-- Each packet that a call puts out can be encoded.
+use Rattle.std.proofs.Common.{◌≡◌, ℕ, suc, ◌%◌, ◌≤◌, Bool, true, false, not, ◌&&◌, ◌||◌, ◌==◌, cond, eqb, ltb, List, [], ◌∷◌, ◌++◌, All, length, drop, Option, Some, None, refl, sym, ap, subst, arith}
+use Rattle.std.proofs.lemmas.Bool.{cond_both, eqb-false, le-ltb, ltb-false, ne_eqb, or_from}
 use Rattle.std.proofs.lemmas.List.Elements.{All-append, All-cons, All-drop, All-head, All-nil, All-push, All-tail}
+use Rattle.xp_causes.specs.declared.diagnostic.TheConstants.{INVALID_RECEIVE_NUMBER, INVALID_IN_D1, REJECT_NOT_SUBSCRIBED, UNAUTHORIZED_INTERRUPT_CONFIRMATION, UNAUTHORIZED_INTERRUPT}
+use Rattle.xp_causes.specs.declared.resetting_cause.TheConstants.{REMOTE_PROCEDURE_ERROR}
 use Rattle.xp_causes.specs.Told.{cause_told, diagnostic_told}
-use Rattle.xp_causes.specs.declared.diagnostic.TheConstants.{INVALID_SEND_NUMBER, INVALID_RECEIVE_NUMBER, PACKET_TOO_LONG, INVALID_IN_D1, REJECT_NOT_SUBSCRIBED, UNAUTHORIZED_INTERRUPT_CONFIRMATION, UNAUTHORIZED_INTERRUPT}
-use Rattle.xp_causes.specs.declared.resetting_cause.TheConstants.{LOCAL_PROCEDURE_ERROR, REMOTE_PROCEDURE_ERROR}
-use Rattle.xp_packets.specs.Fitness.{CanBeEncoded}
 use Rattle.xp_packets.specs.declared.end.End.{End}
 use Rattle.xp_packets.specs.declared.end.End.TheVariants.{Caller, Called}
 use Rattle.xp_packets.specs.declared.fault.Wrong.{Wrong}
-use Rattle.xp_packets.specs.declared.fault.Wrong.TheVariants.{Short, Format, Long}
+use Rattle.xp_packets.specs.declared.fault.Wrong.TheVariants.{Short, Format, Facilities, Long}
 use Rattle.xp_packets.specs.declared.packet.Packet.{Packet}
 use Rattle.xp_packets.specs.declared.packet.Packet.TheVariants.{DataPacket, Ready, NotReady, Reject, Interrupt, InterruptConfirm, Reset, ResetConfirm}
+use Rattle.xp_packets.specs.Examination.{first_of}
+use Rattle.xp_packets.specs.Fitness.{CanBeEncoded}
 use Rattle.xp_relay.specs.declared.data.Data.{Data}
 use Rattle.xp_relay.specs.declared.data.Interruption.{Interruption}
 use Rattle.xp_relay.specs.declared.data.Interruption.TheVariants.{Idle, Held, PutOut}
-use Rattle.xp_relay.specs.declared.moves.Move.{Move}
-use Rattle.xp_relay.specs.declared.terms.Modulus.{Modulus}
-use Rattle.xp_relay.specs.declared.terms.Modulus.TheVariants.{Eight}
-use Rattle.xp_relay.specs.declared.terms.Terms.{Terms}
-use Rattle.xp_relay.specs.Coupled.{Coupled, after, coupled}
-use Rattle.xp_relay.specs.Direction.{Direction, emptied, far, is_open, numbered, put_all, received_number, release, released, to, told}
-use Rattle.xp_relay.specs.Encodable.{AreEncodable, CanCome}
-use Rattle.xp_relay.specs.Judgement.{is_awaited, judgement, most_octets}
-use Rattle.xp_relay.specs.Runs.{Arrival, run, turn_on}
-use Rattle.xp_relay.specs.Terms.{IsWithinTerms, numbers, way_from}
-use Rattle.xp_relay.specs.Turns.{Turn, accepting, acknowledged_to, acknowledging, data_as, failing, flow, flow_as, flow_packet, held_interrupt, indicating, indication, interrupting, interrupts, is_idle, is_news, is_put_out, put_out, resetting, settled, settling, telling, telling_not_ready, turn_of, unchanged, with_data}
 use Rattle.xp_relay.specs.declared.judged.Judged.{Judged}
 use Rattle.xp_relay.specs.declared.judged.Judged.TheVariants.{Accept, Discard, Reset as ResetWith}
-use Rattle.xp_relay.proofs.Residues.{is_number}
+use Rattle.xp_relay.specs.declared.moves.Move.{Move}
+use Rattle.xp_relay.specs.declared.terms.Terms.{Terms}
+use Rattle.xp_relay.specs.Coupled.{Coupled, after, coupled}
+use Rattle.xp_relay.specs.Direction.{Direction, emptied, far, is_open, numbered, put_all, received_number, release, released, told}
+use Rattle.xp_relay.specs.Encodable.{CameEncoded, HasShortNumbers}
+use Rattle.xp_relay.specs.Judgement.{judgement}
+use Rattle.xp_relay.specs.Runs.{Arrival, run, turn_on}
+use Rattle.xp_relay.specs.Terms.{numbers}
+use Rattle.xp_relay.specs.Turns.{Turn, accepting, acknowledged_to, acknowledging, data_as, failing, flow, flow_as, flow_packet, held_interrupt, indicating, interrupts, interrupting, is_idle, is_news, is_put_out, put_out, resetting, settled, settling, telling, telling_not_ready, turn_of, unchanged, with_data}
 
-passed : {X : Type 0} (b : Bool) (x : X) (rest : Option X) → cond b (Some x) rest ≡ None → (b ≡ false) × (rest ≡ None)
-passed true x rest is = absurd (cc)
-passed false x rest is = (refl, is)
+-- ---- four conditions, none of which holds
 
-abbrev IsEncodable : (A : Type 0) → Packet A → Type 0
-IsEncodable A packet = (identifier : ℕ) → identifier < 4096 → CanBeEncoded identifier packet
+abbrev four : Bool → Bool → Bool → Bool → List (Bool × Wrong)
+four short format facilities long = (short, Short) ∷ (format, Format) ∷ (facilities, Facilities) ∷ (long, Long) ∷ []
+
+none_holds : (short format facilities long : Bool) → short ≡ false → format ≡ false → facilities ≡ false → long ≡ false → first_of (four short format facilities long) ≡ None
+none_holds short format facilities long a b c d = rw (a, b, c, d) refl
+
+not_short : (a b c d : Bool) → first_of (four a b c d) ≡ None → a ≡ false
+not_short true b c d e = absurd cc
+not_short false b c d e = refl
+
+not_long : (a b c d : Bool) → first_of (four a b c d) ≡ None → d ≡ false
+not_long true b c d e = absurd cc
+not_long false true c d e = absurd cc
+not_long false false true d e = absurd cc
+not_long false false false true e = absurd cc
+not_long false false false false e = refl
 
 -- ---- packets
 
--- a packet without numbers and octets
-plain_fits : (identifier : ℕ) → identifier < 4096 → cond (ltb 4095 identifier) (Some Format) None ≡ None
-plain_fits identifier narrow = ap (λ b. cond b (Some Format) None) (le-ltb 4095 identifier (omega (arith, narrow)))
+-- numbers modulo 8 are under 8
+under_eight : (count modulus : ℕ) → modulus ≡ 8 → ltb 7 (count % modulus) ≡ false
+under_eight count modulus e = subst (λ m. ltb 7 (count % m) ≡ false) (sym e) (le-ltb 7 (count % 8) (omega arith))
 
-indication_fits : (A : Type 0) (side : End) (cause diagnostic : ℕ) → IsEncodable A (indication side cause diagnostic).packet
-indication_fits A side cause diagnostic identifier narrow = plain_fits identifier narrow
+-- how many octets an interrupt that waits has
+abbrev InterruptFits : Option (List ℕ) → Type 0
+InterruptFits None = Unit {0}
+InterruptFits (Some octets) = (1 ≤ length octets) × (length octets ≤ 32)
 
--- one with P(R) alone
-numbered_fits : (pr identifier : ℕ) → pr < 8 → identifier < 4096 → cond (ltb 7 pr || ltb 4095 identifier) (Some Format) None ≡ None
-numbered_fits pr identifier few narrow = rw (le-ltb 7 pr (omega (arith, few))) (plain_fits identifier narrow)
+data_came : (A : Type 0) (identifier ps pr : ℕ) (q d more : Bool) (octets : List ℕ) → CanBeEncoded {A = A} identifier (DataPacket q d more ps pr octets) → length octets ≤ 1024
+data_came A identifier ps pr q d more octets e =
+    ltb-false 1024 (length octets) (not_long false (ltb 7 ps || ltb 7 pr || ltb 4095 identifier) false (ltb 1024 (length octets)) e)
 
-flow_fits : (A : Type 0) (ready : Bool) (pr : ℕ) → pr < 8 → IsEncodable A (flow_packet ready pr)
-flow_fits A true pr few identifier narrow = numbered_fits pr identifier few narrow
-flow_fits A false pr few identifier narrow = numbered_fits pr identifier few narrow
+interrupt_came : (A : Type 0) (identifier : ℕ) (octets : List ℕ) → CanBeEncoded {A = A} identifier (Interrupt octets) → InterruptFits (Some octets)
+interrupt_came A identifier octets e =
+    let some = eqb-false (length octets) 0 (not_short (eqb (length octets) 0) (ltb 4095 identifier) false (ltb 32 (length octets)) e) in
+    (omega (arith, some), ltb-false 32 (length octets) (not_long (eqb (length octets) 0) (ltb 4095 identifier) false (ltb 32 (length octets)) e))
 
-data_fits : (A : Type 0) (x : Data A) (ps pr : ℕ) → ps < 8 → pr < 8 → length x.octets ≤ 1024 → IsEncodable A (DataPacket x.q x.d x.more ps pr x.octets)
-data_fits A x ps pr few few' short identifier narrow =
-    rw (le-ltb 7 ps (omega (arith, few)), le-ltb 7 pr (omega (arith, few')), le-ltb 4095 identifier (omega (arith, narrow)), le-ltb 1024 (length x.octets) (omega (arith, short))) refl
-
-abbrev IsShort : List ℕ → Type 0
-IsShort octets = (1 ≤ length octets) × (length octets ≤ 32)
-
-interrupt_fits : (A : Type 0) (octets : List ℕ) → IsShort octets → IsEncodable A (Interrupt octets)
-interrupt_fits A octets short identifier narrow =
-    rw (ne_eqb (length octets) 0 (λ none. absurd (omega (arith, none, short.0))), le-ltb 4095 identifier (omega (arith, narrow)), le-ltb 32 (length octets) (omega (arith, short.1))) refl
-
--- what came is no longer than such packets are
-data_short : (A : Type 0) (identifier : ℕ) (q d more : Bool) (ps pr : ℕ) (octets : List ℕ) → CanBeEncoded {A = A} identifier (DataPacket q d more ps pr octets) → length octets ≤ 1024
-data_short A identifier q d more ps pr octets can =
-    let first = passed ((ltb 7 ps || ltb 7 pr) || ltb 4095 identifier) _ _ can in
-    let second = passed (ltb 1024 (length octets)) _ _ first.1 in
-    ltb-false 1024 (length octets) second.0
-
-interrupt_short : (A : Type 0) (identifier : ℕ) (octets : List ℕ) → CanBeEncoded {A = A} identifier (Interrupt octets) → IsShort octets
-interrupt_short A identifier octets can =
-    let first = passed (eqb (length octets) 0) _ _ can in
-    let second = passed (ltb 4095 identifier) _ _ first.1 in
-    let third = passed (ltb 32 (length octets)) _ _ second.1 in
-    let some : length octets ≢ 0 = eqb-false (length octets) 0 first.0 in
-    (omega (arith, some), ltb-false 32 (length octets) third.0)
-
-below : (m : Modulus) (count : ℕ) → m ≡ Eight → count % numbers m < 8
-below m count is = omega (arith, is_number m count, ap numbers is)
+fine_flow : (A : Type 0) (identifier : ℕ) → ltb 4095 identifier ≡ false → (ready : Bool) (pr : ℕ) → ltb 7 pr ≡ false → CanBeEncoded {A = A} identifier (flow_packet ready pr)
+fine_flow A identifier small ready pr under =
+    cond_both ready (Ready pr) (NotReady pr) (λ packet. CanBeEncoded {A = A} identifier packet)
+    (λ _. none_holds _ _ _ _ refl (or_from (ltb 7 pr) (ltb 4095 identifier) under small) refl refl)
+    (λ _. none_holds _ _ _ _ refl (or_from (ltb 7 pr) (ltb 4095 identifier) under small) refl refl)
 
 module _ {A : Type 0} where
+  record DataFits (x : Data A) : Type 0 where
+    most : length x.octets ≤ 1024
+
+  -- a move whose packet can be encoded
+  abbrev Fine : ℕ → Move A → Type 0
+  Fine identifier move = CanBeEncoded identifier move.packet
+
+  one : (identifier : ℕ) (move : Move A) → Fine identifier move → All (Fine identifier) (move ∷ [])
+  one identifier move h = All-cons (Fine identifier) move [] h (All-nil (Fine identifier))
+
+  fine_data : (identifier : ℕ) → ltb 4095 identifier ≡ false → (x : Data A) (ps pr : ℕ) → ltb 7 ps ≡ false → ltb 7 pr ≡ false → DataFits x → CanBeEncoded {A = A} identifier (DataPacket x.q x.d x.more ps pr x.octets)
+  fine_data identifier small x ps pr sent received h =
+      none_holds _ _ _ _ refl (or_from (ltb 7 ps || ltb 7 pr) (ltb 4095 identifier) (or_from (ltb 7 ps) (ltb 7 pr) sent received) small) refl (le-ltb _ _ h.most)
+
+  fine_numbered : (identifier : ℕ) → ltb 4095 identifier ≡ false → (side : End) (modulus pr count : ℕ) → modulus ≡ 8 → ltb 7 pr ≡ false → (xs : List (Data A)) → All DataFits xs → All (Fine identifier) (numbered side modulus pr count xs)
+  fine_numbered identifier small side modulus pr count eight under [] h = All-nil (Fine identifier)
+  fine_numbered identifier small side modulus pr count eight under (x ∷ xs) h =
+      All-cons (Fine identifier) _ (numbered side modulus pr (suc count) xs)
+      (fine_data identifier small x (count % modulus) pr (under_eight count modulus eight) under (All-head DataFits x xs h))
+      (fine_numbered identifier small side modulus pr (suc count) eight under xs (All-tail DataFits x xs h))
+
+  fine_interrupts : (identifier : ℕ) → ltb 4095 identifier ≡ false → (side : End) (octets : Option (List ℕ)) → InterruptFits octets → All (Fine identifier) (interrupts side octets)
+  fine_interrupts identifier small side None h = All-nil (Fine identifier)
+  fine_interrupts identifier small side (Some octets) h =
+      one identifier _ (none_holds _ _ _ _ (ne_eqb _ _ (λ e. absurd (omega (arith, h.0)))) small refl (le-ltb _ _ h.1))
+
   -- ---- directions
 
-  abbrev IsShortHeld : Interruption A → Type 0
-  IsShortHeld Idle = Unit {0}
-  IsShortHeld PutOut = Unit {0}
-  IsShortHeld (Held octets) = IsShort octets
+  -- what waits in a direction can go out, and both its lines number modulo 8
+  record Fits (d : Direction A) : Type 0 where
+    sender : numbers d.terms.sender ≡ 8
+    receiver : numbers d.terms.receiver ≡ 8
+    accepted : All DataFits d.accepted
+    interrupt : InterruptFits (held_interrupt d.interrupt)
 
-  record IsSendable (d : Direction A) : Type 0 where
-    sender : d.terms.sender ≡ Eight
-    receiver : d.terms.receiver ≡ Eight
-    accepted : All (λ (x : Data A). length x.octets ≤ 1024) d.accepted
-    interrupt : IsShortHeld d.interrupt
+  none_waits : (interrupt : Interruption A) → InterruptFits (held_interrupt (put_out interrupt))
+  none_waits Idle = tt
+  none_waits (Held octets) = tt
+  none_waits PutOut = tt
 
-  sendable_emptied : (owes : Bool) (d : Direction A) → IsSendable d → IsSendable (emptied owes d)
-  sendable_emptied owes d h = record { sender = h.sender; receiver = h.receiver; accepted = All-nil (λ (x : Data A). length x.octets ≤ 1024); interrupt = tt }
+  fits_release : (d : Direction A) → Fits d → Fits (release d)
+  fits_release d h =
+      cond_both (is_open d) (put_all d) d (λ x. Fits x)
+      (λ _. record { sender = h.sender; receiver = h.receiver; accepted = h.accepted; interrupt = h.interrupt })
+      (λ _. h)
 
-  sendable_release : (d : Direction A) → IsSendable d → IsSendable (release d)
-  sendable_release d h = cond_both (is_open d) (put_all d) d (λ x. IsSendable x)
-      (λ _. record { sender = h.sender; receiver = h.receiver; accepted = h.accepted; interrupt = h.interrupt }) (λ _. h)
+  fits_emptied : (owes : Bool) (d : Direction A) → Fits d → Fits (emptied owes d)
+  fits_emptied owes d h = record { sender = h.sender; receiver = h.receiver; accepted = All-nil DataFits; interrupt = tt }
 
-  -- ---- moves
-
-  fit_none : AreEncodable {A = A} []
-  fit_none = All-nil (λ move. IsEncodable A move.packet)
-
-  fit_one : (move : Move A) → IsEncodable A move.packet → AreEncodable (move ∷ [])
-  fit_one move fits = All-cons (λ m. IsEncodable A m.packet) move [] fits fit_none
-
-  fit_append : (moves more : List (Move A)) → AreEncodable moves → AreEncodable more → AreEncodable (moves ++ more)
-  fit_append moves more = All-append (λ move. IsEncodable A move.packet) moves more
-
-  fit_numbered : (side : End) (m : Modulus) (pr count : ℕ) (xs : List (Data A)) → m ≡ Eight → pr < 8 → All (λ (x : Data A). length x.octets ≤ 1024) xs
-      → AreEncodable (numbered side (numbers m) pr count xs)
-  fit_numbered side m pr count [] eight few short = fit_none
-  fit_numbered side m pr count (x ∷ rest) eight few short =
-      All-cons (λ move. IsEncodable A move.packet) _ (numbered side (numbers m) pr (suc count) rest)
-      (data_fits A x (count % numbers m) pr (below m count eight) few (All-head (λ (y : Data A). length y.octets ≤ 1024) x rest short))
-      (fit_numbered side m pr (suc count) rest eight few (All-tail (λ (y : Data A). length y.octets ≤ 1024) x rest short))
-
-  fit_released : (side : End) (pr : ℕ) (d : Direction A) → IsSendable d → pr < 8 → AreEncodable (released side pr d)
-  fit_released side pr d h few = cond_both (is_open d) _ _ (λ made. AreEncodable made)
-      (λ _. fit_numbered side d.terms.receiver pr d.put (drop d.put d.accepted) h.receiver few (All-drop (λ (x : Data A). length x.octets ≤ 1024) d.put d.accepted h.accepted))
-      (λ _. fit_none)
-
-  fit_telling : (here : End) (changed : Bool) (s r : Direction A) → IsSendable r → AreEncodable (telling here changed s r)
-  fit_telling here changed s r hr = cond_both (changed && not s.owes) _ _ (λ made. AreEncodable made)
-      (λ _. fit_one _ (flow_fits A r.ready (received_number r) (below r.terms.sender r.acknowledged hr.sender))) (λ _. fit_none)
-
-  fit_not_ready : (here : End) (s : Direction A) → IsSendable s → AreEncodable (telling_not_ready here s)
-  fit_not_ready here s hs = cond_both s.ready _ _ (λ made. AreEncodable made)
-      (λ _. fit_none) (λ _. fit_one _ (flow_fits A false (received_number s) (below s.terms.sender s.acknowledged hs.sender)))
-
-  fit_indicating : (here : End) (cause diagnostic : ℕ) (s : Direction A) → AreEncodable (indicating here cause diagnostic s)
-  fit_indicating here cause diagnostic s = cond_both s.owes _ _ (λ made. AreEncodable made)
-      (λ _. fit_none) (λ _. fit_one _ (indication_fits A (far here) cause diagnostic))
-
-  fit_interrupt : (side : End) (octets : List ℕ) → IsShort octets → AreEncodable {A = A} (interrupts side (Some octets))
-  fit_interrupt side octets short = fit_one _ (interrupt_fits A octets short)
-
-  fit_held : (side : End) (i : Interruption A) → IsShortHeld i → AreEncodable {A = A} (interrupts side (held_interrupt i))
-  fit_held side Idle short = fit_none
-  fit_held side PutOut short = fit_none
-  fit_held side (Held octets) short = fit_interrupt side octets short
+  fine_released : (identifier : ℕ) → ltb 4095 identifier ≡ false → (side : End) (pr : ℕ) (d : Direction A) → ltb 7 pr ≡ false → Fits d → All (Fine identifier) (released side pr d)
+  fine_released identifier small side pr d under h =
+      cond_both (is_open d) (numbered side (numbers d.terms.receiver) pr d.put (drop d.put d.accepted)) [] (λ made. All (Fine identifier) made)
+      (λ _. fine_numbered identifier small side (numbers d.terms.receiver) pr d.put h.receiver under (drop d.put d.accepted) (All-drop DataFits d.put d.accepted h.accepted))
+      (λ _. All-nil (Fine identifier))
 
   -- ---- turns
 
-  record IsFit (turn : Turn A) : Type 0 where
-    sent : IsSendable turn.sent
-    received : IsSendable turn.received
-    moves : AreEncodable turn.moves
+  -- a turn leaves what can go out, and puts out what can be encoded
+  record TurnFits (identifier : ℕ) (turn : Turn A) : Type 0 where
+    sent : Fits turn.sent
+    received : Fits turn.received
+    moves : All (Fine identifier) turn.moves
 
-  fit_either : (b : Bool) (x y : Turn A) → IsFit x → IsFit y → IsFit (cond b x y)
-  fit_either b x y h k = cond_both b x y (λ t. IsFit t) (λ _. h) (λ _. k)
+  fits_either : (identifier : ℕ) (b : Bool) (x y : Turn A) → TurnFits identifier x → TurnFits identifier y → TurnFits identifier (cond b x y)
+  fits_either identifier b x y h k = cond_both b x y (λ turn. TurnFits identifier turn) (λ _. h) (λ _. k)
 
-  module _ (s r : Direction A) (hs : IsSendable s) (hr : IsSendable r) (here : End) where
-    fit_unchanged : IsFit (unchanged s r)
-    fit_unchanged = record { sent = hs; received = hr; moves = fit_none }
+  fine_telling : (identifier : ℕ) → ltb 4095 identifier ≡ false → (here : End) (changed : Bool) (s r : Direction A) → Fits r → All (Fine identifier) (telling here changed s r)
+  fine_telling identifier small here changed s r h =
+      cond_both (changed && not s.owes) _ _ (λ made. All (Fine identifier) made)
+      (λ _. one identifier _ (fine_flow A identifier small r.ready (received_number r) (under_eight r.acknowledged (numbers r.terms.sender) h.sender)))
+      (λ _. All-nil (Fine identifier))
 
-    fit_failing : (diagnostic : ℕ) → IsFit (failing here diagnostic s r)
-    fit_failing diagnostic = record {
-      sent = sendable_emptied true s hs;
-      received = sendable_emptied true r hr;
-      moves = All-cons (λ move. IsEncodable A move.packet) _ _ (indication_fits A here LOCAL_PROCEDURE_ERROR diagnostic) (fit_indicating here REMOTE_PROCEDURE_ERROR diagnostic s);
-    }
+  fine_not_ready : (identifier : ℕ) → ltb 4095 identifier ≡ false → (here : End) (s : Direction A) → Fits s → All (Fine identifier) (telling_not_ready here s)
+  fine_not_ready identifier small here s h =
+      cond_both s.ready _ _ (λ made. All (Fine identifier) made)
+      (λ _. All-nil (Fine identifier))
+      (λ _. one identifier _ (fine_flow A identifier small false (received_number s) (under_eight s.acknowledged (numbers s.terms.sender) h.sender)))
 
-    fit_resetting : (cause diagnostic : ℕ) → IsFit (resetting here cause diagnostic s r)
-    fit_resetting cause diagnostic = record {
-      sent = sendable_emptied true s hs;
-      received = sendable_emptied false r hr;
-      moves = All-cons (λ move. IsEncodable A move.packet) _ _ (λ identifier narrow. plain_fits identifier narrow) (fit_indicating here (cause_told cause) diagnostic s);
-    }
+  fine_indicating : (identifier : ℕ) → ltb 4095 identifier ≡ false → (here : End) (cause diagnostic : ℕ) (s : Direction A) → All (Fine identifier) (indicating here cause diagnostic s)
+  fine_indicating identifier small here cause diagnostic s =
+      cond_both s.owes _ _ (λ made. All (Fine identifier) made)
+      (λ _. All-nil (Fine identifier))
+      (λ _. one identifier _ (none_holds _ _ _ _ refl small refl refl))
 
-    fit_acknowledging : (ready : Bool) (count : ℕ) → IsFit (acknowledging here ready count s r)
-    fit_acknowledging ready count =
-        let less = acknowledged_to ready count r in
-        let hl : IsSendable less = record { sender = hr.sender; receiver = hr.receiver; accepted = hr.accepted; interrupt = hr.interrupt } in
-        record {
-          sent = hs;
-          received = sendable_release less hl;
-          moves = fit_append (released here (received_number s) less) (telling here (is_news ready count r) s less)
-              (fit_released here (received_number s) less hl (below s.terms.sender s.acknowledged hs.sender)) (fit_telling here (is_news ready count r) s less hl);
-        }
+  fits_unchanged : (identifier : ℕ) (s r : Direction A) → Fits s → Fits r → TurnFits identifier (unchanged s r)
+  fits_unchanged identifier s r hs hr = record { sent = hs; received = hr; moves = All-nil (Fine identifier) }
 
-    fit_accepting : (packet : Data A) (count : ℕ) → length packet.octets ≤ 1024 → IsFit (accepting here packet count s r)
-    fit_accepting packet count short =
-        let more = with_data packet s in
-        let less = acknowledged_to r.ready count r in
-        let hm : IsSendable more = record {
-          sender = hs.sender;
-          receiver = hs.receiver;
-          accepted = All-push (λ (x : Data A). length x.octets ≤ 1024) s.accepted packet hs.accepted short;
-          interrupt = hs.interrupt;
-        } in
-        let hl : IsSendable less = record { sender = hr.sender; receiver = hr.receiver; accepted = hr.accepted; interrupt = hr.interrupt } in
-        let changed = not (count == r.acknowledged) && not (is_open s) in
-        record {
-          sent = sendable_release more hm;
-          received = hl;
-          moves = fit_append (released (far here) (received_number less) more) (telling here changed s less)
-              (fit_released (far here) (received_number less) more hm (below r.terms.sender count hr.sender)) (fit_telling here changed s less hl);
-        }
+  fits_failing : (identifier : ℕ) → ltb 4095 identifier ≡ false → (s r : Direction A) (here : End) (diagnostic : ℕ) → Fits s → Fits r → TurnFits identifier (failing here diagnostic s r)
+  fits_failing identifier small s r here diagnostic hs hr = record {
+    sent = fits_emptied true s hs;
+    received = fits_emptied true r hr;
+    moves = All-cons (Fine identifier) _ _ (none_holds _ _ _ _ refl small refl refl) (fine_indicating identifier small here REMOTE_PROCEDURE_ERROR diagnostic s);
+  }
 
-    fit_settling : IsFit (settling here s r)
-    fit_settling =
-        let next = settled r in
-        let hn : IsSendable next = record { sender = hr.sender; receiver = hr.receiver; accepted = hr.accepted; interrupt = put_out_short r.interrupt } in
-        let first = telling_not_ready here s in
-        let second : List (Move A) = interrupts here (held_interrupt r.interrupt) in
-        let out = released here (received_number s) next in
-        record {
-          sent = hs;
-          received = sendable_release next hn;
-          moves = fit_append (first ++ second) out (fit_append first second (fit_not_ready here s hs) (fit_held here r.interrupt hr.interrupt))
-              (fit_released here (received_number s) next hn (below s.terms.sender s.acknowledged hs.sender));
-        }
-      where
-        put_out_short : (i : Interruption A) → IsShortHeld (put_out i)
-        put_out_short Idle = tt
-        put_out_short PutOut = tt
-        put_out_short (Held octets) = tt
+  fits_resetting : (identifier : ℕ) → ltb 4095 identifier ≡ false → (s r : Direction A) (here : End) (cause diagnostic : ℕ) → Fits s → Fits r → TurnFits identifier (resetting here cause diagnostic s r)
+  fits_resetting identifier small s r here cause diagnostic hs hr = record {
+    sent = fits_emptied true s hs;
+    received = fits_emptied false r hr;
+    moves = All-cons (Fine identifier) _ _ (none_holds _ _ _ _ refl small refl refl) (fine_indicating identifier small here (cause_told cause) diagnostic s);
+  }
 
-    fit_interrupting : (octets : List ℕ) → IsShort octets → IsFit (interrupting here octets s r)
-    fit_interrupting octets short = record {
-      sent = record {
-        sender = hs.sender;
-        receiver = hs.receiver;
-        accepted = hs.accepted;
-        interrupt = cond_both s.owes (Held octets) PutOut (λ i. IsShortHeld i) (λ _. short) (λ _. tt);
-      };
-      received = hr;
-      moves = cond_both s.owes None (Some octets) (λ o. AreEncodable {A = A} (interrupts (far here) o)) (λ _. fit_none) (λ _. fit_interrupt (far here) octets short);
-    }
+  fits_acknowledging : (identifier : ℕ) → ltb 4095 identifier ≡ false → (s r : Direction A) (here : End) (ready : Bool) (count : ℕ) → Fits s → Fits r → TurnFits identifier (acknowledging here ready count s r)
+  fits_acknowledging identifier small s r here ready count hs hr =
+      let less = acknowledged_to ready count r in
+      let fit : Fits less = record { sender = hr.sender; receiver = hr.receiver; accepted = hr.accepted; interrupt = hr.interrupt } in
+      record {
+        sent = hs;
+        received = fits_release less fit;
+        moves =
+            All-append (Fine identifier) (released here (received_number s) less) (telling here (is_news ready count r) s less)
+            (fine_released identifier small here (received_number s) less (under_eight s.acknowledged (numbers s.terms.sender) hs.sender) fit)
+            (fine_telling identifier small here (is_news ready count r) s less fit);
+      }
 
-    fit_data : (x : Data A) (judged : Judged) (count : Option ℕ) → length x.octets ≤ 1024 → IsFit (data_as here x judged count s r)
-    fit_data x Discard count short = fit_unchanged
-    fit_data x (ResetWith diagnostic) count short = fit_failing diagnostic
-    fit_data x Accept None short = fit_unchanged
-    fit_data x Accept (Some count) short = fit_accepting x count short
+  fits_accepting : (identifier : ℕ) → ltb 4095 identifier ≡ false → (s r : Direction A) (here : End) (x : Data A) (count : ℕ) → DataFits x → Fits s → Fits r → TurnFits identifier (accepting here x count s r)
+  fits_accepting identifier small s r here x count h hs hr =
+      let more = with_data x s in
+      let less = acknowledged_to r.ready count r in
+      let changed = not (count == r.acknowledged) && not (is_open s) in
+      let fit_more : Fits more = record { sender = hs.sender; receiver = hs.receiver; accepted = All-push DataFits s.accepted x hs.accepted h; interrupt = hs.interrupt } in
+      let fit_less : Fits less = record { sender = hr.sender; receiver = hr.receiver; accepted = hr.accepted; interrupt = hr.interrupt } in
+      record {
+        sent = fits_release more fit_more;
+        received = fit_less;
+        moves =
+            All-append (Fine identifier) (released (far here) (received_number less) more) (telling here changed s less)
+            (fine_released identifier small (far here) (received_number less) more (under_eight count (numbers r.terms.sender) hr.sender) fit_more)
+            (fine_telling identifier small here changed s less fit_less);
+      }
 
-    fit_flow_as : (ready : Bool) (count : Option ℕ) → IsFit (flow_as here ready count s r)
-    fit_flow_as ready None = fit_failing INVALID_RECEIVE_NUMBER
-    fit_flow_as ready (Some count) = fit_acknowledging ready count
+  fits_settling : (identifier : ℕ) → ltb 4095 identifier ≡ false → (s r : Direction A) (here : End) → Fits s → Fits r → TurnFits identifier (settling here s r)
+  fits_settling identifier small s r here hs hr =
+      let fit : Fits (settled r) = record { sender = hr.sender; receiver = hr.receiver; accepted = hr.accepted; interrupt = none_waits r.interrupt } in
+      let first = telling_not_ready here s in
+      let second : List (Move A) = interrupts here (held_interrupt r.interrupt) in
+      record {
+        sent = hs;
+        received = fits_release (settled r) fit;
+        moves =
+            All-append (Fine identifier) (first ++ second) (released here (received_number s) (settled r))
+            (All-append (Fine identifier) first second (fine_not_ready identifier small here s hs) (fine_interrupts identifier small here (held_interrupt r.interrupt) hr.interrupt))
+            (fine_released identifier small here (received_number s) (settled r) (under_eight s.acknowledged (numbers s.terms.sender) hs.sender) fit);
+      }
 
-    fit_flow : (ready : Bool) (pr : ℕ) → IsFit (flow here ready pr s r)
-    fit_flow ready pr = fit_either r.owes _ _ fit_unchanged (fit_flow_as ready (told pr r))
+  fits_data_as : (identifier : ℕ) → ltb 4095 identifier ≡ false → (s r : Direction A) (here : End) (x : Data A) (judged : Judged) (count : Option ℕ) → DataFits x → Fits s → Fits r → TurnFits identifier (data_as here x judged count s r)
+  fits_data_as identifier small s r here x Discard count h hs hr = fits_unchanged identifier s r hs hr
+  fits_data_as identifier small s r here x (ResetWith diagnostic) count h hs hr = fits_failing identifier small s r here diagnostic hs hr
+  fits_data_as identifier small s r here x Accept None h hs hr = fits_unchanged identifier s r hs hr
+  fits_data_as identifier small s r here x Accept (Some count) h hs hr = fits_accepting identifier small s r here x count h hs hr
 
-    fit_confirmed : IsFit (record { sent = s; received = record r { interrupt = Idle }; moves = to (far here) InterruptConfirm ∷ [] })
-    fit_confirmed = record {
-      sent = hs;
-      received = record { sender = hr.sender; receiver = hr.receiver; accepted = hr.accepted; interrupt = tt };
-      moves = fit_one _ (λ identifier narrow. plain_fits identifier narrow);
-    }
+  fits_flow_as : (identifier : ℕ) → ltb 4095 identifier ≡ false → (s r : Direction A) (here : End) (ready : Bool) (count : Option ℕ) → Fits s → Fits r → TurnFits identifier (flow_as here ready count s r)
+  fits_flow_as identifier small s r here ready None hs hr = fits_failing identifier small s r here INVALID_RECEIVE_NUMBER hs hr
+  fits_flow_as identifier small s r here ready (Some count) hs hr = fits_acknowledging identifier small s r here ready count hs hr
 
-    fit_turn : (packet : Packet A) → (identifier : ℕ) × CanBeEncoded identifier packet → IsFit (turn_of here packet s r)
-    fit_turn (DataPacket q d more ps pr octets) can =
-        fit_data (record { q = q; d = d; more = more; octets = octets }) (judgement ps pr (length octets) s r) (told pr r) (data_short A can.0 q d more ps pr octets can.1)
-    fit_turn (Ready pr) can = fit_flow true pr
-    fit_turn (NotReady pr) can = fit_flow false pr
-    fit_turn (Reject pr) can = fit_either r.owes _ _ fit_unchanged (fit_failing REJECT_NOT_SUBSCRIBED)
-    fit_turn (Interrupt octets) can =
-        fit_either r.owes _ _ fit_unchanged (fit_either (is_idle s.interrupt) _ _ (fit_interrupting octets (interrupt_short A can.0 octets can.1)) (fit_failing UNAUTHORIZED_INTERRUPT))
-    fit_turn InterruptConfirm can =
-        fit_either r.owes _ _ fit_unchanged (fit_either (is_put_out r.interrupt) _ _ fit_confirmed (fit_failing UNAUTHORIZED_INTERRUPT_CONFIRMATION))
-    fit_turn (Reset cause diagnostic) can = fit_either r.owes _ _ fit_settling (fit_resetting cause (diagnostic_told diagnostic))
-    fit_turn ResetConfirm can = fit_either r.owes _ _ fit_settling (fit_failing INVALID_IN_D1)
-    fit_turn _ can = fit_unchanged
+  fits_flow : (identifier : ℕ) → ltb 4095 identifier ≡ false → (s r : Direction A) (here : End) (ready : Bool) (pr : ℕ) → Fits s → Fits r → TurnFits identifier (flow here ready pr s r)
+  fits_flow identifier small s r here ready pr hs hr =
+      fits_either identifier r.owes _ _ (fits_unchanged identifier s r hs hr) (fits_flow_as identifier small s r here ready (told pr r) hs hr)
+
+  fits_interrupting : (identifier : ℕ) → ltb 4095 identifier ≡ false → (s r : Direction A) (here : End) (octets : List ℕ) → InterruptFits (Some octets) → Fits s → Fits r → TurnFits identifier (interrupting here octets s r)
+  fits_interrupting identifier small s r here octets h hs hr = record {
+    sent = record {
+      sender = hs.sender;
+      receiver = hs.receiver;
+      accepted = hs.accepted;
+      interrupt = cond_both s.owes (Held octets) PutOut (λ interrupt. InterruptFits (held_interrupt interrupt)) (λ _. h) (λ _. tt);
+    };
+    received = hr;
+    moves = fine_interrupts identifier small (far here) (cond s.owes None (Some octets)) (cond_both s.owes None (Some octets) (λ goes. InterruptFits goes) (λ _. tt) (λ _. h));
+  }
+
+  fits_turn : (identifier : ℕ) → ltb 4095 identifier ≡ false → (s r : Direction A) (here : End) (packet : Packet A) → (came : ℕ) → CanBeEncoded came packet → Fits s → Fits r → TurnFits identifier (turn_of here packet s r)
+  fits_turn identifier small s r here (DataPacket q d more ps pr octets) came fit hs hr =
+      let x : Data A = record { q = q; d = d; more = more; octets = octets } in
+      fits_data_as identifier small s r here x (judgement ps pr (length octets) s r) (told pr r) (record { most = data_came A came ps pr q d more octets fit }) hs hr
+  fits_turn identifier small s r here (Ready pr) came fit hs hr = fits_flow identifier small s r here true pr hs hr
+  fits_turn identifier small s r here (NotReady pr) came fit hs hr = fits_flow identifier small s r here false pr hs hr
+  fits_turn identifier small s r here (Reject pr) came fit hs hr =
+      fits_either identifier r.owes _ _ (fits_unchanged identifier s r hs hr) (fits_failing identifier small s r here REJECT_NOT_SUBSCRIBED hs hr)
+  fits_turn identifier small s r here (Interrupt octets) came fit hs hr =
+      fits_either identifier r.owes _ _ (fits_unchanged identifier s r hs hr)
+      (fits_either identifier (is_idle s.interrupt) _ _
+      (fits_interrupting identifier small s r here octets (interrupt_came A came octets fit) hs hr)
+      (fits_failing identifier small s r here UNAUTHORIZED_INTERRUPT hs hr))
+  fits_turn identifier small s r here InterruptConfirm came fit hs hr =
+      fits_either identifier r.owes _ _ (fits_unchanged identifier s r hs hr)
+      (fits_either identifier (is_put_out r.interrupt) _ _
+      (record {
+        sent = hs;
+        received = record { sender = hr.sender; receiver = hr.receiver; accepted = hr.accepted; interrupt = tt };
+        moves = one identifier _ (none_holds _ _ _ _ refl small refl refl);
+      })
+      (fits_failing identifier small s r here UNAUTHORIZED_INTERRUPT_CONFIRMATION hs hr))
+  fits_turn identifier small s r here (Reset cause diagnostic) came fit hs hr =
+      fits_either identifier r.owes _ _ (fits_settling identifier small s r here hs hr) (fits_resetting identifier small s r here cause (diagnostic_told diagnostic) hs hr)
+  fits_turn identifier small s r here ResetConfirm came fit hs hr =
+      fits_either identifier r.owes _ _ (fits_settling identifier small s r here hs hr) (fits_failing identifier small s r here INVALID_IN_D1 hs hr)
+  fits_turn identifier small s r here _ came fit hs hr = fits_unchanged identifier s r hs hr
 
   -- ---- runs
 
-  record AreSendable (call : Coupled A) : Type 0 where
-    from_caller : IsSendable call.from_caller
-    from_called : IsSendable call.from_called
+  record CallFits (call : Coupled A) : Type 0 where
+    from_caller : Fits call.from_caller
+    from_called : Fits call.from_called
 
-  fit_on : (here : End) (packet : Packet A) (call : Coupled A) → AreSendable call → (identifier : ℕ) × CanBeEncoded identifier packet
-      → AreSendable (after here (turn_on call (record { here = here; packet = packet }))) × AreEncodable (turn_on call (record { here = here; packet = packet })).moves
-  fit_on Caller packet call h can =
-      let turn = fit_turn call.from_caller call.from_called h.from_caller h.from_called Caller packet can in
-      (record { from_caller = turn.sent; from_called = turn.received }, turn.moves)
-  fit_on Called packet call h can =
-      let turn = fit_turn call.from_called call.from_caller h.from_called h.from_caller Called packet can in
-      (record { from_caller = turn.received; from_called = turn.sent }, turn.moves)
+  fits_after : (here : End) (packet : Packet A) (came : ℕ) → CanBeEncoded came packet → (call : Coupled A) → CallFits call → CallFits (after here (turn_on call (record { here = here; packet = packet })))
+  fits_after Caller packet came fit call h =
+      let turn = fits_turn 0 refl call.from_caller call.from_called Caller packet came fit h.from_caller h.from_called in
+      record { from_caller = turn.sent; from_called = turn.received }
+  fits_after Called packet came fit call h =
+      let turn = fits_turn 0 refl call.from_called call.from_caller Called packet came fit h.from_called h.from_caller in
+      record { from_caller = turn.received; from_called = turn.sent }
 
-  fit_over : (call : Coupled A) (arrivals : List (Arrival A)) → AreSendable call → All CanCome arrivals → AreSendable (run call arrivals)
-  fit_over call [] h can = h
-  fit_over call (arrival ∷ rest) h can =
-      fit_over (after arrival.here (turn_on call arrival)) rest (fit_on arrival.here arrival.packet call h (All-head CanCome arrival rest can)).0 (All-tail CanCome arrival rest can)
+  fits_over : (call : Coupled A) (arrivals : List (Arrival A)) → All CameEncoded arrivals → CallFits call → CallFits (run call arrivals)
+  fits_over call [] came h = h
+  fits_over call (arrival ∷ rest) came h =
+      let first = All-head CameEncoded arrival rest came in
+      fits_over (after arrival.here (turn_on call arrival)) rest (All-tail CameEncoded arrival rest came)
+      (fits_after arrival.here arrival.packet first.0 first.1 call h)
 
-  pub every_packet_can_be_encoded : (terms : Terms) → IsWithinTerms terms → terms.caller ≡ Eight → terms.called ≡ Eight
-      → (arrivals : List (Arrival A)) (arrival : Arrival A) → All CanCome arrivals → CanCome arrival
-      → AreEncodable (turn_on (run (coupled terms) arrivals) arrival).moves
-  every_packet_can_be_encoded terms within caller called arrivals arrival came can =
-      let none : All (λ (x : Data A). length x.octets ≤ 1024) [] = All-nil (λ (x : Data A). length x.octets ≤ 1024) in
-      (fit_on arrival.here arrival.packet (run (coupled terms) arrivals) (fit_over (coupled terms) arrivals (record {
-        from_caller = record { sender = caller; receiver = called; accepted = none; interrupt = tt };
-        from_called = record { sender = called; receiver = caller; accepted = none; interrupt = tt };
-      }) came) can).1
+  fits_coupled : (terms : Terms) → HasShortNumbers terms → CallFits (coupled terms)
+  fits_coupled terms short = record {
+    from_caller = record { sender = ap numbers short.caller; receiver = ap numbers short.called; accepted = All-nil DataFits; interrupt = tt };
+    from_called = record { sender = ap numbers short.called; receiver = ap numbers short.caller; accepted = All-nil DataFits; interrupt = tt };
+  }
+
+  fine_at : (identifier : ℕ) → ltb 4095 identifier ≡ false → (here : End) (packet : Packet A) (came : ℕ) → CanBeEncoded came packet → (call : Coupled A) → CallFits call → All (Fine identifier) (turn_on call (record { here = here; packet = packet })).moves
+  fine_at identifier small Caller packet came fit call h =
+      (fits_turn identifier small call.from_caller call.from_called Caller packet came fit h.from_caller h.from_called).moves
+  fine_at identifier small Called packet came fit call h =
+      (fits_turn identifier small call.from_called call.from_caller Called packet came fit h.from_called h.from_caller).moves
+
+  pub puts_out_encodable : (terms : Terms) → HasShortNumbers terms → (arrivals : List (Arrival A)) (arrival : Arrival A) → All CameEncoded arrivals → CameEncoded arrival → (identifier : ℕ) → identifier ≤ 4095 → All (λ move. CanBeEncoded identifier move.packet) (turn_on (run (coupled terms) arrivals) arrival).moves
+  puts_out_encodable terms short arrivals arrival came last identifier small =
+      fine_at identifier (le-ltb 4095 identifier small) arrival.here arrival.packet last.0 last.1 (run (coupled terms) arrivals) (fits_over (coupled terms) arrivals came (fits_coupled terms short))

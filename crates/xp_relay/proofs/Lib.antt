@@ -9,3 +9,5 @@ pub mod Deliveries
 pub mod Bounds
 pub mod Encodable
 pub mod Few
+pub mod Extends
+pub mod Encodable

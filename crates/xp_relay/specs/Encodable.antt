@@ -1,25 +1,23 @@
--- Which packets can be encoded: those that come, and those that are put out.
-use Rattle.std.specs.Prelude.{◌≡◌, ℕ, ◌<◌, List, All}
+-- That each packet which a call puts out can be encoded, where packets that can be encoded came in.
+use Rattle.std.specs.Prelude.{◌≡◌, ℕ, ◌≤◌, List, All}
 use Rattle.xp_packets.specs.Fitness.{CanBeEncoded}
-use Rattle.xp_relay.specs.declared.moves.Move.{Move}
 use Rattle.xp_relay.specs.declared.terms.Modulus.TheVariants.{Eight}
 use Rattle.xp_relay.specs.declared.terms.Terms.{Terms}
 use Rattle.xp_relay.specs.Coupled.{coupled}
 use Rattle.xp_relay.specs.Runs.{Arrival, run, turn_on}
-use Rattle.xp_relay.specs.Terms.{IsWithinTerms}
 
-module _ {A : Type 0} where
-  -- a packet came under some identifier
-  abbrev pub CanCome : Arrival A → Type 0
-  CanCome arrival = (identifier : ℕ) × CanBeEncoded identifier arrival.packet
+-- both lines number their packets modulo 8 (X.25 clause 4.4.1.1)
+pub record HasShortNumbers (terms : Terms) : Type 0 where
+  pub caller : terms.caller ≡ Eight
+  pub called : terms.called ≡ Eight
 
-  -- each packet can be put out under every identifier
-  abbrev pub AreEncodable : List (Move A) → Type 0
-  AreEncodable moves = All (λ move. (identifier : ℕ) → identifier < 4096 → CanBeEncoded identifier move.packet) moves
+-- under some identifier, as each that was decoded
+abbrev pub CameEncoded : {A : Type 0} → Arrival A → Type 0
+CameEncoded arrival = (identifier : ℕ) × CanBeEncoded identifier arrival.packet
 
--- Between lines whose packets are numbered modulo 8, each packet that is put out after packets that came can be encoded.
-abbrev pub EveryPacketCanBeEncoded : (A : Type 0) → Type 0
-EveryPacketCanBeEncoded A =
-    (terms : Terms) → IsWithinTerms terms → terms.caller ≡ Eight → terms.called ≡ Eight
-    → (arrivals : List (Arrival A)) (arrival : Arrival A) → All CanCome arrivals → CanCome arrival
-    → AreEncodable (turn_on (run (coupled {A = A} terms) arrivals) arrival).moves
+-- after any such packets, all that one more of them puts out has a spelling under each identifier of 12 bits
+abbrev pub PutsOutEncodable : (A : Type 0) → Type 0
+PutsOutEncodable A =
+    (terms : Terms) → HasShortNumbers terms → (arrivals : List (Arrival A)) (arrival : Arrival A) →
+    All CameEncoded arrivals → CameEncoded arrival → (identifier : ℕ) → identifier ≤ 4095 →
+    All (λ move. CanBeEncoded identifier move.packet) (turn_on (run (coupled {A = A} terms) arrivals) arrival).moves

@@ -1,7 +1,7 @@
 //! Laws of the definitions, each the contract of a function with nothing to do.
 
 ghost use Rattle.xp_relay.specs.Bounds.{PutsOutFew, StandsForTheCount};
-ghost use Rattle.xp_relay.specs.Encodable.{EveryPacketCanBeEncoded};
+ghost use Rattle.xp_relay.specs.Encodable.{PutsOutEncodable};
 ghost use Rattle.xp_relay.specs.Runs.{EverythingIsDelivered};
 
 use std::alloc::Allocator;
@@ -23,7 +23,8 @@ pub fn a_turn_puts_out_few<A: Allocator>()
     ensures { PutsOutFew A }
 {}
 
-/// Between lines whose packets are numbered modulo 8, each packet that is put out after packets that came can be encoded.
+/// Where packets that can be encoded come in, and both lines number modulo 8, each packet that is put out can be
+/// encoded under each identifier of at most 4,095.
 pub fn every_packet_put_out_can_be_encoded<A: Allocator>()
-    ensures { EveryPacketCanBeEncoded A }
+    ensures { PutsOutEncodable A }
 {}
