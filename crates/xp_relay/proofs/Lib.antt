@@ -7,7 +7,6 @@ pub mod Steps
 pub mod Takes
 pub mod Deliveries
 pub mod Bounds
-pub mod Encodable
 pub mod Few
 pub mod Extends
 pub mod Encodable

@@ -5,9 +5,8 @@ use Rattle.xp_packets.specs.declared.end.End.{End}
 use Rattle.xp_packets.specs.declared.end.End.TheVariants.{Caller, Called}
 use Rattle.xp_relay.specs.declared.data.Data.{Data}
 use Rattle.xp_relay.specs.declared.moves.Move.{Move}
-use Rattle.xp_relay.specs.Coupled.{Coupled, after}
 use Rattle.xp_relay.specs.Direction.{Direction, far, is_open, numbered, released, to}
-use Rattle.xp_relay.specs.Runs.{Arrival, data_in, data_to, is_of_reset, resets, run, same_end, turn_on, with_numbers}
+use Rattle.xp_relay.specs.Runs.{data_in, data_to, is_of_reset, resets, same_end, with_numbers}
 use Rattle.xp_relay.specs.Terms.{numbers}
 use Rattle.xp_relay.specs.Turns.{flow_packet, telling, telling_not_ready}
 
@@ -93,9 +92,3 @@ module _ {A : Type 0} where
   pub others-released : (e side : End) (pr : ℕ) (d : Direction A) → same_end e side ≡ false → data_to e (released side pr d) ≡ []
   others-released e side pr d other =
       cond_both (is_open d) _ _ (λ made. data_to e made ≡ []) (λ _. data_to-others e side (numbers d.terms.receiver) pr d.put (drop d.put d.accepted) other) (λ _. refl)
-
-  -- a run with one packet more
-  pub run_more : (call : Coupled A) (arrivals : List (Arrival A)) (arrival : Arrival A)
-      → run call (arrivals ++ arrival ∷ []) ≡ after arrival.here (turn_on (run call arrivals) arrival)
-  run_more call [] arrival = refl
-  run_more call (first ∷ arrivals) arrival = run_more (after first.here (turn_on call first)) arrivals arrival
