@@ -65,7 +65,7 @@ module _ {A : Type 0} (at : Setting A) (what : What A) (here : AllHaveTerms at.w
       all_changed_terms changes (changed change world) from.1 (changed_terms change world from.0 terms)
 
 module _ {A : Type 0} where
-  pub step_agreed : (tables : Tables) (before : List (Entry A)) (world : World) (entry : Entry A) (next : World)
+  step_agreed : (tables : Tables) (before : List (Entry A)) (world : World) (entry : Entry A) (next : World)
       → AllHaveTerms world → Step tables before world entry next → AllHaveTerms next
   step_agreed tables before world entry next terms step =
       let at : Setting A = setting tables before world entry.event.line in

@@ -4,7 +4,7 @@ use Rattle.std.proofs.lemmas.Bool.{cond-false, cond-true, eq-eqb, ne_eqb}
 use Rattle.xp_channel.specs.declared.action.Action.{Action}
 use Rattle.xp_channel.specs.declared.action.Action.TheVariants.{Nothing, Rise, Fall, NewCall, Collision, Answer, Confirm, Free, Error, Relayed, Expired}
 use Rattle.xp_packets.specs.declared.packet.Packet.{Packet}
-use Rattle.xp_relay.proofs.Runs.{run_more}
+use Rattle.xp_relay.proofs.Extends.{run_more}
 use Rattle.xp_relay.specs.Coupled.{after, coupled}
 use Rattle.xp_relay.specs.Runs.{run}
 use Rattle.xp_subs.specs.Tables.{Tables, line_count}
@@ -15,6 +15,10 @@ use Rattle.xp_core.specs.Carried.{Carried, arrival_for, arrivals, arrivals_from,
 use Rattle.xp_core.specs.Table.{action_at, packet_in}
 use Rattle.xp_core.specs.World.{Call, World, call_on, opening}
 use Rattle.xp_core.specs.Worlds.{world_after, world_from, world_next}
+
+-- what is carried is all that is put out
+pub carried_alone : {X : Type 0} (xs : List X) → xs ≡ ((xs ++ []) ++ []) ++ []
+carried_alone xs = sym (append-nil ((xs ++ []) ++ []) ∙ append-nil (xs ++ []) ∙ append-nil xs)
 
 module _ {A : Type 0} where
   -- where a packet for a connected call comes from

@@ -1,5 +1,5 @@
 -- What is planned for a packet that a line hands in.
-use Rattle.std.proofs.Common.{◌≡◌, ◌∙◌, ℕ, Option, Some, None, option_map, List, [], map, append-nil, refl, ap, sym, subst}
+use Rattle.std.proofs.Common.{◌≡◌, ◌∙◌, ℕ, Option, Some, None, option_map, is_none, false, List, [], map, refl, ap, sym, subst}
 use Rattle.xp_packets.specs.declared.packet.Packet.{Packet}
 use Rattle.xp_relay.specs.Coupled.{Coupled, Follows, KeptPair, ShowsCall, after}
 use Rattle.xp_relay.specs.Turns.{turn_of}
@@ -19,7 +19,12 @@ use Rattle.xp_core.specs.Setting.{Setting}
 use Rattle.xp_core.specs.Table.{packet_in}
 use Rattle.xp_core.specs.Told.{carried_told, nothing_told, send_on}
 use Rattle.xp_core.specs.World.{Call, World, call_on}
+use Rattle.xp_core.proofs.Carried.{carried_alone}
 use Rattle.xp_core.proofs.InCall.{shown_on}
+
+pub some_of : {X : Type 0} (x : Option X) → is_none x ≡ false → (y : X) × (x ≡ Some y)
+some_of None is = absurd (cc)
+some_of (Some y) is = (y, refl)
 
 module _ {A : Type 0} where
   abbrev carried_of : ℕ → ℕ × Call → Agreement → Packet A → Carried A
@@ -29,6 +34,19 @@ module _ {A : Type 0} where
   no_packet : (line : ℕ) (found : Option (ℕ × Call)) → carried_by {A = A} line found None ≡ None
   no_packet line None = refl
   no_packet line (Some found) = refl
+
+  -- the relay of a connected call is kept
+  kept_under : (at : Setting A) (call : LiveCall) → Some (entry_of call) ≡ call_on at.world at.line → (agreement : Agreement) → call.agreed ≡ Some agreement
+      → (relays : List (Option (KeptPair A))) → AreCarried at.tables at.before at.world relays
+      → IsShownBy (relay_under relays call.caller) (directions at.tables at.before call.number agreement)
+  kept_under at call on agreement agreed relays carried =
+      carried call.number (call_of_kept call) agreement (shown_on at.world at.line (entry_of call) (sym on)).1 agreed
+
+  pub never_lost : (at : Setting A) (call : LiveCall) → Some (entry_of call) ≡ call_on at.world at.line → (agreement : Agreement) → call.agreed ≡ Some agreement
+      → (relays : List (Option (KeptPair A))) → AreCarried at.tables at.before at.world relays → None ≡ relay_under relays call.caller → ⊥
+  never_lost at call on agreement agreed relays carried none =
+      let P : Option (KeptPair A) → Type 0 = λ r. IsShownBy r (directions at.tables at.before call.number agreement) in
+      subst P (sym none) (kept_under at call on agreement agreed relays carried)
 
   module _ (at : Setting A) (what : What A) (plan : Plan A) where
     abbrev by : Option (Carried A)
@@ -63,12 +81,8 @@ module _ {A : Type 0} where
         abbrev shown : Coupled A
         shown = directions at.tables at.before call.number agreement
 
-        -- its relay is kept
-        pub is_kept : IsShownBy (relay_under relays call.caller) shown
-        is_kept = carried call.number (call_of_kept call) agreement (shown_on at.world at.line (entry_of call) (sym on)).1 agreed
-
         pub shows_it : (relay : KeptPair A) → Some relay ≡ relay_under relays call.caller → ShowsCall relay shown
-        shows_it relay under = let P : Option (KeptPair A) → Type 0 = λ r. IsShownBy r shown in subst P (sym under) is_kept
+        shows_it relay under = let P : Option (KeptPair A) → Type 0 = λ r. IsShownBy r shown in subst P (sym under) (kept_under at call on agreement agreed relays carried)
 
         pub goes_through : (kept relay : KeptPair A) (moves : List (Move A)) → Some kept ≡ relay_under relays call.caller
             → ((before : Coupled A) → ShowsCall kept before → Follows (end_of (call_of_kept call) at.line) (turn_of (end_of (call_of_kept call) at.line) packet) before relay moves)
@@ -85,7 +99,7 @@ module _ {A : Type 0} where
               plain = plain;
               relays = subst R (sym is_it) (record { relay = relay; kept = carriage; shows = it.shown });
               planned = subst P (sym is_it) (record {
-                outputs = outputs ∙ ap (map (send_on at.world (call_of_kept call))) it.moves ∙ sym (append-nil sent);
+                outputs = outputs ∙ ap (map (send_on at.world (call_of_kept call))) it.moves ∙ carried_alone sent;
                 records = none;
                 does = planned_nothing uncancelled unchanged;
               });

@@ -14,6 +14,7 @@ use Rattle.xp_core.specs.declared.outcome.Outcome.{Outcome}
 use Rattle.xp_core.specs.declared.outcome.Outcome.TheVariants.{Plain, Connected, Declined}
 use Rattle.xp_core.specs.declared.output.Output.{Output}
 use Rattle.xp_core.specs.declared.plan.Plan.{Plan}
+use Rattle.xp_core.specs.declared.relays.Carriage.{Carriage}
 use Rattle.xp_core.specs.Acts.{Answers, IsConfirmed, agreement_of, told_connected, told_of_error}
 use Rattle.xp_core.specs.Agreed.{AllHaveTerms}
 use Rattle.xp_core.specs.Changes.{Change, Connects, IsCleared}
@@ -121,3 +122,10 @@ settled_otherwise {A} plan outcome next world told changes is planned =
 pub quiet_otherwise : {A : Type 0} (plan : Plan A) (outcome : Outcome) (next : Plan A) (world : World) (told : Told A) (changes : List Change)
     → next ≡ record plan { outcome = outcome } → IsPlainPlan plan world told changes → next.carriage ≡ None
 quiet_otherwise plan outcome next world told changes is planned = ap (λ p. p.carriage) is ∙ planned.quiet
+
+-- with another relay too
+pub carried_otherwise : {A : Type 0} (plan : Plan A) (carriage : Option (Carriage A)) (next : Plan A) (world : World) (told : Told A) (changes : List Change)
+    → next ≡ record plan { carriage = carriage } → IsPlan plan world told changes → IsPlan next world told changes
+carried_otherwise {A} plan carriage next world told changes is planned =
+    let P : Plan A → Type 0 = λ p. IsPlan p world told changes in
+    subst P (sym is) (record { outputs = planned.outputs; records = planned.records; does = planned.does })

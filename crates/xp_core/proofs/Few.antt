@@ -1,5 +1,6 @@
 -- An entry puts out few packets to a line.
-use Rattle.std.proofs.Common.{◌≡◌, ℕ, suc, ◌≤◌, Bool, true, false, cond, eqb, IfOk, Result, Ok, Err, Option, Some, None, List, [], ◌∷◌, ◌++◌, filter, length, length-map, map, ap, sym, subst, ◌∙◌, arith, length-append}
+use Rattle.std.proofs.Common.{◌≡◌, ℕ, suc, ◌≤◌, Bool, true, false, cond, eqb, IfOk, Result, Ok, Err, Option, Some, None, List, [], ◌∷◌, ◌++◌, filter, length, map, refl, ap, sym, subst, ◌∙◌, arith, length-append}
+use Rattle.std.proofs.lemmas.List.{length-map}
 use Rattle.xp_causes.specs.declared.clearing_cause.TheConstants.{NUMBER_BUSY, OUT_OF_ORDER, REMOTE_PROCEDURE_ERROR}
 use Rattle.xp_causes.specs.declared.diagnostic.TheConstants.{CALL_COLLISION, NO_ADDITIONAL_INFORMATION, TIMER_EXPIRED_FOR_INCOMING_CALL}
 use Rattle.xp_channel.specs.declared.action.Action.{Action}
@@ -46,9 +47,9 @@ module _ {A : Type 0} where
 
   few_in_all : (told : Told A) → Few told → length (outputs_of told) ≤ 17
   few_in_all told few =
-      let all = length-append told.carried (told.own ++ told.far ++ told.taken) in
-      let three = length-append told.own (told.far ++ told.taken) in
-      let two = length-append told.far told.taken in
+      let all = length-append (told.carried ++ told.own ++ told.far) told.taken in
+      let three = length-append (told.carried ++ told.own) told.far in
+      let two = length-append told.carried told.own in
       let a = few.0 in
       let b = few.1 in
       let c = few.2 in
@@ -117,7 +118,7 @@ module _ {A : Type 0} (at : Setting A) (what : What A) (terms : AllHaveTerms at.
       let sizes : AreTerms carried.agreement.terms = agreed_terms carried.call carried.agreement it.agreed has in
       let moves = (turn_of_carried at.tables at.before carried).moves in
       let few = puts_out_few (terms_of carried.agreement) (terms_within carried.agreement sizes) (arrivals at.tables at.before carried.number) carried.arrival in
-      these _ told is (omega (arith, few, sizes.window.called_most, sizes.window.calling_most, length-map (send_on at.world carried.call) moves), omega arith, omega arith, omega arith)
+      these _ told is (omega (arith, few, sizes.window.called_most, sizes.window.calling_most, length-map moves (send_on at.world carried.call)), omega arith, omega arith, omega arith)
 
   few_told : (action : Action) (outcome : Outcome) (told : Told A) → Acts at what action outcome told → Few told
   few_told Nothing outcome told acts = none_few outcome told acts

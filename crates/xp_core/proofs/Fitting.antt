@@ -19,7 +19,6 @@ use Rattle.xp_core.specs.declared.event.What.{What}
 use Rattle.xp_core.specs.declared.event.What.TheVariants.{Frame}
 use Rattle.xp_core.specs.declared.output.Output.{Output}
 use Rattle.xp_core.specs.Acts.{lines_seen}
-use Rattle.xp_core.specs.Agreed.{AllHaveTerms}
 use Rattle.xp_core.specs.Carried.{line_at_end}
 use Rattle.xp_core.specs.Changes.{Change, Rises, Leaves, Begins, IsRefused, Connects, Ends, all_changed, changed}
 use Rattle.xp_core.specs.Exchange.{IsReadable}
@@ -31,7 +30,6 @@ use Rattle.xp_core.specs.Table.{CallAccepted, CallRequest, ClearRequest, accepte
 use Rattle.xp_core.specs.Told.{clear_indication, outputs_of, send, send_as}
 use Rattle.xp_core.specs.World.{Line, World, far_end, line_at, off_line, opening}
 use Rattle.xp_core.specs.Writable.{AreReadable, AreWritable, IsWritable}
-use Rattle.xp_core.proofs.Agreed.{run_agreed, step_agreed}
 use Rattle.xp_core.proofs.Handed.{move_can}
 use Rattle.xp_core.proofs.Lines.{get_or-set, line_at-opening}
 use Rattle.xp_core.proofs.Origins.{ComesOf, IsAsked, IsSent, all_come, all_sent, closing, confirming, clearing, refusing, clearing_far, carrying_on, connecting, ringing, carrying}
@@ -110,7 +108,7 @@ module _ {A : Type 0} where
   -- ---- what is put out
 
   module _ (at : Setting A) (what : What A) (sound : IsSound at.tables) (readable : IsReadable what) (narrow : IsNarrow at.world)
-      (terms : AllHaveTerms at.world) (before : AreReadable at.before) where
+      (before : AreReadable at.before) where
     abbrev Written : Output A → Type 0
     Written output = IsWritable output.outgoing.put
 
@@ -141,7 +139,7 @@ module _ {A : Type 0} where
         sent_as ring.line 1 packet output is (can.fit 1 (omega arith))
     sent_fits output (carrying carried move by in_it is) =
         let line : ℕ = line_at_end carried.call move.side in
-        sent_as line _ move.packet output is (move_can at what carried move terms before readable by in_it (line_at at.world line).identifier (narrow line))
+        sent_as line _ move.packet output is (move_can at what carried move before readable by in_it (line_at at.world line).identifier (narrow line))
 
   -- ---- identifiers
 
@@ -169,14 +167,14 @@ module _ {A : Type 0} where
   -- ---- along a run
 
   abbrev Fits : List (Entry A) → World → Type 0
-  Fits before world = AllHaveTerms world × (AreReadable before → IsNarrow world × All (λ entry. AreWritable entry.outputs) before)
+  Fits before world = AreReadable before → IsNarrow world × All (λ entry. AreWritable entry.outputs) before
 
   step_fits : (tables : Tables) (sound : IsSound tables) (before : List (Entry A)) (world : World) (entry : Entry A) (next : World)
       → Fits before world → Step tables before world entry next → Fits (before ++ entry ∷ []) next
-  step_fits tables sound before world entry next fits step = (step_agreed tables before world entry next fits.0 step, λ readable.
+  step_fits tables sound before world entry next fits step = λ readable.
       let at : Setting A = setting tables before world entry.event.line in
       let parts = All-pop (λ e. IsReadable e.event.what) (before ++ entry ∷ []) before (Some entry) refl readable in
-      let old : IsNarrow world × All (λ e. AreWritable e.outputs) before = fits.1 parts.0 in
+      let old : IsNarrow world × All (λ e. AreWritable e.outputs) before = fits parts.0 in
       let N : World → Type 0 = λ w. IsNarrow w in
       let W : List (Output A) → Type 0 = λ outputs. AreWritable outputs in
       let from = all_come at entry.event.what (action_at world entry.event) entry.outcome step.told step.acts in
@@ -184,20 +182,20 @@ module _ {A : Type 0} where
       (all_changed_narrow at entry.event.what parts.1 (changes_of tables before world entry) world from old.0) in
       let writable : AreWritable entry.outputs = subst W (sym step.outputs)
       (All-weaker (IsSent at entry.event.what) (λ output. IsWritable output.outgoing.put)
-      (sent_fits at entry.event.what sound parts.1 old.0 fits.0 parts.0) (outputs_of step.told)
+      (sent_fits at entry.event.what sound parts.1 old.0 parts.0) (outputs_of step.told)
       (all_sent at entry.event.what (action_at world entry.event) entry.outcome step.told step.acts)) in
-      (narrow, All-push (λ e. AreWritable e.outputs) before entry old.1 writable))
+      (narrow, All-push (λ e. AreWritable e.outputs) before entry old.1 writable)
 
   run_keeps_fit : (tables : Tables) (history : List (Entry A)) (world : World) → IsSound tables → Run tables history world → Fits history world
   run_keeps_fit tables history world sound run =
-      run_keeps Fits tables (step_fits tables sound) [] (opening (line_count tables)) history world (run_agreed tables [] (opening (line_count tables)) refl, λ readable. (
+      run_keeps Fits tables (step_fits tables sound) [] (opening (line_count tables)) history world (λ readable. (
         λ line. omega (arith, ap (λ l. l.identifier) (line_at-opening (line_count tables) line)),
         All-nil (λ entry. AreWritable entry.outputs),
       )) run
 
   pub run_fits : (tables : Tables) (history : List (Entry A)) (world : World) → IsSound tables → Run tables history world → AreReadable history
       → All (λ entry. AreWritable entry.outputs) history
-  run_fits tables history world sound run readable = ((run_keeps_fit tables history world sound run).1 readable).1
+  run_fits tables history world sound run readable = (run_keeps_fit tables history world sound run readable).1
 
   pub run_narrow : (tables : Tables) (history : List (Entry A)) (world : World) → IsSound tables → Run tables history world → AreReadable history → IsNarrow world
-  run_narrow tables history world sound run readable = ((run_keeps_fit tables history world sound run).1 readable).0
+  run_narrow tables history world sound run readable = (run_keeps_fit tables history world sound run readable).0

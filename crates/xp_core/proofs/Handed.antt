@@ -1,19 +1,18 @@
 -- The packets that a readable history handed in can be encoded, and so can those that are carried on.
-use Rattle.std.proofs.Common.{◌≡◌, ℕ, ◌<◌, ◌≤◌, eqb, cond, Option, Some, None, List, [], ◌∷◌, ◌++◌, All, refl, subst}
+use Rattle.std.proofs.Common.{◌≡◌, ℕ, ◌<◌, ◌≤◌, eqb, cond, Option, Some, None, List, [], ◌∷◌, ◌++◌, All, arith, refl, subst}
 use Rattle.std.proofs.lemmas.Bool.{cond_both}
 use Rattle.std.proofs.lemmas.List.Elements.{All-append, All-contains, All-cons, All-head, All-nil, All-tail}
 use Rattle.std.specs.List.{Contains}
 use Rattle.xp_packets.specs.Fitness.{CanBeEncoded}
 use Rattle.xp_packets.specs.declared.packet.Packet.{Packet}
-use Rattle.xp_relay.proofs.Encodable.{every_packet_can_be_encoded}
-use Rattle.xp_relay.specs.Encodable.{AreEncodable, CanCome}
+use Rattle.xp_relay.proofs.Encodable.{puts_out_encodable}
+use Rattle.xp_relay.specs.Encodable.{CameEncoded}
 use Rattle.xp_relay.specs.Runs.{Arrival}
 use Rattle.xp_relay.specs.declared.moves.Move.{Move}
 use Rattle.xp_subs.specs.Tables.{Tables, line_count}
 use Rattle.xp_core.specs.declared.entry.Entry.{Entry}
 use Rattle.xp_core.specs.declared.event.What.{What}
 use Rattle.xp_core.specs.declared.event.What.TheVariants as events
-use Rattle.xp_core.specs.Agreed.{AllHaveTerms}
 use Rattle.xp_core.specs.Carried.{Carried, arrival_for, arrivals, arrivals_from, carried_by, carried_in, terms_of, turn_of_carried}
 use Rattle.xp_core.specs.Exchange.{IsReadable}
 use Rattle.xp_core.specs.Setting.{Setting}
@@ -22,9 +21,6 @@ use Rattle.xp_core.specs.World.{World, call_on, opening}
 use Rattle.xp_core.specs.Worlds.{world_next}
 use Rattle.xp_core.specs.Writable.{AreReadable}
 use Rattle.xp_core.proofs.Carried.{IsOf, is_relayed, of_carried}
-use Rattle.xp_core.proofs.Delivered.{agreed_terms}
-use Rattle.xp_core.proofs.InCall.{shown_on}
-use Rattle.xp_core.proofs.Terms.{terms_within}
 
 module _ {A : Type 0} where
   packet_can : (what : What A) (packet : Packet A) → packet_in what ≡ Some packet → IsReadable what → (identifier : ℕ) × CanBeEncoded identifier packet
@@ -34,35 +30,31 @@ module _ {A : Type 0} where
       (identifier, subst P same readable.encodable)
   packet_can what packet is readable = absurd (cc)
 
-  pub carried_can : (line : ℕ) (found : Option (ℕ × _)) (what : What A) (carried : Carried A) → carried_by line found (packet_in what) ≡ Some carried → IsReadable what → CanCome carried.arrival
+  pub carried_can : (line : ℕ) (found : Option (ℕ × _)) (what : What A) (carried : Carried A) → carried_by line found (packet_in what) ≡ Some carried → IsReadable what → CameEncoded carried.arrival
   carried_can line found what carried is readable = packet_can what carried.arrival.packet (of_carried line found (packet_in what) carried is).arrives readable
 
   arrival_can : (world : World) (entry : Entry A) (number : ℕ) (carried : Option (Carried A)) → carried_in world entry.event ≡ carried → IsReadable entry.event.what
-      → All CanCome (arrival_for number carried)
-  arrival_can world entry number None is readable = All-nil CanCome
+      → All CameEncoded (arrival_for number carried)
+  arrival_can world entry number None is readable = All-nil CameEncoded
   arrival_can world entry number (Some carried) is readable =
-      cond_both (eqb carried.number number) (carried.arrival ∷ []) [] (λ came. All CanCome came)
-      (λ mine. All-cons CanCome carried.arrival [] (carried_can entry.event.line (call_on world entry.event.line) entry.event.what carried (is_relayed (action_at world entry.event) _ carried is).1 readable) (All-nil CanCome))
-      (λ other. All-nil CanCome)
+      cond_both (eqb carried.number number) (carried.arrival ∷ []) [] (λ came. All CameEncoded came)
+      (λ mine. All-cons CameEncoded carried.arrival [] (carried_can entry.event.line (call_on world entry.event.line) entry.event.what carried (is_relayed (action_at world entry.event) _ carried is).1 readable) (All-nil CameEncoded))
+      (λ other. All-nil CameEncoded)
 
   came_from : (number : ℕ) (tables : Tables) (before : List (Entry A)) (world : World) (entries : List (Entry A)) → AreReadable entries
-      → All CanCome (arrivals_from number tables before world entries)
-  came_from number tables before world [] readable = All-nil CanCome
+      → All CameEncoded (arrivals_from number tables before world entries)
+  came_from number tables before world [] readable = All-nil CameEncoded
   came_from number tables before world (entry ∷ entries) readable =
-      All-append CanCome (arrival_for number (carried_in world entry.event)) _
+      All-append CameEncoded (arrival_for number (carried_in world entry.event)) _
       (arrival_can world entry number (carried_in world entry.event) refl (All-head (λ e. IsReadable e.event.what) entry entries readable))
       (came_from number tables (before ++ entry ∷ []) (world_next tables before world entry) entries (All-tail (λ e. IsReadable e.event.what) entry entries readable))
 
   -- each move that a packet leads to can be encoded
-  pub move_can : (at : Setting A) (what : What A) (carried : Carried A) (move : Move A) → AllHaveTerms at.world → AreReadable at.before → IsReadable what
+  pub move_can : (at : Setting A) (what : What A) (carried : Carried A) (move : Move A) → AreReadable at.before → IsReadable what
       → carried_by at.line (call_on at.world at.line) (packet_in what) ≡ Some carried → Contains (turn_of_carried at.tables at.before carried).moves move
       → (identifier : ℕ) → identifier < 4096 → CanBeEncoded identifier move.packet
-  move_can at what carried move terms before readable by in_it =
-      let it = of_carried at.line (call_on at.world at.line) (packet_in what) carried by in
-      let live = (shown_on at.world at.line (carried.number, carried.call) it.on).1 in
-      let within = terms_within carried.agreement (agreed_terms carried.call carried.agreement it.agreed (terms carried.number carried.call live)) in
-      let all : AreEncodable (turn_of_carried at.tables at.before carried).moves =
-      every_packet_can_be_encoded (terms_of carried.agreement) within refl refl (arrivals at.tables at.before carried.number) carried.arrival
+  move_can at what carried move before readable by in_it identifier narrow =
+      All-contains (λ (m : Move A). CanBeEncoded identifier m.packet) (turn_of_carried at.tables at.before carried).moves move
+      (puts_out_encodable (terms_of carried.agreement) (record { caller = refl; called = refl }) (arrivals at.tables at.before carried.number) carried.arrival
       (came_from carried.number at.tables [] (opening (line_count at.tables)) at.before before)
-      (carried_can at.line (call_on at.world at.line) what carried by readable) in
-      All-contains (λ (m : Move A). (identifier : ℕ) → identifier < 4096 → CanBeEncoded identifier m.packet) (turn_of_carried at.tables at.before carried).moves move all in_it
+      (carried_can at.line (call_on at.world at.line) what carried by readable) identifier (omega (arith, narrow))) in_it

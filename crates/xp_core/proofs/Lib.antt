@@ -29,7 +29,7 @@ pub mod Origins
 pub mod Outcomes
 pub mod Plans
 pub mod Quiet
-pub mod Relays
+pub mod Relaying
 pub mod Requests
 pub mod RunLemmas
 pub mod Shapes

@@ -150,8 +150,8 @@ module _ {A : Type 0} (tables : Tables) (before : List (Entry A)) (world : World
         absurd (cc)
   ]
     where
-      ap_first : (one : Change) (more : List Change) (other : Change) (others : List Change) → one ∷ more ≡ other ∷ others → one ≡ other
-      ap_first one more other others same = cc
+      ap_first : (first : Change) (more : List Change) (other : Change) (others : List Change) → first ∷ more ≡ other ∷ others → first ≡ other
+      ap_first first more other others is' = cc
 
   -- the next number does not go back
   next_of : (change : Change) (w : World) → w.next ≤ (changed change w).next

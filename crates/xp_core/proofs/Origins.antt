@@ -1,5 +1,5 @@
 -- What each change of a step, and each thing that it puts out, comes of.
-use Rattle.std.proofs.Common.{◌≡◌, ℕ, Option, Some, None, List, [], ◌∷◌, ◌++◌, All, append-nil, map, refl, sym, subst}
+use Rattle.std.proofs.Common.{◌≡◌, ℕ, Option, Some, None, List, [], ◌∷◌, ◌++◌, All, map, refl, sym, subst}
 use Rattle.std.proofs.lemmas.List.Elements.{All-append, All-contains_itself, All-from_recursion, All-map, All-same, All-weaker}
 use Rattle.std.specs.List.{AllByRecursion, Contains}
 use Rattle.xp_answer.specs.Answered.{Answered}
@@ -37,6 +37,7 @@ use Rattle.xp_core.specs.Does.{answers, collides, confirms, does, leaves, reques
 use Rattle.xp_core.specs.Table.{CallAccepted, CallRequest, ClearRequest, accepted_in, clear_in, packet_in, request_in}
 use Rattle.xp_core.specs.Told.{Told, carried_told, clear_indication, close, nothing_told, outputs_of, send, send_as, send_far, send_on}
 use Rattle.xp_core.specs.World.{Call, call_numbered, call_on, far_end}
+use Rattle.xp_core.proofs.Carried.{carried_alone}
 use Rattle.xp_core.proofs.InCall.{shown_on}
 
 module _ {A : Type 0} where
@@ -256,8 +257,8 @@ module _ {A : Type 0} where
     carried_sent (Some carried) told by is =
         let moves : List (Move A) = (turn_of_carried at.tables at.before carried).moves in
         let P : Told A → Type 0 = λ t. All (IsSent at what) (outputs_of t) in
-        subst P (sym is) (All-same (IsSent at what) (map (send_on at.world carried.call) moves ++ []) (map (send_on at.world carried.call) moves)
-        (append-nil (map (send_on at.world carried.call) moves))
+        subst P (sym is) (All-same (IsSent at what) _ (map (send_on at.world carried.call) moves)
+        (sym (carried_alone (map (send_on at.world carried.call) moves)))
         (All-map (IsSent at what) (send_on at.world carried.call) moves
         (All-weaker (Contains moves) (λ move. IsSent at what (send_on at.world carried.call move)) (λ move in_it. carrying carried move by in_it refl) moves
         (All-contains_itself moves))))

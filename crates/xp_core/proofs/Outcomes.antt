@@ -152,6 +152,7 @@ module _ {A : Type 0} where
 
   abbrev carried_told : World → ℕ → ℕ × Call → Packet A → Told A
   carried_told world line found packet = record {
+    carried = [];
     own = send world line (ClearConfirm None) ∷ [];
     far = send_far world line (Some found) packet;
     taken = [];

@@ -1,5 +1,5 @@
 -- As an event is entered, what is kept goes on to show where the history leads.
-use Rattle.std.proofs.Common.{◌≡◌, ◌∙◌, ◌+◌, ◌<◌, IfOk, OnErr, Result, Ok, Err, Option, Some, List, [], ◌∷◌, ◌++◌, length, length-set, replicate, refl, ap, sym, subst, append-nil}
+use Rattle.std.proofs.Common.{◌≡◌, ◌∙◌, ◌+◌, ◌<◌, IfOk, OnErr, Result, Ok, Err, Option, Some, None, List, [], ◌∷◌, ◌++◌, length, length-set, replicate, refl, ap, sym, subst, append-nil}
 use Rattle.std.proofs.lemmas.List.{length-replicate}
 use Rattle.std.proofs.lemmas.List.Concat.{flat_map-append}
 use Rattle.std.proofs.lemmas.List.Elements.{All-nil, All-pop, All-push}
@@ -31,7 +31,7 @@ use Rattle.xp_core.specs.World.{World, call_numbered, opening}
 use Rattle.xp_core.specs.Writable.{AreWritable}
 use Rattle.xp_core.proofs.Agreed.{run_agreed}
 use Rattle.xp_core.proofs.Fitting.{run_fits}
-use Rattle.xp_core.proofs.Relays.{carried_next}
+use Rattle.xp_core.proofs.Relaying.{carried_next}
 use Rattle.xp_core.proofs.RunLemmas.{run_push}
 use Rattle.xp_core.proofs.Worlds.{run_world}
 

@@ -126,7 +126,7 @@ impl<A: Allocator> Core<A> {
         ensures { result ≡ flow_at self.now.subs self.now.history (world_of self.now) line }
     {
         let call = self.machine.call_on(line)?;
-        call.agreed?;
+        let _agreement = call.agreed?;
         let relay = self.relays.under(call.caller)?;
         Some(relay.state(call.end_of(line)))
     }

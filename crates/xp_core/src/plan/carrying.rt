@@ -19,8 +19,11 @@ use crate::output::Buffer;
 use crate::relays::{Carriage, Relays};
 use std::alloc::{AllocError, Allocator};
 use xp_packets::Packet;
-use xp_relay::{Move, Moves};
+use xp_relay::Moves;
 use xp_subs::{LineNo, Subs};
+
+/// For how many moves a relay asks room.
+const MOST_MOVES: usize = 17;
 
 /// The packet goes through a copy of the call's relay, which the call has from then on (X.25 clauses 4.3 and 4.4).
 pub fn carry<A: Allocator + Copy>(
@@ -48,7 +51,7 @@ pub fn carry<A: Allocator + Copy>(
         return Ok(Plan::of(Buffer::with_room(alloc, 0)?));
     };
     let mut relay = relay.copy()?;
-    let room = Moves::with_room(alloc, Moves::<A>::MOST)?;
+    let room = Moves::with_room(alloc, MOST_MOVES)?;
     let moves = relay.take(call.end_of(line), packet, room)?;
     let outputs = send_all(alloc, machine, call, moves)?;
     Ok(Plan::of(outputs).carrying(Carriage {
@@ -78,8 +81,9 @@ fn send_all<A: Allocator>(
 {
     let moves = moves.into_vec();
     let mut outputs = Buffer::with_room(alloc, moves.len())?;
-    for Move { side, packet } in moves {
-        outputs = outputs.with(send(machine, call.line_at(side), packet));
+    for carried in moves {
+        let line = call.line_at(carried.side);
+        outputs = outputs.with(send(machine, line, carried.packet));
     }
     Ok(outputs)
 }

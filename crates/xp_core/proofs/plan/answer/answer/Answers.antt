@@ -1,7 +1,11 @@
-use Rattle.std.proofs.Common.{rules, ap, sym, ◌∙◌}
+use Rattle.std.proofs.Common.{rules, ap, sym, subst, ◌∙◌}
+use Rattle.xp_relay.specs.Coupled.{ShowsCall, coupled}
+use Rattle.xp_relay.specs.declared.terms.Terms.{Terms}
 use Rattle.xp_core.specs.Asked.{answer_of}
 use Rattle.xp_core.specs.declared.outcome.Outcome.TheVariants.{Declined}
-use Rattle.xp_core.proofs.Clearings.{connected, declined, indicated, not_called, quiet_otherwise, settled_otherwise, terms_within}
+use Rattle.xp_core.specs.Carried.{terms_of}
+use Rattle.xp_core.proofs.Clearings.{carried_otherwise, connected, declined, indicated, not_called, quiet_otherwise, settled_otherwise}
+use Rattle.xp_core.proofs.Terms.{terms_within}
 use Rattle.xp_core.proofs.plan.answer.answer.Goals as goal
 
 pub returns-in_default : goal.returns-in_default
@@ -11,13 +15,19 @@ returns-in_default g c =
 pub examine-requires : goal.examine-requires
 examine-requires g c = indicated c.args.machine.now c.args.line c.in-Some.call.now c.in-Some.ensures c.requires.terms
 
-pub returns-in_ok-outputs-in-Connected : goal.returns-in_ok-outputs-in-Connected
-returns-in_ok-outputs-in-Connected g c =
+pub returns-in_ok-relay-in-Connected : goal.returns-in_ok-relay-in-Connected
+returns-in_ok-relay-in-Connected g c =
     let at = c.args.machine.now in
     let accepted = answer_of c.args.answer.now in
-    connected c.args.subs.now at c.args.line accepted c.connect.result c.in-Some.call.now c.in-Some.ensures c.address_of-address.result.now c.address_of-address.ensures
-    c.in_ok-connection.field-0 c.in_ok-connection.ensures.answered c.in-Connected.connection c.in-Connected.is c.connect.ensures.outcome
-    (c.connect.ensures.planned (sym c.in-Some.ensures))
+    connected c.args.subs.now at c.args.line accepted c.carrying.result c.in-Some.call.now c.in-Some.ensures c.address_of-address.result.now c.address_of-address.ensures
+    c.in_ok-connection.field-0 c.in_ok-connection.ensures.answered c.in-Connected.connection c.in-Connected.is (search rules)
+    (record {
+      relay = c.in_ok-relay-in-Connected.relay;
+      kept = ap (λ p. p.carriage) c.carrying.ensures;
+      shows = let P : Terms → Type 0 = λ t. ShowsCall c.in_ok-relay-in-Connected.relay (coupled t) in
+          subst P (c.relay_terms.ensures ∙ ap terms_of c.agreement_of-agreement.ensures) c.in_ok-relay-in-Connected.ensures;
+    })
+    (carried_otherwise _ _ c.carrying.result at _ _ c.carrying.ensures (c.connect-plan.ensures.planned (sym c.in-Some.ensures)))
 
 pub returns-in_ok-plan-in-Refused : goal.returns-in_ok-plan-in-Refused
 returns-in_ok-plan-in-Refused g c =

@@ -5,7 +5,7 @@ use Rattle.std.proofs.lemmas.Grind.{get_or-set_at}
 use Rattle.std.specs.FinMap.{get-empty}
 use Rattle.std.specs.Ordering.{nat_cmp}
 use Rattle.xp_relay.specs.Coupled.{Coupled, KeptPair, ShowsCall, after, coupled}
-use Rattle.xp_relay.specs.Runs.{run}
+use Rattle.xp_relay.specs.Runs.{run as run_of}
 use Rattle.xp_subs.specs.Tables.{Tables, line_count}
 use Rattle.xp_core.specs.declared.entry.Entry.{Entry}
 use Rattle.xp_core.specs.declared.outcome.Agreement.{Agreement}
@@ -113,7 +113,7 @@ module _ {A : Type 0} where
 
   under_new : (relays : List (Option (KeptPair A))) (caller : ℕ) (relay : KeptPair A) → caller < length relays
       → relay_under (set relays caller (Some relay)) caller ≡ Some relay
-  under_new relays caller relay within = get_or-set_at relays caller (Some relay) caller None refl within
+  under_new relays caller relay within = get_or-set_at relays caller caller (Some relay) None refl within
 
   under_other : (relays : List (Option (KeptPair A))) (caller line : ℕ) (relay : KeptPair A) → line ≢ caller
       → relay_under (set relays caller (Some relay)) line ≡ relay_under relays line
@@ -221,7 +221,7 @@ module _ {A : Type 0} where
           let D : Coupled A → Type 0 = λ d. IsShownBy (relay_under later c.caller) d in
           let K : ℕ → Type 0 = λ line. IsShownBy (relay_under later line) (directions tables (before ++ entry ∷ []) number a) in
           let R : Agreement → Type 0 = λ b. Shown number call b in
-          subst R agreement_is (subst K (sym (ap (λ k. k.caller) becomes)) (subst D (sym (ap (run (coupled (terms_of a))) nothing_yet)) shows))
+          subst R agreement_is (subst K (sym (ap (λ k. k.caller) becomes)) (subst D (sym (ap (run_of (coupled (terms_of a))) nothing_yet)) shows))
 
     pub carried_next : AreCarried tables (before ++ entry ∷ []) next later
     carried_next number call agreement live agreed = by (carried_in world entry.event) refl on.is
