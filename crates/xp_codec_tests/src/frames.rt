@@ -106,8 +106,8 @@ fn streams_are_cut(rt: HostRuntime) -> Result<(), Fail> {
 
 #[test]
 fn frame_cut_anywhere(rt: HostRuntime) -> Result<(), Fail> {
+    let mut frames = Deframer::new(rt.alloc());
     for at in 1..FRAMED_CALL.len() {
-        let mut frames = Deframer::new(rt.alloc());
         frames.feed(&FRAMED_CALL[..at])?;
         assert!(rt; frames.next().is_none(), "cut at {at}");
         // What is left comes octet by octet.
@@ -118,6 +118,7 @@ fn frame_cut_anywhere(rt: HostRuntime) -> Result<(), Fail> {
         let packet = frames.next().ok_or("no packet")?;
         assert_eq!(rt; packet.as_slice(), CALL.as_slice(), "cut at {at}");
         assert!(rt; frames.next().is_none(), "cut at {at}");
+        frames.reuse(packet);
     }
     Ok(())
 }

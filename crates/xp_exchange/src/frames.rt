@@ -66,6 +66,7 @@ fn read_all<A: Allocator + Copy>(
     while let Some(packet) = stream.next() {
         let event = event_of(alloc, line, &packet)?;
         events.push_back(event)?;
+        stream.reuse(packet);
     }
     Ok(())
 }

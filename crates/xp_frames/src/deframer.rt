@@ -1,6 +1,6 @@
 //! Packets out of a stream of octets that comes in pieces.
 
-ghost use Rattle.std.specs.Prelude.{◌≡◌, ◌≤◌, map, drop, option_map};
+ghost use Rattle.std.specs.Prelude.{◌≡◌, ◌≤◌, IfOk, map, drop, option_map};
 ghost use Rattle.std.specs.Vec.{vec_len};
 ghost use Rattle.xp_frames.specs.Head.{Cuts};
 
@@ -9,6 +9,7 @@ use crate::head::{Front, HEAD, front_of};
 use std::alloc::{AllocError, Allocator, Global};
 use std::collections::VecDeque;
 use std::marker::Model;
+use std::mem;
 
 /// Takes a stream of octets in pieces of any size, and gives the packets of its frames, in order (RFC 1613).
 ///
@@ -17,6 +18,8 @@ use std::marker::Model;
 pub struct Deframer<A: Allocator = Global> {
     // whole packets that were not asked for yet
     waiting: VecDeque<Vec<u8, A>, A>,
+    // memory for the next of them, whatever it holds
+    spare: Vec<u8, A>,
     // the octets behind the last whole frame
     rest: Vec<u8, A>,
     // whether the rest begins with a bad head
@@ -41,6 +44,7 @@ impl<A: Allocator + Copy> Deframer<A> {
     {
         Deframer {
             waiting: VecDeque::new(alloc),
+            spare: Vec::new(alloc),
             rest: Vec::new(alloc),
             failed: false,
         }
@@ -63,7 +67,7 @@ impl<A: Allocator + Copy> Deframer<A> {
         let packets = self.waiting.len();
         let octets = self.rest.len();
         self.rest.extend_from_slice(piece)?;
-        match cut_frames(&self.rest, &mut self.waiting, alloc) {
+        match cut_frames(&self.rest, &mut self.waiting, &mut self.spare, alloc) {
             Ok(Cut { count, fault }) => {
                 drop_front(&mut self.rest, count);
                 self.failed = fault.is_some();
@@ -83,6 +87,13 @@ impl<A: Allocator + Copy> Deframer<A> {
     {
         self.waiting.pop_front()
     }
+
+    /// Takes the memory of a vector, for a packet to come. What it holds is of no use.
+    pub fn reuse(&mut self, memory: Vec<u8, A>)
+        ensures { self.new ≡ self.old }
+    {
+        self.spare = memory;
+    }
 }
 
 // How many octets of a stream are whole frames, and what is wrong with the head behind them, if anything.
@@ -95,6 +106,7 @@ struct Cut {
 fn cut_frames<A: Allocator + Copy>(
     stream: &[u8],
     waiting: &mut VecDeque<Vec<u8, A>, A>,
+    spare: &mut Vec<u8, A>,
     alloc: A,
 ) -> Result<Cut, AllocError>
     ensures { Cuts stream.now (map (λ p. p.items) waiting.old.items) result (map (λ p. p.items) waiting.new.items) }
@@ -104,7 +116,7 @@ fn cut_frames<A: Allocator + Copy>(
         let front = &stream[count..];
         match front_of(front) {
             Front::Frame(length) => {
-                let packet = Vec::from_slice(alloc, &front[HEAD..HEAD + length])?;
+                let packet = packet_of(&front[HEAD..HEAD + length], spare, alloc)?;
                 waiting.push_back(packet)?;
                 count += HEAD + length;
             }
@@ -119,6 +131,20 @@ fn cut_frames<A: Allocator + Copy>(
             }
         }
     }
+}
+
+// A packet of these octets, in the spare memory where it has room.
+fn packet_of<A: Allocator>(
+    octets: &[u8],
+    spare: &mut Vec<u8, A>,
+    alloc: A,
+) -> Result<Vec<u8, A>, AllocError>
+    ensures items { IfOk result (λ packet. packet.items ≡ octets.now) }
+{
+    let mut packet = mem::replace(spare, Vec::new(alloc));
+    packet.clear();
+    packet.extend_from_slice(octets)?;
+    Ok(packet)
 }
 
 // Drops so many octets from the front. Where there are none to drop, none moves.
