@@ -15,6 +15,7 @@ use std::alloc::{AllocError, Allocator, Global};
 use std::collections::VecDeque;
 use std::io::Write;
 use std::marker::Model;
+use std::mem;
 use xp_channel::Channel;
 use xp_core::{Core, Event, What};
 use xp_script::{Command, LineFault};
@@ -26,8 +27,9 @@ pub struct Playing<A: Allocator = Global> {
     alloc: A,
     core: Core<A>,
     streams: Streams<A>,
-    /// For the events of a line, and for the text of an entry. They are kept for their memory: what they hold between two
-    /// lines is of no use.
+    /// For the octets and the events of a line, and for the text of an entry. They are kept for their memory: what they
+    /// hold between two lines is of no use.
+    octets: Vec<u8, A>,
     events: VecDeque<Event<A>, A>,
     text: Vec<u8, A>,
 }
@@ -57,6 +59,7 @@ impl<A: Allocator + Copy> Playing<A> {
                 alloc,
                 core,
                 streams,
+                octets: Vec::new(alloc),
                 events: VecDeque::new(alloc),
                 text: Vec::new(alloc),
             }),
@@ -80,12 +83,19 @@ impl<A: Allocator + Copy> Playing<A> {
     ) -> Result<(), ReplayFault>
         ensures { (text : List ℕ) × Appends (W.contents writer.old) (W.contents writer.new) text × Played self.old number line.now result self.new text }
     {
-        let command = match Command::read(self.alloc, self.core.subs(), line) {
+        let memory = mem::replace(&mut self.octets, Vec::new(self.alloc));
+        let command = match Command::read(self.core.subs(), line, memory) {
             Ok(command) => command,
             Err(LineFault::Faulty) => return Err(ReplayFault::Script(number)),
             Err(LineFault::Memory) => return Err(ReplayFault::Memory),
         };
-        hear(&self.core, &mut self.streams, command, &mut self.events)?;
+        hear(
+            &self.core,
+            &mut self.streams,
+            command,
+            &mut self.events,
+            &mut self.octets,
+        )?;
         act_on_all(
             self.alloc,
             &mut self.core,
@@ -96,12 +106,13 @@ impl<A: Allocator + Copy> Playing<A> {
     }
 }
 
-/// Fills the queue with the events that a command is.
+/// Fills the queue with the events that a command is. The memory of its octets is given back.
 fn hear<A: Allocator + Copy>(
     core: &Core<A>,
     streams: &mut Streams<A>,
     command: Command<A>,
     events: &mut VecDeque<Event<A>, A>,
+    memory: &mut Vec<u8, A>,
 ) -> Result<(), AllocError>
     requires line { HasLine (line_count core.now.subs) command }
     requires lines { length streams.old ≡ line_count core.now.subs }
@@ -124,7 +135,9 @@ fn hear<A: Allocator + Copy>(
             if is_off(core, line) {
                 return Ok(());
             }
-            streams.hear(line, octets.as_slice(), events)
+            streams.hear(line, octets.as_slice(), events)?;
+            *memory = octets.into_vec();
+            Ok(())
         }
     }
 }

@@ -97,7 +97,7 @@ fn said_by(read: &Result<Command, LineFault>) -> Said<'_> {
 fn lines_of_scripts(rt: HostRuntime) -> Result<(), Fail> {
     let subs = Subs::read(rt.alloc(), THREE_STATIONS)?;
     for (at, (line, said)) in LINES.iter().enumerate() {
-        let read = Command::read(rt.alloc(), &subs, line);
+        let read = Command::read(&subs, line, Vec::new(rt.alloc()));
         assert_eq!(rt; said_by(&read), *said, "line {at}");
     }
     Ok(())

@@ -5,10 +5,9 @@ ghost use Rattle.xp_script.specs.Command.{octets_of, Answers, brings_octets, bri
 ghost use Rattle.xp_subs.specs.Tables.{line_count, same};
 
 use crate::fault::LineFault;
+use crate::heard::Heard;
 use crate::line::line_named;
-use hex::FromHexError;
 use std::alloc::{Allocator, Global};
-use xp_packets::Octets;
 use xp_subs::{LineNo, Subs};
 
 /// The most octets of a line, without its line feed.
@@ -26,17 +25,17 @@ pub enum Command<A: Allocator = Global> {
     /// The time of this line to answer an incoming call is over.
     Expire(LineNo),
     /// Octets come in on a line; at least one.
-    In(LineNo, Octets<A>),
+    In(LineNo, Heard<A>),
 }
 
-impl<A: Allocator + Copy> Command<A> {
-    /// Reads a line, without its line feed.
+impl<A: Allocator> Command<A> {
+    /// Reads a line, without its line feed. Octets that come in are put into this vector, whatever it holds.
     ///
     /// # Errors
     ///
     /// `Faulty` where the line is too long or says nothing that a script may say; `Memory` where there is none for
     /// the octets that come in.
-    pub fn read(alloc: A, subs: &Subs, line: &[u8]) -> Result<Command<A>, LineFault>
+    pub fn read(subs: &Subs, line: &[u8], memory: Vec<u8, A>) -> Result<Command<A>, LineFault>
         ensures said { Reads subs.now line.now result }
         ensures line { IfOk result (HasLine (line_count subs.now)) }
         ensures memory { LacksMemory result → IsTrue (brings_octets subs.now line.now) }
@@ -47,7 +46,7 @@ impl<A: Allocator + Copy> Command<A> {
         if is_skipped(line) {
             return Ok(Command::Nothing);
         }
-        read_words(alloc, subs, line)
+        read_words(subs, line, memory)
     }
 }
 
@@ -58,10 +57,10 @@ fn is_skipped(line: &[u8]) -> bool
     matches!(line, [] | [b'#', ..])
 }
 
-fn read_words<A: Allocator + Copy>(
-    alloc: A,
+fn read_words<A: Allocator>(
     subs: &Subs,
     text: &[u8],
+    memory: Vec<u8, A>,
 ) -> Result<Command<A>, LineFault>
     ensures said { Answers (said_by subs.now (words text.now)) result }
     ensures line { IfOk result (HasLine (line_count subs.now)) }
@@ -73,14 +72,14 @@ fn read_words<A: Allocator + Copy>(
             about_line(verb, line_named(subs, name)).ok_or(LineFault::Faulty)
         }
         (Some(verb), Some(name), Some(digits), None) => {
-            about_octets(alloc, verb, line_named(subs, name), digits)
+            about_octets(verb, line_named(subs, name), digits, memory)
         }
         _ => Err(LineFault::Faulty),
     }
 }
 
 /// `up`, `down` or `expire` of a line.
-fn about_line<A: Allocator + Copy>(verb: &[u8], line: Option<LineNo>) -> Option<Command<A>>
+fn about_line<A: Allocator>(verb: &[u8], line: Option<LineNo>) -> Option<Command<A>>
     ensures { result ≡ said_of verb.now line }
 {
     let line = line?;
@@ -93,30 +92,33 @@ fn about_line<A: Allocator + Copy>(verb: &[u8], line: Option<LineNo>) -> Option<
 }
 
 /// `in` of a line, with the octets that come in.
-fn about_octets<A: Allocator + Copy>(
-    alloc: A,
+fn about_octets<A: Allocator>(
     verb: &[u8],
     line: Option<LineNo>,
     digits: &[u8],
+    memory: Vec<u8, A>,
 ) -> Result<Command<A>, LineFault>
     ensures said { Answers (said_with verb.now line (octets_of digits.now)) result }
     ensures memory { LacksMemory result → IsTrue (same verb.now (codes "in") && is_some line) }
 {
     match line {
-        Some(line) if matches!(verb, b"in") => Ok(Command::In(line, octets_of(alloc, digits)?)),
+        Some(line) if matches!(verb, b"in") => Ok(Command::In(line, octets_of(digits, memory)?)),
         _ => Err(LineFault::Faulty),
     }
 }
 
-/// The octets that hexadecimal digits stand for, at least one.
-fn octets_of<A: Allocator + Copy>(alloc: A, digits: &[u8]) -> Result<Octets<A>, LineFault>
+/// The octets that hexadecimal digits stand for, at least one, in this vector, whatever it holds.
+fn octets_of<A: Allocator>(digits: &[u8], memory: Vec<u8, A>) -> Result<Heard<A>, LineFault>
     ensures { Answers (octets_of digits.now) result }
 {
-    match hex::decode(alloc, digits) {
-        Ok(octets) if !octets.is_empty() => {
-            Octets::from_vec(octets).map_err(|_| LineFault::Memory)
-        }
-        Err(FromHexError::OutOfMemory) => Err(LineFault::Memory),
+    let mut octets = memory;
+    octets.clear();
+    // As many octets as the digits stand for, and then those.
+    octets
+        .extend_from_slice(&digits[..digits.len() / 2])
+        .map_err(|_| LineFault::Memory)?;
+    match hex::decode_to_slice(digits, &mut octets) {
+        Ok(()) if !octets.is_empty() => Ok(Heard::of(octets)),
         _ => Err(LineFault::Faulty),
     }
 }

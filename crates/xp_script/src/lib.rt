@@ -4,6 +4,7 @@
 mod command;
 mod entry;
 mod fault;
+mod heard;
 mod line;
 mod output;
 mod text;
@@ -11,3 +12,4 @@ mod text;
 pub use command::{Command, MAX_LINE_OCTETS};
 pub use entry::write_entry;
 pub use fault::LineFault;
+pub use heard::Heard;

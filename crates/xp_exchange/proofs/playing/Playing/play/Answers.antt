@@ -11,7 +11,10 @@ use Rattle.xp_exchange.proofs.Tellings.{told_all_but_none, told_nothing}
 use Rattle.xp_exchange.proofs.playing.Playing.play.Goals as goal
 
 pub returns-in-Err-Memory : goal.returns-in-Err-Memory
-returns-in-Err-Memory g c = ([], appends_nothing _, (inl refl, told_all_but_none _ _ [] (told_nothing c.args.self.now.exchange)))
+returns-in-Err-Memory g c =
+    let old : Standing _ = record { exchange = c.self.inside.core; unfinished = c.self.inside.streams } in
+    subst (λ first. (text : List ℕ) × Appends (g.W.Write.contents c.args.writer.now) (g.W.Write.contents c.args.writer.now) text × Played first c.args.number c.args.line.now (Err Memory) old text)
+    c.self.view_is ([], appends_nothing _, (inl refl, told_all_but_none old.exchange old.exchange [] (told_nothing old.exchange)))
 
 pub returns-in_err-hear : goal.returns-in_err-hear
 returns-in_err-hear g c =
