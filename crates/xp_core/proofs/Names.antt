@@ -63,7 +63,6 @@ module _ {A : Type 0} (at : Setting A) (what : What A) (sound : IsSound at.table
       to found.1.caller output (ap (λ o. o.line) is) (coupled.held found.0 found.1 live).caller
   sent_named output (ringing request ring packet asks decided incoming is) =
       to ring.line output (ap (λ o. o.line) is) (taken_is_free at.tables (lines_seen at.world) at.line request.block ring sound decided).known
-
   sent_named output (carrying carried move by in_it is) =
       let it = of_carried at.line (call_on at.world at.line) (packet_in what) carried by in
       let live = (shown_on at.world at.line (carried.number, carried.call) it.on).1 in
