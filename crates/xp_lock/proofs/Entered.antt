@@ -10,6 +10,7 @@ use Rattle.xp_core.specs.declared.output.Outgoing.{Outgoing}
 use Rattle.xp_core.specs.declared.stepped.Stepped.{Stepped}
 use Rattle.xp_core.specs.Channel.{is_off}
 use Rattle.xp_core.specs.Coupling.{AreCoupled}
+use Rattle.xp_core.specs.Few.{AreFew}
 use Rattle.xp_core.specs.Exchange.{Advances, Exchange, world_of}
 use Rattle.xp_core.specs.Records.{records_of}
 use Rattle.xp_core.specs.Worlds.{world_after}
@@ -22,7 +23,6 @@ use Rattle.xp_lock.specs.Handed.{is_stall}
 use Rattle.xp_lock.specs.Outgoing.{put_out_to, to_line}
 use Rattle.xp_lock.specs.Stalling.{CanEnter, HasEntered, HasStalled, switch_of}
 use Rattle.xp_lock.specs.Switch.{IsGiven, Takes, is_up}
-use Rattle.xp_core.proofs.Few.{few_of_step}
 use Rattle.xp_lock.proofs.Touches.{Touches, touches}
 
 pub take_front : {X : Type 0} (xs ys : List X) → take (length xs) (xs ++ ys) ≡ xs
@@ -35,12 +35,13 @@ drop_front [] ys = refl
 drop_front (x ∷ xs) ys = drop_front xs ys
 
 module _ {A : Type 0} (old mid : Exchange A) (event : Event A) (told : Stepped A) (boxes : List (Putting (Outgoing A)))
-    (can : CanEnter old event boxes) (coupled : AreCoupled old.subs (world_of old)) (step : Advances old event mid told) where
+    (can : CanEnter old event boxes) (coupled : AreCoupled old.subs (world_of old)) (step : Advances old event mid told)
+    (small : AreFew told.outputs) where
   touched : Touches (world_of old) step.entry (world_of mid)
   touched = touches old.subs old.history (world_of old) step.entry (world_of mid) coupled step.step
 
   few : (line : ℕ) → length (to_line line told.outputs) ≤ 17
-  few line = subst (λ os. length (to_line line os) ≤ 17) (sym step.outputs) (few_of_step old.subs old.history (world_of old) step.entry (world_of mid) step.step line)
+  few line = small line
 
   -- a line that is given something was in service
   served : (line : ℕ) → 0 < length (to_line line told.outputs) → is_off (state_at (world_of old) line) ≡ false

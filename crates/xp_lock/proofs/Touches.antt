@@ -10,6 +10,8 @@ use Rattle.xp_channel.specs.declared.kind.Kind.{Kind}
 use Rattle.xp_channel.specs.declared.kind.Kind.TheVariants as kinds
 use Rattle.xp_channel.specs.Kinds.{kind_of as packet_kind}
 use Rattle.xp_channel.specs.Table.{cell}
+use Rattle.xp_packets.specs.declared.end.End.{End}
+use Rattle.xp_packets.specs.declared.end.End.TheVariants.{Caller, Called}
 use Rattle.xp_packets.specs.declared.packet.Packet.{Packet}
 use Rattle.xp_packets.specs.declared.packet.Packet.TheVariants as packets
 use Rattle.xp_subs.specs.Tables.{Tables}
@@ -18,17 +20,20 @@ use Rattle.xp_core.specs.declared.event.What.{What}
 use Rattle.xp_core.specs.declared.event.What.TheVariants as events
 use Rattle.xp_core.specs.declared.output.Output.{Output}
 use Rattle.xp_core.specs.Acts.{Acts}
+use Rattle.xp_core.specs.Carried.{line_at_end}
 use Rattle.xp_core.specs.Changes.{Change, Rises, Leaves, Begins, IsRefused, Connects, Ends, all_changed, changed}
 use Rattle.xp_core.specs.Channel.{State, Off, Ready, Waiting, Ringing, Talking, Cleared, channel_of, is_off}
 use Rattle.xp_core.specs.Coupling.{AreCoupled}
 use Rattle.xp_core.specs.Setting.{Setting, setting}
 use Rattle.xp_core.specs.Step.{Step}
 use Rattle.xp_core.specs.Does.{changes_of, does}
-use Rattle.xp_core.specs.Table.{action_at, kind_of}
+use Rattle.xp_core.specs.Table.{action_at, kind_of, packet_in}
 use Rattle.xp_core.specs.Told.{nothing_told, outputs_of}
-use Rattle.xp_core.specs.World.{Call, Line, World, call_numbered, far_end, off_line, state_at}
+use Rattle.xp_core.specs.World.{Call, Line, World, call_numbered, call_on, far_end, off_line, state_at}
+use Rattle.xp_core.proofs.Carried.{of_carried}
+use Rattle.xp_core.proofs.InCall.{shown_on}
 use Rattle.xp_core.proofs.Idle.{IsReadyFor, taken_ready}
-use Rattle.xp_core.proofs.Origins.{ComesOf, IsSent, all_come, all_sent, closing, confirming, clearing, refusing, clearing_far, carrying_on, connecting, ringing}
+use Rattle.xp_core.proofs.Origins.{ComesOf, IsSent, all_come, all_sent, closing, confirming, clearing, refusing, clearing_far, carrying_on, connecting, ringing, carrying}
 use Rattle.xp_lock.specs.Outgoing.{to_line}
 use Rattle.xp_lock.specs.Switch.{is_up}
 
@@ -143,6 +148,10 @@ module _ {A : Type 0} (at : Setting A) (what : What A) where
     far_on number call live = let ends = held_on number call live in
         cond_both (eqb call.caller at.line) call.called call.caller P (λ first. ends.1) (λ second. ends.0)
 
+    end_on : (call : Call) (end : End) → P call.caller × P call.called → P (line_at_end call end)
+    end_on call Caller ends = ends.0
+    end_on call Called ends = ends.1
+
     ready_on : (called : ℕ) → IsReadyFor at.world at.line called → P called
     ready_on called ready = served called (ap is_off ready.ready)
 
@@ -157,6 +166,10 @@ module _ {A : Type 0} (at : Setting A) (what : What A) where
     sent_on output (clearing_far found cause diagnostic live is) = to (far_end found.1 at.line) output (ap (λ o. o.line) is) (far_on found.0 found.1 live)
     sent_on output (carrying_on found clear packet live clears carried is) = to (far_end found.1 at.line) output (ap (λ o. o.line) is) (far_on found.0 found.1 live)
     sent_on output (connecting found answer connection live accepts answered is) = to found.1.caller output (ap (λ o. o.line) is) (held_on found.0 found.1 live).0
+    sent_on output (carrying carried move by in_it is) =
+        let it = of_carried at.line (call_on at.world at.line) (packet_in what) carried by in
+        let live = (shown_on at.world at.line (carried.number, carried.call) it.on).1 in
+        to (line_at_end carried.call move.side) output (ap (λ o. o.line) is) (end_on carried.call move.side (held_on carried.number carried.call live))
     sent_on output (ringing request ring packet asks decided incoming is) =
         to ring.line output (ap (λ o. o.line) is) (ready_on ring.line (taken_ready at.tables at.world at.line request.block ring decided))
 
