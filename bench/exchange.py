@@ -263,9 +263,9 @@ class Observer:
 class Run:
     """The script in the making, and its text."""
 
-    def __init__(self, seed, counting):
+    def __init__(self, seed):
         self.chance = random.Random(seed)
-        self.exchange = model.Exchange(model.tomllib.loads(SUBSCRIPTIONS), counting)
+        self.exchange = model.Exchange(model.tomllib.loads(SUBSCRIPTIONS))
         self.script, self.text, self.kinds = [], [], Counter()
         self.origins = []  # the line of the script, about, from which each line of the text comes
         self.dtes = {name: Dte(name, self.chance) for name in LINES}
@@ -357,9 +357,9 @@ def first_difference(run, found):
     return f"the output has {len(found)} lines, and should have {len(run.text)}"
 
 
-def made_of(seed, packets, counting):
+def made_of(seed, packets):
     """A script of so many packets."""
-    run = Run(seed, counting)
+    run = Run(seed)
     for name in LINES:
         run.bare(f"up {name}")
     count = calls = 0
@@ -391,20 +391,19 @@ def main():
     parser.add_argument("--seed", type=int, help="what the choices follow from (default: another each time)")
     parser.add_argument("--xp", default=str(TOP / "crates/xp/out/xp"), help="the built program (default: the one that ./xp built)")
     parser.add_argument("--no-program", action="store_true", help="make and check the script by the model alone")
-    parser.add_argument("--segments", action="store_true", help="segments are counted")
     parser.add_argument("--keep", type=pathlib.Path, help="a folder for the script and its text, which then stay")
     arguments = parser.parse_args()
 
     seed = random.SystemRandom().randrange(10**9) if arguments.seed is None else arguments.seed
     print(f"seed {seed}", flush=True)
-    run = made_of(seed, arguments.packets, arguments.segments)
+    run = made_of(seed, arguments.packets)
     with tempfile.TemporaryDirectory() as made:
         folder = arguments.keep or pathlib.Path(made)
         folder.mkdir(parents=True, exist_ok=True)
         (folder / "subs.toml").write_text(SUBSCRIPTIONS)
         (folder / "script").write_text("\n".join(run.script) + "\n")
         (folder / "expected").write_text("\n".join(run.text) + "\n")
-        if model.text_of(folder, arguments.segments) != (folder / "expected").read_text():
+        if model.text_of(folder) != (folder / "expected").read_text():
             sys.exit("the model says another thing of the script as it is cut into lines")
         if not arguments.no_program:
             compare(arguments.xp, folder, run)

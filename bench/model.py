@@ -1,7 +1,7 @@
 #!/usr/bin/env python3
 """What a script comes to, by a plain model of the exchange (docs/PROTOCOL.md), written beside the program and not from it.
 
-It is whole for a call's data transfer: windows, flow control, interrupts, resets. Of the rest it knows what calls need:
+It is whole for a call's data transfer and its charging: windows, flow control, interrupts, resets, segments. Of the rest it knows what calls need:
 lines that come and go, calls between stations without groups and redirection, packet and window sizes, clearing,
 procedure errors. A script that asks for more is beyond it, and it says so.
 
@@ -218,15 +218,13 @@ def items(facilities):
 
 
 class Exchange:
-    def __init__(self, subscriptions, counting):
-        """`counting`: segments are counted, charging information is told, and the limit to segments acts."""
+    def __init__(self, subscriptions):
         self.lines = {}
         for station in subscriptions["station"]:
             known = len(station["line"]) == 1 and not station.keys() - KNOWN_KEYS
             for line in station["line"]:
                 address = line.get("address", station["address"]) if known else None
                 self.lines[line["name"]] = Line(line["name"], address, station)
-        self.counting = counting
         self.limit = subscriptions.get("segment_limit", MOST_SEGMENTS)
         self.calls = 0
 
@@ -344,9 +342,9 @@ class Exchange:
     def counted(self, sent, packet):
         """Counts a packet that is accepted; says whether the limit allows it."""
         more = max(1, -(-len(packet.octets) // 64))
-        if self.counting and sent.segments + more > self.limit:
+        if sent.segments + more > self.limit:
             return False
-        sent.segments += more if self.counting else 0
+        sent.segments += more
         return True
 
     def congested(self, line, far):
@@ -359,7 +357,7 @@ class Exchange:
     def charge_of(self, call, line):
         """The facility field that tells the payer what the call cost."""
         payer = call.called if call.reverse else call.caller
-        if not self.counting or not call.sent_by or line is not payer or line not in call.charging:
+        if not call.sent_by or line is not payer or line not in call.charging:
             return b""
         digits = f"{call.sent_by[call.far(line)].segments:08}{call.sent_by[line].segments:08}"
         return b"\xc2\x08" + bytes.fromhex(digits)
@@ -402,11 +400,11 @@ class Exchange:
         call.caller.call = call.called.call = None
 
 
-def text_of(folder, counting):
+def text_of(folder):
     """What the script of a row comes to."""
     if (folder / "status").exists():
         raise Beyond("a replay that ends with a fault")
-    exchange = Exchange(tomllib.loads((folder / "subs.toml").read_text()), counting)
+    exchange = Exchange(tomllib.loads((folder / "subs.toml").read_text()))
     lines = (folder / "script").read_text().splitlines()
     return "".join(told + "\n" for line in lines for told in exchange.play(line))
 
@@ -415,12 +413,11 @@ def main():
     parser = argparse.ArgumentParser(description=__doc__.splitlines()[0])
     parser.add_argument("folders", nargs="+", type=pathlib.Path, metavar="FOLDER", help="rows, as in crates/xp_rows/data")
     parser.add_argument("--write", action="store_true", help="write what the model says as what the row expects")
-    parser.add_argument("--segments", action="store_true", help="segments are counted, and charging acts by them")
     arguments = parser.parse_args()
     other = 0
     for folder in arguments.folders:
         try:
-            text = text_of(folder, arguments.segments)
+            text = text_of(folder)
         except (Beyond, OSError, ValueError, KeyError, IndexError) as reason:
             print(f"{folder.name}: beyond the model: {reason!r}")
             continue

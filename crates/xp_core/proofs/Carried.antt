@@ -1,5 +1,5 @@
 -- What is known of a packet for a connected call, and of the packets of a history that grows.
-use Rattle.std.proofs.Common.{◌≡◌, ◌≢◌, ◌∙◌, ℕ, eqb, cond, Option, Some, None, option_map, List, [], ◌∷◌, ◌++◌, append_assoc, append-nil, refl, ap, sym, subst}
+use Rattle.std.proofs.Common.{◌≡◌, ◌≢◌, ◌∙◌, ℕ, eqb, Option, Some, None, option_map, List, [], ◌∷◌, ◌++◌, append_assoc, append-nil, refl, ap, sym, subst}
 use Rattle.std.proofs.lemmas.Bool.{cond-false, cond-true, eq-eqb, ne_eqb}
 use Rattle.xp_channel.specs.declared.action.Action.{Action}
 use Rattle.xp_channel.specs.declared.action.Action.TheVariants.{Nothing, Rise, Fall, NewCall, Collision, Answer, Confirm, Free, Error, Relayed, Expired}
@@ -9,11 +9,9 @@ use Rattle.xp_relay.specs.Coupled.{after, coupled}
 use Rattle.xp_relay.specs.Runs.{run}
 use Rattle.xp_subs.specs.Tables.{Tables, line_count}
 use Rattle.xp_core.specs.declared.entry.Entry.{Entry}
-use Rattle.xp_core.specs.declared.event.Event.{Event}
 use Rattle.xp_core.specs.declared.outcome.Agreement.{Agreement}
 use Rattle.xp_core.specs.Carried.{Carried, arrival_for, arrivals, arrivals_from, carried_as, carried_by, carried_in, directions, end_of, terms_of, turn_of_carried}
-use Rattle.xp_core.specs.Table.{action_at, packet_in}
-use Rattle.xp_core.specs.World.{Call, World, call_on, opening}
+use Rattle.xp_core.specs.World.{Call, World, opening}
 use Rattle.xp_core.specs.Worlds.{world_after, world_from, world_next}
 
 -- what is carried is all that is put out
@@ -101,13 +99,18 @@ module _ {A : Type 0} where
       ap (run (coupled (terms_of agreement))) (arrivals_still tables before world entry number is other)
 
   -- one packet more for this call
+  pub arrivals_on : (tables : Tables) (before : List (Entry A)) (world : World) (entry : Entry A) (carried : Carried A) → world ≡ world_after tables before
+      → carried_in world entry.event ≡ Some carried
+      → arrivals tables (before ++ entry ∷ []) carried.number ≡ arrivals tables before carried.number ++ carried.arrival ∷ []
+  arrivals_on tables before world entry carried is by =
+      arrivals_more tables before world entry carried.number is
+      ∙ ap (λ c. arrivals tables before carried.number ++ arrival_for carried.number c) by
+      ∙ ap (λ more. arrivals tables before carried.number ++ more)
+      (cond-true (eqb carried.number carried.number) (carried.arrival ∷ []) [] (eq-eqb carried.number carried.number refl))
+
   pub directions_on : (tables : Tables) (before : List (Entry A)) (world : World) (entry : Entry A) (carried : Carried A) → world ≡ world_after tables before
       → carried_in world entry.event ≡ Some carried
       → directions tables (before ++ entry ∷ []) carried.number carried.agreement ≡ after carried.arrival.here (turn_of_carried tables before carried)
   directions_on tables before world entry carried is by =
-      ap (run (coupled (terms_of carried.agreement)))
-      (arrivals_more tables before world entry carried.number is
-      ∙ ap (λ c. arrivals tables before carried.number ++ arrival_for carried.number c) by
-      ∙ ap (λ more. arrivals tables before carried.number ++ more)
-      (cond-true (eqb carried.number carried.number) (carried.arrival ∷ []) [] (eq-eqb carried.number carried.number refl)))
+      ap (run (coupled (terms_of carried.agreement))) (arrivals_on tables before world entry carried is by)
       ∙ run_more (coupled (terms_of carried.agreement)) (arrivals tables before carried.number) carried.arrival

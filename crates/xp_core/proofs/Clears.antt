@@ -1,24 +1,26 @@
 -- The clear packets among what is put out.
-use Rattle.std.proofs.Common.{◌≡◌, ◌≢◌, ℕ, cond, eqb, Bool, List, [], ◌∷◌, ◌++◌, Option, None, Some, refl, ap, sym, ◌∙◌}
+use Rattle.std.proofs.Common.{◌≡◌, ◌≢◌, ℕ, cond, eqb, Bool, List, [], ◌∷◌, ◌++◌, Option, None, Some, refl, ap, ◌∙◌}
 use Rattle.std.proofs.lemmas.Bool.{eq-eqb, ne_eqb}
 use Rattle.xp_answer.specs.CarriedOn.{CarriedOn, block_with}
-use Rattle.xp_answer.specs.Incoming.{IsIncomingCall}
+use Rattle.xp_answer.specs.Information.{information_field}
 use Rattle.xp_causes.specs.Told.{cause_told, diagnostic_told}
-use Rattle.xp_causes.specs.declared.clearing_cause.TheConstants.{LOCAL_PROCEDURE_ERROR, NUMBER_BUSY, OUT_OF_ORDER, REMOTE_PROCEDURE_ERROR}
+use Rattle.xp_causes.specs.declared.clearing_cause.TheConstants.{NUMBER_BUSY, OUT_OF_ORDER}
 use Rattle.xp_causes.specs.declared.diagnostic.TheConstants.{CALL_COLLISION, NO_ADDITIONAL_INFORMATION}
 use Rattle.xp_causes.specs.declared.refusal.Refusal.{Refusal}
+use Rattle.xp_facilities.specs.declared.segment_counts.SegmentCounts.{SegmentCounts}
 use Rattle.xp_packets.specs.declared.packet.Packet.{Packet}
 use Rattle.xp_packets.specs.declared.block.Block.{Block}
-use Rattle.xp_packets.specs.declared.packet.Packet.TheVariants.{Call as CallPacket, Clear, ClearConfirm}
+use Rattle.xp_packets.specs.declared.packet.Packet.TheVariants.{Call as CallPacket, Clear}
 use Rattle.xp_core.specs.declared.event.What.{What}
 use Rattle.xp_core.specs.declared.event.What.TheVariants.{Up, Down, Frame, WrongFrame, Expire, Stall}
 use Rattle.xp_core.specs.declared.output.Output.{Output}
 use Rattle.xp_core.specs.declared.output.Put.TheVariants.{Send}
-use Rattle.xp_core.specs.Acts.{IsConfirmed, IsPut, cancelled_told, closed, told_of_error, told_of_fall}
+use Rattle.xp_core.specs.Acts.{cancelled_told, closed, told_both, told_confirmed, told_of_fall}
 use Rattle.xp_core.specs.Channel.{INITIAL_IDENTIFIER}
 use Rattle.xp_core.specs.Records.{clear_to, clears_to}
-use Rattle.xp_core.specs.Table.{CallRequest, ClearRequest}
-use Rattle.xp_core.specs.Told.{Told, clear_indication, nothing_told, outputs_of, refused_told, send, send_as, send_far, taken_told}
+use Rattle.xp_core.specs.Setting.{Setting}
+use Rattle.xp_core.specs.Table.{ClearRequest}
+use Rattle.xp_core.specs.Told.{clear_far, clear_indication, clear_own, confirm_own, far_information, outputs_of, own_information, refused_told, send_as, send_far, taken_told}
 use Rattle.xp_core.specs.World.{Call, World, call_on, far_end}
 
 module _ {X : Type 0} where
@@ -35,34 +37,46 @@ module _ {X : Type 0} where
   first line other x y differ =
       ap (λ b. cond (eqb line line) (x ∷ []) [] ++ (cond b (y ∷ []) [] ++ [])) (ne_eqb other line differ) ∙ mine line x
 
-module _ {A : Type 0} (world : World) (line : ℕ) (found : ℕ × Call) (is : call_on world line ≡ Some found) where
+-- the block of a clear indication with charging information
+abbrev pub told_in : {A : Type 0} → Option SegmentCounts → Option (Block A)
+told_in information = block_with (information_field information) []
+
+module _ {A : Type 0} (at : Setting A) (found : ℕ × Call) (is : call_on at.world at.line ≡ Some found) where
+  abbrev far_line : ℕ
+  far_line = far_end found.1 at.line
+
+  abbrev information : Option (Block A)
+  information = told_in (far_information at (Some found))
+
   -- what the far end is told, with these before it
-  abbrev cleared_by : List (Output A) → Packet A → Option (ℕ × Call) → List (Packet A)
-  cleared_by own packet call = clears_to (far_end found.1 line) (own ++ send_far world line call packet ++ [])
+  abbrev cleared_by : List (Output A) → List (Output A) → List (Packet A)
+  cleared_by own far = clears_to far_line (own ++ far ++ [])
 
-  pub fall_told : (what : What A) → clears_to (far_end found.1 line) (outputs_of (told_of_fall world line what)) ≡ Clear OUT_OF_ORDER (Some NO_ADDITIONAL_INFORMATION) None ∷ []
-  fall_told what = ap (cleared_by (closed world line what) (clear_indication OUT_OF_ORDER NO_ADDITIONAL_INFORMATION)) is ∙ by what where
-    by : (w : What A) → cleared_by (closed world line w) (clear_indication OUT_OF_ORDER NO_ADDITIONAL_INFORMATION) (Some found) ≡ Clear OUT_OF_ORDER (Some NO_ADDITIONAL_INFORMATION) None ∷ []
-    by Stall = mine (far_end found.1 line) (Clear OUT_OF_ORDER (Some NO_ADDITIONAL_INFORMATION) None)
-    by Up = mine (far_end found.1 line) (Clear OUT_OF_ORDER (Some NO_ADDITIONAL_INFORMATION) None)
-    by Down = mine (far_end found.1 line) (Clear OUT_OF_ORDER (Some NO_ADDITIONAL_INFORMATION) None)
-    by (Frame identifier packet) = mine (far_end found.1 line) (Clear OUT_OF_ORDER (Some NO_ADDITIONAL_INFORMATION) None)
-    by (WrongFrame wrong) = mine (far_end found.1 line) (Clear OUT_OF_ORDER (Some NO_ADDITIONAL_INFORMATION) None)
-    by Expire = mine (far_end found.1 line) (Clear OUT_OF_ORDER (Some NO_ADDITIONAL_INFORMATION) None)
+  pub fall_told : (what : What A) → clears_to far_line (outputs_of (told_of_fall at what)) ≡ Clear OUT_OF_ORDER (Some NO_ADDITIONAL_INFORMATION) information ∷ []
+  fall_told what = ap (λ call. cleared_by (closed at.world at.line what) (clear_far at call OUT_OF_ORDER NO_ADDITIONAL_INFORMATION)) is ∙ by what where
+    by : (w : What A) → cleared_by (closed at.world at.line w) (clear_far at (Some found) OUT_OF_ORDER NO_ADDITIONAL_INFORMATION) ≡ Clear OUT_OF_ORDER (Some NO_ADDITIONAL_INFORMATION) information ∷ []
+    by Stall = mine far_line (Clear OUT_OF_ORDER (Some NO_ADDITIONAL_INFORMATION) information)
+    by Up = mine far_line (Clear OUT_OF_ORDER (Some NO_ADDITIONAL_INFORMATION) information)
+    by Down = mine far_line (Clear OUT_OF_ORDER (Some NO_ADDITIONAL_INFORMATION) information)
+    by (Frame identifier packet) = mine far_line (Clear OUT_OF_ORDER (Some NO_ADDITIONAL_INFORMATION) information)
+    by (WrongFrame wrong) = mine far_line (Clear OUT_OF_ORDER (Some NO_ADDITIONAL_INFORMATION) information)
+    by Expire = mine far_line (Clear OUT_OF_ORDER (Some NO_ADDITIONAL_INFORMATION) information)
 
-  pub error_told : (diagnostic : ℕ) → line ≢ far_end found.1 line → clears_to {A = A} (far_end found.1 line) (outputs_of (told_of_error world line diagnostic)) ≡ Clear REMOTE_PROCEDURE_ERROR (Some diagnostic) None ∷ []
-  error_told diagnostic differ =
-      ap (cleared_by (send world line (clear_indication LOCAL_PROCEDURE_ERROR diagnostic) ∷ []) (clear_indication REMOTE_PROCEDURE_ERROR diagnostic)) is
-      ∙ second line (far_end found.1 line) (Clear LOCAL_PROCEDURE_ERROR (Some diagnostic) None) (Clear REMOTE_PROCEDURE_ERROR (Some diagnostic) None) differ
+  pub both_told : (near far diagnostic : ℕ) → at.line ≢ far_line → clears_to far_line (outputs_of (told_both at near far diagnostic)) ≡ Clear far (Some diagnostic) information ∷ []
+  both_told near far diagnostic differ =
+      ap (λ call. cleared_by (clear_own at call near diagnostic ∷ []) (clear_far at call far diagnostic)) is
+      ∙ second at.line far_line (Clear near (Some diagnostic) (told_in (own_information at (Some found)))) (Clear far (Some diagnostic) information) differ
 
   -- with its confirmation before it
-  pub confirmed_told : (clear : ClearRequest A) (packet : Packet A) (carried : CarriedOn found.1.setup.fast clear.cause clear.diagnostic clear.block None packet)
-      → clears_to (far_end found.1 line) (outputs_of (record { carried = []; own = send world line (ClearConfirm None) ∷ []; far = send_far world line (Some found) packet; taken = [] }))
+  pub confirmed_told : (clear : ClearRequest A) (packet : Packet A)
+      (carried : CarriedOn found.1.setup.fast clear.cause clear.diagnostic clear.block (far_information at (Some found)) packet)
+      → clears_to far_line (outputs_of (told_confirmed at (Some found) (send_far at.world at.line (Some found) packet)))
       ≡ Clear (cause_told clear.cause) (Some (diagnostic_told clear.diagnostic)) (block_with carried.field carried.user) ∷ []
   confirmed_told clear packet carried =
-      ap (λ p. cleared_by (send world line (ClearConfirm None) ∷ []) p (Some found)) carried.whole
-      ∙ mine (far_end found.1 line) (Clear (cause_told clear.cause) (Some (diagnostic_told clear.diagnostic)) (block_with carried.field carried.user))
+      ap (λ p. cleared_by (confirm_own at (Some found) ∷ []) (send_far at.world at.line (Some found) p)) carried.whole
+      ∙ mine far_line (Clear (cause_told clear.cause) (Some (diagnostic_told clear.diagnostic)) (block_with carried.field carried.user))
 
+module _ {A : Type 0} (world : World) (line : ℕ) (found : ℕ × Call) (is : call_on world line ≡ Some found) where
   -- ---- a collision: the caller of the cancelled call, and the colliding line
 
   abbrev indication : Packet A

@@ -1,19 +1,22 @@
 -- There is one record for each call that ended.
-use Rattle.std.proofs.Common.{◌≡◌, ℕ, ◌+◌, ◌≤◌, ◌<◌, append-nil, cond, eqb, is_some, Option, Some, None, List, [], ◌∷◌, ◌++◌, All, length, refl, ap, sym, subst, ◌∙◌, inl, inr, arith}
-use Rattle.std.proofs.lemmas.Bool.{eq-eqb, cases_lt}
+use Rattle.std.proofs.Common.{◌≡◌, ℕ, ◌+◌, ◌≤◌, ◌<◌, append-nil, cond, is_some, Option, Some, None, List, [], ◌∷◌, ◌++◌, All, length, refl, ap, sym, subst, ◌∙◌, inl, inr, arith}
+use Rattle.std.proofs.lemmas.Bool.{cases_lt}
 use Rattle.std.proofs.lemmas.List.Elements.{All-nil, All-cons, All-same}
 use Rattle.xp_causes.specs.declared.clearing_cause.TheConstants.{NUMBER_BUSY}
 use Rattle.xp_causes.specs.declared.diagnostic.TheConstants.{CALL_COLLISION}
 use Rattle.xp_causes.specs.declared.refusal.Refusal.{Refusal}
 use Rattle.xp_packets.specs.declared.block.Block.{Block}
+use Rattle.xp_packets.specs.declared.end.End.{End}
+use Rattle.xp_packets.specs.declared.end.End.TheVariants.{Caller, Called}
 use Rattle.xp_packets.specs.declared.packet.Packet.TheVariants.{Clear}
 use Rattle.xp_subs.specs.Tables.{Tables, line_count}
 use Rattle.xp_core.specs.declared.entry.Entry.{Entry}
-use Rattle.xp_core.specs.Changes.{Change, Rises, Leaves, Begins, IsRefused, Connects, Ends, Way, all_changed, changed, recorded, recorded_by}
+use Rattle.xp_core.specs.Changes.{Change, Rises, Leaves, Begins, IsRefused, Connects, Ends, all_changed, changed, recorded, recorded_by}
 use Rattle.xp_core.specs.Clearing.{record_of, refused_record}
 use Rattle.xp_core.specs.Records.{Begins as HasBegun, Ends as HasEnded, IsLive, IsRecordOf, Moment, OneRecordEach, clears_to, count_of}
 use Rattle.xp_core.specs.Run.{Run}
 use Rattle.xp_core.specs.Outcomes.{payer_of, taken_by}
+use Rattle.xp_core.specs.Segments.{segments_if_live, segments_of}
 use Rattle.xp_core.specs.Setting.{setting}
 use Rattle.xp_core.specs.Does.{changes_of}
 use Rattle.xp_core.specs.Table.{CallRequest, action_at}
@@ -44,6 +47,10 @@ module _ {A : Type 0} where
     tallies : Tallies moment.world moment.next moment.entry.records.items
     tallies = step_tallies tables moment.before moment.world moment.entry moment.next _ right moment.step
 
+    -- the segments of the calls so far
+    abbrev counted : ℕ → Call → End → ℕ
+    counted = segments_of tables moment.before
+
     abbrev Comes : Change → Type 0
     Comes change = ComesOf (setting tables moment.before moment.world moment.entry.event.line) moment.entry.event.what
         (action_at moment.world moment.entry.event) moment.entry.outcome moment.step.told change
@@ -54,6 +61,9 @@ module _ {A : Type 0} where
         → IsRecordOf moment (refused_record w.next line dialled why)
     refused_recorded w line identifier dialled why same missing from =
         let request : HasBegun moment w.next from.asked.request = record { asks = from.asked.asks; new = from.asked.new; numbered = same } in
+        let fresh : call_numbered moment.world w.next ≡ None = right.sound.fresh w.next (omega (arith, same)) in
+        let none : (end : End) → 0 ≡ segments_if_live tables moment.before w.next (call_numbered moment.world w.next) end =
+        λ end. ap (λ found. segments_if_live tables moment.before w.next found end) (sym fresh) in
         record {
           ends = record {
             was = inr (from.asked.request, request);
@@ -66,8 +76,8 @@ module _ {A : Type 0} where
           called = sym (ap taken_by from.turned);
           dialled = from.asked.dialled_is;
           payer = sym (ap payer_of from.turned);
-          from_caller = refl;
-          from_called = refl;
+          from_caller = none Caller;
+          from_called = none Called;
           block = None;
           told = ap (clears_to line) moment.step.outputs ∙ from.tells;
         }
@@ -76,7 +86,7 @@ module _ {A : Type 0} where
     ended_recorded_as : (number : ℕ) (call : Call) (line cause diagnostic : ℕ) (block : Option (Block A)) → call_numbered moment.world number ≡ Some call
         → call_numbered moment.next number ≡ None → line ≡ moment.entry.event.line
         → clears_to (far_end call line) (outputs_of moment.step.told) ≡ Clear cause (Some diagnostic) block ∷ []
-        → IsRecordOf moment (record_of number call cause diagnostic)
+        → IsRecordOf moment (record_of number call (counted number call) cause diagnostic)
     ended_recorded_as number call line cause diagnostic block live missing at tells =
         let begun : IsBegun tables history number call =
         begun_still tables moment.before history (moment.entry ∷ moment.rest) moment.splits number call (booked.begun number call live) in
@@ -93,8 +103,8 @@ module _ {A : Type 0} where
           called = begun.called;
           dialled = begun.dialled;
           payer = begun.payer;
-          from_caller = refl;
-          from_called = refl;
+          from_caller = ap (λ found. segments_if_live tables moment.before number found Caller) (sym live);
+          from_called = ap (λ found. segments_if_live tables moment.before number found Called) (sym live);
           block = block;
           told = subst Q at (ap (clears_to (far_end call line)) moment.step.outputs ∙ tells);
         }
@@ -103,7 +113,7 @@ module _ {A : Type 0} where
     leads_by changes is = moment.step.leads ∙ ap (λ c. all_changed c moment.world) is
 
     of_change : (change : Change) → moment.next ≡ changed change moment.world → CanBe moment.world change → Comes change
-        → All (IsRecordOf moment) (recorded moment.world change)
+        → All (IsRecordOf moment) (recorded counted moment.world change)
     of_change (Rises line) leads can from = All-nil (IsRecordOf moment)
     of_change (Leaves line way) leads can from = All-nil (IsRecordOf moment)
     of_change (Begins line identifier called dialled setup) leads can from = All-nil (IsRecordOf moment)
@@ -113,7 +123,7 @@ module _ {A : Type 0} where
         (refused_recorded moment.world line identifier dialled why refl (ap (λ w. call_numbered w moment.world.next) leads ∙ right.sound.fresh moment.world.next (omega arith)) from)
         (All-nil (IsRecordOf moment))
     of_change (Ends number call line way cause diagnostic) leads can from =
-        All-cons (IsRecordOf moment) (record_of number call cause diagnostic) []
+        All-cons (IsRecordOf moment) (record_of number call (counted number call) cause diagnostic) []
         (ended_recorded_as number call line cause diagnostic from.block can.live
         (ap (λ w. call_numbered w number) leads ∙ get_gone moment.world.calls number number refl) from.line_is from.tells)
         (All-nil (IsRecordOf moment))
@@ -151,7 +161,7 @@ module _ {A : Type 0} where
         by (Connects n c agreement) comes = absurd (comes.old new)
         by (Ends n c line way cause diagnostic) comes = absurd (comes.old new)
 
-      second_recorded : (change : Change) → moment.next ≡ changed change mid → Comes change → All (IsRecordOf moment) (recorded mid change)
+      second_recorded : (change : Change) → moment.next ≡ changed change mid → Comes change → All (IsRecordOf moment) (recorded counted mid change)
       second_recorded (Rises line) leads from = All-nil (IsRecordOf moment)
       second_recorded (Leaves line way) leads from = All-nil (IsRecordOf moment)
       second_recorded (Begins line identifier called dialled setup) leads from = All-nil (IsRecordOf moment)
@@ -164,26 +174,26 @@ module _ {A : Type 0} where
 
       both_recorded : (change : Change) → moment.next ≡ changed change mid → Comes change
           → clears_to (far_end call moment.entry.event.line) (outputs_of moment.step.told) ≡ Clear NUMBER_BUSY (Some CALL_COLLISION) None ∷ []
-          → All (IsRecordOf moment) (record_of number call NUMBER_BUSY CALL_COLLISION ∷ recorded mid change)
+          → All (IsRecordOf moment) (record_of number call (counted number call) NUMBER_BUSY CALL_COLLISION ∷ recorded counted mid change)
       both_recorded change leads from tells =
-          All-cons (IsRecordOf moment) (record_of number call NUMBER_BUSY CALL_COLLISION) (recorded mid change)
+          All-cons (IsRecordOf moment) (record_of number call (counted number call) NUMBER_BUSY CALL_COLLISION) (recorded counted mid change)
           (ended_recorded_as number call moment.entry.event.line NUMBER_BUSY CALL_COLLISION None first.live (gone change leads from) refl tells)
           (second_recorded change leads from)
 
     each_recorded : All (IsRecordOf moment) moment.entry.records.items
     each_recorded = elim (shape_of tables moment.before moment.world moment.entry moment.next (length moment.before) right moment.step) [
-      | none is old ↦ All-same (IsRecordOf moment) moment.entry.records.items [] (moment.step.records ∙ ap (recorded_by moment.world) is) (All-nil (IsRecordOf moment))
+      | none is old ↦ All-same (IsRecordOf moment) moment.entry.records.items [] (moment.step.records ∙ ap (recorded_by counted moment.world) is) (All-nil (IsRecordOf moment))
       | one change is can from ↦
-          All-same (IsRecordOf moment) moment.entry.records.items (recorded moment.world change)
-          (moment.step.records ∙ ap (recorded_by moment.world) is ∙ append-nil (recorded moment.world change))
+          All-same (IsRecordOf moment) moment.entry.records.items (recorded counted moment.world change)
+          (moment.step.records ∙ ap (recorded_by counted moment.world) is ∙ append-nil (recorded counted moment.world change))
           (of_change change (leads_by (change ∷ []) is) can from)
       | two number call change new is first can tells from ↦
-          All-same (IsRecordOf moment) moment.entry.records.items (record_of number call NUMBER_BUSY CALL_COLLISION ∷ recorded (mid number call new first) change)
-          (moment.step.records ∙ ap (recorded_by moment.world) is ∙ ap (λ more. record_of number call NUMBER_BUSY CALL_COLLISION ∷ more) (append-nil (recorded (mid number call new first) change)))
+          All-same (IsRecordOf moment) moment.entry.records.items (record_of number call (counted number call) NUMBER_BUSY CALL_COLLISION ∷ recorded counted (mid number call new first) change)
+          (moment.step.records ∙ ap (recorded_by counted moment.world) is ∙ ap (λ more. record_of number call (counted number call) NUMBER_BUSY CALL_COLLISION ∷ more) (append-nil (recorded counted (mid number call new first) change)))
           (both_recorded number call new first change (leads_by (ends number call new first ∷ change ∷ []) is) from tells)
     ]
 
-    few_of : (w : World) (change : Change) → length (recorded w change) ≤ 1
+    few_of : (w : World) (change : Change) → length (recorded counted w change) ≤ 1
     few_of w (Rises line) = omega arith
     few_of w (Leaves line way) = omega arith
     few_of w (Begins line identifier called dialled setup) = omega arith
@@ -193,16 +203,16 @@ module _ {A : Type 0} where
 
     few_recorded : length moment.entry.records.items ≤ 2
     few_recorded = elim (shape_of tables moment.before moment.world moment.entry moment.next (length moment.before) right moment.step) [
-      | none is old ↦ omega (arith, ap length (moment.step.records ∙ ap (recorded_by moment.world) is))
+      | none is old ↦ omega (arith, ap length (moment.step.records ∙ ap (recorded_by counted moment.world) is))
       | one change is can from ↦ omega (
         arith,
         few_of moment.world change,
-        ap length (moment.step.records ∙ ap (recorded_by moment.world) is ∙ append-nil (recorded moment.world change)),
+        ap length (moment.step.records ∙ ap (recorded_by counted moment.world) is ∙ append-nil (recorded counted moment.world change)),
       )
       | two number call change new is first can tells from ↦ omega (
         arith,
         few_of (mid number call new first) change,
-        ap length (moment.step.records ∙ ap (recorded_by moment.world) is ∙ ap (λ more. record_of number call NUMBER_BUSY CALL_COLLISION ∷ more) (append-nil (recorded (mid number call new first) change))),
+        ap length (moment.step.records ∙ ap (recorded_by counted moment.world) is ∙ ap (λ more. record_of number call (counted number call) NUMBER_BUSY CALL_COLLISION ∷ more) (append-nil (recorded counted (mid number call new first) change))),
       )
     ]
 

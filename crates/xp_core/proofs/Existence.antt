@@ -1,5 +1,5 @@
 -- Every event has a step.
-use Rattle.std.proofs.Common.{◌≡◌, ℕ, ◌+◌, ◌<◌, length, Option, Some, None, List, [], refl, arith}
+use Rattle.std.proofs.Common.{◌≡◌, ℕ, ◌+◌, ◌<◌, length, Bool, true, false, Option, Some, None, List, [], refl, arith}
 use Rattle.xp_answer.proofs.Every.{one_answer, one_indication}
 use Rattle.xp_answer.specs.Answered.{Answered}
 use Rattle.xp_answer.specs.Setup.{setup_of}
@@ -7,7 +7,7 @@ use Rattle.xp_answer.specs.Terms.{AreTerms}
 use Rattle.xp_answer.specs.declared.answer.Answer.{Answer}
 use Rattle.xp_answer.specs.declared.answer.Answer.TheVariants as answered
 use Rattle.xp_channel.specs.declared.action.Action.{Action}
-use Rattle.xp_channel.specs.declared.action.Action.TheVariants.{NewCall, Collision, Answer as Accepting, Confirm}
+use Rattle.xp_channel.specs.declared.action.Action.TheVariants.{NewCall, Collision, Answer as Accepting, Confirm, Relayed}
 use Rattle.xp_decide.proofs.Exists.{has_verdict}
 use Rattle.xp_decide.proofs.Written.{told_can_be_written}
 use Rattle.xp_decide.specs.Decided.{Decided}
@@ -21,21 +21,24 @@ use Rattle.xp_core.specs.declared.entry.Entry.{Entry}
 use Rattle.xp_core.specs.declared.event.Event.{Event}
 use Rattle.xp_core.specs.declared.event.What.{What}
 use Rattle.xp_core.specs.declared.outcome.Outcome.{Outcome}
-use Rattle.xp_core.specs.declared.outcome.Outcome.TheVariants.{Plain, Put, Refused, Connected, Declined}
+use Rattle.xp_core.specs.declared.outcome.Outcome.TheVariants.{Plain, Put, Refused, Connected, Declined, Exceeded}
 use Rattle.xp_core.specs.declared.output.Output.{Output}
-use Rattle.xp_core.specs.Acts.{Acts, Answers, Confirms, IsRequested, Requests, agreement_of, cancelled_told, lines_seen}
+use Rattle.xp_core.specs.Acts.{Acts, Answers, CarriesAs, Confirms, IsRequested, Requests, agreement_of, cancelled_told, lines_seen}
 use Rattle.xp_core.specs.Agreed.{AllHaveTerms}
+use Rattle.xp_core.specs.Carried.{Carried, carried_by}
 use Rattle.xp_core.specs.Changes.{recorded_by}
 use Rattle.xp_core.specs.Exchange.{IsReadable}
 use Rattle.xp_core.specs.Existence.{HasStep}
 use Rattle.xp_core.specs.Run.{Run}
 use Rattle.xp_core.specs.Worlds.{world_next}
+use Rattle.xp_core.specs.Segments.{segments_of}
 use Rattle.xp_core.specs.Setting.{Setting, setting}
 use Rattle.xp_core.specs.Does.{changes_of}
-use Rattle.xp_core.specs.Table.{CallAccepted, CallRequest, ClearRequest, accepted_in, action_at, clear_in, request_in}
-use Rattle.xp_core.specs.Told.{Told, outputs_of}
+use Rattle.xp_core.specs.Table.{CallAccepted, CallRequest, ClearRequest, accepted_in, action_at, clear_in, packet_in, request_in}
+use Rattle.xp_core.specs.Told.{Told, far_information, outputs_of}
 use Rattle.xp_core.specs.World.{Call, World, call_on}
 use Rattle.xp_core.proofs.Agreed.{run_agreed}
+use Rattle.xp_core.proofs.Counting.{far_counts}
 use Rattle.xp_core.proofs.Fitting.{request_few}
 use Rattle.xp_core.proofs.InCall.{shown_on}
 use Rattle.xp_core.proofs.Sounds.{run_right}
@@ -83,7 +86,7 @@ module _ {A : Type 0} where
 
     answered_acts : (accepted : CallAccepted A) (found : ℕ × Call) (answer : Answer A)
         → Answered found.1.setup (address_of at.tables at.line) found.1.dialled accepted.d accepted.block answer
-        → HasActs (Answers at.tables at.world at.line (Some accepted) (Some found))
+        → HasActs (Answers at (Some accepted) (Some found))
     answered_acts accepted found (answered.Connected connection) is = record {
       outcome = Connected (agreement_of connection);
       told = _;
@@ -93,7 +96,7 @@ module _ {A : Type 0} where
         record { outcome = Declined diagnostic; told = _; acts = record { answered = is; told_is = refl } }
 
     answer_acts : (accepted : Option (CallAccepted A)) (found : Option (ℕ × Call)) → call_on at.world at.line ≡ found
-        → HasActs (Answers at.tables at.world at.line accepted found)
+        → HasActs (Answers at accepted found)
     answer_acts None found on = record { outcome = Plain; told = _; acts = (refl, refl) }
     answer_acts (Some accepted) None on = record { outcome = Plain; told = _; acts = (refl, refl) }
     answer_acts (Some accepted) (Some found) on =
@@ -102,21 +105,26 @@ module _ {A : Type 0} where
         let it = one_answer found.1.setup (address_of at.tables at.line) found.1.dialled accepted.d accepted.block indicated in
         answered_acts accepted found it.some.0 it.some.1
 
-    clear_acts : (clear : Option (ClearRequest A)) (found : Option (ℕ × Call)) → HasActs (Confirms at.world at.line clear found)
+    clear_acts : (clear : Option (ClearRequest A)) (found : Option (ℕ × Call)) → HasActs (Confirms at clear found)
     clear_acts None found = record { outcome = Plain; told = _; acts = (refl, refl) }
     clear_acts (Some clear) None = record { outcome = Plain; told = _; acts = (refl, refl) }
     clear_acts (Some clear) (Some found) =
-        let it = one_indication found.1.setup.fast clear.cause clear.diagnostic clear.block None tt in record {
+        let it = one_indication found.1.setup.fast clear.cause clear.diagnostic clear.block (far_information at (Some found)) (far_counts at sound (Some found)) in record {
           outcome = Plain;
           told = _;
           acts = record { plain = refl; packet = it.some.0; carried = it.some.1; told_is = refl };
         }
+
+    carry_acts : (carried : Option (Carried A)) (past : Bool) → HasActs (CarriesAs at carried past)
+    carry_acts carried false = record { outcome = Plain; told = _; acts = (refl, refl) }
+    carry_acts carried true = record { outcome = Exceeded; told = _; acts = (refl, refl) }
 
     has_acts : (action : Action) → HasActs (Acts at what action)
     has_acts NewCall = request_acts [] (request_in what) refl
     has_acts Collision = request_acts (cancelled_told at.world at.line) (request_in what) refl
     has_acts Accepting = answer_acts (accepted_in what) (call_on at.world at.line) refl
     has_acts Confirm = clear_acts (clear_in what) (call_on at.world at.line)
+    has_acts Relayed = carry_acts (carried_by at.line (call_on at.world at.line) (packet_in what)) _
     has_acts action = record { outcome = Plain; told = _; acts = (refl, refl) }
 
   pub has_step : (tables : Tables) (history : List (Entry A)) (world : World) (event : Event A) → IsSound tables → Run tables history world
@@ -130,7 +138,7 @@ module _ {A : Type 0} where
         outcome = it.outcome;
         outputs = outputs_of it.told;
         records = record {
-          items = recorded_by world (changes_of tables history world (record {
+          items = recorded_by (segments_of tables history) world (changes_of tables history world (record {
             number = length history + 1;
             event = event;
             outcome = it.outcome;

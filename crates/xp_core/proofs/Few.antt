@@ -1,7 +1,7 @@
 -- An entry puts out few packets to a line.
-use Rattle.std.proofs.Common.{◌≡◌, ℕ, suc, ◌≤◌, Bool, true, false, cond, eqb, IfOk, Result, Ok, Err, Option, Some, None, List, [], ◌∷◌, ◌++◌, filter, length, map, refl, ap, sym, subst, ◌∙◌, arith, length-append}
+use Rattle.std.proofs.Common.{◌≡◌, ℕ, suc, ◌≤◌, Bool, true, false, cond, eqb, IfOk, Result, Ok, Err, Option, Some, None, List, [], ◌∷◌, ◌++◌, filter, length, map, refl, ap, sym, subst, arith, length-append}
 use Rattle.std.proofs.lemmas.List.{length-map}
-use Rattle.xp_causes.specs.declared.clearing_cause.TheConstants.{NUMBER_BUSY, OUT_OF_ORDER, REMOTE_PROCEDURE_ERROR}
+use Rattle.xp_causes.specs.declared.clearing_cause.TheConstants.{LOCAL_PROCEDURE_ERROR, NETWORK_CONGESTION, NUMBER_BUSY, REMOTE_PROCEDURE_ERROR}
 use Rattle.xp_causes.specs.declared.diagnostic.TheConstants.{CALL_COLLISION, NO_ADDITIONAL_INFORMATION, TIMER_EXPIRED_FOR_INCOMING_CALL}
 use Rattle.xp_channel.specs.declared.action.Action.{Action}
 use Rattle.xp_channel.specs.declared.action.Action.TheVariants.{Nothing, Rise, Fall, NewCall, Collision, Answer, Confirm, Free, Error, Relayed, Expired}
@@ -9,17 +9,17 @@ use Rattle.xp_charge.specs.declared.record.Record.{Record}
 use Rattle.xp_packets.specs.declared.packet.Packet.{Packet}
 use Rattle.xp_answer.specs.Terms.{AreTerms}
 use Rattle.xp_relay.proofs.Few.{puts_out_few}
-use Rattle.xp_relay.specs.Coupled.{KeptPair}
 use Rattle.xp_subs.specs.Tables.{Tables}
 use Rattle.xp_core.specs.declared.entry.Entry.{Entry}
 use Rattle.xp_core.specs.declared.event.Event.{Event}
 use Rattle.xp_core.specs.declared.event.What.{What}
 use Rattle.xp_core.specs.declared.event.What.TheVariants as events
 use Rattle.xp_core.specs.declared.outcome.Outcome.{Outcome}
-use Rattle.xp_core.specs.declared.outcome.Outcome.TheVariants.{Plain, Put, Refused, Connected, Declined}
+use Rattle.xp_core.specs.declared.outcome.Outcome.TheVariants.{Plain, Put, Refused, Connected, Declined, Exceeded}
 use Rattle.xp_core.specs.declared.output.Output.{Output}
+use Rattle.xp_core.specs.declared.relays.Metered.{Metered}
 use Rattle.xp_core.specs.declared.stepped.Stepped.{Stepped}
-use Rattle.xp_core.specs.Acts.{Acts, Answers, Confirms, IsAnswered, IsPlain, IsRequested, Requests, cancelled_told, closed, told_of_error, told_of_fall}
+use Rattle.xp_core.specs.Acts.{Acts, Answers, CarriesAs, Confirms, IsAnswered, IsPlain, IsRequested, Requests, cancelled_told, closed, told_both, told_of_error, told_of_fall}
 use Rattle.xp_core.specs.Agreed.{AllHaveTerms, HasTerms}
 use Rattle.xp_core.specs.Carried.{Carried, arrivals, carried_by, terms_of, turn_of_carried}
 use Rattle.xp_core.specs.Few.{AreFew, to_line}
@@ -74,10 +74,6 @@ module _ {A : Type 0} where
   closed_few world line events.Expire = omega arith
 
 module _ {A : Type 0} (tables : Tables) (world : World) (line : ℕ) where
-  error_few : (diagnostic : ℕ) (told : Told A) → told ≡ told_of_error world line diagnostic → Few told
-  error_few diagnostic told is =
-      these (told_of_error world line diagnostic) told is (omega arith, omega arith, far_few world line (call_on world line) (clear_indication REMOTE_PROCEDURE_ERROR diagnostic), omega arith)
-
   request_few : (far : List (Output A)) (request : CallRequest A) (outcome : Outcome) (told : Told A) → length far ≤ 1
       → IsRequested tables world line far request outcome told → Few told
   request_few far request (Put called setup) told few is = these _ told is.told_is (omega arith, omega arith, few, omega arith)
@@ -85,25 +81,35 @@ module _ {A : Type 0} (tables : Tables) (world : World) (line : ℕ) where
   request_few far request Plain told few is = absurd is
   request_few far request (Connected agreement) told few is = absurd is
   request_few far request (Declined diagnostic) told few is = absurd is
+  request_few far request Exceeded told few is = absurd is
 
   requests_few : (far : List (Output A)) (asked : Option (CallRequest A)) (outcome : Outcome) (told : Told A) → length far ≤ 1
       → Requests tables world line far asked outcome told → Few told
   requests_few far None outcome told few is = none_few outcome told is
   requests_few far (Some request) outcome told few is = request_few far request outcome told few is
 
-  answer_few : (answer : CallAccepted A) (call : Call) (outcome : Outcome) (told : Told A) → IsAnswered tables world line answer call outcome told → Few told
+module _ {A : Type 0} (at : Setting A) where
+  both_few : (near far diagnostic : ℕ) (told : Told A) → told ≡ told_both at near far diagnostic → Few told
+  both_few near far diagnostic told is =
+      these (told_both at near far diagnostic) told is (omega arith, omega arith, far_few at.world at.line (call_on at.world at.line) _, omega arith)
+
+  error_few : (diagnostic : ℕ) (told : Told A) → told ≡ told_of_error at diagnostic → Few told
+  error_few diagnostic told is = both_few LOCAL_PROCEDURE_ERROR REMOTE_PROCEDURE_ERROR diagnostic told is
+
+  answer_few : (answer : CallAccepted A) (call : Call) (outcome : Outcome) (told : Told A) → IsAnswered at answer call outcome told → Few told
   answer_few answer call (Connected agreement) told is = these _ told is.told_is (omega arith, omega arith, omega arith, omega arith)
   answer_few answer call (Declined diagnostic) told is = error_few diagnostic told is.told_is
   answer_few answer call Plain told is = absurd is
   answer_few answer call (Put called setup) told is = absurd is
   answer_few answer call (Refused why) told is = absurd is
+  answer_few answer call Exceeded told is = absurd is
 
-  answers_few : (accepted : Option (CallAccepted A)) (found : Option (ℕ × Call)) (outcome : Outcome) (told : Told A) → Answers tables world line accepted found outcome told → Few told
+  answers_few : (accepted : Option (CallAccepted A)) (found : Option (ℕ × Call)) (outcome : Outcome) (told : Told A) → Answers at accepted found outcome told → Few told
   answers_few None found outcome told is = none_few outcome told is
   answers_few (Some answer) None outcome told is = none_few outcome told is
   answers_few (Some answer) (Some found) outcome told is = answer_few answer found.1 outcome told is
 
-  confirms_few : (clear : Option (ClearRequest A)) (found : Option (ℕ × Call)) (outcome : Outcome) (told : Told A) → Confirms world line clear found outcome told → Few told
+  confirms_few : (clear : Option (ClearRequest A)) (found : Option (ℕ × Call)) (outcome : Outcome) (told : Told A) → Confirms at clear found outcome told → Few told
   confirms_few None found outcome told is = none_few outcome told is
   confirms_few (Some clear) None outcome told is = these _ told is.1 (omega arith, omega arith, omega arith, omega arith)
   confirms_few (Some clear) (Some found) outcome told is = these _ told is.told_is (omega arith, omega arith, omega arith, omega arith)
@@ -120,20 +126,25 @@ module _ {A : Type 0} (at : Setting A) (what : What A) (terms : AllHaveTerms at.
       let few = puts_out_few (terms_of carried.agreement) (terms_within carried.agreement sizes) (arrivals at.tables at.before carried.number) carried.arrival in
       these _ told is (omega (arith, few, sizes.window.called_most, sizes.window.calling_most, length-map moves (send_on at.world carried.call)), omega arith, omega arith, omega arith)
 
+  carries_few : (carried : Option (Carried A)) → carried_by at.line (call_on at.world at.line) (packet_in what) ≡ carried → (past : Bool) (outcome : Outcome) (told : Told A)
+      → CarriesAs at carried past outcome told → Few told
+  carries_few carried by false outcome told acts = carried_few carried by told acts.1
+  carries_few carried by true outcome told acts = both_few at NETWORK_CONGESTION NETWORK_CONGESTION NO_ADDITIONAL_INFORMATION told acts.1
+
   few_told : (action : Action) (outcome : Outcome) (told : Told A) → Acts at what action outcome told → Few told
   few_told Nothing outcome told acts = none_few outcome told acts
   few_told Rise outcome told acts = none_few outcome told acts
-  few_told Fall outcome told acts = these (told_of_fall at.world at.line what) told acts.1
-      (omega arith, closed_few at.world at.line what, far_few at.world at.line (call_on at.world at.line) (clear_indication OUT_OF_ORDER NO_ADDITIONAL_INFORMATION), omega arith)
+  few_told Fall outcome told acts = these (told_of_fall at what) told acts.1
+      (omega arith, closed_few at.world at.line what, far_few at.world at.line (call_on at.world at.line) _, omega arith)
   few_told NewCall outcome told acts = requests_few at.tables at.world at.line [] (request_in what) outcome told (omega arith) acts
   few_told Collision outcome told acts = requests_few at.tables at.world at.line (cancelled_told at.world at.line) (request_in what) outcome told
       (far_few at.world at.line (call_on at.world at.line) (clear_indication NUMBER_BUSY CALL_COLLISION)) acts
-  few_told Answer outcome told acts = answers_few at.tables at.world at.line (accepted_in what) (call_on at.world at.line) outcome told acts
-  few_told Confirm outcome told acts = confirms_few at.tables at.world at.line (clear_in what) (call_on at.world at.line) outcome told acts
+  few_told Answer outcome told acts = answers_few at (accepted_in what) (call_on at.world at.line) outcome told acts
+  few_told Confirm outcome told acts = confirms_few at (clear_in what) (call_on at.world at.line) outcome told acts
   few_told Free outcome told acts = none_few outcome told acts
-  few_told (Error diagnostic) outcome told acts = error_few at.tables at.world at.line diagnostic told acts.1
-  few_told Relayed outcome told acts = carried_few (carried_by at.line (call_on at.world at.line) (packet_in what)) refl told acts.1
-  few_told Expired outcome told acts = error_few at.tables at.world at.line TIMER_EXPIRED_FOR_INCOMING_CALL told acts.1
+  few_told (Error diagnostic) outcome told acts = error_few at diagnostic told acts.1
+  few_told Relayed outcome told acts = carries_few (carried_by at.line (call_on at.world at.line) (packet_in what)) refl _ outcome told acts
+  few_told Expired outcome told acts = error_few at TIMER_EXPIRED_FOR_INCOMING_CALL told acts.1
 
 module _ {A : Type 0} where
   pub few_of_step : (tables : Tables) (before : List (Entry A)) (world : World) (entry : Entry A) (next : World) → AllHaveTerms world → Step tables before world entry next → AreFew entry.outputs
@@ -144,8 +155,8 @@ module _ {A : Type 0} where
       omega (arith, each, few, ap length step.outputs)
 
   -- a call that hands on its outcome
-  pub outcome_few : {E : Type 0} (tables : Tables) (old : World) (relays : List (Option (KeptPair A))) (history : List (Entry A)) (records : List Record) (event : Event A)
-      (new : World) (later : List (Option (KeptPair A))) (entries : List (Entry A)) (charged : List Record) (outcome : Result (Stepped A) E) → AllHaveTerms old
+  pub outcome_few : {E : Type 0} (tables : Tables) (old : World) (relays : List (Option (Metered A))) (history : List (Entry A)) (records : List Record) (event : Event A)
+      (new : World) (later : List (Option (Metered A))) (entries : List (Entry A)) (charged : List Record) (outcome : Result (Stepped A) E) → AllHaveTerms old
       → IfOk outcome (λ told. Enters tables old relays history records event new later entries charged told) → IfOk outcome (λ told. AreFew told.outputs)
   outcome_few tables old relays history records event new later entries charged (Ok told) terms done =
       let P : List (Output A) → Type 0 = λ outputs. AreFew outputs in

@@ -3,6 +3,7 @@ use Rattle.std.proofs.Common.{◌≡◌, ℕ, ◌<◌, ◌≤◌, Bool, true, fa
 use Rattle.std.proofs.lemmas.Bool.{le-ltb, ltb-false}
 use Rattle.std.proofs.lemmas.List.Elements.{All-nil, All-pop, All-push, All-weaker}
 use Rattle.std.specs.List.{AllByRecursion}
+use Rattle.xp_answer.proofs.Informing.{cleared_information, confirmed_information}
 use Rattle.xp_answer.proofs.Sent.{carried_on_sent, connected_sent, incoming_call_sent}
 use Rattle.xp_answer.specs.Blocks.{user_in}
 use Rattle.xp_answer.specs.Fields.{CanBeSent}
@@ -48,9 +49,6 @@ set_narrow lines at becomes line new old = get_or-set (λ l. l.identifier < 4096
 
 clear_fits : (A : Type 0) (identifier cause diagnostic : ℕ) → identifier < 4096 → unfit {A = A} identifier (clear_indication cause diagnostic) ≡ None
 clear_fits A identifier cause diagnostic narrow = ap (λ b. cond b (Some Format) None) (le-ltb 4095 identifier (omega (arith, narrow)))
-
-confirmation_fits : (A : Type 0) (identifier : ℕ) → identifier < 4096 → unfit {A = A} identifier (packets.ClearConfirm None) ≡ None
-confirmation_fits A identifier narrow = ap (λ b. cond b (Some Format) None) (le-ltb 4095 identifier (omega (arith, narrow)))
 
 module _ {A : Type 0} where
   -- ---- what was read
@@ -120,15 +118,15 @@ module _ {A : Type 0} where
 
     sent_fits : (output : Output A) → IsSent at what output → Written output
     sent_fits output (closing is) = let W : Output A → Type 0 = λ o. Written o in subst W (sym is) tt
-    sent_fits output (confirming is) = sent_as at.line _ _ output is (confirmation_fits A _ (narrow at.line))
-    sent_fits output (clearing cause diagnostic is) = sent_as at.line _ _ output is (clear_fits A _ cause diagnostic (narrow at.line))
+    sent_fits output (confirming information is) = sent at.line _ output is (confirmed_information A information)
+    sent_fits output (clearing cause diagnostic information is) = sent at.line _ output is (cleared_information A cause diagnostic information)
     sent_fits output (refusing request why asks is) =
         sent_as at.line _ _ output is (clear_fits A request.identifier why.cause why.diagnostic (request_short what request asks readable).0)
-    sent_fits output (clearing_far found cause diagnostic live is) =
-        sent_as (far_end found.1 at.line) _ _ output is (clear_fits A _ cause diagnostic (narrow (far_end found.1 at.line)))
-    sent_fits output (carrying_on found clear packet live clears carried is) =
+    sent_fits output (clearing_far found cause diagnostic information live is) =
+        sent (far_end found.1 at.line) _ output is (cleared_information A cause diagnostic information)
+    sent_fits output (carrying_on found clear information packet live clears carried is) =
         sent (far_end found.1 at.line) packet output is
-        (carried_on_sent found.1.setup.fast clear.cause clear.diagnostic clear.block None packet (clear_short what clear clears readable) carried)
+        (carried_on_sent found.1.setup.fast clear.cause clear.diagnostic clear.block information packet (clear_short what clear clears readable) carried)
     sent_fits output (connecting found answer connection live accepts answered is) =
         sent found.1.caller connection.packet output is
         (connected_sent found.1.setup (address_of at.tables at.line) found.1.dialled answer.d answer.block answered.0 connection (answer_short what answer accepts readable) answered.2)

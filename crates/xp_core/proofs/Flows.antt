@@ -1,16 +1,17 @@
 -- The state of flow control that is seen of a line.
-use Rattle.std.proofs.Common.{◌≡◌, ◌∙◌, ℕ, Option, Some, None, option_map, List, refl, ap, sym, subst}
-use Rattle.xp_relay.specs.Coupled.{Coupled, KeptPair, ShowsCall, state_at}
+use Rattle.std.proofs.Common.{◌≡◌, ◌∙◌, ℕ, Option, Some, None, option_map, List, ap, sym, subst}
+use Rattle.xp_relay.specs.Coupled.{Coupled, ShowsCall, state_at}
 use Rattle.xp_relay.specs.declared.state.FlowState.{FlowState}
 use Rattle.xp_subs.specs.Tables.{Tables}
 use Rattle.xp_core.specs.declared.call.LiveCall.{LiveCall}
 use Rattle.xp_core.specs.declared.entry.Entry.{Entry}
 use Rattle.xp_core.specs.declared.outcome.Agreement.{Agreement}
+use Rattle.xp_core.specs.declared.relays.Metered.{Metered}
 use Rattle.xp_core.specs.Carried.{directions, end_of}
 use Rattle.xp_core.specs.Kept.{call_of_kept, entry_of}
-use Rattle.xp_core.specs.Relays.{AreCarried, IsShownBy, relay_under}
+use Rattle.xp_core.specs.Relays.{AreCarried, IsShownBy, counted_by, relay_under}
 use Rattle.xp_core.specs.View.{flow_at, flow_in}
-use Rattle.xp_core.specs.World.{Call, World, call_on}
+use Rattle.xp_core.specs.World.{World, call_on}
 use Rattle.xp_core.proofs.InCall.{shown_on}
 
 module _ {A : Type 0} (tables : Tables) (history : List (Entry A)) (world : World) (line : ℕ) where
@@ -27,16 +28,16 @@ module _ {A : Type 0} (tables : Tables) (history : List (Entry A)) (world : Worl
     pub unconnected : None ≡ call.agreed → None ≡ flow_at tables history world line
     unconnected none = ap (option_map its) none ∙ seen
 
-    module _ (agreement : Agreement) (agreed : Some agreement ≡ call.agreed) (relays : List (Option (KeptPair A))) (carried : AreCarried tables history world relays) where
-      is_kept : IsShownBy (relay_under relays call.caller) (directions tables history call.number agreement)
+    module _ (agreement : Agreement) (agreed : Some agreement ≡ call.agreed) (relays : List (Option (Metered A))) (carried : AreCarried tables history world relays) where
+      is_kept : IsShownBy (relay_under relays call.caller) (directions tables history call.number agreement) (counted_by tables history call.number (Some agreement))
       is_kept = carried call.number (call_of_kept call) agreement (shown_on world line (entry_of call) (sym on)).1 (sym agreed)
 
       pub never_lost : None ≡ relay_under relays call.caller → ⊥
-      never_lost none = let P : Option (KeptPair A) → Type 0 = λ r. IsShownBy r (directions tables history call.number agreement) in subst P (sym none) is_kept
+      never_lost none = let P : Option (Metered A) → Type 0 = λ r. IsShownBy r (directions tables history call.number agreement) (counted_by tables history call.number (Some agreement)) in subst P (sym none) is_kept
 
-      pub connected : (relay : KeptPair A) (state : FlowState) → Some relay ≡ relay_under relays call.caller
-          → ((shown : Coupled A) → ShowsCall relay shown → state ≡ state_at (end_of (call_of_kept call) line) shown)
+      pub connected : (kept : Metered A) (state : FlowState) → Some kept ≡ relay_under relays call.caller
+          → ((shown : Coupled A) → ShowsCall kept.relay shown → state ≡ state_at (end_of (call_of_kept call) line) shown)
           → Some state ≡ flow_at tables history world line
-      connected relay state under is =
-          let P : Option (KeptPair A) → Type 0 = λ r. IsShownBy r (directions tables history call.number agreement) in
-          ap (λ s. Some s) (is (directions tables history call.number agreement) (subst P (sym under) is_kept)) ∙ ap (option_map its) agreed ∙ seen
+      connected kept state under is =
+          let P : Option (Metered A) → Type 0 = λ r. IsShownBy r (directions tables history call.number agreement) (counted_by tables history call.number (Some agreement)) in
+          ap (λ s. Some s) (is (directions tables history call.number agreement) (subst P (sym under) is_kept).0) ∙ ap (option_map its) agreed ∙ seen

@@ -1,5 +1,5 @@
 -- The packets that a readable history handed in can be encoded, and so can those that are carried on.
-use Rattle.std.proofs.Common.{◌≡◌, ℕ, ◌<◌, ◌≤◌, eqb, cond, Option, Some, None, List, [], ◌∷◌, ◌++◌, All, arith, refl, subst}
+use Rattle.std.proofs.Common.{◌≡◌, ℕ, ◌<◌, eqb, Option, Some, None, List, [], ◌∷◌, ◌++◌, All, arith, refl, subst}
 use Rattle.std.proofs.lemmas.Bool.{cond_both}
 use Rattle.std.proofs.lemmas.List.Elements.{All-append, All-contains, All-cons, All-head, All-nil, All-tail}
 use Rattle.std.specs.List.{Contains}
@@ -7,7 +7,6 @@ use Rattle.xp_packets.specs.Fitness.{CanBeEncoded}
 use Rattle.xp_packets.specs.declared.packet.Packet.{Packet}
 use Rattle.xp_relay.proofs.Encodable.{puts_out_encodable}
 use Rattle.xp_relay.specs.Encodable.{CameEncoded}
-use Rattle.xp_relay.specs.Runs.{Arrival}
 use Rattle.xp_relay.specs.declared.moves.Move.{Move}
 use Rattle.xp_subs.specs.Tables.{Tables, line_count}
 use Rattle.xp_core.specs.declared.entry.Entry.{Entry}
@@ -20,7 +19,7 @@ use Rattle.xp_core.specs.Table.{action_at, packet_in}
 use Rattle.xp_core.specs.World.{World, call_on, opening}
 use Rattle.xp_core.specs.Worlds.{world_next}
 use Rattle.xp_core.specs.Writable.{AreReadable}
-use Rattle.xp_core.proofs.Carried.{IsOf, is_relayed, of_carried}
+use Rattle.xp_core.proofs.Carried.{is_relayed, of_carried}
 
 module _ {A : Type 0} where
   packet_can : (what : What A) (packet : Packet A) → packet_in what ≡ Some packet → IsReadable what → (identifier : ℕ) × CanBeEncoded identifier packet

@@ -1,29 +1,31 @@
 -- Closed user groups let the stations of every call be joined.
-use Rattle.std.proofs.Common.{◌≡◌, ℕ, Option, Some, None, List, [], ◌∷◌, ◌++◌, sym, subst, inl, inr, IfSome}
+use Rattle.std.proofs.Common.{◌≡◌, ℕ, Bool, true, false, Option, Some, None, List, [], ◌∷◌, ◌++◌, sym, subst, inl, inr, IfSome}
 use Rattle.std.proofs.lemmas.List.Elements.{All-nil, All-push}
 use Rattle.std.specs.FinMap.{get-empty}
 use Rattle.std.specs.List.{AllByRecursion}
 use Rattle.std.specs.Ordering.{nat_cmp}
 use Rattle.xp_answer.specs.declared.setup.Setup.{Setup}
 use Rattle.xp_channel.specs.declared.action.Action.{Action}
-use Rattle.xp_channel.specs.declared.action.Action.TheVariants.{NewCall, Collision, Answer as Accepting, Confirm}
+use Rattle.xp_channel.specs.declared.action.Action.TheVariants.{NewCall, Collision, Answer as Accepting, Confirm, Relayed}
 use Rattle.xp_decide.proofs.Joined.{taken_may_join}
 use Rattle.xp_subs.specs.Sound.{IsSound}
 use Rattle.xp_subs.specs.Tables.{Tables, line_count}
 use Rattle.xp_core.specs.declared.entry.Entry.{Entry}
 use Rattle.xp_core.specs.declared.event.What.{What}
 use Rattle.xp_core.specs.declared.outcome.Outcome.{Outcome}
-use Rattle.xp_core.specs.declared.outcome.Outcome.TheVariants.{Plain, Put, Refused, Connected, Declined}
+use Rattle.xp_core.specs.declared.outcome.Outcome.TheVariants.{Plain, Put, Refused, Connected, Declined, Exceeded}
 use Rattle.xp_core.specs.declared.output.Output.{Output}
-use Rattle.xp_core.specs.Acts.{Acts, Answers, Confirms, Requests, cancelled_told, lines_seen}
+use Rattle.xp_core.specs.Acts.{Acts, Answers, CarriesAs, Confirms, Requests, cancelled_told, lines_seen}
+use Rattle.xp_core.specs.Carried.{Carried, carried_by}
 use Rattle.xp_core.specs.Changes.{Change, Rises, Leaves, Begins, IsRefused, Connects, Ends, all_changed, changed}
 use Rattle.xp_core.specs.Joined.{AreJoined, MayTalk}
 use Rattle.xp_core.specs.Outcomes.{taken_by}
 use Rattle.xp_core.specs.Run.{Run}
+use Rattle.xp_core.specs.Segments.{is_past_limit}
 use Rattle.xp_core.specs.Setting.{Setting, setting}
 use Rattle.xp_core.specs.Step.{Step}
 use Rattle.xp_core.specs.Does.{changes_of}
-use Rattle.xp_core.specs.Table.{CallAccepted, CallRequest, ClearRequest, accepted_in, action_at, clear_in, request_in}
+use Rattle.xp_core.specs.Table.{CallAccepted, CallRequest, ClearRequest, accepted_in, action_at, clear_in, packet_in, request_in}
 use Rattle.xp_core.specs.Told.{Told}
 use Rattle.xp_core.specs.World.{Call, World, call_numbered, call_on, opening}
 use Rattle.xp_core.proofs.Maps.{new_or_old, was_there}
@@ -89,9 +91,10 @@ module _ {A : Type 0} (at : Setting A) (what : What A) (sound : IsSound at.table
   request_taken far (Some request) Plain told acts = tt
   request_taken far (Some request) (Connected agreement) told acts = tt
   request_taken far (Some request) (Declined diagnostic) told acts = tt
+  request_taken far (Some request) Exceeded told acts = tt
 
   answer_taken : (accepted : Option (CallAccepted A)) (found : Option (ℕ × Call)) (outcome : Outcome) (told : Told A)
-      → Answers at.tables at.world at.line accepted found outcome told → IsTakenWell outcome
+      → Answers at accepted found outcome told → IsTakenWell outcome
   answer_taken None found outcome told acts = plain_taken outcome acts.0
   answer_taken (Some answer) None outcome told acts = plain_taken outcome acts.0
   answer_taken (Some answer) (Some found) (Put called setup) told acts = absurd acts
@@ -99,18 +102,26 @@ module _ {A : Type 0} (at : Setting A) (what : What A) (sound : IsSound at.table
   answer_taken (Some answer) (Some found) Plain told acts = tt
   answer_taken (Some answer) (Some found) (Connected agreement) told acts = tt
   answer_taken (Some answer) (Some found) (Declined diagnostic) told acts = tt
+  answer_taken (Some answer) (Some found) Exceeded told acts = tt
 
   clear_taken : (clear : Option (ClearRequest A)) (found : Option (ℕ × Call)) (outcome : Outcome) (told : Told A)
-      → Confirms at.world at.line clear found outcome told → IsTakenWell outcome
+      → Confirms at clear found outcome told → IsTakenWell outcome
   clear_taken None found outcome told acts = plain_taken outcome acts.0
   clear_taken (Some clear) None outcome told acts = plain_taken outcome acts.0
   clear_taken (Some clear) (Some found) outcome told acts = plain_taken outcome acts.plain
+
+  carry_taken : (carried : Option (Carried A)) (past : Bool) (outcome : Outcome) (told : Told A) → CarriesAs at carried past outcome told → IsTakenWell outcome
+  carry_taken carried false outcome told acts = plain_taken outcome acts.0
+  carry_taken carried true outcome told acts = let P : Outcome → Type 0 = λ o. IsTakenWell o in subst P (sym acts.0) tt
 
   taken_joined : (action : Action) (outcome : Outcome) (told : Told A) → Acts at what action outcome told → IsTakenWell outcome
   taken_joined NewCall outcome told acts = request_taken [] (request_in what) outcome told acts
   taken_joined Collision outcome told acts = request_taken (cancelled_told at.world at.line) (request_in what) outcome told acts
   taken_joined Accepting outcome told acts = answer_taken (accepted_in what) (call_on at.world at.line) outcome told acts
   taken_joined Confirm outcome told acts = clear_taken (clear_in what) (call_on at.world at.line) outcome told acts
+  taken_joined Relayed outcome told acts =
+      let carried = carried_by at.line (call_on at.world at.line) (packet_in what) in
+      carry_taken carried (is_past_limit at.tables at.before carried) outcome told acts
   taken_joined action outcome told acts = plain_taken outcome acts.0
 
 module _ {A : Type 0} where

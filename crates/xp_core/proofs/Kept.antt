@@ -17,7 +17,7 @@ use Rattle.xp_core.specs.declared.outcome.Agreement.{Agreement}
 use Rattle.xp_core.specs.Changes.{Way, IsFree, state_after}
 use Rattle.xp_core.specs.Channel.{State, Ready, Ringing, Talking, Waiting, Cleared, INITIAL_IDENTIFIER, call_of}
 use Rattle.xp_core.specs.Coupling.{IsEnd}
-use Rattle.xp_core.specs.Kept.{AreKeyed, IsAccepted, IsEnded, IsKeptUnder, call_of_kept, calls_of, channel_at, entry_of, key_of, line_of, lines_connected, lines_left, lines_put, off_channel, risen, state_of, turned_down, world_kept}
+use Rattle.xp_core.specs.Kept.{AreKeyed, IsAccepted, IsEnded, IsKeptUnder, call_of_kept, calls_of, channel_at, entry_of, key_of, line_of, lines_left, lines_put, off_channel, risen, state_of, turned_down, world_kept}
 use Rattle.xp_core.specs.Plan.{applied, connected, freed_if_any, left}
 use Rattle.xp_core.specs.World.{Call, Line, World, call_numbered, call_on, far_end, line_at, moved, moved_as, numbered, off_line, opening, state_at}
 use Rattle.xp_core.proofs.Keyed.{added, added_one_each, changed, changed_one_each, found, removed, removed_one_each}

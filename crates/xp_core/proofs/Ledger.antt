@@ -4,6 +4,7 @@ use Rattle.std.proofs.lemmas.Bool.{eq-eqb, ne_eqb, cases_eq, cases_lt}
 use Rattle.std.proofs.lemmas.List.Concat.{flat_map-append}
 use Rattle.std.specs.FinMap.{get-empty}
 use Rattle.std.specs.Ordering.{nat_cmp}
+use Rattle.xp_packets.specs.declared.end.End.{End}
 use Rattle.xp_subs.specs.Tables.{Tables, line_count}
 use Rattle.xp_core.specs.declared.entry.Entry.{Entry}
 use Rattle.xp_charge.specs.declared.record.Record.{Record}
@@ -12,6 +13,7 @@ use Rattle.xp_core.specs.Clearing.{record_of, refused_record}
 use Rattle.xp_core.specs.Records.{Begins as HasBegun, Moment, count_of, holders, records_of}
 use Rattle.xp_core.specs.Outcomes.{payer_of, taken_by}
 use Rattle.xp_core.specs.Run.{Run}
+use Rattle.xp_core.specs.Segments.{segments_of}
 use Rattle.xp_core.specs.Setting.{setting}
 use Rattle.xp_core.specs.Step.{Step}
 use Rattle.xp_core.specs.Does.{changes_of}
@@ -65,11 +67,11 @@ tallies_same world next number same = record {
   beyond = λ n past. omega (arith, live_same world next n (same n));
 }
 
-pub changed_tallies : (world : World) (change : Change) → ((number : ℕ) → world.next ≤ number → call_numbered world number ≡ None)
-    → CanBe world change → Tallies world (changed change world) (recorded world change)
-changed_tallies world (Rises line) fresh can = tallies_same world _ refl (λ number. refl)
-changed_tallies world (Leaves line way) fresh can = tallies_same world _ refl (λ number. refl)
-changed_tallies world (Connects number call agreement) fresh can = record {
+pub changed_tallies : (counted : ℕ → Call → End → ℕ) (world : World) (change : Change) → ((number : ℕ) → world.next ≤ number → call_numbered world number ≡ None)
+    → CanBe world change → Tallies world (changed change world) (recorded counted world change)
+changed_tallies counted world (Rises line) fresh can = tallies_same world _ refl (λ number. refl)
+changed_tallies counted world (Leaves line way) fresh can = tallies_same world _ refl (λ number. refl)
+changed_tallies counted world (Connects number call agreement) fresh can = record {
   grows = omega arith;
   old = λ n below. same n;
   new = λ n past below. absurd (omega (arith, past, below));
@@ -86,7 +88,7 @@ changed_tallies world (Connects number call agreement) fresh can = record {
         omega (arith, subst P (sym is) here)
     | inr other ↦ omega (arith, live_same world (changed (Connects number call agreement) world) n (get_other world.calls number agreed n other))
   ]
-changed_tallies world (Begins line identifier called dialled setup) fresh can =
+changed_tallies counted world (Begins line identifier called dialled setup) fresh can =
     let change : Change = Begins line identifier called dialled setup in
     let next : World = changed change world in
     let call : Call = record { caller = line; called = called; dialled = dialled; setup = setup; agreed = None } in
@@ -102,7 +104,7 @@ changed_tallies world (Begins line identifier called dialled setup) fresh can =
           omega (arith, subst P same here);
       beyond = λ number past. omega (arith, other number (λ same. absurd (omega (arith, same, past))));
     }
-changed_tallies world (IsRefused line identifier dialled why) fresh can =
+changed_tallies counted world (IsRefused line identifier dialled why) fresh can =
     let charged : Record = refused_record world.next line dialled why in
     record {
       grows = omega arith;
@@ -110,10 +112,10 @@ changed_tallies world (IsRefused line identifier dialled why) fresh can =
       new = λ number past below. omega (arith, count_of-one number charged (omega (arith, past, below)));
       beyond = λ number past. omega (arith, count_of-other number charged (λ same. absurd (omega (arith, same, past))));
     }
-changed_tallies world (Ends number call line way cause diagnostic) fresh can =
+changed_tallies counted world (Ends number call line way cause diagnostic) fresh can =
     let change : Change = Ends number call line way cause diagnostic in
     let next : World = changed change world in
-    let charged : Record = record_of number call cause diagnostic in
+    let charged : Record = record_of number call (counted number call) cause diagnostic in
     let all : (n : ℕ) → count_of n (charged ∷ []) + live_of next n ≡ live_of world n =
     λ n. elim (cases_eq n number) [
       | inl same ↦
@@ -144,20 +146,21 @@ module _ {A : Type 0} where
       let P : World → List Record → Type 0 = λ w records. Tallies world w records in
       let Q : World → Type 0 = λ w. P w entry.records.items in
       let changes : List Change = changes_of tables before world entry in
+      let counted : ℕ → Call → End → ℕ = segments_of tables before in
       subst Q (sym step.leads) (subst (P (all_changed changes world)) (sym step.records) (
-      let R : List Change → Type 0 = λ changes. P (all_changed changes world) (recorded_by world changes) in
+      let R : List Change → Type 0 = λ changes. P (all_changed changes world) (recorded_by counted world changes) in
       elim (shape_of tables before world entry next entries right step) [
         | none is old ↦ subst R (sym is) (tallies_same world world refl (λ number. refl))
         | one change is can from ↦
-            let tallies = changed_tallies world change right.sound.fresh can in
-            subst R (sym is) (subst (P (changed change world)) (sym (append-nil (recorded world change))) tallies)
+            let tallies = changed_tallies counted world change right.sound.fresh can in
+            subst R (sym is) (subst (P (changed change world)) (sym (append-nil (recorded counted world change))) tallies)
         | two number call change new is first can told from ↦
             let ends : Change = cancelled_by number call entry.event.line in
             let mid : World = changed ends world in
             let after = cancel_right tables entries world number call entry.event.line right first in
-            let both = tallies_both world mid (changed change mid) (recorded world ends) (recorded mid change) refl
-            (changed_tallies world ends right.sound.fresh first) (changed_tallies mid change after.sound.fresh can) in
-            subst R (sym is) (subst (P (changed change mid)) (ap (λ more. recorded world ends ++ more) (sym (append-nil (recorded mid change)))) both)
+            let both = tallies_both world mid (changed change mid) (recorded counted world ends) (recorded counted mid change) refl
+            (changed_tallies counted world ends right.sound.fresh first) (changed_tallies counted mid change after.sound.fresh can) in
+            subst R (sym is) (subst (P (changed change mid)) (ap (λ more. recorded counted world ends ++ more) (sym (append-nil (recorded counted mid change)))) both)
       ]))
 
   -- this live call was begun at a moment of the history

@@ -4,6 +4,7 @@ pub mod Carrying
 pub mod Cells
 pub mod Clearings
 pub mod Clears
+pub mod Counting
 pub mod Counts
 pub mod Coupled
 pub mod Delivered
@@ -20,6 +21,7 @@ pub mod InCall
 pub mod Joined
 pub mod Kept
 pub mod Keyed
+pub mod Leaving
 pub mod Ledger
 pub mod Lines
 pub mod Live

@@ -1,13 +1,13 @@
 -- Where the live calls after a step come from.
-use Rattle.std.proofs.Common.{◌≡◌, ◌≢◌, ◌∙◌, ◌≤◌, ℕ, ◌+◌, Option, Some, None, List, [], ◌∷◌, refl, ap, sym, subst, inl, inr, arith}
+use Rattle.std.proofs.Common.{◌≡◌, ◌∙◌, ◌≤◌, ℕ, Option, Some, None, List, [], ◌∷◌, refl, ap, sym, subst, inl, inr, arith}
 use Rattle.xp_channel.specs.declared.action.Action.{Action}
 use Rattle.xp_channel.specs.declared.action.Action.TheVariants.{Answer}
-use Rattle.xp_subs.specs.Tables.{Tables, line_count}
+use Rattle.xp_subs.specs.Tables.{Tables}
 use Rattle.xp_core.specs.declared.entry.Entry.{Entry}
 use Rattle.xp_core.specs.declared.outcome.Agreement.{Agreement}
 use Rattle.xp_core.specs.Changes.{Change, Rises, Leaves, Begins, IsRefused, Connects, Ends, all_changed, changed}
-use Rattle.xp_core.specs.Channel.{Ringing, Talking, Waiting}
-use Rattle.xp_core.specs.Coupling.{AreCoupled, IsHeld}
+use Rattle.xp_core.specs.Channel.{Ringing, Talking}
+use Rattle.xp_core.specs.Coupling.{IsHeld}
 use Rattle.xp_core.specs.Does.{changes_of}
 use Rattle.xp_core.specs.Setting.{setting}
 use Rattle.xp_core.specs.Step.{Step}
@@ -17,7 +17,7 @@ use Rattle.xp_core.proofs.Cells.{Suits, suits}
 use Rattle.xp_core.proofs.Coupled.{CanBe}
 use Rattle.xp_core.proofs.InCall.{end_of, shown_on}
 use Rattle.xp_core.proofs.Maps.{new_or_old, was_there}
-use Rattle.xp_core.proofs.Shapes.{ComesOf, IsNew, Shape, cancelled_by, none, one, two}
+use Rattle.xp_core.proofs.Shapes.{ComesOf, IsNew, cancelled_by, none, one, two}
 use Rattle.xp_core.proofs.Sounds.{IsRight, shape_of}
 
 -- these changes connect a call of this number

@@ -20,6 +20,7 @@ use Rattle.xp_core.specs.Clearing.{record_of, refused_record}
 use Rattle.xp_core.specs.Coupling.{AreCoupled, IsHeld}
 use Rattle.xp_core.specs.Lines.{HasLines}
 use Rattle.xp_core.specs.Run.{Run}
+use Rattle.xp_core.specs.Segments.{segments_of}
 use Rattle.xp_core.specs.Setting.{Setting, setting}
 use Rattle.xp_core.specs.Step.{Step}
 use Rattle.xp_core.specs.Does.{changes_of}
@@ -52,12 +53,12 @@ module _ {A : Type 0} (at : Setting A) (what : What A) (sound : IsSound at.table
 
   sent_named : (output : Output A) → IsSent at what output → IsNamed output
   sent_named output (closing is) = to at.line output (ap (λ o. o.line) is) within
-  sent_named output (confirming is) = to at.line output (ap (λ o. o.line) is) within
-  sent_named output (clearing cause diagnostic is) = to at.line output (ap (λ o. o.line) is) within
+  sent_named output (confirming information is) = to at.line output (ap (λ o. o.line) is) within
+  sent_named output (clearing cause diagnostic information is) = to at.line output (ap (λ o. o.line) is) within
   sent_named output (refusing request why asks is) = to at.line output (ap (λ o. o.line) is) within
-  sent_named output (clearing_far found cause diagnostic live is) =
+  sent_named output (clearing_far found cause diagnostic information live is) =
       to (far_end found.1 at.line) output (ap (λ o. o.line) is) (far_within found.0 found.1 at.line live)
-  sent_named output (carrying_on found clear packet live clears carried is) =
+  sent_named output (carrying_on found clear information packet live clears carried is) =
       to (far_end found.1 at.line) output (ap (λ o. o.line) is) (far_within found.0 found.1 at.line live)
   sent_named output (connecting found answer connection live accepts answered is) =
       to found.1.caller output (ap (λ o. o.line) is) (coupled.held found.0 found.1 live).caller
@@ -73,7 +74,10 @@ module _ {A : Type 0} (at : Setting A) (what : What A) (sound : IsSound at.table
   abbrev Recorded : List Record → Type 0
   Recorded records = All (NamesLines (line_count at.tables)) records
 
-  records_named : (change : Change) (world : World) → ComesOf at what change → Recorded (recorded world change)
+  abbrev counted : ℕ → Call → End → ℕ
+  counted = segments_of at.tables at.before
+
+  records_named : (change : Change) (world : World) → ComesOf at what change → Recorded (recorded counted world change)
   records_named (Rises line) world from = All-nil (NamesLines (line_count at.tables))
   records_named (Leaves line way) world from = All-nil (NamesLines (line_count at.tables))
   records_named (Begins line identifier called dialled setup) world from = All-nil (NamesLines (line_count at.tables))
@@ -83,13 +87,13 @@ module _ {A : Type 0} (at : Setting A) (what : What A) (sound : IsSound at.table
       (record { caller = omega (arith, from.line_is, within); called = tt }) (All-nil (NamesLines (line_count at.tables)))
   records_named (Ends number call line way cause diagnostic) world from =
       let held : IsHeld at.tables at.world number call = coupled.held number call from.0 in
-      All-cons (NamesLines (line_count at.tables)) (record_of number call cause diagnostic) []
+      All-cons (NamesLines (line_count at.tables)) (record_of number call (counted number call) cause diagnostic) []
       (record { caller = held.caller; called = held.called }) (All-nil (NamesLines (line_count at.tables)))
 
-  all_records_named : (changes : List Change) (world : World) → AllByRecursion (ComesOf at what) changes → Recorded (recorded_by world changes)
+  all_records_named : (changes : List Change) (world : World) → AllByRecursion (ComesOf at what) changes → Recorded (recorded_by counted world changes)
   all_records_named [] world from = All-nil (NamesLines (line_count at.tables))
   all_records_named (change ∷ changes) world from =
-      All-append (NamesLines (line_count at.tables)) (recorded world change) (recorded_by (changed change world) changes)
+      All-append (NamesLines (line_count at.tables)) (recorded counted world change) (recorded_by counted (changed change world) changes)
       (records_named change world from.0) (all_records_named changes (changed change world) from.1)
 
 module _ {A : Type 0} where

@@ -1,15 +1,16 @@
 -- What each change of a step, and each thing that it puts out, comes of.
-use Rattle.std.proofs.Common.{◌≡◌, ℕ, Option, Some, None, List, [], ◌∷◌, ◌++◌, All, map, refl, sym, subst}
+use Rattle.std.proofs.Common.{◌≡◌, ℕ, Bool, true, false, Option, Some, None, List, [], ◌∷◌, ◌++◌, All, map, refl, sym, subst}
 use Rattle.std.proofs.lemmas.List.Elements.{All-append, All-contains_itself, All-from_recursion, All-map, All-same, All-weaker}
 use Rattle.std.specs.List.{AllByRecursion, Contains}
 use Rattle.xp_answer.specs.Answered.{Answered}
 use Rattle.xp_answer.specs.CarriedOn.{CarriedOn}
 use Rattle.xp_answer.specs.Incoming.{IsIncomingCall}
+use Rattle.xp_answer.specs.Information.{cleared_with, confirmed_with}
 use Rattle.xp_answer.specs.Setup.{setup_of}
 use Rattle.xp_answer.specs.declared.answer.Answer.TheVariants as answered
 use Rattle.xp_answer.specs.declared.connection.Connection.{Connection}
 use Rattle.xp_answer.specs.declared.setup.Setup.{Setup}
-use Rattle.xp_causes.specs.declared.clearing_cause.TheConstants.{NUMBER_BUSY, OUT_OF_ORDER, REMOTE_PROCEDURE_ERROR}
+use Rattle.xp_causes.specs.declared.clearing_cause.TheConstants.{LOCAL_PROCEDURE_ERROR, NETWORK_CONGESTION, NUMBER_BUSY, OUT_OF_ORDER, REMOTE_PROCEDURE_ERROR}
 use Rattle.xp_causes.specs.declared.diagnostic.TheConstants.{CALL_COLLISION, NO_ADDITIONAL_INFORMATION, TIMER_EXPIRED_FOR_INCOMING_CALL}
 use Rattle.xp_causes.specs.declared.refusal.Refusal.{Refusal}
 use Rattle.xp_causes.specs.Told.{cause_told, diagnostic_told}
@@ -18,22 +19,22 @@ use Rattle.xp_channel.specs.declared.action.Action.TheVariants.{Nothing, Rise, F
 use Rattle.xp_decide.specs.Decided.{Decided}
 use Rattle.xp_decide.specs.declared.verdict.Ring.{Ring}
 use Rattle.xp_decide.specs.declared.verdict.Verdict.TheVariants.{Take}
+use Rattle.xp_facilities.specs.declared.segment_counts.SegmentCounts.{SegmentCounts}
 use Rattle.xp_packets.specs.declared.packet.Packet.{Packet}
-use Rattle.xp_packets.specs.declared.packet.Packet.TheVariants.{ClearConfirm}
 use Rattle.xp_relay.specs.declared.moves.Move.{Move}
 use Rattle.xp_subs.specs.Tables.{address_of}
 use Rattle.xp_core.specs.declared.event.What.{What}
 use Rattle.xp_core.specs.declared.event.What.TheVariants as events
 use Rattle.xp_core.specs.declared.outcome.Agreement.{Agreement}
 use Rattle.xp_core.specs.declared.outcome.Outcome.{Outcome}
-use Rattle.xp_core.specs.declared.outcome.Outcome.TheVariants.{Plain, Put, Refused, Connected, Declined}
+use Rattle.xp_core.specs.declared.outcome.Outcome.TheVariants.{Plain, Put, Refused, Connected, Declined, Exceeded}
 use Rattle.xp_core.specs.declared.output.Output.{Output}
-use Rattle.xp_core.specs.Acts.{Acts, Answers, Confirms, IsAnswered, IsPlain, IsRequested, Requests, agreement_of, cancelled_told, closed, lines_seen, told_of_error, told_of_fall}
+use Rattle.xp_core.specs.Acts.{Acts, Answers, CarriesAs, Confirms, IsAnswered, IsPlain, IsRequested, Requests, agreement_of, cancelled_told, closed, lines_seen, told_both, told_of_error, told_of_fall}
 use Rattle.xp_core.specs.Carried.{Carried, carried_by, turn_of_carried}
 use Rattle.xp_core.specs.Changes.{Change, Rises, Leaves, Begins, IsRefused, Connects, Ends, Way, GoesOut, IsFree, IsCleared}
 use Rattle.xp_core.specs.Channel.{INITIAL_IDENTIFIER}
 use Rattle.xp_core.specs.Setting.{Setting}
-use Rattle.xp_core.specs.Does.{answers, collides, confirms, does, leaves, requests}
+use Rattle.xp_core.specs.Does.{answers, carries, collides, confirms, does, leaves, requests}
 use Rattle.xp_core.specs.Table.{CallAccepted, CallRequest, ClearRequest, accepted_in, clear_in, packet_in, request_in}
 use Rattle.xp_core.specs.Told.{Told, carried_told, clear_indication, close, nothing_told, outputs_of, send, send_as, send_far, send_on}
 use Rattle.xp_core.specs.World.{Call, call_numbered, call_on, far_end}
@@ -77,14 +78,15 @@ module _ {A : Type 0} where
   -- where something that is put out comes from
   pub data IsSent (at : Setting A) (what : What A) (output : Output A) : Type 0 where
     closing : output ≡ close at.world at.line → IsSent at what output
-    confirming : output ≡ send at.world at.line (ClearConfirm None) → IsSent at what output
-    clearing : (cause diagnostic : ℕ) → output ≡ send at.world at.line (clear_indication cause diagnostic) → IsSent at what output
+    confirming : (information : Option SegmentCounts) → output ≡ send at.world at.line (confirmed_with information) → IsSent at what output
+    clearing : (cause diagnostic : ℕ) (information : Option SegmentCounts)
+        → output ≡ send at.world at.line (cleared_with cause diagnostic information) → IsSent at what output
     refusing : (request : CallRequest A) (why : Refusal) → request_in what ≡ Some request
         → output ≡ send_as at.world at.line request.identifier (clear_indication why.cause why.diagnostic) → IsSent at what output
-    clearing_far : (found : ℕ × Call) (cause diagnostic : ℕ) → call_numbered at.world found.0 ≡ Some found.1
-        → output ≡ send at.world (far_end found.1 at.line) (clear_indication cause diagnostic) → IsSent at what output
-    carrying_on : (found : ℕ × Call) (clear : ClearRequest A) (packet : Packet A) → call_numbered at.world found.0 ≡ Some found.1 → clear_in what ≡ Some clear
-        → CarriedOn found.1.setup.fast clear.cause clear.diagnostic clear.block None packet
+    clearing_far : (found : ℕ × Call) (cause diagnostic : ℕ) (information : Option SegmentCounts) → call_numbered at.world found.0 ≡ Some found.1
+        → output ≡ send at.world (far_end found.1 at.line) (cleared_with cause diagnostic information) → IsSent at what output
+    carrying_on : (found : ℕ × Call) (clear : ClearRequest A) (information : Option SegmentCounts) (packet : Packet A) → call_numbered at.world found.0 ≡ Some found.1 → clear_in what ≡ Some clear
+        → CarriedOn found.1.setup.fast clear.cause clear.diagnostic clear.block information packet
         → output ≡ send at.world (far_end found.1 at.line) packet → IsSent at what output
     connecting : (found : ℕ × Call) (answer : CallAccepted A) (connection : Connection A) → call_numbered at.world found.0 ≡ Some found.1 → accepted_in what ≡ Some answer
         → Answered found.1.setup (address_of at.tables at.line) found.1.dialled answer.d answer.block (answered.Connected connection)
@@ -125,6 +127,7 @@ module _ {A : Type 0} where
     requested request far Plain told asks is = absurd is
     requested request far (Connected agreement) told asks is = absurd is
     requested request far (Declined diagnostic) told asks is = absurd is
+    requested request far Exceeded told asks is = absurd is
 
     requesting : (far : List (Output A)) (asked : Option (CallRequest A)) (outcome : Outcome) (told : Told A) → request_in what ≡ asked
         → Requests at.tables at.world at.line far asked outcome told → AllCome (requests at.line asked outcome)
@@ -139,7 +142,7 @@ module _ {A : Type 0} where
         (((shown_on at.world at.line found on).1, refl), requested request far outcome told asks is)
 
     accepting : (accepted : Option (CallAccepted A)) (found : Option (ℕ × Call)) (outcome : Outcome) (told : Told A) → call_on at.world at.line ≡ found
-        → Answers at.tables at.world at.line accepted found outcome told → AllCome (answers at.line found outcome)
+        → Answers at accepted found outcome told → AllCome (answers at.line found outcome)
     accepting accepted None outcome told on is = tt
     accepting None (Some found) outcome told on is =
         let P : Outcome → Type 0 = λ o. AllCome (answers at.line (Some found) o) in subst P (sym is.0) tt
@@ -157,10 +160,19 @@ module _ {A : Type 0} where
     accepting (Some answer) (Some found) Plain told on is = tt
     accepting (Some answer) (Some found) (Put called setup) told on is = tt
     accepting (Some answer) (Some found) (Refused why) told on is = tt
+    accepting (Some answer) (Some found) Exceeded told on is = tt
 
     confirmed : (clear : Option (ClearRequest A)) → AllCome (confirms at.line clear (call_on at.world at.line))
     confirmed None = tt
     confirmed (Some clear) = leaving IsFree (cause_told clear.cause) (diagnostic_told clear.diagnostic) (call_on at.world at.line) refl
+
+    carried_on : (found : Option (ℕ × Call)) (outcome : Outcome) → call_on at.world at.line ≡ found → AllCome (carries at.line found outcome)
+    carried_on found Exceeded on = leaving IsCleared NETWORK_CONGESTION NO_ADDITIONAL_INFORMATION found on
+    carried_on found Plain on = tt
+    carried_on found (Put called setup) on = tt
+    carried_on found (Refused why) on = tt
+    carried_on found (Connected agreement) on = tt
+    carried_on found (Declined diagnostic) on = tt
 
     -- each change that an action is
     pub all_come : (action : Action) (outcome : Outcome) (told : Told A) → Acts at what action outcome told → AllCome (does at what action outcome)
@@ -174,7 +186,7 @@ module _ {A : Type 0} where
     all_come Confirm outcome told acts = confirmed (clear_in what)
     all_come Free outcome told acts = (refl, tt)
     all_come (Error diagnostic) outcome told acts = leaving IsCleared REMOTE_PROCEDURE_ERROR diagnostic (call_on at.world at.line) refl
-    all_come Relayed outcome told acts = tt
+    all_come Relayed outcome told acts = carried_on (call_on at.world at.line) outcome refl
     all_come Expired outcome told acts = leaving IsCleared REMOTE_PROCEDURE_ERROR TIMER_EXPIRED_FOR_INCOMING_CALL (call_on at.world at.line) refl
 
     -- ---- what is put out
@@ -194,10 +206,10 @@ module _ {A : Type 0} where
     none_sent : (outcome : Outcome) (told : Told A) → IsPlain nothing_told outcome told → All (IsSent at what) (outputs_of told)
     none_sent outcome told is = these nothing_told told is.1 refl tt tt tt
 
-    far_cleared : (cause diagnostic : ℕ) (found : Option (ℕ × Call)) → call_on at.world at.line ≡ found
-        → AreSent (send_far at.world at.line found (clear_indication cause diagnostic))
-    far_cleared cause diagnostic None on = tt
-    far_cleared cause diagnostic (Some found) on = (clearing_far found cause diagnostic (shown_on at.world at.line found on).1 refl, tt)
+    far_cleared : (cause diagnostic : ℕ) (information : Option SegmentCounts) (found : Option (ℕ × Call)) → call_on at.world at.line ≡ found
+        → AreSent (send_far at.world at.line found (cleared_with cause diagnostic information))
+    far_cleared cause diagnostic information None on = tt
+    far_cleared cause diagnostic information (Some found) on = (clearing_far found cause diagnostic information (shown_on at.world at.line found on).1 refl, tt)
 
     fall_sent : (line_what : What A) → AreSent (closed at.world at.line line_what)
     fall_sent events.Stall = (closing refl, tt)
@@ -207,9 +219,12 @@ module _ {A : Type 0} where
     fall_sent (events.WrongFrame wrong) = tt
     fall_sent events.Expire = tt
 
-    error_sent : (diagnostic : ℕ) (told : Told A) → told ≡ told_of_error at.world at.line diagnostic → All (IsSent at what) (outputs_of told)
-    error_sent diagnostic told is = these (told_of_error at.world at.line diagnostic) told is refl
-        (clearing _ diagnostic refl, tt) (far_cleared REMOTE_PROCEDURE_ERROR diagnostic (call_on at.world at.line) refl) tt
+    both_sent : (near far diagnostic : ℕ) (told : Told A) → told ≡ told_both at near far diagnostic → All (IsSent at what) (outputs_of told)
+    both_sent near far diagnostic told is = these (told_both at near far diagnostic) told is refl
+        (clearing near diagnostic _ refl, tt) (far_cleared far diagnostic _ (call_on at.world at.line) refl) tt
+
+    error_sent : (diagnostic : ℕ) (told : Told A) → told ≡ told_of_error at diagnostic → All (IsSent at what) (outputs_of told)
+    error_sent diagnostic told is = both_sent LOCAL_PROCEDURE_ERROR REMOTE_PROCEDURE_ERROR diagnostic told is
 
     request_sent : (request : CallRequest A) (far : List (Output A)) (outcome : Outcome) (told : Told A) → request_in what ≡ Some request → AreSent far
         → IsRequested at.tables at.world at.line far request outcome told → All (IsSent at what) (outputs_of told)
@@ -222,6 +237,7 @@ module _ {A : Type 0} where
     request_sent request far Plain told asks of_far is = absurd is
     request_sent request far (Connected agreement) told asks of_far is = absurd is
     request_sent request far (Declined diagnostic) told asks of_far is = absurd is
+    request_sent request far Exceeded told asks of_far is = absurd is
 
     requests_sent : (far : List (Output A)) (asked : Option (CallRequest A)) (outcome : Outcome) (told : Told A) → request_in what ≡ asked → AreSent far
         → Requests at.tables at.world at.line far asked outcome told → All (IsSent at what) (outputs_of told)
@@ -229,27 +245,28 @@ module _ {A : Type 0} where
     requests_sent far (Some request) outcome told asks of_far is = request_sent request far outcome told asks of_far is
 
     answer_sent : (answer : CallAccepted A) (found : ℕ × Call) (outcome : Outcome) (told : Told A) → accepted_in what ≡ Some answer → call_on at.world at.line ≡ Some found
-        → IsAnswered at.tables at.world at.line answer found.1 outcome told → All (IsSent at what) (outputs_of told)
+        → IsAnswered at answer found.1 outcome told → All (IsSent at what) (outputs_of told)
     answer_sent answer found (Connected agreement) told accepts on is =
         these _ told is.told_is refl tt (connecting found answer is.connection (shown_on at.world at.line found on).1 accepts is.answered refl, tt) tt
     answer_sent answer found (Declined diagnostic) told accepts on is = error_sent diagnostic told is.told_is
     answer_sent answer found Plain told accepts on is = absurd is
     answer_sent answer found (Put called setup) told accepts on is = absurd is
     answer_sent answer found (Refused why) told accepts on is = absurd is
+    answer_sent answer found Exceeded told accepts on is = absurd is
 
     answers_sent : (accepted : Option (CallAccepted A)) (found : Option (ℕ × Call)) (outcome : Outcome) (told : Told A) → accepted_in what ≡ accepted → call_on at.world at.line ≡ found
-        → Answers at.tables at.world at.line accepted found outcome told → All (IsSent at what) (outputs_of told)
+        → Answers at accepted found outcome told → All (IsSent at what) (outputs_of told)
     answers_sent None found outcome told accepts on is = none_sent outcome told is
     answers_sent (Some answer) None outcome told accepts on is = none_sent outcome told is
     answers_sent (Some answer) (Some found) outcome told accepts on is = answer_sent answer found outcome told accepts on is
 
     confirms_sent : (asked : Option (ClearRequest A)) (found : Option (ℕ × Call)) (outcome : Outcome) (told : Told A) → clear_in what ≡ asked → call_on at.world at.line ≡ found
-        → Confirms at.world at.line asked found outcome told → All (IsSent at what) (outputs_of told)
+        → Confirms at asked found outcome told → All (IsSent at what) (outputs_of told)
     confirms_sent None found outcome told clears on is = none_sent outcome told is
-    confirms_sent (Some clear) None outcome told clears on is = these _ told is.1 refl (confirming refl, tt) tt tt
+    confirms_sent (Some clear) None outcome told clears on is = these _ told is.1 refl (confirming None refl, tt) tt tt
     confirms_sent (Some clear) (Some found) outcome told clears on is =
-        these _ told is.told_is refl (confirming refl, tt)
-        (carrying_on found clear is.packet (shown_on at.world at.line found on).1 clears is.carried refl, tt) tt
+        these _ told is.told_is refl (confirming _ refl, tt)
+        (carrying_on found clear _ is.packet (shown_on at.world at.line found on).1 clears is.carried refl, tt) tt
 
     carried_sent : (carried : Option (Carried A)) (told : Told A) → carried_by at.line (call_on at.world at.line) (packet_in what) ≡ carried
         → told ≡ carried_told at.tables at.before at.world carried → All (IsSent at what) (outputs_of told)
@@ -263,19 +280,24 @@ module _ {A : Type 0} where
         (All-weaker (Contains moves) (λ move. IsSent at what (send_on at.world carried.call move)) (λ move in_it. carrying carried move by in_it refl) moves
         (All-contains_itself moves))))
 
+    carries_sent : (carried : Option (Carried A)) (past : Bool) (outcome : Outcome) (told : Told A) → carried_by at.line (call_on at.world at.line) (packet_in what) ≡ carried
+        → CarriesAs at carried past outcome told → All (IsSent at what) (outputs_of told)
+    carries_sent carried false outcome told by acts = carried_sent carried told by acts.1
+    carries_sent carried true outcome told by acts = both_sent NETWORK_CONGESTION NETWORK_CONGESTION NO_ADDITIONAL_INFORMATION told acts.1
+
     -- all that an action puts out
     pub all_sent : (action : Action) (outcome : Outcome) (told : Told A) → Acts at what action outcome told → All (IsSent at what) (outputs_of told)
     all_sent Nothing outcome told acts = none_sent outcome told acts
     all_sent Rise outcome told acts = none_sent outcome told acts
-    all_sent Fall outcome told acts = these (told_of_fall at.world at.line what) told acts.1 refl
-        (fall_sent what) (far_cleared OUT_OF_ORDER NO_ADDITIONAL_INFORMATION (call_on at.world at.line) refl) tt
+    all_sent Fall outcome told acts = these (told_of_fall at what) told acts.1 refl
+        (fall_sent what) (far_cleared OUT_OF_ORDER NO_ADDITIONAL_INFORMATION _ (call_on at.world at.line) refl) tt
     all_sent NewCall outcome told acts = requests_sent [] (request_in what) outcome told refl tt acts
     all_sent Collision outcome told acts =
         requests_sent (cancelled_told at.world at.line) (request_in what) outcome told refl
-        (far_cleared NUMBER_BUSY CALL_COLLISION (call_on at.world at.line) refl) acts
+        (far_cleared NUMBER_BUSY CALL_COLLISION None (call_on at.world at.line) refl) acts
     all_sent Accepting outcome told acts = answers_sent (accepted_in what) (call_on at.world at.line) outcome told refl refl acts
     all_sent Confirm outcome told acts = confirms_sent (clear_in what) (call_on at.world at.line) outcome told refl refl acts
     all_sent Free outcome told acts = none_sent outcome told acts
     all_sent (Error diagnostic) outcome told acts = error_sent diagnostic told acts.1
-    all_sent Relayed outcome told acts = carried_sent (carried_by at.line (call_on at.world at.line) (packet_in what)) told refl acts.1
+    all_sent Relayed outcome told acts = carries_sent (carried_by at.line (call_on at.world at.line) (packet_in what)) _ outcome told refl acts
     all_sent Expired outcome told acts = error_sent TIMER_EXPIRED_FOR_INCOMING_CALL told acts.1

@@ -1,5 +1,5 @@
 -- Two steps of one event are the same, but for the line that a new call is put to.
-use Rattle.std.proofs.Common.{◌≡◌, ◌∙◌, ℕ, Option, Some, None, List, [], ◌∷◌, refl, ap, sym, subst}
+use Rattle.std.proofs.Common.{◌≡◌, ◌∙◌, ℕ, Bool, true, false, Option, Some, None, List, [], refl, ap, sym, subst}
 use Rattle.xp_answer.proofs.Once.{answers_same, incoming_call_same, indications_same}
 use Rattle.xp_answer.specs.Incoming.{IsIncomingCall}
 use Rattle.xp_answer.specs.Setup.{setup_of}
@@ -7,40 +7,53 @@ use Rattle.xp_answer.specs.declared.answer.Answer.{Answer}
 use Rattle.xp_answer.specs.declared.answer.Answer.TheVariants as answered
 use Rattle.xp_charge.specs.declared.record.Record.{Record}
 use Rattle.xp_channel.specs.declared.action.Action.{Action}
-use Rattle.xp_channel.specs.declared.action.Action.TheVariants.{NewCall, Collision, Answer as Answers_it, Confirm}
+use Rattle.xp_channel.specs.declared.action.Action.TheVariants.{NewCall, Collision, Answer as Answers_it, Confirm, Relayed}
 use Rattle.xp_decide.proofs.Once.{decided_same}
 use Rattle.xp_decide.specs.Laws.{IsSameRing}
 use Rattle.xp_decide.specs.declared.verdict.Ring.{Ring}
 use Rattle.xp_decide.specs.declared.verdict.Verdict.TheVariants.{Take, Refuse}
+use Rattle.xp_packets.specs.declared.end.End.{End}
 use Rattle.xp_packets.specs.declared.packet.Packet.{Packet}
-use Rattle.xp_packets.specs.declared.packet.Packet.TheVariants.{ClearConfirm}
 use Rattle.xp_subs.specs.Tables.{Tables, address_of}
 use Rattle.xp_core.specs.declared.entry.Entry.{Entry}
 use Rattle.xp_core.specs.declared.event.Event.{Event}
 use Rattle.xp_core.specs.declared.event.What.{What}
 use Rattle.xp_core.specs.declared.outcome.Outcome.{Outcome}
-use Rattle.xp_core.specs.declared.outcome.Outcome.TheVariants.{Plain, Put, Refused, Connected, Declined}
+use Rattle.xp_core.specs.declared.outcome.Outcome.TheVariants.{Plain, Put, Refused, Connected, Declined, Exceeded}
 use Rattle.xp_core.specs.declared.output.Output.{Output}
-use Rattle.xp_core.specs.Acts.{Acts, Answers, Confirms, IsAnswered, IsPlain, IsRequested, Requests, agreement_of, cancelled_told, told_connected, told_of_error}
+use Rattle.xp_core.specs.Acts.{Acts, Answers, CarriesAs, Confirms, IsAnswered, IsPlain, IsRequested, Requests, agreement_of, cancelled_told, told_confirmed, told_connected, told_of_error}
+use Rattle.xp_core.specs.Carried.{Carried, carried_by}
 use Rattle.xp_core.specs.Changes.{Change, all_changed, recorded_by}
 use Rattle.xp_core.specs.Determined.{IsSameButLine}
 use Rattle.xp_core.specs.Outcomes.{taken_by, with_line}
+use Rattle.xp_core.specs.Segments.{segments_of}
 use Rattle.xp_core.specs.Setting.{Setting, setting}
 use Rattle.xp_core.specs.Step.{Step}
-use Rattle.xp_core.specs.Does.{answers, collides, does, requests}
-use Rattle.xp_core.specs.Table.{CallAccepted, CallRequest, ClearRequest, accepted_in, action_at, clear_in, request_in}
-use Rattle.xp_core.specs.Told.{Told, outputs_of, refused_told, send, send_far, taken_told}
+use Rattle.xp_core.specs.Does.{answers, carries, collides, does, requests}
+use Rattle.xp_core.specs.Table.{CallAccepted, CallRequest, ClearRequest, accepted_in, action_at, clear_in, packet_in, request_in}
+use Rattle.xp_core.specs.Told.{Told, far_information, outputs_of, refused_told, send_far, taken_told}
 use Rattle.xp_core.specs.World.{Call, World, call_on}
 
 -- what is recorded of an answer, whichever line a call is put to
-answer_recorded : (world : World) (line : ℕ) (found : Option (ℕ × Call)) (outcome : Outcome)
-    → recorded_by world (answers line found outcome) ≡ recorded_by world (answers line found (with_line 0 outcome))
-answer_recorded world line None outcome = refl
-answer_recorded world line (Some found) (Put called setup) = refl
-answer_recorded world line (Some found) (Refused why) = refl
-answer_recorded world line (Some found) Plain = refl
-answer_recorded world line (Some found) (Connected agreement) = refl
-answer_recorded world line (Some found) (Declined diagnostic) = refl
+answer_recorded : (counted : ℕ → Call → End → ℕ) (world : World) (line : ℕ) (found : Option (ℕ × Call)) (outcome : Outcome)
+    → recorded_by counted world (answers line found outcome) ≡ recorded_by counted world (answers line found (with_line 0 outcome))
+answer_recorded counted world line None outcome = refl
+answer_recorded counted world line (Some found) (Put called setup) = refl
+answer_recorded counted world line (Some found) (Refused why) = refl
+answer_recorded counted world line (Some found) Plain = refl
+answer_recorded counted world line (Some found) (Connected agreement) = refl
+answer_recorded counted world line (Some found) (Declined diagnostic) = refl
+answer_recorded counted world line (Some found) Exceeded = refl
+
+-- and of a packet
+carry_recorded : (counted : ℕ → Call → End → ℕ) (world : World) (line : ℕ) (found : Option (ℕ × Call)) (outcome : Outcome)
+    → recorded_by counted world (carries line found outcome) ≡ recorded_by counted world (carries line found (with_line 0 outcome))
+carry_recorded counted world line found (Put called setup) = refl
+carry_recorded counted world line found (Refused why) = refl
+carry_recorded counted world line found Plain = refl
+carry_recorded counted world line found (Connected agreement) = refl
+carry_recorded counted world line found (Declined diagnostic) = refl
+carry_recorded counted world line found Exceeded = refl
 
 module _ {A : Type 0} where
   -- two outcomes with what they put out: the same, but for the line
@@ -95,12 +108,15 @@ module _ {A : Type 0} where
     requested_alike (Put called setup) Plain told told' first second = absurd second
     requested_alike (Put called setup) (Connected agreement) told told' first second = absurd second
     requested_alike (Put called setup) (Declined diagnostic) told told' first second = absurd second
+    requested_alike (Put called setup) Exceeded told told' first second = absurd second
     requested_alike (Refused why) Plain told told' first second = absurd second
     requested_alike (Refused why) (Connected agreement) told told' first second = absurd second
     requested_alike (Refused why) (Declined diagnostic) told told' first second = absurd second
+    requested_alike (Refused why) Exceeded told told' first second = absurd second
     requested_alike Plain other told told' first second = absurd first
     requested_alike (Connected agreement) other told told' first second = absurd first
     requested_alike (Declined diagnostic) other told told' first second = absurd first
+    requested_alike Exceeded other told told' first second = absurd first
 
   requests_alike : (tables : Tables) (world : World) (line : ℕ) (far : List (Output A)) (asked : Option (CallRequest A)) (one other : Outcome) (told told' : Told A)
       → Requests tables world line far asked one told → Requests tables world line far asked other told' → IsAlike one told other told'
@@ -110,63 +126,66 @@ module _ {A : Type 0} where
 
   -- ---- an answer
 
-  module _ (tables : Tables) (world : World) (line : ℕ) (answer : CallAccepted A) (call : Call) where
+  module _ (at : Setting A) (answer : CallAccepted A) (call : Call) where
     answered_alike : (one other : Outcome) (told told' : Told A)
-        → IsAnswered tables world line answer call one told → IsAnswered tables world line answer call other told' → IsAlike one told other told'
+        → IsAnswered at answer call one told → IsAnswered at answer call other told' → IsAlike one told other told'
     answered_alike (Connected agreement) (Connected agreement') told told' first second =
         let answers : answered.Connected first.connection ≡ answered.Connected second.connection =
-        answers_same call.setup (address_of tables line) call.dialled answer.d answer.block _ _ first.answered second.answered in
+        answers_same call.setup (address_of at.tables at.line) call.dialled answer.d answer.block _ _ first.answered second.answered in
         let is : first.connection ≡ second.connection = cc in
         same (Connected agreement) (Connected agreement') told told'
         (ap Connected (first.agreement_is ∙ ap agreement_of is ∙ sym second.agreement_is))
-        (first.told_is ∙ ap (λ c. told_connected world call.caller c.packet) is ∙ sym second.told_is)
+        (first.told_is ∙ ap (λ c. told_connected at.world call.caller c.packet) is ∙ sym second.told_is)
     answered_alike (Connected agreement) (Declined diagnostic) told told' first second =
         let answers : answered.Connected first.connection ≡ answered.Refused diagnostic =
-        answers_same call.setup (address_of tables line) call.dialled answer.d answer.block _ _ first.answered second.answered in cc
+        answers_same call.setup (address_of at.tables at.line) call.dialled answer.d answer.block _ _ first.answered second.answered in cc
     answered_alike (Declined diagnostic) (Connected agreement) told told' first second =
         let answers : answered.Refused diagnostic ≡ answered.Connected second.connection =
-        answers_same call.setup (address_of tables line) call.dialled answer.d answer.block _ _ first.answered second.answered in cc
+        answers_same call.setup (address_of at.tables at.line) call.dialled answer.d answer.block _ _ first.answered second.answered in cc
     answered_alike (Declined diagnostic) (Declined diagnostic') told told' first second =
         let answers : ◌≡◌ {A = Answer A} (answered.Refused diagnostic) (answered.Refused diagnostic') =
-        answers_same call.setup (address_of tables line) call.dialled answer.d answer.block _ _ first.answered second.answered in
+        answers_same call.setup (address_of at.tables at.line) call.dialled answer.d answer.block _ _ first.answered second.answered in
         let is : diagnostic ≡ diagnostic' = cc in
-        same (Declined diagnostic) (Declined diagnostic') told told' (ap Declined is) (first.told_is ∙ ap (told_of_error world line) is ∙ sym second.told_is)
+        same (Declined diagnostic) (Declined diagnostic') told told' (ap Declined is) (first.told_is ∙ ap (told_of_error at) is ∙ sym second.told_is)
     answered_alike (Connected agreement) Plain told told' first second = absurd second
     answered_alike (Connected agreement) (Put called setup) told told' first second = absurd second
     answered_alike (Connected agreement) (Refused why) told told' first second = absurd second
+    answered_alike (Connected agreement) Exceeded told told' first second = absurd second
     answered_alike (Declined diagnostic) Plain told told' first second = absurd second
     answered_alike (Declined diagnostic) (Put called setup) told told' first second = absurd second
     answered_alike (Declined diagnostic) (Refused why) told told' first second = absurd second
+    answered_alike (Declined diagnostic) Exceeded told told' first second = absurd second
     answered_alike Plain other told told' first second = absurd first
     answered_alike (Put called setup) other told told' first second = absurd first
     answered_alike (Refused why) other told told' first second = absurd first
+    answered_alike Exceeded other told told' first second = absurd first
 
-  answers_alike : (tables : Tables) (world : World) (line : ℕ) (accepted : Option (CallAccepted A)) (found : Option (ℕ × Call)) (one other : Outcome) (told told' : Told A)
-      → Answers tables world line accepted found one told → Answers tables world line accepted found other told' → IsAlike one told other told'
-  answers_alike tables world line None found one other told told' first second = plain_alike _ one other told told' first second
-  answers_alike tables world line (Some answer) None one other told told' first second = plain_alike _ one other told told' first second
-  answers_alike tables world line (Some answer) (Some found) one other told told' first second =
-      answered_alike tables world line answer found.1 one other told told' first second
+  answers_alike : (at : Setting A) (accepted : Option (CallAccepted A)) (found : Option (ℕ × Call)) (one other : Outcome) (told told' : Told A)
+      → Answers at accepted found one told → Answers at accepted found other told' → IsAlike one told other told'
+  answers_alike at None found one other told told' first second = plain_alike _ one other told told' first second
+  answers_alike at (Some answer) None one other told told' first second = plain_alike _ one other told told' first second
+  answers_alike at (Some answer) (Some found) one other told told' first second =
+      answered_alike at answer found.1 one other told told' first second
 
   -- ---- a clear request
 
-  abbrev carried_told : World → ℕ → ℕ × Call → Packet A → Told A
-  carried_told world line found packet = record {
-    carried = [];
-    own = send world line (ClearConfirm None) ∷ [];
-    far = send_far world line (Some found) packet;
-    taken = [];
-  }
-
-  confirms_alike : (world : World) (line : ℕ) (asked : Option (ClearRequest A)) (found : Option (ℕ × Call)) (one other : Outcome) (told told' : Told A)
-      → Confirms world line asked found one told → Confirms world line asked found other told' → IsAlike one told other told'
-  confirms_alike world line None found one other told told' first second = plain_alike _ one other told told' first second
-  confirms_alike world line (Some clear) None one other told told' first second = plain_alike _ one other told told' first second
-  confirms_alike world line (Some clear) (Some found) one other told told' first second =
+  confirms_alike : (at : Setting A) (asked : Option (ClearRequest A)) (found : Option (ℕ × Call)) (one other : Outcome) (told told' : Told A)
+      → Confirms at asked found one told → Confirms at asked found other told' → IsAlike one told other told'
+  confirms_alike at None found one other told told' first second = plain_alike _ one other told told' first second
+  confirms_alike at (Some clear) None one other told told' first second = plain_alike _ one other told told' first second
+  confirms_alike at (Some clear) (Some found) one other told told' first second =
       let packets : first.packet ≡ second.packet =
-      indications_same found.1.setup.fast clear.cause clear.diagnostic clear.block None first.packet second.packet first.carried second.carried in
+      indications_same found.1.setup.fast clear.cause clear.diagnostic clear.block (far_information at (Some found)) first.packet second.packet first.carried second.carried in
       same one other told told' (first.plain ∙ sym second.plain)
-      (first.told_is ∙ ap (λ packet. carried_told world line found packet) packets ∙ sym second.told_is)
+      (first.told_is ∙ ap (λ packet. told_confirmed at (Some found) (send_far at.world at.line (Some found) packet)) packets ∙ sym second.told_is)
+
+  -- ---- a packet of a line in data transfer
+
+  carries_alike : (at : Setting A) (carried : Option (Carried A)) (past : Bool) (one other : Outcome) (told told' : Told A)
+      → CarriesAs at carried past one told → CarriesAs at carried past other told' → IsAlike one told other told'
+  carries_alike at carried false one other told told' first second = plain_alike _ one other told told' first second
+  carries_alike at carried true one other told told' first second =
+      same one other told told' (first.0 ∙ sym second.0) (first.1 ∙ sym second.1)
 
   -- ---- all cells of the table
 
@@ -177,39 +196,44 @@ module _ {A : Type 0} where
   acts_alike at what Collision one other told told' first second =
       requests_alike at.tables at.world at.line (cancelled_told at.world at.line) (request_in what) one other told told' first second
   acts_alike at what Answers_it one other told told' first second =
-      answers_alike at.tables at.world at.line (accepted_in what) (call_on at.world at.line) one other told told' first second
+      answers_alike at (accepted_in what) (call_on at.world at.line) one other told told' first second
   acts_alike at what Confirm one other told told' first second =
-      confirms_alike at.world at.line (clear_in what) (call_on at.world at.line) one other told told' first second
+      confirms_alike at (clear_in what) (call_on at.world at.line) one other told told' first second
+  acts_alike at what Relayed one other told told' first second =
+      carries_alike at (carried_by at.line (call_on at.world at.line) (packet_in what)) _ one other told told' first second
   acts_alike at what action one other told told' first second = plain_alike _ one other told told' first second
 
   -- ---- what is recorded
 
-  request_recorded : (world : World) (line : ℕ) (asked : Option (CallRequest A)) (outcome : Outcome)
-      → recorded_by world (requests line asked outcome) ≡ recorded_by world (requests line asked (with_line 0 outcome))
-  request_recorded world line None outcome = refl
-  request_recorded world line (Some request) (Put called setup) = refl
-  request_recorded world line (Some request) (Refused why) = refl
-  request_recorded world line (Some request) Plain = refl
-  request_recorded world line (Some request) (Connected agreement) = refl
-  request_recorded world line (Some request) (Declined diagnostic) = refl
+  request_recorded : (counted : ℕ → Call → End → ℕ) (world : World) (line : ℕ) (asked : Option (CallRequest A)) (outcome : Outcome)
+      → recorded_by counted world (requests line asked outcome) ≡ recorded_by counted world (requests line asked (with_line 0 outcome))
+  request_recorded counted world line None outcome = refl
+  request_recorded counted world line (Some request) (Put called setup) = refl
+  request_recorded counted world line (Some request) (Refused why) = refl
+  request_recorded counted world line (Some request) Plain = refl
+  request_recorded counted world line (Some request) (Connected agreement) = refl
+  request_recorded counted world line (Some request) (Declined diagnostic) = refl
+  request_recorded counted world line (Some request) Exceeded = refl
 
-  collision_recorded : (world : World) (line : ℕ) (asked : Option (CallRequest A)) (found : Option (ℕ × Call)) (outcome : Outcome)
-      → recorded_by world (collides line asked found outcome) ≡ recorded_by world (collides line asked found (with_line 0 outcome))
-  collision_recorded world line None found outcome = refl
-  collision_recorded world line (Some request) None outcome = request_recorded world line (Some request) outcome
-  collision_recorded world line (Some request) (Some found) (Put called setup) = refl
-  collision_recorded world line (Some request) (Some found) (Refused why) = refl
-  collision_recorded world line (Some request) (Some found) Plain = refl
-  collision_recorded world line (Some request) (Some found) (Connected agreement) = refl
-  collision_recorded world line (Some request) (Some found) (Declined diagnostic) = refl
+  collision_recorded : (counted : ℕ → Call → End → ℕ) (world : World) (line : ℕ) (asked : Option (CallRequest A)) (found : Option (ℕ × Call)) (outcome : Outcome)
+      → recorded_by counted world (collides line asked found outcome) ≡ recorded_by counted world (collides line asked found (with_line 0 outcome))
+  collision_recorded counted world line None found outcome = refl
+  collision_recorded counted world line (Some request) None outcome = request_recorded counted world line (Some request) outcome
+  collision_recorded counted world line (Some request) (Some found) (Put called setup) = refl
+  collision_recorded counted world line (Some request) (Some found) (Refused why) = refl
+  collision_recorded counted world line (Some request) (Some found) Plain = refl
+  collision_recorded counted world line (Some request) (Some found) (Connected agreement) = refl
+  collision_recorded counted world line (Some request) (Some found) (Declined diagnostic) = refl
+  collision_recorded counted world line (Some request) (Some found) Exceeded = refl
 
   -- what is recorded is the same, whichever line is taken
-  recorded_alike : (at : Setting A) (what : What A) (action : Action) (outcome : Outcome)
-      → recorded_by at.world (does at what action outcome) ≡ recorded_by at.world (does at what action (with_line 0 outcome))
-  recorded_alike at what NewCall outcome = request_recorded at.world at.line (request_in what) outcome
-  recorded_alike at what Collision outcome = collision_recorded at.world at.line (request_in what) (call_on at.world at.line) outcome
-  recorded_alike at what Answers_it outcome = answer_recorded at.world at.line (call_on at.world at.line) outcome
-  recorded_alike at what action outcome = refl
+  recorded_alike : (counted : ℕ → Call → End → ℕ) (at : Setting A) (what : What A) (action : Action) (outcome : Outcome)
+      → recorded_by counted at.world (does at what action outcome) ≡ recorded_by counted at.world (does at what action (with_line 0 outcome))
+  recorded_alike counted at what NewCall outcome = request_recorded counted at.world at.line (request_in what) outcome
+  recorded_alike counted at what Collision outcome = collision_recorded counted at.world at.line (request_in what) (call_on at.world at.line) outcome
+  recorded_alike counted at what Relayed outcome = carry_recorded counted at.world at.line (call_on at.world at.line) outcome
+  recorded_alike counted at what Answers_it outcome = answer_recorded counted at.world at.line (call_on at.world at.line) outcome
+  recorded_alike counted at what action outcome = refl
 
   pub steps_same : (tables : Tables) (history : List (Entry A)) (world : World) (one : Entry A) (next : World) (other : Entry A) (next' : World)
       → Step tables history world one next → Step tables history world other next' → one.event ≡ other.event
@@ -220,14 +244,14 @@ module _ {A : Type 0} where
       let alike : IsAlike one.outcome first.told other.outcome second.told =
       acts_alike (setting tables history world other.event.line) other.event.what (action_at world other.event) one.outcome other.outcome first.told second.told
       (subst C event first.acts) second.acts in
-      let S : Outcome → List Record = λ o. recorded_by world (D other.event o) in
-      let recorded : (o : Outcome) → S o ≡ S (with_line 0 o) = recorded_alike (setting tables history world other.event.line) other.event.what (action_at world other.event) in
+      let S : Outcome → List Record = λ o. recorded_by (segments_of tables history) world (D other.event o) in
+      let recorded : (o : Outcome) → S o ≡ S (with_line 0 o) = recorded_alike (segments_of tables history) (setting tables history world other.event.line) other.event.what (action_at world other.event) in
       let changes : taken_by one.outcome ≡ taken_by other.outcome → D one.event one.outcome ≡ D other.event other.outcome = λ line.
       ap (λ e. D e one.outcome) event ∙ ap (D other.event) (alike.whole line) in
       record {
         number = first.number ∙ sym second.number;
         outcome = alike.outcome;
-        records = first.records ∙ ap (λ e. recorded_by world (D e one.outcome)) event
+        records = first.records ∙ ap (λ e. recorded_by (segments_of tables history) world (D e one.outcome)) event
             ∙ recorded one.outcome ∙ ap S alike.outcome ∙ sym (recorded other.outcome) ∙ sym second.records;
         whole = alike.whole;
         outputs = λ line. first.outputs ∙ ap outputs_of (alike.put_out line) ∙ sym second.outputs;

@@ -1,5 +1,5 @@
 -- What is planned for a call request, by the decision.
-use Rattle.std.proofs.Common.{◌≡◌, ℕ, None, Some, List, [], ◌∷◌, ◌++◌, refl, ap, sym, subst}
+use Rattle.std.proofs.Common.{◌≡◌, ℕ, None, Some, List, [], ◌∷◌, ◌++◌, refl, sym, subst}
 use Rattle.xp_answer.specs.Incoming.{IsIncomingCall}
 use Rattle.xp_answer.specs.Setup.{setup_of}
 use Rattle.xp_answer.specs.declared.setup.Setup.{Setup}
@@ -9,7 +9,7 @@ use Rattle.xp_decide.specs.declared.verdict.Ring.{Ring}
 use Rattle.xp_decide.specs.declared.verdict.Verdict.{Verdict}
 use Rattle.xp_decide.specs.declared.verdict.Verdict.TheVariants.{Take, Refuse}
 use Rattle.xp_packets.specs.declared.packet.Packet.{Packet}
-use Rattle.xp_subs.specs.Tables.{Tables, address_of}
+use Rattle.xp_subs.specs.Tables.{address_of}
 use Rattle.xp_core.specs.declared.outcome.Outcome.{Outcome}
 use Rattle.xp_core.specs.declared.outcome.Outcome.TheVariants.{Put, Refused}
 use Rattle.xp_core.specs.declared.output.Output.{Output}
@@ -18,25 +18,25 @@ use Rattle.xp_core.specs.Acts.{IsRequested, lines_seen}
 use Rattle.xp_core.specs.Changes.{Change, Begins, IsRefused}
 use Rattle.xp_core.specs.Plan.{IsPlan, PlansRequest}
 use Rattle.xp_core.specs.Does.{requests}
+use Rattle.xp_core.specs.Setting.{Setting}
 use Rattle.xp_core.specs.Table.{CallRequest}
 use Rattle.xp_core.specs.Told.{Told, refused_told, taken_told}
-use Rattle.xp_core.specs.World.{World}
 
-module _ {A : Type 0} (tables : Tables) (world : World) (line : ℕ) (request : CallRequest A) (ended : List Change) (far : List (Output A)) (plan : Plan A) (verdict : Verdict A)
-    (decided : Decided tables (lines_seen world) line request.block verdict) where
+module _ {A : Type 0} (at : Setting A) (request : CallRequest A) (ended : List Change) (far : List (Output A)) (plan : Plan A) (verdict : Verdict A)
+    (decided : Decided at.tables (lines_seen at.world) at.line request.block verdict) where
   abbrev Acts : Told A → Outcome → Type 0
-  Acts told outcome = IsRequested tables world line far request outcome told
+  Acts told outcome = IsRequested at.tables at.world at.line far request outcome told
 
   abbrev Planned : Told A → Outcome → Type 0
-  Planned told outcome = IsPlan plan world told (ended ++ requests line (Some request) outcome)
+  Planned told outcome = IsPlan plan at told (ended ++ requests at.line (Some request) outcome)
 
   abbrev IsOf : Verdict A → Type 0
-  IsOf v = Decided tables (lines_seen world) line request.block v
+  IsOf v = Decided at.tables (lines_seen at.world) at.line request.block v
 
   pub turned_down : (why : Refusal) → verdict ≡ Refuse why → plan.outcome ≡ Refused why → plan.carriage ≡ None
-      → IsPlan plan world (refused_told world far line request.identifier why) (ended ++ IsRefused line request.identifier request.block.called why ∷ [])
-      → PlansRequest tables world line request ended far plan
-  turned_down why is outcome quiet planned = let told = refused_told world far line request.identifier why in record {
+      → IsPlan plan at (refused_told at.world far at.line request.identifier why) (ended ++ IsRefused at.line request.identifier request.block.called why ∷ [])
+      → PlansRequest at request ended far plan
+  turned_down why is outcome quiet planned = let told = refused_told at.world far at.line request.identifier why in record {
     told = told;
     acts = subst (Acts told) (sym outcome) (record { decided = subst IsOf is decided; told_is = refl });
     quiet = quiet;
@@ -44,14 +44,14 @@ module _ {A : Type 0} (tables : Tables) (world : World) (line : ℕ) (request : 
   }
 
   pub put_through : (ring : Ring A) (called calling : List ℕ) (packet : Packet A) (setup : Setup) → verdict ≡ Take ring
-      → called ≡ address_of tables ring.line → calling ≡ address_of tables line
+      → called ≡ address_of at.tables ring.line → calling ≡ address_of at.tables at.line
       → IsIncomingCall ring called calling request.d request.block packet → setup ≡ setup_of ring → plan.outcome ≡ Put ring.line setup → plan.carriage ≡ None
-      → IsPlan plan world (taken_told world far ring.line packet) (ended ++ Begins line request.identifier ring.line request.block.called setup ∷ [])
-      → PlansRequest tables world line request ended far plan
+      → IsPlan plan at (taken_told at.world far ring.line packet) (ended ++ Begins at.line request.identifier ring.line request.block.called setup ∷ [])
+      → PlansRequest at request ended far plan
   put_through ring called calling packet setup is called_is calling_is incoming setup_is outcome quiet planned =
-      let told = taken_told world far ring.line packet in
+      let told = taken_told at.world far ring.line packet in
       let P : List ℕ → Type 0 = λ address. IsIncomingCall ring address calling request.d request.block packet in
-      let Q : List ℕ → Type 0 = λ address. IsIncomingCall ring (address_of tables ring.line) address request.d request.block packet in
+      let Q : List ℕ → Type 0 = λ address. IsIncomingCall ring (address_of at.tables ring.line) address request.d request.block packet in
       record {
         told = told;
         acts = subst (Acts told) (sym outcome) (record {

@@ -1,10 +1,10 @@
 -- What a step does: nothing, one change that can be made, or, in a collision, the end of the incoming call and then one.
-use Rattle.std.proofs.Common.{◌≡◌, ◌≢◌, ◌⊎◌, ℕ, ◌<◌, eqb, Bool, Option, Some, None, List, [], ◌∷◌, ◌++◌, length, refl, ap, sym, subst, ◌∙◌, inl, inr, arith, length-set}
-use Rattle.std.proofs.lemmas.Bool.{cond_both, eq-eqb, ne_eqb, cond-true, cond-false, cases_eq}
+use Rattle.std.proofs.Common.{◌≡◌, ◌≢◌, ◌⊎◌, ℕ, ◌<◌, eqb, Bool, true, false, Option, Some, None, List, [], ◌∷◌, length, refl, ap, sym, subst, ◌∙◌, inl, inr, arith, length-set}
+use Rattle.std.proofs.lemmas.Bool.{eq-eqb, ne_eqb, cond-true, cond-false}
 use Rattle.xp_answer.specs.CarriedOn.{block_with}
 use Rattle.xp_answer.specs.declared.setup.Setup.{Setup}
 use Rattle.xp_causes.specs.Told.{cause_told, diagnostic_told}
-use Rattle.xp_causes.specs.declared.clearing_cause.TheConstants.{NUMBER_BUSY, OUT_OF_ORDER, REMOTE_PROCEDURE_ERROR}
+use Rattle.xp_causes.specs.declared.clearing_cause.TheConstants.{LOCAL_PROCEDURE_ERROR, NETWORK_CONGESTION, NUMBER_BUSY, OUT_OF_ORDER, REMOTE_PROCEDURE_ERROR}
 use Rattle.xp_causes.specs.declared.diagnostic.TheConstants.{CALL_COLLISION, NO_ADDITIONAL_INFORMATION, TIMER_EXPIRED_FOR_INCOMING_CALL}
 use Rattle.xp_causes.specs.declared.refusal.Refusal.{Refusal}
 use Rattle.xp_channel.specs.declared.action.Action.{Action}
@@ -16,21 +16,22 @@ use Rattle.xp_core.specs.declared.entry.Entry.{Entry}
 use Rattle.xp_core.specs.declared.event.What.{What}
 use Rattle.xp_core.specs.declared.outcome.Agreement.{Agreement}
 use Rattle.xp_core.specs.declared.outcome.Outcome.{Outcome}
-use Rattle.xp_core.specs.declared.outcome.Outcome.TheVariants.{Plain, Put, Refused, Connected, Declined}
+use Rattle.xp_core.specs.declared.outcome.Outcome.TheVariants.{Plain, Put, Refused, Connected, Declined, Exceeded}
 use Rattle.xp_core.specs.declared.output.Output.{Output}
-use Rattle.xp_core.specs.Acts.{Acts, Answers, Confirms, IsAnswered, IsConfirmed, IsConnected, IsPlain, IsPut, IsRequested, IsTurnedDown, Requests, cancelled_told, told_of_error, told_of_fall}
+use Rattle.xp_core.specs.Acts.{Acts, Answers, CarriesAs, Confirms, IsAnswered, IsConnected, IsPut, IsRequested, Requests, cancelled_told, told_both, told_of_error, told_of_fall}
+use Rattle.xp_core.specs.Carried.{Carried, carried_by}
 use Rattle.xp_core.specs.Changes.{Change, Rises, Leaves, Begins, IsRefused, Connects, Ends, Way, GoesOut, IsFree, IsCleared, changed}
 use Rattle.xp_core.specs.Channel.{Cleared, INITIAL_IDENTIFIER, Ready, Ringing, call_of}
-use Rattle.xp_core.specs.Coupling.{AreCoupled, IsEnd, IsHeld}
+use Rattle.xp_core.specs.Coupling.{AreCoupled, IsHeld}
 use Rattle.xp_core.specs.Records.{clears_to}
 use Rattle.xp_core.specs.Setting.{Setting, setting}
 use Rattle.xp_core.specs.Step.{Step}
-use Rattle.xp_core.specs.Does.{answers, cancels, changes_of, collides, confirms, does, leaves, requests}
-use Rattle.xp_core.specs.Table.{CallAccepted, CallRequest, ClearRequest, accepted_in, action_at, clear_in, kind_of, request_in}
-use Rattle.xp_core.specs.Told.{Told, nothing_told, outputs_of}
-use Rattle.xp_core.specs.World.{Call, Line, World, call_numbered, call_on, far_end, line_at, state_at}
+use Rattle.xp_core.specs.Does.{answers, carries, changes_of, collides, confirms, does, leaves, requests}
+use Rattle.xp_core.specs.Table.{CallAccepted, CallRequest, ClearRequest, accepted_in, action_at, clear_in, kind_of, packet_in, request_in}
+use Rattle.xp_core.specs.Told.{Told, outputs_of}
+use Rattle.xp_core.specs.World.{Call, Line, World, call_on, far_end, line_at, state_at}
 use Rattle.xp_core.proofs.Cells.{Suits, suits}
-use Rattle.xp_core.proofs.Clears.{collision_refused, collision_taken, collision_turned_down, confirmed_told, error_told, fall_told, put_told, turned_down}
+use Rattle.xp_core.proofs.Clears.{both_told, collision_refused, collision_taken, collision_turned_down, confirmed_told, fall_told, put_told, turned_down}
 use Rattle.xp_core.proofs.Coupled.{CanBe, IsIn, IsOut, far_shows, far_within, line_within}
 use Rattle.xp_core.proofs.Idle.{IsReadyFor, taken_ready}
 use Rattle.xp_core.proofs.InCall.{end_of, none_on, shown_on}
@@ -134,23 +135,27 @@ module _ {A : Type 0} (tables : Tables) (before : List (Entry A)) (world : World
       (record { old = old; line_is = refl; block = (tells found refl).0; tells = (tells found refl).1 })
 
   -- what is told, by what the event is
-  erring : (what : What A) (action : Action) (outcome : Outcome) (told : Told A) (diagnostic : ℕ) → (IsNew action → ⊥) → told ≡ told_of_error world line diagnostic
-      → Shape here what action outcome told (leaves line IsCleared REMOTE_PROCEDURE_ERROR diagnostic (call_on world line) ∷ [])
-  erring what action outcome told diagnostic old is =
-      leaving what action outcome told IsCleared REMOTE_PROCEDURE_ERROR diagnostic (call_on world line) refl old (λ found shows.
-      (None, ap (λ t. clears_to (far_end found.1 line) (outputs_of t)) is ∙ error_told world line found shows diagnostic (near_differs found shows)))
+  clearing : (what : What A) (action : Action) (outcome : Outcome) (told : Told A) (near far diagnostic : ℕ) → (IsNew action → ⊥) → told ≡ told_both here near far diagnostic
+      → Shape here what action outcome told (leaves line IsCleared far diagnostic (call_on world line) ∷ [])
+  clearing what action outcome told near far diagnostic old is =
+      leaving what action outcome told IsCleared far diagnostic (call_on world line) refl old (λ found shows.
+      (_, ap (λ t. clears_to (far_end found.1 line) (outputs_of t)) is ∙ both_told here found shows near far diagnostic (near_differs found shows)))
 
-  falling : (what : What A) (outcome : Outcome) (told : Told A) → told ≡ told_of_fall world line what
+  erring : (what : What A) (action : Action) (outcome : Outcome) (told : Told A) (diagnostic : ℕ) → (IsNew action → ⊥) → told ≡ told_of_error here diagnostic
+      → Shape here what action outcome told (leaves line IsCleared REMOTE_PROCEDURE_ERROR diagnostic (call_on world line) ∷ [])
+  erring what action outcome told diagnostic old is = clearing what action outcome told LOCAL_PROCEDURE_ERROR REMOTE_PROCEDURE_ERROR diagnostic old is
+
+  falling : (what : What A) (outcome : Outcome) (told : Told A) → told ≡ told_of_fall here what
       → Shape here what Fall outcome told (leaves line GoesOut OUT_OF_ORDER NO_ADDITIONAL_INFORMATION (call_on world line) ∷ [])
   falling what outcome told is =
       leaving what Fall outcome told GoesOut OUT_OF_ORDER NO_ADDITIONAL_INFORMATION (call_on world line) refl not_new (λ found shows.
-      (None, ap (λ t. clears_to (far_end found.1 line) (outputs_of t)) is ∙ fall_told world line found shows what)) where
+      (_, ap (λ t. clears_to (far_end found.1 line) (outputs_of t)) is ∙ fall_told here found shows what)) where
         not_new : IsNew Fall → ⊥
         not_new (inl e) = absurd (cc)
         not_new (inr e) = absurd (cc)
 
   answering_one : (what : What A) (outcome : Outcome) (told : Told A) (answer : CallAccepted A) (found : ℕ × Call) → call_on world line ≡ Some found
-      → IsAnswered tables world line answer found.1 outcome told → Shape here what Answer outcome told (answers line (Some found) outcome)
+      → IsAnswered here answer found.1 outcome told → Shape here what Answer outcome told (answers line (Some found) outcome)
   answering_one what (Connected agreement) told answer found is acts =
       one (Connects found.0 found.1 agreement) refl (shown_on world line found is).1
       (record { old = not_new; answers = refl; settled = refl; on = is; answer = answer; connected = acts }) where
@@ -166,9 +171,10 @@ module _ {A : Type 0} (tables : Tables) (before : List (Entry A)) (world : World
   answering_one what Plain told answer found is acts = absurd acts
   answering_one what (Put called setup) told answer found is acts = absurd acts
   answering_one what (Refused why) told answer found is acts = absurd acts
+  answering_one what Exceeded told answer found is acts = absurd acts
 
   answering : (what : What A) (outcome : Outcome) (told : Told A) (accepted : Option (CallAccepted A)) (found : Option (ℕ × Call)) → call_on world line ≡ found
-      → Answers tables world line accepted found outcome told → Shape here what Answer outcome told (answers line found outcome)
+      → Answers here accepted found outcome told → Shape here what Answer outcome told (answers line found outcome)
   answering what outcome told accepted None is acts = none refl (λ request asks new. not_new new) where
     not_new : IsNew Answer → ⊥
     not_new (inl e) = absurd (cc)
@@ -183,7 +189,7 @@ module _ {A : Type 0} (tables : Tables) (before : List (Entry A)) (world : World
   answering what outcome told (Some answer) (Some found) is acts = answering_one what outcome told answer found is acts
 
   confirming : (what : What A) (outcome : Outcome) (told : Told A) (clear : Option (ClearRequest A)) (found : Option (ℕ × Call)) → call_on world line ≡ found
-      → Confirms world line clear found outcome told → Shape here what Confirm outcome told (confirms line clear found)
+      → Confirms here clear found outcome told → Shape here what Confirm outcome told (confirms line clear found)
   confirming what outcome told None found is acts = none refl (λ request asks new. not_new new) where
     not_new : IsNew Confirm → ⊥
     not_new (inl e) = absurd (cc)
@@ -198,7 +204,7 @@ module _ {A : Type 0} (tables : Tables) (before : List (Entry A)) (world : World
         old = not_new;
         line_is = refl;
         block = block_with acts.carried.field acts.carried.user;
-        tells = ap (λ t. clears_to (far_end found.1 line) (outputs_of t)) acts.told_is ∙ confirmed_told world line found is clear acts.packet acts.carried;
+        tells = ap (λ t. clears_to (far_end found.1 line) (outputs_of t)) acts.told_is ∙ confirmed_told here found is clear acts.packet acts.carried;
       }) where
         not_new : IsNew Confirm → ⊥
         not_new (inl e) = absurd (cc)
@@ -242,6 +248,7 @@ module _ {A : Type 0} (tables : Tables) (before : List (Entry A)) (world : World
   requesting what Plain told (Some request) asks out acts = absurd acts
   requesting what (Connected agreement) told (Some request) asks out acts = absurd acts
   requesting what (Declined diagnostic) told (Some request) asks out acts = absurd acts
+  requesting what Exceeded told (Some request) asks out acts = absurd acts
 
   -- as the incoming call has ended, its line is ready, and a line that was ready is
   module _ (found : ℕ × Call) (is : call_on world line ≡ Some found) where
@@ -305,6 +312,7 @@ module _ {A : Type 0} (tables : Tables) (before : List (Entry A)) (world : World
     colliding_in what Plain told request asks acts = absurd acts
     colliding_in what (Connected agreement) told request asks acts = absurd acts
     colliding_in what (Declined diagnostic) told request asks acts = absurd acts
+    colliding_in what Exceeded told request asks acts = absurd acts
 
   colliding : (what : What A) (outcome : Outcome) (told : Told A) (asked : Option (CallRequest A)) (found : Option (ℕ × Call)) → request_in what ≡ asked → call_on world line ≡ found
       → (number : ℕ) × (state_at world line ≡ Ringing number)
@@ -316,12 +324,23 @@ module _ {A : Type 0} (tables : Tables) (before : List (Entry A)) (world : World
       absurd (cc)
   colliding what outcome told (Some request) (Some found) asks is rings acts = colliding_in found is what outcome told request asks acts
 
+  -- ---- a packet of a line in data transfer
+
+  relaying : (what : What A) (carried : Option (Carried A)) (past : Bool) (outcome : Outcome) (told : Told A) → CarriesAs here carried past outcome told
+      → Shape here what Relayed outcome told (carries line (call_on world line) outcome)
+  relaying what carried false outcome told acts =
+      none (ap (carries line (call_on world line)) acts.0) (λ request asks new. elim new [ inl e ↦ absurd (cc) | inr e ↦ absurd (cc) ])
+  relaying what carried true outcome told acts =
+      let S : Outcome → Type 0 = λ o. Shape here what Relayed o told (carries line (call_on world line) o) in
+      subst S (sym acts.0) (clearing what Relayed Exceeded told NETWORK_CONGESTION NETWORK_CONGESTION NO_ADDITIONAL_INFORMATION
+      (λ new. elim new [ inl e ↦ absurd (cc) | inr e ↦ absurd (cc) ]) acts.1)
+
   -- ---- the cells
 
   shape : (what : What A) (action : Action) (outcome : Outcome) (told : Told A) → Suits action (state_at world line) → Acts here what action outcome told
       → Shape here what action outcome told (does here what action outcome)
   shape what Nothing outcome told suit acts = none refl (λ request asks new. elim new [ inl e ↦ absurd (cc) | inr e ↦ absurd (cc) ])
-  shape what Relayed outcome told suit acts = none refl (λ request asks new. elim new [ inl e ↦ absurd (cc) | inr e ↦ absurd (cc) ])
+  shape what Relayed outcome told suit acts = relaying what (carried_by line (call_on world line) (packet_in what)) _ outcome told acts
   shape what Rise outcome told suit acts = one (Rises line) refl (record { within = within; none = suit }) (λ new. elim new [ inl e ↦ absurd (cc) | inr e ↦ absurd (cc) ])
   shape what Free outcome told suit acts = one (Leaves line IsFree) refl (record { within = within; none = suit }) (λ new. elim new [ inl e ↦ absurd (cc) | inr e ↦ absurd (cc) ])
   shape what Fall outcome told suit acts = falling what outcome told acts.1

@@ -6,7 +6,6 @@ use Rattle.std.proofs.lemmas.List.Elements.{All-nil, All-pop, All-push}
 use Rattle.std.specs.FinMap.{get-empty}
 use Rattle.std.specs.Ordering.{nat_cmp}
 use Rattle.xp_charge.specs.declared.record.Record.{Record}
-use Rattle.xp_relay.specs.Coupled.{KeptPair}
 use Rattle.xp_subs.specs.Sound.{IsSound}
 use Rattle.xp_subs.specs.Tables.{Tables, line_count}
 use Rattle.xp_core.specs.declared.advance.Work.{Work}
@@ -15,6 +14,7 @@ use Rattle.xp_core.specs.declared.event.Event.{Event}
 use Rattle.xp_core.specs.declared.outcome.Outcome.{Outcome}
 use Rattle.xp_core.specs.declared.plan.Plan.{Plan}
 use Rattle.xp_core.specs.declared.relays.Carriage.{Carriage}
+use Rattle.xp_core.specs.declared.relays.Metered.{Metered}
 use Rattle.xp_core.specs.declared.stepped.Stepped.{Stepped}
 use Rattle.xp_core.specs.Agreed.{AllHaveTerms}
 use Rattle.xp_core.specs.Exchange.{Advances, Exchange, IsReadable, world_of}
@@ -35,14 +35,14 @@ use Rattle.xp_core.proofs.Relaying.{carried_next}
 use Rattle.xp_core.proofs.RunLemmas.{run_push}
 use Rattle.xp_core.proofs.Worlds.{run_world}
 
-places_kept : {A : Type 0} (carriage : Option (Carriage A)) (relays later : List (Option (KeptPair A))) → later ≡ relays_with carriage relays → length later ≡ length relays
+places_kept : {A : Type 0} (carriage : Option (Carriage A)) (relays later : List (Option (Metered A))) → later ≡ relays_with carriage relays → length later ≡ length relays
 places_kept None relays later is = ap length is
-places_kept (Some carriage) relays later is = ap length is ∙ length-set relays carriage.caller (Some carriage.relay)
+places_kept (Some carriage) relays later is = ap length is ∙ length-set relays carriage.caller (Some carriage.metered)
 
 module _ {A : Type 0} where
   -- what was planned and applied
   pub works_out : (tables : Tables) (before : List (Entry A)) (old : World) (event : Event A) (plan : Plan A) (work : Work A) (new : World)
-      (relays later : List (Option (KeptPair A))) → Plans (setting tables before old event.line) event.what (action_at old event) plan
+      (relays later : List (Option (Metered A))) → Plans (setting tables before old event.line) event.what (action_at old event) plan
       → work.outcome ≡ plan.outcome → work.outputs ≡ plan.outputs.outputs → work.told ≡ work.outputs → work.records ≡ plan.records
       → new ≡ applied_by plan old → later ≡ relays_with plan.carriage relays → Works tables before old relays event work new later
   works_out tables before old event plan work new relays later plans outcome outputs copied records applied relayed =
@@ -59,8 +59,8 @@ module _ {A : Type 0} where
       subst P (sym outcome) made
 
   -- and entered
-  pub enters : (tables : Tables) (old : World) (relays : List (Option (KeptPair A))) (history : List (Entry A)) (records : List Record) (event : Event A) (work : Work A)
-      (new : World) (later : List (Option (KeptPair A))) (entries : List (Entry A)) (charged : List Record) (told : Stepped A) (entry : Entry A)
+  pub enters : (tables : Tables) (old : World) (relays : List (Option (Metered A))) (history : List (Entry A)) (records : List Record) (event : Event A) (work : Work A)
+      (new : World) (later : List (Option (Metered A))) (entries : List (Entry A)) (charged : List Record) (told : Stepped A) (entry : Entry A)
       → Works tables history old relays event work new later
       → entry ≡ record { number = length history + 1; event = event; outcome = work.outcome; outputs = work.outputs; records = work.records }
       → event.line < length old.lines
@@ -87,8 +87,8 @@ module _ {A : Type 0} where
         outputs = outputs ∙ works.copied;
       }
 
-  module _ (tables : Tables) (history : List (Entry A)) (machine : World) (relays : List (Option (KeptPair A))) (records : List Record) (shows : Shows tables history machine relays records)
-      (event : Event A) (readable : IsReadable event.what) (new : World) (later : List (Option (KeptPair A))) (entries : List (Entry A)) (charged : List Record) (told : Stepped A)
+  module _ (tables : Tables) (history : List (Entry A)) (machine : World) (relays : List (Option (Metered A))) (records : List Record) (shows : Shows tables history machine relays records)
+      (event : Event A) (readable : IsReadable event.what) (new : World) (later : List (Option (Metered A))) (entries : List (Entry A)) (charged : List Record) (told : Stepped A)
       (done : Enters tables machine relays history records event new later entries charged told) where
     led_here : Run tables history machine
     led_here = let P : World → Type 0 = λ w. Run tables history w in subst P (sym shows.shown) shows.run
@@ -146,12 +146,12 @@ module _ {A : Type 0} where
         (All-pop (λ e. AreWritable e.outputs) entries history (Some done.entry) done.grown (run_fits tables entries _ shows_next.sound shows_next.run shows_next.readable)).1
 
   -- the live calls that are kept have their terms
-  pub kept_terms : (tables : Tables) (history : List (Entry A)) (machine : World) (relays : List (Option (KeptPair A))) (records : List Record) → Shows tables history machine relays records → AllHaveTerms machine
+  pub kept_terms : (tables : Tables) (history : List (Entry A)) (machine : World) (relays : List (Option (Metered A))) (records : List Record) → Shows tables history machine relays records → AllHaveTerms machine
   kept_terms tables history machine relays records shows =
       let P : World → Type 0 = λ w. AllHaveTerms w in subst P (sym shows.shown) (run_agreed tables history _ shows.run)
 
   -- a call that hands on its outcome
-  pub outcome_shows : {E : Type 0} (tables : Tables) (history : List (Entry A)) (machine : World) (relays : List (Option (KeptPair A))) (records : List Record) (event : Event A) (new : World) (later : List (Option (KeptPair A))) (entries : List (Entry A))
+  pub outcome_shows : {E : Type 0} (tables : Tables) (history : List (Entry A)) (machine : World) (relays : List (Option (Metered A))) (records : List Record) (event : Event A) (new : World) (later : List (Option (Metered A))) (entries : List (Entry A))
       (charged : List Record) (outcome : Result (Stepped A) E) → Shows tables history machine relays records → IsReadable event.what
       → IfOk outcome (λ told. Enters tables machine relays history records event new later entries charged told)
       → OnErr outcome (new ≡ machine) → OnErr outcome (later ≡ relays) → OnErr outcome (entries ≡ history) → OnErr outcome (charged ≡ records) → Shows tables entries new later charged
@@ -159,7 +159,7 @@ module _ {A : Type 0} where
       shows_next tables history machine relays records shows event readable new later entries charged told done
   outcome_shows tables history machine relays records event new later entries charged (Err fault) shows readable done same_world same_relays same_history same_records =
       let P : World → Type 0 = λ w. Shows tables entries w later charged in
-      let K : List (Option (KeptPair A)) → Type 0 = λ r. Shows tables entries machine r charged in
+      let K : List (Option (Metered A)) → Type 0 = λ r. Shows tables entries machine r charged in
       let Q : List (Entry A) → Type 0 = λ h. Shows tables h machine relays charged in
       let R : List Record → Type 0 = λ r. Shows tables history machine relays r in
       subst P (sym same_world) (subst K (sym same_relays) (subst Q (sym same_history) (subst R (sym same_records) shows)))
@@ -167,7 +167,7 @@ module _ {A : Type 0} where
   abbrev pub exchange_of : Tables → List (Entry A) → Exchange A
   exchange_of subs history = record { subs = subs; history = history }
 
-  pub outcome_advances : {E : Type 0} (tables : Tables) (history : List (Entry A)) (machine : World) (relays : List (Option (KeptPair A))) (records : List Record) (event : Event A) (new : World) (later : List (Option (KeptPair A))) (entries : List (Entry A))
+  pub outcome_advances : {E : Type 0} (tables : Tables) (history : List (Entry A)) (machine : World) (relays : List (Option (Metered A))) (records : List Record) (event : Event A) (new : World) (later : List (Option (Metered A))) (entries : List (Entry A))
       (charged : List Record) (outcome : Result (Stepped A) E) (old : Exchange A) → Shows tables history machine relays records → IsReadable event.what
       → IfOk outcome (λ told. Enters tables machine relays history records event new later entries charged told) → exchange_of tables history ≡ old
       → IfOk outcome (λ told. Advances old event (exchange_of tables entries) told)
@@ -176,7 +176,7 @@ module _ {A : Type 0} where
       subst P is (advances tables history machine relays records shows event readable new later entries charged told done)
   outcome_advances tables history machine relays records event new later entries charged (Err fault) old shows readable done is = tt
 
-  pub outcome_fits : {E : Type 0} (tables : Tables) (history : List (Entry A)) (machine : World) (relays : List (Option (KeptPair A))) (records : List Record) (event : Event A) (new : World) (later : List (Option (KeptPair A))) (entries : List (Entry A))
+  pub outcome_fits : {E : Type 0} (tables : Tables) (history : List (Entry A)) (machine : World) (relays : List (Option (Metered A))) (records : List Record) (event : Event A) (new : World) (later : List (Option (Metered A))) (entries : List (Entry A))
       (charged : List Record) (outcome : Result (Stepped A) E) → Shows tables history machine relays records → IsReadable event.what
       → IfOk outcome (λ told. Enters tables machine relays history records event new later entries charged told) → IfOk outcome (λ told. AreWritable told.outputs)
   outcome_fits tables history machine relays records event new later entries charged (Ok told) shows readable done =
@@ -190,7 +190,7 @@ module _ {A : Type 0} where
   outcome_keeps subs history entries (Err fault) old same shown = ap (exchange_of subs) same ∙ shown
 
   -- nothing was entered yet
-  pub opening_shows : (tables : Tables) (history : List (Entry A)) (machine : World) (relays : List (Option (KeptPair A))) (records : List Record) → IsSound tables → history ≡ []
+  pub opening_shows : (tables : Tables) (history : List (Entry A)) (machine : World) (relays : List (Option (Metered A))) (records : List Record) → IsSound tables → history ≡ []
       → machine ≡ opening (line_count tables) → relays ≡ replicate (line_count tables) None → records ≡ [] → Shows tables history machine relays records
   opening_shows tables history machine relays records sound none at unused nothing =
       let P : List (Entry A) → Type 0 = λ entries. Shows tables entries machine relays records in
@@ -206,6 +206,6 @@ module _ {A : Type 0} where
       })
 
   -- the relays of the calls that are live now
-  pub kept_relays : (tables : Tables) (history : List (Entry A)) (machine : World) (relays : List (Option (KeptPair A))) (records : List Record)
+  pub kept_relays : (tables : Tables) (history : List (Entry A)) (machine : World) (relays : List (Option (Metered A))) (records : List Record)
       → Shows tables history machine relays records → AreCarried tables history machine relays
   kept_relays tables history machine relays records shows = shows.carried

@@ -1,5 +1,5 @@
 -- What an event settles and puts out, by what the table of actions has for it.
-use Rattle.std.specs.Prelude.{◌≡◌, ℕ, Option, None, Some, List, [], ◌∷◌}
+use Rattle.std.specs.Prelude.{◌≡◌, ℕ, Bool, true, false, Option, None, Some, List, [], ◌∷◌}
 use Rattle.xp_answer.specs.Answered.{Answered}
 use Rattle.xp_answer.specs.CarriedOn.{CarriedOn}
 use Rattle.xp_answer.specs.Incoming.{IsIncomingCall}
@@ -7,7 +7,7 @@ use Rattle.xp_answer.specs.Setup.{setup_of}
 use Rattle.xp_answer.specs.declared.answer.Answer.TheVariants as answers
 use Rattle.xp_answer.specs.declared.connection.Connection.{Connection}
 use Rattle.xp_answer.specs.declared.setup.Setup.{Setup}
-use Rattle.xp_causes.specs.declared.clearing_cause.TheConstants.{LOCAL_PROCEDURE_ERROR, NUMBER_BUSY, OUT_OF_ORDER, REMOTE_PROCEDURE_ERROR}
+use Rattle.xp_causes.specs.declared.clearing_cause.TheConstants.{LOCAL_PROCEDURE_ERROR, NETWORK_CONGESTION, NUMBER_BUSY, OUT_OF_ORDER, REMOTE_PROCEDURE_ERROR}
 use Rattle.xp_causes.specs.declared.diagnostic.TheConstants.{CALL_COLLISION, NO_ADDITIONAL_INFORMATION, TIMER_EXPIRED_FOR_INCOMING_CALL}
 use Rattle.xp_causes.specs.declared.refusal.Refusal.{Refusal}
 use Rattle.xp_channel.specs.declared.action.Action.{Action}
@@ -17,19 +17,19 @@ use Rattle.xp_decide.specs.declared.verdict.Ring.{Ring}
 use Rattle.xp_decide.specs.declared.verdict.Verdict.TheVariants.{Take, Refuse}
 use Rattle.xp_hunt.specs.declared.lines.LineState.{LineState}
 use Rattle.xp_packets.specs.declared.packet.Packet.{Packet}
-use Rattle.xp_packets.specs.declared.packet.Packet.TheVariants.{ClearConfirm}
 use Rattle.xp_subs.specs.Tables.{Tables, address_of}
 use Rattle.xp_core.specs.declared.event.What.{What}
 use Rattle.xp_core.specs.declared.event.What.TheVariants.{Stall}
 use Rattle.xp_core.specs.declared.outcome.Agreement.{Agreement}
 use Rattle.xp_core.specs.declared.outcome.Outcome.{Outcome}
-use Rattle.xp_core.specs.declared.outcome.Outcome.TheVariants.{Plain, Put, Refused, Connected, Declined}
+use Rattle.xp_core.specs.declared.outcome.Outcome.TheVariants.{Plain, Put, Refused, Connected, Declined, Exceeded}
 use Rattle.xp_core.specs.declared.output.Output.{Output}
-use Rattle.xp_core.specs.Carried.{carried_by}
+use Rattle.xp_core.specs.Carried.{Carried, carried_by}
 use Rattle.xp_core.specs.Channel.{seen_as}
+use Rattle.xp_core.specs.Segments.{is_past_limit}
 use Rattle.xp_core.specs.Setting.{Setting}
 use Rattle.xp_core.specs.Table.{CallAccepted, CallRequest, ClearRequest, accepted_in, clear_in, packet_in, request_in}
-use Rattle.xp_core.specs.Told.{Told, carried_told, clear_indication, close, nothing_told, refused_told, send, send_far, taken_told}
+use Rattle.xp_core.specs.Told.{Told, carried_told, clear_far, clear_indication, clear_own, close, confirm_own, far_information, nothing_told, refused_told, send, send_far, taken_told}
 use Rattle.xp_core.specs.World.{Call, World, call_on, state_at}
 
 -- the lines as a call request finds them
@@ -47,22 +47,30 @@ module _ {A : Type 0} where
   closed world line what = []
 
   -- a line goes out of service
-  abbrev pub told_of_fall : World → ℕ → What A → Told A
-  told_of_fall world line what = record {
+  abbrev pub told_of_fall : Setting A → What A → Told A
+  told_of_fall at what = record {
     carried = [];
-    own = closed world line what;
-    far = send_far world line (call_on world line) (clear_indication OUT_OF_ORDER NO_ADDITIONAL_INFORMATION);
+    own = closed at.world at.line what;
+    far = clear_far at (call_on at.world at.line) OUT_OF_ORDER NO_ADDITIONAL_INFORMATION;
     taken = [];
   }
 
-  -- a procedure error clears both ends
-  abbrev pub told_of_error : World → ℕ → ℕ → Told A
-  told_of_error world line diagnostic = record {
+  -- both ends are cleared, each with a cause
+  abbrev pub told_both : Setting A → ℕ → ℕ → ℕ → Told A
+  told_both at near far diagnostic = record {
     carried = [];
-    own = send world line (clear_indication LOCAL_PROCEDURE_ERROR diagnostic) ∷ [];
-    far = send_far world line (call_on world line) (clear_indication REMOTE_PROCEDURE_ERROR diagnostic);
+    own = clear_own at (call_on at.world at.line) near diagnostic ∷ [];
+    far = clear_far at (call_on at.world at.line) far diagnostic;
     taken = [];
   }
+
+  -- by a procedure error
+  abbrev pub told_of_error : Setting A → ℕ → Told A
+  told_of_error at diagnostic = told_both at LOCAL_PROCEDURE_ERROR REMOTE_PROCEDURE_ERROR diagnostic
+
+  -- by data that would go past the segment limit
+  abbrev pub told_of_excess : Setting A → Told A
+  told_of_excess at = told_both at NETWORK_CONGESTION NETWORK_CONGESTION NO_ADDITIONAL_INFORMATION
 
   -- ---- a call request (clauses 4.1.2 and 4.1.3)
 
@@ -87,6 +95,7 @@ module _ {A : Type 0} where
   IsRequested tables world line far request Plain told = ⊥
   IsRequested tables world line far request (Connected agreement) told = ⊥
   IsRequested tables world line far request (Declined diagnostic) told = ⊥
+  IsRequested tables world line far request Exceeded told = ⊥
 
   abbrev pub Requests : Tables → World → ℕ → List (Output A) → Option (CallRequest A) → Outcome → Told A → Type 0
   Requests tables world line far None outcome told = IsPlain nothing_told outcome told
@@ -113,58 +122,66 @@ module _ {A : Type 0} where
     pub told_is : told ≡ told_connected world call.caller connection.packet
 
   -- a fault of it is a procedure error
-  pub record IsDeclined (tables : Tables) (world : World) (line : ℕ) (answer : CallAccepted A) (call : Call) (diagnostic : ℕ) (told : Told A) : Type 0 where
-    pub answered : Answered call.setup (address_of tables line) call.dialled answer.d answer.block (answers.Refused diagnostic)
-    pub told_is : told ≡ told_of_error world line diagnostic
+  pub record IsDeclined (at : Setting A) (answer : CallAccepted A) (call : Call) (diagnostic : ℕ) (told : Told A) : Type 0 where
+    pub answered : Answered call.setup (address_of at.tables at.line) call.dialled answer.d answer.block (answers.Refused diagnostic)
+    pub told_is : told ≡ told_of_error at diagnostic
 
-  abbrev pub IsAnswered : Tables → World → ℕ → CallAccepted A → Call → Outcome → Told A → Type 0
-  IsAnswered tables world line answer call (Connected agreement) told = IsConnected tables world line answer call agreement told
-  IsAnswered tables world line answer call (Declined diagnostic) told = IsDeclined tables world line answer call diagnostic told
-  IsAnswered tables world line answer call Plain told = ⊥
-  IsAnswered tables world line answer call (Put called setup) told = ⊥
-  IsAnswered tables world line answer call (Refused why) told = ⊥
+  abbrev pub IsAnswered : Setting A → CallAccepted A → Call → Outcome → Told A → Type 0
+  IsAnswered at answer call (Connected agreement) told = IsConnected at.tables at.world at.line answer call agreement told
+  IsAnswered at answer call (Declined diagnostic) told = IsDeclined at answer call diagnostic told
+  IsAnswered at answer call Plain told = ⊥
+  IsAnswered at answer call (Put called setup) told = ⊥
+  IsAnswered at answer call (Refused why) told = ⊥
+  IsAnswered at answer call Exceeded told = ⊥
 
-  abbrev pub Answers : Tables → World → ℕ → Option (CallAccepted A) → Option (ℕ × Call) → Outcome → Told A → Type 0
-  Answers tables world line None found outcome told = IsPlain nothing_told outcome told
-  Answers tables world line (Some answer) None outcome told = IsPlain nothing_told outcome told
-  Answers tables world line (Some answer) (Some found) outcome told = IsAnswered tables world line answer found.1 outcome told
+  abbrev pub Answers : Setting A → Option (CallAccepted A) → Option (ℕ × Call) → Outcome → Told A → Type 0
+  Answers at None found outcome told = IsPlain nothing_told outcome told
+  Answers at (Some answer) None outcome told = IsPlain nothing_told outcome told
+  Answers at (Some answer) (Some found) outcome told = IsAnswered at answer found.1 outcome told
 
   -- ---- a clear request (clauses 4.1.7 and 4.1.8)
 
-  -- it is confirmed at once, and the far end told
-  pub record IsCarriedOn (world : World) (line : ℕ) (clear : ClearRequest A) (found : ℕ × Call) (outcome : Outcome) (told : Told A) : Type 0 where
+  -- the line is confirmed at once, and the far end told this
+  abbrev pub told_confirmed : Setting A → Option (ℕ × Call) → List (Output A) → Told A
+  told_confirmed at found far = record { carried = []; own = confirm_own at found ∷ []; far = far; taken = [] }
+
+  -- the clear request goes on to the far end
+  pub record IsCarriedOn (at : Setting A) (clear : ClearRequest A) (found : ℕ × Call) (outcome : Outcome) (told : Told A) : Type 0 where
     pub plain : outcome ≡ Plain
     pub packet : Packet A
-    pub carried : CarriedOn found.1.setup.fast clear.cause clear.diagnostic clear.block None packet
-    pub told_is : told ≡ record {
-      carried = [];
-      own = send world line (ClearConfirm None) ∷ [];
-      far = send_far world line (Some found) packet;
-      taken = [];
-    }
+    pub carried : CarriedOn found.1.setup.fast clear.cause clear.diagnostic clear.block (far_information at (Some found)) packet
+    pub told_is : told ≡ told_confirmed at (Some found) (send_far at.world at.line (Some found) packet)
 
-  abbrev pub IsConfirmed : World → ℕ → ClearRequest A → Option (ℕ × Call) → Outcome → Told A → Type 0
-  IsConfirmed world line clear None outcome told =
-      IsPlain (record { carried = []; own = send world line (ClearConfirm None) ∷ []; far = []; taken = [] }) outcome told
-  IsConfirmed world line clear (Some found) outcome told = IsCarriedOn world line clear found outcome told
+  abbrev pub IsConfirmed : Setting A → ClearRequest A → Option (ℕ × Call) → Outcome → Told A → Type 0
+  IsConfirmed at clear None outcome told = IsPlain (told_confirmed at None []) outcome told
+  IsConfirmed at clear (Some found) outcome told = IsCarriedOn at clear found outcome told
 
-  abbrev pub Confirms : World → ℕ → Option (ClearRequest A) → Option (ℕ × Call) → Outcome → Told A → Type 0
-  Confirms world line None found outcome told = IsPlain nothing_told outcome told
-  Confirms world line (Some clear) found outcome told = IsConfirmed world line clear found outcome told
+  abbrev pub Confirms : Setting A → Option (ClearRequest A) → Option (ℕ × Call) → Outcome → Told A → Type 0
+  Confirms at None found outcome told = IsPlain nothing_told outcome told
+  Confirms at (Some clear) found outcome told = IsConfirmed at clear found outcome told
+
+  -- ---- a packet of a line in data transfer (clauses 4.3 and 4.4)
+
+  -- it goes through its call, unless it is past the segment limit
+  abbrev pub CarriesAs : Setting A → Option (Carried A) → Bool → Outcome → Told A → Type 0
+  CarriesAs at carried false outcome told = IsPlain (carried_told at.tables at.before at.world carried) outcome told
+  CarriesAs at carried true outcome told = (outcome ≡ Exceeded) × (told ≡ told_of_excess at)
+
+  abbrev pub Carries : Setting A → Option (Carried A) → Outcome → Told A → Type 0
+  Carries at carried outcome told = CarriesAs at carried (is_past_limit at.tables at.before carried) outcome told
 
   -- ---- the cells of the table
 
   abbrev pub Acts : Setting A → What A → Action → Outcome → Told A → Type 0
   Acts at what Nothing outcome told = IsPlain nothing_told outcome told
   Acts at what Rise outcome told = IsPlain nothing_told outcome told
-  Acts at what Fall outcome told = IsPlain (told_of_fall at.world at.line what) outcome told
+  Acts at what Fall outcome told = IsPlain (told_of_fall at what) outcome told
   Acts at what NewCall outcome told = Requests at.tables at.world at.line [] (request_in what) outcome told
   Acts at what Collision outcome told =
       Requests at.tables at.world at.line (cancelled_told at.world at.line) (request_in what) outcome told
-  Acts at what Answer outcome told = Answers at.tables at.world at.line (accepted_in what) (call_on at.world at.line) outcome told
-  Acts at what Confirm outcome told = Confirms at.world at.line (clear_in what) (call_on at.world at.line) outcome told
+  Acts at what Answer outcome told = Answers at (accepted_in what) (call_on at.world at.line) outcome told
+  Acts at what Confirm outcome told = Confirms at (clear_in what) (call_on at.world at.line) outcome told
   Acts at what Free outcome told = IsPlain nothing_told outcome told
-  Acts at what (Error diagnostic) outcome told = IsPlain (told_of_error at.world at.line diagnostic) outcome told
-  Acts at what Relayed outcome told =
-      IsPlain (carried_told at.tables at.before at.world (carried_by at.line (call_on at.world at.line) (packet_in what))) outcome told
-  Acts at what Expired outcome told = IsPlain (told_of_error at.world at.line TIMER_EXPIRED_FOR_INCOMING_CALL) outcome told
+  Acts at what (Error diagnostic) outcome told = IsPlain (told_of_error at diagnostic) outcome told
+  Acts at what Relayed outcome told = Carries at (carried_by at.line (call_on at.world at.line) (packet_in what)) outcome told
+  Acts at what Expired outcome told = IsPlain (told_of_error at TIMER_EXPIRED_FOR_INCOMING_CALL) outcome told

@@ -13,7 +13,6 @@ use Rattle.xp_relay.specs.declared.terms.Terms.{Terms}
 use Rattle.xp_subs.specs.Tables.{Tables, line_count}
 use Rattle.xp_core.specs.declared.entry.Entry.{Entry}
 use Rattle.xp_core.specs.declared.event.Event.{Event}
-use Rattle.xp_core.specs.declared.event.What.{What}
 use Rattle.xp_core.specs.declared.outcome.Agreement.{Agreement}
 use Rattle.xp_core.specs.Table.{action_at, packet_in}
 use Rattle.xp_core.specs.World.{Call, World, call_on, opening}

@@ -4,6 +4,7 @@ use Rattle.std.specs.FinMap as map
 use Rattle.xp_answer.specs.declared.setup.Setup.{Setup}
 use Rattle.xp_causes.specs.declared.refusal.Refusal.{Refusal}
 use Rattle.xp_charge.specs.declared.record.Record.{Record}
+use Rattle.xp_packets.specs.declared.end.End.{End}
 use Rattle.xp_core.specs.declared.outcome.Agreement.{Agreement}
 use Rattle.xp_core.specs.Channel.{State, Off, Ready, Waiting, Ringing, Talking, Cleared, INITIAL_IDENTIFIER}
 use Rattle.xp_core.specs.Clearing.{record_of, refused_record}
@@ -63,11 +64,12 @@ abbrev pub all_changed : List Change → World → World
 all_changed [] world = world
 all_changed (change ∷ changes) world = all_changed changes (changed change world)
 
-abbrev pub recorded : World → Change → List Record
-recorded world (IsRefused line identifier dialled why) = refused_record world.next line dialled why ∷ []
-recorded world (Ends number call line way cause diagnostic) = record_of number call cause diagnostic ∷ []
-recorded world change = []
+-- with the segments from each end of each call so far
+abbrev pub recorded : (ℕ → Call → End → ℕ) → World → Change → List Record
+recorded counted world (IsRefused line identifier dialled why) = refused_record world.next line dialled why ∷ []
+recorded counted world (Ends number call line way cause diagnostic) = record_of number call (counted number call) cause diagnostic ∷ []
+recorded counted world change = []
 
-abbrev pub recorded_by : World → List Change → List Record
-recorded_by world [] = []
-recorded_by world (change ∷ changes) = recorded world change ++ recorded_by (changed change world) changes
+abbrev pub recorded_by : (ℕ → Call → End → ℕ) → World → List Change → List Record
+recorded_by counted world [] = []
+recorded_by counted world (change ∷ changes) = recorded counted world change ++ recorded_by counted (changed change world) changes

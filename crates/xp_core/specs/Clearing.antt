@@ -2,19 +2,20 @@
 use Rattle.std.specs.Prelude.{ℕ, None, Some, List}
 use Rattle.xp_causes.specs.declared.refusal.Refusal.{Refusal}
 use Rattle.xp_charge.specs.declared.record.Record.{Record}
-use Rattle.xp_packets.specs.declared.end.End.TheVariants.{Caller}
+use Rattle.xp_packets.specs.declared.end.End.{End}
+use Rattle.xp_packets.specs.declared.end.End.TheVariants.{Caller, Called}
 use Rattle.xp_core.specs.World.{Call}
 
--- the record of a call that was put to a line
-abbrev pub record_of : ℕ → Call → ℕ → ℕ → Record
-record_of number call cause diagnostic = record {
+-- the record of a call that was put to a line, with these segments from each end
+abbrev pub record_of : ℕ → Call → (End → ℕ) → ℕ → ℕ → Record
+record_of number call counted cause diagnostic = record {
   number = number;
   caller = call.caller;
   called = Some call.called;
   dialled = call.dialled;
   payer = call.setup.payer;
-  from_caller = 0;
-  from_called = 0;
+  from_caller = counted Caller;
+  from_called = counted Called;
   cause = cause;
   diagnostic = diagnostic;
 }

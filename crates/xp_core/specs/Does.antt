@@ -1,7 +1,7 @@
 -- The changes that an event is, by what the table of actions has for it and by what was settled.
 use Rattle.std.specs.Prelude.{ℕ, Option, None, Some, List, [], ◌∷◌, ◌++◌}
 use Rattle.xp_causes.specs.Told.{cause_told, diagnostic_told}
-use Rattle.xp_causes.specs.declared.clearing_cause.TheConstants.{NUMBER_BUSY, OUT_OF_ORDER, REMOTE_PROCEDURE_ERROR}
+use Rattle.xp_causes.specs.declared.clearing_cause.TheConstants.{NETWORK_CONGESTION, NUMBER_BUSY, OUT_OF_ORDER, REMOTE_PROCEDURE_ERROR}
 use Rattle.xp_causes.specs.declared.diagnostic.TheConstants.{CALL_COLLISION, NO_ADDITIONAL_INFORMATION, TIMER_EXPIRED_FOR_INCOMING_CALL}
 use Rattle.xp_channel.specs.declared.action.Action.{Action}
 use Rattle.xp_channel.specs.declared.action.Action.TheVariants.{Nothing, Rise, Fall, NewCall, Collision, Answer, Confirm, Free, Error, Relayed, Expired}
@@ -9,7 +9,7 @@ use Rattle.xp_subs.specs.Tables.{Tables}
 use Rattle.xp_core.specs.declared.entry.Entry.{Entry}
 use Rattle.xp_core.specs.declared.event.What.{What}
 use Rattle.xp_core.specs.declared.outcome.Outcome.{Outcome}
-use Rattle.xp_core.specs.declared.outcome.Outcome.TheVariants.{Plain, Put, Refused, Connected, Declined}
+use Rattle.xp_core.specs.declared.outcome.Outcome.TheVariants.{Plain, Put, Refused, Connected, Declined, Exceeded}
 use Rattle.xp_core.specs.Changes.{Change, Rises, Leaves, Begins, IsRefused, Connects, Ends, Way, GoesOut, IsFree, IsCleared}
 use Rattle.xp_core.specs.Setting.{Setting, setting}
 use Rattle.xp_core.specs.Table.{CallRequest, ClearRequest, action_at, clear_in, request_in}
@@ -33,6 +33,16 @@ answers line (Some found) (Declined diagnostic) = leaves line IsCleared REMOTE_P
 answers line (Some found) Plain = []
 answers line (Some found) (Put called setup) = []
 answers line (Some found) (Refused why) = []
+answers line (Some found) Exceeded = []
+
+-- a packet of a line in data transfer: the call ends where its data would have gone past the segment limit
+abbrev pub carries : ℕ → Option (ℕ × Call) → Outcome → List Change
+carries line found Exceeded = leaves line IsCleared NETWORK_CONGESTION NO_ADDITIONAL_INFORMATION found ∷ []
+carries line found Plain = []
+carries line found (Put called setup) = []
+carries line found (Refused why) = []
+carries line found (Connected agreement) = []
+carries line found (Declined diagnostic) = []
 
 module _ {A : Type 0} where
   -- a call request is put to a line, or refused, as was settled
@@ -43,6 +53,7 @@ module _ {A : Type 0} where
   requests line (Some request) Plain = []
   requests line (Some request) (Connected agreement) = []
   requests line (Some request) (Declined diagnostic) = []
+  requests line (Some request) Exceeded = []
 
   -- the call that was put to the line is cancelled, and its own request put to a line, or refused
   abbrev pub collides : ℕ → Option (CallRequest A) → Option (ℕ × Call) → Outcome → List Change
@@ -65,7 +76,7 @@ module _ {A : Type 0} where
   does at what Confirm outcome = confirms at.line (clear_in what) (call_on at.world at.line)
   does at what Free outcome = Leaves at.line IsFree ∷ []
   does at what (Error diagnostic) outcome = leaves at.line IsCleared REMOTE_PROCEDURE_ERROR diagnostic (call_on at.world at.line) ∷ []
-  does at what Relayed outcome = []
+  does at what Relayed outcome = carries at.line (call_on at.world at.line) outcome
   does at what Expired outcome = leaves at.line IsCleared REMOTE_PROCEDURE_ERROR TIMER_EXPIRED_FOR_INCOMING_CALL (call_on at.world at.line) ∷ []
 
   -- the changes of an entry, as it tells them

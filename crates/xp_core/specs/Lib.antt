@@ -13,6 +13,7 @@ pub mod Does
 pub mod Exchange
 pub mod Existence
 pub mod Few
+pub mod Found
 pub mod Joined
 pub mod Kept
 pub mod Keyed
@@ -22,6 +23,7 @@ pub mod Plan
 pub mod Records
 pub mod Relays
 pub mod Run
+pub mod Segments
 pub mod Setting
 pub mod Shown
 pub mod Sound

@@ -3,7 +3,7 @@ use Rattle.std.specs.Prelude.{ℕ, Option, None, Some}
 use Rattle.xp_packets.specs.declared.end.End.{End}
 use Rattle.xp_packets.specs.declared.end.End.TheVariants.{Caller}
 use Rattle.xp_core.specs.declared.outcome.Outcome.{Outcome}
-use Rattle.xp_core.specs.declared.outcome.Outcome.TheVariants.{Plain, Put, Refused, Connected, Declined}
+use Rattle.xp_core.specs.declared.outcome.Outcome.TheVariants.{Plain, Put, Refused, Connected, Declined, Exceeded}
 
 -- the line that a new call was put to
 abbrev pub taken_by : Outcome → Option ℕ
@@ -12,6 +12,7 @@ taken_by Plain = None
 taken_by (Refused why) = None
 taken_by (Connected agreement) = None
 taken_by (Declined diagnostic) = None
+taken_by Exceeded = None
 
 -- the same, with another line taken
 abbrev pub with_line : ℕ → Outcome → Outcome
@@ -20,6 +21,7 @@ with_line other Plain = Plain
 with_line other (Refused why) = Refused why
 with_line other (Connected agreement) = Connected agreement
 with_line other (Declined diagnostic) = Declined diagnostic
+with_line other Exceeded = Exceeded
 
 -- who pays for the call that a call request made: the caller for one that was refused
 abbrev pub payer_of : Outcome → End
@@ -28,3 +30,4 @@ payer_of Plain = Caller
 payer_of (Refused why) = Caller
 payer_of (Connected agreement) = Caller
 payer_of (Declined diagnostic) = Caller
+payer_of Exceeded = Caller

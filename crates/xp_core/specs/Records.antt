@@ -3,6 +3,7 @@ use Rattle.std.specs.Prelude.{◌≡◌, ℕ, ◌+◌, ◌<◌, ◌≤◌, ◌==
 use Rattle.xp_channel.specs.declared.action.Action.TheVariants.{Collision, NewCall}
 use Rattle.xp_charge.specs.declared.record.Record.{Record}
 use Rattle.xp_packets.specs.declared.block.Block.{Block}
+use Rattle.xp_packets.specs.declared.end.End.TheVariants.{Caller, Called}
 use Rattle.xp_packets.specs.declared.packet.Packet.{Packet}
 use Rattle.xp_packets.specs.declared.packet.Packet.TheVariants.{Clear}
 use Rattle.xp_subs.specs.Tables.{Tables}
@@ -12,6 +13,7 @@ use Rattle.xp_core.specs.declared.output.Put.{Put}
 use Rattle.xp_core.specs.declared.output.Put.TheVariants.{Send}
 use Rattle.xp_core.specs.Run.{Run}
 use Rattle.xp_core.specs.Outcomes.{payer_of, taken_by}
+use Rattle.xp_core.specs.Segments.{segments_if_live}
 use Rattle.xp_core.specs.Step.{Step}
 use Rattle.xp_core.specs.Table.{CallRequest, action_at, request_in}
 use Rattle.xp_core.specs.World.{Call, World, call_numbered}
@@ -72,7 +74,7 @@ module _ {A : Type 0} {tables : Tables} {history : List (Entry A)} where
     pub gone : IsLive moment.next number → ⊥
 
   -- the record of a call that this entry ends: of the entry that began it, and of the one clear indication in which
-  -- this entry tells how it ended. There are no segments yet
+  -- this entry tells how it ended. Its segments are those of the entries before
   pub record IsRecordOf (ending : Moment tables history) (charged : Record) : Type 0 where
     pub ends : Ends ending charged.number
     pub beginning : Moment tables history
@@ -82,8 +84,8 @@ module _ {A : Type 0} {tables : Tables} {history : List (Entry A)} where
     pub called : charged.called ≡ taken_by beginning.entry.outcome
     pub dialled : charged.dialled ≡ request.block.called
     pub payer : charged.payer ≡ payer_of beginning.entry.outcome
-    pub from_caller : charged.from_caller ≡ 0
-    pub from_called : charged.from_called ≡ 0
+    pub from_caller : charged.from_caller ≡ segments_if_live tables ending.before charged.number (call_numbered ending.world charged.number) Caller
+    pub from_called : charged.from_called ≡ segments_if_live tables ending.before charged.number (call_numbered ending.world charged.number) Called
     pub block : Option (Block A)
     pub told : clears_to (told_end charged.caller charged.called ending.entry.event.line) ending.entry.outputs
         ≡ Clear charged.cause (Some charged.diagnostic) block ∷ []

@@ -1,10 +1,10 @@
 -- What the machine shows of the state of the exchange.
 use Rattle.std.specs.Prelude.{◌≡◌, Option, List, length}
-use Rattle.xp_relay.specs.Coupled.{KeptPair}
 use Rattle.xp_subs.specs.Sound.{IsSound}
 use Rattle.xp_subs.specs.Tables.{Tables, line_count}
 use Rattle.xp_core.specs.declared.entry.Entry.{Entry}
 use Rattle.xp_charge.specs.declared.record.Record.{Record}
+use Rattle.xp_core.specs.declared.relays.Metered.{Metered}
 use Rattle.xp_core.specs.Records.{records_of}
 use Rattle.xp_core.specs.Relays.{AreCarried}
 use Rattle.xp_core.specs.Run.{Run}
@@ -14,7 +14,7 @@ use Rattle.xp_core.specs.Writable.{AreReadable}
 
 module _ {A : Type 0} where
   -- the subscriptions are sound, the history is one of a run, and what is kept shows where it led
-  pub record Shows (tables : Tables) (history : List (Entry A)) (machine : World) (relays : List (Option (KeptPair A))) (records : List Record) : Type 0 where
+  pub record Shows (tables : Tables) (history : List (Entry A)) (machine : World) (relays : List (Option (Metered A))) (records : List Record) : Type 0 where
     pub sound : IsSound tables
     pub run : Run tables history (world_after tables history)
     pub readable : AreReadable history

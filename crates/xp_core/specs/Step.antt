@@ -5,6 +5,7 @@ use Rattle.xp_core.specs.declared.entry.Entry.{Entry}
 use Rattle.xp_core.specs.Acts.{Acts}
 use Rattle.xp_core.specs.Changes.{all_changed, recorded_by}
 use Rattle.xp_core.specs.Does.{changes_of}
+use Rattle.xp_core.specs.Segments.{segments_of}
 use Rattle.xp_core.specs.Setting.{setting}
 use Rattle.xp_core.specs.Table.{action_at}
 use Rattle.xp_core.specs.Told.{Told, outputs_of}
@@ -17,5 +18,5 @@ module _ {A : Type 0} where
     pub told : Told A
     pub acts : Acts (setting tables before world entry.event.line) entry.event.what (action_at world entry.event) entry.outcome told
     pub outputs : entry.outputs ≡ outputs_of told
-    pub records : entry.records.items ≡ recorded_by world (changes_of tables before world entry)
+    pub records : entry.records.items ≡ recorded_by (segments_of tables before) world (changes_of tables before world entry)
     pub leads : next ≡ all_changed (changes_of tables before world entry) world

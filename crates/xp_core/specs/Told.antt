@@ -1,5 +1,8 @@
 -- What is put out.
 use Rattle.std.specs.Prelude.{ℕ, Option, None, Some, List, [], ◌∷◌, ◌++◌, map}
+use Rattle.xp_answer.specs.Information.{cleared_with, confirmed_with}
+use Rattle.xp_charge.specs.Meter.{far_end as other_end}
+use Rattle.xp_facilities.specs.declared.segment_counts.SegmentCounts.{SegmentCounts}
 use Rattle.xp_packets.specs.declared.packet.Packet.{Packet}
 use Rattle.xp_packets.specs.declared.packet.Packet.TheVariants.{Clear}
 use Rattle.xp_relay.specs.declared.moves.Move.{Move}
@@ -7,8 +10,10 @@ use Rattle.xp_subs.specs.Tables.{Tables}
 use Rattle.xp_core.specs.declared.entry.Entry.{Entry}
 use Rattle.xp_core.specs.declared.output.Output.{Output}
 use Rattle.xp_core.specs.declared.output.Put.TheVariants.{Send, Close}
-use Rattle.xp_core.specs.Carried.{Carried, line_at_end, turn_of_carried}
+use Rattle.xp_core.specs.Carried.{Carried, end_of, line_at_end, turn_of_carried}
 use Rattle.xp_core.specs.Channel.{INITIAL_IDENTIFIER}
+use Rattle.xp_core.specs.Segments.{information_for, segments_of}
+use Rattle.xp_core.specs.Setting.{Setting}
 use Rattle.xp_core.specs.World.{Call, World, far_end, line_at}
 use Rattle.xp_causes.specs.declared.refusal.Refusal.{Refusal}
 
@@ -61,6 +66,29 @@ module _ {A : Type 0} where
   abbrev pub send_far : World → ℕ → Option (ℕ × Call) → Packet A → List (Output A)
   send_far world line None packet = []
   send_far world line (Some found) packet = send world (far_end found.1 line) packet ∷ []
+
+  -- ---- with charging information, where a line is to have it as the call that the line of an event is in ends
+
+  -- for that line
+  abbrev pub own_information : Setting A → Option (ℕ × Call) → Option SegmentCounts
+  own_information at None = None
+  own_information at (Some found) = information_for found.1 (segments_of at.tables at.before found.0 found.1) (end_of found.1 at.line)
+
+  -- for its far end
+  abbrev pub far_information : Setting A → Option (ℕ × Call) → Option SegmentCounts
+  far_information at None = None
+  far_information at (Some found) = information_for found.1 (segments_of at.tables at.before found.0 found.1) (other_end (end_of found.1 at.line))
+
+  abbrev pub clear_own : Setting A → Option (ℕ × Call) → ℕ → ℕ → Output A
+  clear_own at found cause diagnostic = send at.world at.line (cleared_with cause diagnostic (own_information at found))
+
+  abbrev pub clear_far : Setting A → Option (ℕ × Call) → ℕ → ℕ → List (Output A)
+  clear_far at found cause diagnostic = send_far at.world at.line found (cleared_with cause diagnostic (far_information at found))
+
+  abbrev pub confirm_own : Setting A → Option (ℕ × Call) → Output A
+  confirm_own at found = send at.world at.line (confirmed_with (own_information at found))
+
+  -- ---- what a call carries
 
   -- a packet that a call carries to its line at an end
   abbrev pub send_on : World → Call → Move A → Output A

@@ -1,6 +1,7 @@
 //! Entering one event.
 
 ghost use Rattle.std.specs.Prelude.{◌≡◌, ◌+◌, ◌<◌, ◌≤◌, ◌^◌, ◌++◌, IfOk, IfErr, OnOk, OnErr, length, vec_len, vec_capacity};
+ghost use Rattle.xp_subs.specs.Sound.{IsSound as IsSubs};
 ghost use Rattle.xp_subs.specs.Tables.{line_count};
 ghost use Rattle.xp_core.specs.Agreed.{AllHaveTerms};
 ghost use Rattle.xp_core.specs.Relays.{AreCarried};
@@ -41,6 +42,7 @@ pub fn advance<A: Allocator + Copy>(
     charged: &mut Vec<Record, A>,
     event: Event<A>,
 ) -> Result<Stepped<A>, StepFault<A>>
+    requires subs { IsSubs subs.now }
     requires line { event.line < line_count subs.now }
     requires sound { IsSound subs.now (length history.old.items) machine.old }
     requires terms { AllHaveTerms machine.old }
@@ -87,6 +89,7 @@ fn work_out<A: Allocator + Copy>(
     charged: &mut Vec<Record, A>,
     event: &Event<A>,
 ) -> Result<Work<A>, AllocError>
+    requires subs { IsSubs subs.now }
     requires line { event.now.line < line_count subs.now }
     requires sound { IsSound subs.now (length history.old.items) machine.old }
     requires terms { AllHaveTerms machine.old }

@@ -127,8 +127,8 @@ impl<A: Allocator> Core<A> {
     {
         let call = self.machine.call_on(line)?;
         let _agreement = call.agreed?;
-        let relay = self.relays.under(call.caller)?;
-        Some(relay.state(call.end_of(line)))
+        let metered = self.relays.under(call.caller)?;
+        Some(metered.relay.state(call.end_of(line)))
     }
 
     /// The records of the ended calls, in the order in which they ended: one for each of them, and no other.

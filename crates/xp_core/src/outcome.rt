@@ -30,6 +30,8 @@ pub enum Outcome {
     Connected(Agreement),
     /// An answer: it is a procedure error with this diagnostic (X.25 Annex E).
     Declined(u8),
+    /// Data: it would take its direction past the segment limit, and the call is cleared.
+    Exceeded,
 }
 
 impl Agreement {
@@ -60,8 +62,11 @@ impl Outcome {
     {
         match self {
             Outcome::Put { line, setup: _ } => Some(line),
-            Outcome::Plain | Outcome::Refused(_) | Outcome::Connected(_) | Outcome::Declined(_) =>
-                None,
+            Outcome::Plain
+            | Outcome::Refused(_)
+            | Outcome::Connected(_)
+            | Outcome::Declined(_)
+            | Outcome::Exceeded => None,
         }
     }
 }

@@ -5,6 +5,7 @@ mod asked;
 mod carrying;
 mod clearing;
 mod event;
+mod found;
 mod request;
 mod send;
 
@@ -12,7 +13,7 @@ ghost use Rattle.std.specs.Prelude.{◌≡◌, ◌+◌, ◌<◌, ◌≤◌, [], 
 ghost use Rattle.arrayvec.specs.ArrayVec.{array_vec_len};
 ghost use Rattle.xp_core.specs.declared.records.TheConstants.{MOST_RECORDS};
 
-use self::clearing::Withdrawal;
+use self::found::Withdrawal;
 use crate::change::Change;
 use crate::outcome::Outcome;
 use crate::output::Buffer;

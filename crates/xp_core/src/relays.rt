@@ -1,36 +1,68 @@
-//! The relays of the connected calls, each under its caller's line.
+//! The relays and meters of the connected calls, each under its caller's line.
 
 ghost use Rattle.std.specs.Prelude.{◌≡◌, ◌<◌, None, IfOk, length, replicate};
 ghost use Rattle.std.specs.Option.{option_copied};
-ghost use Rattle.xp_core.specs.Relays.{relay_under, relays_with};
+ghost use Rattle.xp_core.specs.Relays.{Counts, relay_under, relays_with};
+ghost use Rattle.xp_core.specs.Segments.{judged};
 
 use std::alloc::{AllocError, Allocator};
 use std::marker::Model;
-use xp_relay::Relay;
+use xp_charge::{Meter, OverLimit};
+use xp_packets::{End, Packet};
+use xp_relay::{Judged, Relay};
 use xp_subs::LineNo;
 
-/// The relay of a connected call.
+/// The relay of a connected call, and the meter of what it carries.
+#[derive(Debug, Drop)]
+pub struct Metered<A: Allocator> {
+    pub relay: Relay<A>,
+    pub meter: Meter,
+}
+
+/// What is kept of a connected call's data.
 #[derive(Debug, Drop)]
 pub struct Carriage<A: Allocator> {
     /// The line that asked for the call.
     pub caller: LineNo,
-    pub relay: Relay<A>,
+    pub metered: Metered<A>,
 }
 
 /// A place for each line: that of a caller has the relay of its call, once the call is connected. A line is in one call
 /// at a time.
 #[derive(Debug, Drop)]
 pub struct Relays<A: Allocator> {
-    by_caller: Vec<Option<Relay<A>>, A>,
+    by_caller: Vec<Option<Metered<A>>, A>,
 }
 
 impl<A: Allocator> Model for Relays<A> {
     ghost use Rattle.std.specs.Prelude.{List, Option};
-    ghost use Rattle.xp_relay.specs.Coupled.{KeptPair};
+    ghost use Rattle.xp_core.specs.declared.relays.Metered.{Metered};
 
-    ghost Value = { List (Option (KeptPair A)) };
+    ghost Value = { List (Option (Metered A)) };
 
     ghost view = { λ r. r.by_caller.items };
+}
+
+impl<A: Allocator> Metered<A> {
+    ghost use Rattle.xp_relay.specs.Coupled.{Coupled, ShowsCall, received_by, sent_by};
+
+    /// The meter with a packet of this end: with its segments, if it is data that is to be accepted.
+    ///
+    /// # Errors
+    ///
+    /// Exactly where it is, and would take its direction past the segment limit.
+    pub fn count(&self, here: End, packet: &Packet<A>) -> Result<Meter, OverLimit>
+        ensures { (call : Coupled A) → ShowsCall self.now.relay call → Counts self.now.meter here (judged packet.now (sent_by here call) (received_by here call)) result }
+    {
+        let mut meter = self.meter;
+        if let Packet::DataPacket { ps, pr, octets, .. } = packet {
+            let octets = octets.len();
+            if self.relay.judge(here, *ps, *pr, octets) == Judged::Accept {
+                meter.add(here, octets)?;
+            }
+        }
+        Ok(meter)
+    }
 }
 
 impl<A: Allocator + Copy> Relays<A> {
@@ -48,7 +80,7 @@ impl<A: Allocator + Copy> Relays<A> {
 
 impl<A: Allocator> Relays<A> {
     /// The relay under a line.
-    pub fn under(&self, line: LineNo) -> Option<&Relay<A>>
+    pub fn under(&self, line: LineNo) -> Option<&Metered<A>>
         ensures { option_copied result ≡ relay_under self.now line }
     {
         self.by_caller.get(usize::from(line))?.as_ref()
@@ -58,11 +90,11 @@ impl<A: Allocator> Relays<A> {
     pub fn put_if_any(&mut self, carriage: Option<Carriage<A>>)
         ensures { self.new ≡ relays_with carriage self.old }
     {
-        let Some(Carriage { caller, relay }) = carriage else {
+        let Some(Carriage { caller, metered }) = carriage else {
             return;
         };
         if let Some(place) = self.by_caller.get_mut(usize::from(caller)) {
-            *place = Some(relay);
+            *place = Some(metered);
         }
     }
 }

@@ -160,11 +160,11 @@ module _ {A : Type 0} (at : Setting A) (what : What A) where
 
     sent_on : (output : Output A) → IsSent at what output → P output.line
     sent_on output (closing is) = to at.line output (ap (λ o. o.line) is) own
-    sent_on output (confirming is) = to at.line output (ap (λ o. o.line) is) own
-    sent_on output (clearing cause diagnostic is) = to at.line output (ap (λ o. o.line) is) own
+    sent_on output (confirming information is) = to at.line output (ap (λ o. o.line) is) own
+    sent_on output (clearing cause diagnostic information is) = to at.line output (ap (λ o. o.line) is) own
     sent_on output (refusing request why asks is) = to at.line output (ap (λ o. o.line) is) own
-    sent_on output (clearing_far found cause diagnostic live is) = to (far_end found.1 at.line) output (ap (λ o. o.line) is) (far_on found.0 found.1 live)
-    sent_on output (carrying_on found clear packet live clears carried is) = to (far_end found.1 at.line) output (ap (λ o. o.line) is) (far_on found.0 found.1 live)
+    sent_on output (clearing_far found cause diagnostic information live is) = to (far_end found.1 at.line) output (ap (λ o. o.line) is) (far_on found.0 found.1 live)
+    sent_on output (carrying_on found clear information packet live clears carried is) = to (far_end found.1 at.line) output (ap (λ o. o.line) is) (far_on found.0 found.1 live)
     sent_on output (connecting found answer connection live accepts answered is) = to found.1.caller output (ap (λ o. o.line) is) (held_on found.0 found.1 live).0
     sent_on output (carrying carried move by in_it is) =
         let it = of_carried at.line (call_on at.world at.line) (packet_in what) carried by in

@@ -1,9 +1,11 @@
 //! An incoming call is answered.
 
-ghost use Rattle.std.specs.Prelude.{◌≡◌, ◌<◌, [], ◌∷◌, None, Some, IfOk};
+ghost use Rattle.std.specs.Prelude.{◌≡◌, ◌<◌, [], ◌∷◌, None, Some, IfOk, List};
 ghost use Rattle.xp_core.specs.Acts.{agreement_of as agreed_by, told_connected};
 ghost use Rattle.xp_core.specs.Agreed.{AllHaveTerms};
 ghost use Rattle.xp_core.specs.Asked.{answer_of};
+ghost use Rattle.xp_core.specs.declared.entry.Entry.{Entry as Entered};
+ghost use Rattle.xp_core.specs.Found.{IsFound, IsShort, at_found};
 ghost use Rattle.xp_core.specs.Kept.{call_of_kept, entry_of};
 ghost use Rattle.xp_core.specs.Changes.{Connects};
 ghost use Rattle.xp_core.specs.Plan.{IsPlan, PlansAnswer};
@@ -12,35 +14,34 @@ ghost use Rattle.xp_subs.specs.Tables.{line_count};
 
 use super::Plan;
 use super::asked::CallAccepted;
-use super::clearing::clear_both;
+use super::clearing::fail;
+use super::found::Found;
 use super::send::send;
 use crate::call::LiveCall;
 use crate::change::Change;
-use crate::machine::Machine;
 use crate::outcome::{Agreement, Outcome};
 use crate::output::Buffer;
-use crate::relays::Carriage;
+use crate::relays::{Carriage, Metered};
 use std::alloc::{AllocError, Allocator};
 use xp_answer::{Answer, Connection, examine};
+use xp_charge::Meter;
 use xp_relay::Relay;
-use xp_subs::{LineNo, Subs};
 
 /// An answer connects the call, and the caller is told so (X.25 clause 4.1.5); a fault of it is a procedure error.
 pub fn answer<A: Allocator + Copy>(
     alloc: A,
-    subs: &Subs,
-    machine: &Machine<A>,
-    line: LineNo,
+    found: &Found<'_, A>,
     answer: &CallAccepted<'_, A>,
 ) -> Result<Plan<A>, AllocError>
-    requires line { line < line_count subs.now }
-    requires terms { AllHaveTerms machine.now }
-    ensures { IfOk result (PlansAnswer subs.now machine.now line (answer_of answer.now)) }
+    requires line { found.now.line < line_count found.now.subs.now }
+    requires terms { AllHaveTerms found.now.machine.now }
+    requires short { IsShort found.now.charged }
+    ensures { (before : List (Entered A)) → IsFound found.now before → IfOk result (PlansAnswer (at_found found.now before) (answer_of answer.now)) }
 {
-    let Some(call) = machine.call_on(line) else {
+    let Some(call) = found.machine.call_on(found.line) else {
         return Ok(Plan::of(Buffer::with_room(alloc, 0)?));
     };
-    let address = subs.address_of(line);
+    let address = found.subs.address_of(found.line);
     match examine(
         alloc,
         &call.setup,
@@ -53,14 +54,15 @@ pub fn answer<A: Allocator + Copy>(
             let outputs = Buffer::with_room(alloc, 1)?;
             let agreement = agreement_of(&connection);
             let relay = Relay::new(alloc, agreement.relay_terms())?;
-            let plan = connect(machine, line, call, connection, outputs);
+            let meter = Meter::new(found.subs.segment_limit());
+            let plan = connect(found, call, connection, outputs);
             Ok(plan.carrying(Carriage {
                 caller: call.caller,
-                relay,
+                metered: Metered { relay, meter },
             }))
         }
         Answer::Refused(diagnostic) => {
-            let plan = clear_both(alloc, machine, line, diagnostic)?;
+            let plan = fail(alloc, found, diagnostic)?;
             Ok(plan.settling(Outcome::Declined(diagnostic)))
         }
     }
@@ -77,8 +79,7 @@ fn agreement_of<A: Allocator>(connection: &Connection<A>) -> Agreement
 
 /// The call is connected: both lines are in data transfer.
 fn connect<A: Allocator>(
-    machine: &Machine<A>,
-    line: LineNo,
+    found: &Found<'_, A>,
     call: &LiveCall,
     connection: Connection<A>,
     outputs: Buffer<A>,
@@ -87,12 +88,15 @@ fn connect<A: Allocator>(
     requires room { 0 < outputs.room }
     ensures outcome { result.outcome ≡ Outcome.Connected (agreed_by connection) }
     ensures quiet { result.carriage ≡ None }
-    ensures planned { call_on machine.now line ≡ Some (entry_of call.now)
-        → IsPlan result machine.now (told_connected machine.now call.now.caller connection.packet) (Connects call.now.number (call_of_kept call.now) (agreed_by connection) ∷ []) }
+    ensures planned { (before : List (Entered A)) → call_on found.now.machine.now found.now.line ≡ Some (entry_of call.now)
+        → IsPlan result (at_found found.now before) (told_connected found.now.machine.now call.now.caller connection.packet) (Connects call.now.number (call_of_kept call.now) (agreed_by connection) ∷ []) }
 {
     let agreement = agreement_of(&connection);
-    let change = Change::Connect { line, agreement };
-    Plan::of(outputs.with(send(machine, call.caller, connection.packet)))
+    let change = Change::Connect {
+        line: found.line,
+        agreement,
+    };
+    Plan::of(outputs.with(send(found.machine, call.caller, connection.packet)))
         .settling(Outcome::Connected(agreement))
         .changing(change)
 }

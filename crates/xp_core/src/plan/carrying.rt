@@ -1,44 +1,43 @@
 //! A packet that a line hands in for its connected call: data, flow control, interrupts and resets.
 
-ghost use Rattle.std.specs.Prelude.{◌≡◌, IfOk, map};
+ghost use Rattle.std.specs.Prelude.{◌≡◌, IfOk, map, List};
 ghost use Rattle.std.specs.Option.{option_copied};
+ghost use Rattle.xp_core.specs.declared.entry.Entry.{Entry as Entered};
+ghost use Rattle.xp_core.specs.Found.{IsFound, IsShort, at_found};
 ghost use Rattle.xp_core.specs.Kept.{call_of_kept};
 ghost use Rattle.xp_core.specs.Plan.{PlansCarried};
 ghost use Rattle.xp_core.specs.Relays.{AreCarried};
-ghost use Rattle.xp_core.specs.Setting.{setting};
 ghost use Rattle.xp_core.specs.Table.{packet_in as packet_of};
 ghost use Rattle.xp_core.specs.Told.{send_on};
 
 use super::Plan;
+use super::clearing::exceed;
+use super::found::{Charged, Found};
 use super::send::send;
 use crate::call::LiveCall;
-use crate::entry::Entry;
 use crate::event::What;
 use crate::machine::Machine;
 use crate::output::Buffer;
-use crate::relays::{Carriage, Relays};
+use crate::relays::{Carriage, Metered, Relays};
 use std::alloc::{AllocError, Allocator};
 use xp_packets::Packet;
 use xp_relay::Moves;
-use xp_subs::{LineNo, Subs};
 
 /// For how many moves a relay asks room.
 const MOST_MOVES: usize = 17;
 
-/// The packet goes through a copy of the call's relay, which the call has from then on (X.25 clauses 4.3 and 4.4).
+/// The packet goes through a copy of the call's relay, which the call has from then on (X.25 clauses 4.3 and 4.4). Data that
+/// would go past the segment limit clears the call.
 pub fn carry<A: Allocator + Copy>(
     alloc: A,
-    _subs: &Subs,
-    machine: &Machine<A>,
+    found: &Found<'_, A>,
     relays: &Relays<A>,
-    _before: &[Entry<A>],
-    line: LineNo,
     what: &What<A>,
 ) -> Result<Plan<A>, AllocError>
-    requires { AreCarried _subs.now _before.now machine.now relays.now }
-    ensures { IfOk result (PlansCarried (setting _subs.now _before.now machine.now line) what.now) }
+    requires { IsShort found.now.charged }
+    ensures { (before : List (Entered A)) → IsFound found.now before → AreCarried found.now.subs.now before found.now.machine.now relays.now → IfOk result (PlansCarried (at_found found.now before) what.now) }
 {
-    let Some(call) = machine.call_on(line) else {
+    let Some(Charged { call, meter: _ }) = found.charged else {
         return Ok(Plan::of(Buffer::with_room(alloc, 0)?));
     };
     let Some(packet) = packet_in(what) else {
@@ -47,16 +46,20 @@ pub fn carry<A: Allocator + Copy>(
     if call.agreed.is_none() {
         return Ok(Plan::of(Buffer::with_room(alloc, 0)?));
     }
-    let Some(relay) = relays.under(call.caller) else {
+    let Some(metered) = relays.under(call.caller) else {
         return Ok(Plan::of(Buffer::with_room(alloc, 0)?));
     };
-    let mut relay = relay.copy()?;
+    let here = call.end_of(found.line);
+    let Ok(meter) = metered.count(here, packet) else {
+        return exceed(alloc, found);
+    };
+    let mut relay = metered.relay.copy()?;
     let room = Moves::with_room(alloc, MOST_MOVES)?;
-    let moves = relay.take(call.end_of(line), packet, room)?;
-    let outputs = send_all(alloc, machine, call, moves)?;
+    let moves = relay.take(here, packet, room)?;
+    let outputs = send_all(alloc, found.machine, call, moves)?;
     Ok(Plan::of(outputs).carrying(Carriage {
         caller: call.caller,
-        relay,
+        metered: Metered { relay, meter },
     }))
 }
 

@@ -1,101 +1,67 @@
-//! What takes a line out of its call: a clear request, an error, or the line that goes out of service.
+//! What takes a line out of its call: a clear request, an error, data past the segment limit, or the line that goes out of
+//! service.
 
-ghost use Rattle.std.specs.Prelude.{◌≡◌, ◌<◌, ◌∷◌, [], IfOk, OnOk, None, option_to_list};
-ghost use Rattle.xp_answer.specs.CarriedOn.{CarriedOn};
-ghost use Rattle.xp_causes.specs.declared.clearing_cause.TheConstants.{OUT_OF_ORDER as GONE_OUT, REMOTE_PROCEDURE_ERROR as REMOTE_ERROR};
+ghost use Rattle.std.specs.Prelude.{◌≡◌, ◌∷◌, [], IfOk, None, option_to_list, List};
+ghost use Rattle.xp_causes.specs.declared.clearing_cause.TheConstants.{LOCAL_PROCEDURE_ERROR as LOCAL_ERROR, NETWORK_CONGESTION as CONGESTION, OUT_OF_ORDER as GONE_OUT, REMOTE_PROCEDURE_ERROR as REMOTE_ERROR};
 ghost use Rattle.xp_causes.specs.declared.diagnostic.TheConstants.{NO_ADDITIONAL_INFORMATION as NO_INFORMATION};
-ghost use Rattle.xp_core.specs.Acts.{closed, told_of_error, told_of_fall};
+ghost use Rattle.xp_core.specs.Acts.{closed, told_both, told_of_error, told_of_excess, told_of_fall};
 ghost use Rattle.xp_core.specs.Asked.{clear_of};
 ghost use Rattle.xp_core.specs.Changes.{Rises, Leaves, IsCleared, IsFree, GoesOut};
-ghost use Rattle.xp_core.specs.Kept.{way_of};
-ghost use Rattle.xp_core.specs.Plan.{IsPlan, IsPlainPlan, IsToldOn, IsWithdrawal, PlansClear};
 ghost use Rattle.xp_core.specs.Does.{leaves};
+ghost use Rattle.xp_core.specs.declared.entry.Entry.{Entry as Entered};
+ghost use Rattle.xp_core.specs.Found.{IsFound, IsShort, at_found};
+ghost use Rattle.xp_core.specs.Plan.{IsPlan, IsPlainPlan, IsToldOn, PlansClear};
 ghost use Rattle.xp_core.specs.Told.{nothing_told};
 ghost use Rattle.xp_core.specs.World.{call_on};
 
 use super::Plan;
 use super::asked::ClearRequest;
-use super::send::{clear_indication, close, send, send_far};
+use super::found::{Charged, Found};
+use super::send::{close, send};
 use crate::change::{Change, Way};
 use crate::event::What;
 use crate::machine::Machine;
+use crate::outcome::Outcome;
 use crate::output::{Buffer, Output};
 use std::alloc::{AllocError, Allocator};
 use xp_answer::carry_clear;
-use xp_causes::clearing_cause::{LOCAL_PROCEDURE_ERROR, OUT_OF_ORDER, REMOTE_PROCEDURE_ERROR};
+use xp_causes::clearing_cause::{
+    LOCAL_PROCEDURE_ERROR, NETWORK_CONGESTION, OUT_OF_ORDER, REMOTE_PROCEDURE_ERROR,
+};
 use xp_causes::diagnostic::NO_ADDITIONAL_INFORMATION;
 use xp_causes::{cause_told, diagnostic_told};
-use xp_charge::Record;
-use xp_packets::Packet;
 use xp_subs::LineNo;
 
-/// A line that leaves the call that it is in, and the record of that call; or a line in no call.
-#[derive(Drop)]
-pub struct Withdrawal {
-    pub change: Change,
-    pub charged: Option<Record>,
-}
-
-/// A line leaves the call that it is in, if it is in one, and that call ends: its far end is told this cause and
-/// diagnostic.
-pub fn withdraw<A: Allocator>(
-    machine: &Machine<A>,
-    line: LineNo,
-    way: Way,
-    cause: u8,
-    diagnostic: u8,
-) -> Withdrawal
-    ensures { IsWithdrawal result machine.now (leaves line (way_of way) cause diagnostic (call_on machine.now line)) }
-{
-    let change = Change::Leave { line, way };
-    match machine.call_on(line) {
-        None => Withdrawal {
-            change,
-            charged: None,
-        },
-        Some(call) => Withdrawal {
-            change,
-            charged: Some(call.record(cause, diagnostic)),
-        },
-    }
-}
-
 /// A line comes into service.
-pub fn rise<A: Allocator>(
-    alloc: A,
-    machine: &Machine<A>,
-    line: LineNo,
-) -> Result<Plan<A>, AllocError>
-    ensures { IfOk result (λ plan. IsPlainPlan plan machine.now nothing_told (Rises line ∷ [])) }
+pub fn rise<A: Allocator>(alloc: A, found: &Found<'_, A>) -> Result<Plan<A>, AllocError>
+    ensures { (before : List (Entered A)) → IfOk result (λ plan. IsPlainPlan plan (at_found found.now before) nothing_told (Rises found.now.line ∷ [])) }
 {
+    let line = found.line;
     Ok(Plan::of(Buffer::with_room(alloc, 0)?).changing(Change::Rise { line }))
 }
 
 /// A cleared line is free again.
-pub fn free<A: Allocator>(
-    alloc: A,
-    machine: &Machine<A>,
-    line: LineNo,
-) -> Result<Plan<A>, AllocError>
-    ensures { IfOk result (λ plan. IsPlainPlan plan machine.now nothing_told (Leaves line IsFree ∷ [])) }
+pub fn free<A: Allocator>(alloc: A, found: &Found<'_, A>) -> Result<Plan<A>, AllocError>
+    ensures { (before : List (Entered A)) → IfOk result (λ plan. IsPlainPlan plan (at_found found.now before) nothing_told (Leaves found.now.line IsFree ∷ [])) }
 {
+    let line = found.line;
     Ok(Plan::of(Buffer::with_room(alloc, 0)?).changing(Change::Free { line }))
 }
 
 /// A line goes out of service: its call ends as out of order.
-pub fn fall<A: Allocator>(
+pub fn fall<A: Allocator + Copy>(
     alloc: A,
-    machine: &Machine<A>,
-    line: LineNo,
+    found: &Found<'_, A>,
     what: &What<A>,
 ) -> Result<Plan<A>, AllocError>
-    ensures { IfOk result (λ plan. IsPlainPlan plan machine.now (told_of_fall machine.now line what.now) (leaves line GoesOut GONE_OUT NO_INFORMATION (call_on machine.now line) ∷ [])) }
+    requires { IsShort found.now.charged }
+    ensures { (before : List (Entered A)) → IsFound found.now before → IfOk result (λ plan. IsPlainPlan plan (at_found found.now before) (told_of_fall (at_found found.now before) what.now) (leaves found.now.line GoesOut GONE_OUT NO_INFORMATION (call_on found.now.machine.now found.now.line) ∷ [])) }
 {
     let (cause, diagnostic) = (OUT_OF_ORDER, NO_ADDITIONAL_INFORMATION);
-    let own = closing(machine, line, what);
-    let far = send_far(machine, line, clear_indication(cause, diagnostic));
+    let own = closing(found.machine, found.line, what);
+    let far = found.clear_far(alloc, cause, diagnostic)?;
     let outputs = Buffer::with_room(alloc, 2)?.with_some(own).with_some(far);
-    let withdrawal = withdraw(machine, line, Way::GoesOut, cause, diagnostic);
+    let withdrawal = found.withdraw(Way::GoesOut, cause, diagnostic);
     Ok(Plan::of(outputs).withdrawing(withdrawal))
 }
 
@@ -110,70 +76,95 @@ fn closing<A: Allocator>(machine: &Machine<A>, line: LineNo, what: &What<A>) -> 
 }
 
 /// A procedure error clears both ends of the line's call, or the line alone (X.25 clause 4.1 and Annex C).
-pub fn clear_both<A: Allocator>(
+pub fn fail<A: Allocator + Copy>(
     alloc: A,
-    machine: &Machine<A>,
-    line: LineNo,
+    found: &Found<'_, A>,
     diagnostic: u8,
 ) -> Result<Plan<A>, AllocError>
-    ensures { IfOk result (λ plan. IsPlainPlan plan machine.now (told_of_error machine.now line diagnostic) (leaves line IsCleared REMOTE_ERROR diagnostic (call_on machine.now line) ∷ [])) }
+    requires { IsShort found.now.charged }
+    ensures { (before : List (Entered A)) → IsFound found.now before → IfOk result (λ plan. IsPlainPlan plan (at_found found.now before) (told_of_error (at_found found.now before) diagnostic) (leaves found.now.line IsCleared REMOTE_ERROR diagnostic (call_on found.now.machine.now found.now.line) ∷ [])) }
 {
-    let own = send(
-        machine,
-        line,
-        clear_indication(LOCAL_PROCEDURE_ERROR, diagnostic),
-    );
-    let indication = clear_indication(REMOTE_PROCEDURE_ERROR, diagnostic);
-    let far = send_far(machine, line, indication);
-    let outputs = Buffer::with_room(alloc, 2)?.with(own).with_some(far);
-    let withdrawal = withdraw(
-        machine,
-        line,
-        Way::IsCleared,
+    clear_both(
+        alloc,
+        found,
+        LOCAL_PROCEDURE_ERROR,
         REMOTE_PROCEDURE_ERROR,
         diagnostic,
-    );
+    )
+}
+
+/// Data that would go past the segment limit clears both ends of its call.
+pub fn exceed<A: Allocator + Copy>(alloc: A, found: &Found<'_, A>) -> Result<Plan<A>, AllocError>
+    requires { IsShort found.now.charged }
+    ensures outcome { IfOk result (λ plan. plan.outcome ≡ Outcome.Exceeded) }
+    ensures planned { (before : List (Entered A)) → IsFound found.now before → IfOk result (λ plan. (plan.carriage ≡ None) × IsPlan plan (at_found found.now before) (told_of_excess (at_found found.now before)) (leaves found.now.line IsCleared CONGESTION NO_INFORMATION (call_on found.now.machine.now found.now.line) ∷ [])) }
+{
+    let plan = clear_both(
+        alloc,
+        found,
+        NETWORK_CONGESTION,
+        NETWORK_CONGESTION,
+        NO_ADDITIONAL_INFORMATION,
+    )?;
+    Ok(plan.settling(Outcome::Exceeded))
+}
+
+/// Both ends of the line's call are cleared, the line with the cause `near` and its far end with `far`; or the line alone.
+fn clear_both<A: Allocator + Copy>(
+    alloc: A,
+    found: &Found<'_, A>,
+    near: u8,
+    far: u8,
+    diagnostic: u8,
+) -> Result<Plan<A>, AllocError>
+    requires { IsShort found.now.charged }
+    ensures { (before : List (Entered A)) → IsFound found.now before → IfOk result (λ plan. IsPlainPlan plan (at_found found.now before) (told_both (at_found found.now before) near far diagnostic) (leaves found.now.line IsCleared far diagnostic (call_on found.now.machine.now found.now.line) ∷ [])) }
+{
+    let own = found.clear_own(alloc, near, diagnostic)?;
+    let other = found.clear_far(alloc, far, diagnostic)?;
+    let outputs = Buffer::with_room(alloc, 2)?.with(own).with_some(other);
+    let withdrawal = found.withdraw(Way::IsCleared, far, diagnostic);
     Ok(Plan::of(outputs).withdrawing(withdrawal))
 }
 
 /// A clear request is confirmed at once (X.25 clause 4.1.7), and the line's call ends.
 pub fn confirm<A: Allocator + Copy>(
     alloc: A,
-    machine: &Machine<A>,
-    line: LineNo,
+    found: &Found<'_, A>,
     clear: &ClearRequest<'_, A>,
 ) -> Result<Plan<A>, AllocError>
-    ensures { IfOk result (PlansClear machine.now line (clear_of clear.now)) }
+    requires { IsShort found.now.charged }
+    ensures { (before : List (Entered A)) → IsFound found.now before → IfOk result (PlansClear (at_found found.now before) (clear_of clear.now)) }
 {
-    let own = send(machine, line, Packet::ClearConfirm { block: None });
-    let far = carry_on(alloc, machine, line, clear)?;
+    let own = found.confirm_own(alloc)?;
+    let far = carry_on(alloc, found, clear)?;
     let outputs = Buffer::with_room(alloc, 2)?.with(own).with_some(far);
     let cause = cause_told(clear.cause);
     let diagnostic = diagnostic_told(clear.diagnostic);
-    let withdrawal = withdraw(machine, line, Way::IsFree, cause, diagnostic);
+    let withdrawal = found.withdraw(Way::IsFree, cause, diagnostic);
     Ok(Plan::of(outputs).withdrawing(withdrawal))
 }
 
 /// What the far end of the line's call, if it is in one, is told of a clear request.
 fn carry_on<A: Allocator + Copy>(
     alloc: A,
-    machine: &Machine<A>,
-    line: LineNo,
+    found: &Found<'_, A>,
     clear: &ClearRequest<'_, A>,
 ) -> Result<Option<Output<A>>, AllocError>
-    ensures { IfOk result (λ far. IsToldOn machine.now line (clear_of clear.now) (call_on machine.now line) (option_to_list far)) }
+    requires { IsShort found.now.charged }
+    ensures { (before : List (Entered A)) → IsFound found.now before → IfOk result (λ far. IsToldOn (at_found found.now before) (clear_of clear.now) (call_on found.now.machine.now found.now.line) (option_to_list far)) }
 {
-    let Some(call) = machine.call_on(line) else {
+    let information = found.far_information();
+    let Some(Charged { call, meter: _ }) = found.charged else {
         return Ok(None);
     };
-    let fast = call.setup.fast;
     let packet = carry_clear(
         alloc,
-        fast,
+        call.setup.fast,
         clear.cause,
         clear.diagnostic,
         clear.block,
-        None,
+        information,
     )?;
-    Ok(Some(send(machine, call.far_end(line), packet)))
+    Ok(Some(send(found.machine, call.far_end(found.line), packet)))
 }

@@ -1,22 +1,26 @@
 //! What each event does, by the table of actions.
 
-ghost use Rattle.std.specs.Prelude.{◌≡◌, ◌<◌, [], IfOk};
+ghost use Rattle.std.specs.Prelude.{◌≡◌, ◌<◌, [], IfOk, List};
 ghost use Rattle.xp_channel.specs.Table.{cell};
 ghost use Rattle.xp_core.specs.Agreed.{AllHaveTerms};
 ghost use Rattle.xp_core.specs.Channel.{channel_of};
+ghost use Rattle.xp_core.specs.declared.entry.Entry.{Entry as Entered};
+ghost use Rattle.xp_core.specs.Found.{at_found};
 ghost use Rattle.xp_core.specs.Plan.{IsPlainPlan, Plans};
 ghost use Rattle.xp_core.specs.Relays.{AreCarried};
 ghost use Rattle.xp_core.specs.Setting.{setting};
 ghost use Rattle.xp_core.specs.Table.{kind_of};
 ghost use Rattle.xp_core.specs.Told.{nothing_told};
 ghost use Rattle.xp_core.specs.World.{state_at};
+ghost use Rattle.xp_subs.specs.Sound.{IsSound};
 ghost use Rattle.xp_subs.specs.Tables.{line_count};
 
 use super::Plan;
 use super::answer::answer;
 use super::asked::{accepted_in, clear_in, request_in};
 use super::carrying::carry;
-use super::clearing::{clear_both, confirm, fall, free, rise};
+use super::clearing::{confirm, fail, fall, free, rise};
+use super::found::{Found, charged_on};
 use super::request::{Cancelled, request};
 use crate::entry::Entry;
 use crate::event::{Event, What};
@@ -27,7 +31,7 @@ use crate::table::action_of;
 use std::alloc::{AllocError, Allocator};
 use xp_causes::diagnostic::TIMER_EXPIRED_FOR_INCOMING_CALL;
 use xp_channel::Action;
-use xp_subs::{LineNo, Subs};
+use xp_subs::Subs;
 
 /// Works out what an event does. It fails only for memory.
 pub fn plan_of<A: Allocator + Copy>(
@@ -38,46 +42,49 @@ pub fn plan_of<A: Allocator + Copy>(
     before: &[Entry<A>],
     event: &Event<A>,
 ) -> Result<Plan<A>, AllocError>
+    requires sound { IsSound subs.now }
     requires line { event.now.line < line_count subs.now }
     requires terms { AllHaveTerms machine.now }
     requires carried { AreCarried subs.now before.now machine.now relays.now }
     ensures { IfOk result (λ plan. Plans (setting subs.now before.now machine.now event.now.line) event.now.what (cell (channel_of (state_at machine.now event.now.line)) (kind_of event.now.what)) plan) }
 {
     let line = event.line;
+    let found = Found {
+        subs,
+        machine,
+        line,
+        charged: charged_on(subs, machine, relays, before, line),
+    };
     let what = &event.what;
     match action_of(machine.line(line).state, what) {
-        Action::Nothing => nothing(alloc, machine),
-        Action::Relayed => carry(alloc, subs, machine, relays, before, line, what),
-        Action::Rise => rise(alloc, machine, line),
-        Action::Fall => fall(alloc, machine, line, what),
-        Action::Free => free(alloc, machine, line),
-        Action::Error(diagnostic) => clear_both(alloc, machine, line, diagnostic),
-        Action::Expired => clear_both(alloc, machine, line, TIMER_EXPIRED_FOR_INCOMING_CALL),
+        Action::Nothing => nothing(alloc, &found),
+        Action::Relayed => carry(alloc, &found, relays, what),
+        Action::Rise => rise(alloc, &found),
+        Action::Fall => fall(alloc, &found, what),
+        Action::Free => free(alloc, &found),
+        Action::Error(diagnostic) => fail(alloc, &found, diagnostic),
+        Action::Expired => fail(alloc, &found, TIMER_EXPIRED_FOR_INCOMING_CALL),
         Action::NewCall => match request_in(what) {
-            None => nothing(alloc, machine),
-            Some(call) => request(alloc, subs, machine, line, &call, Cancelled::none()),
+            None => nothing(alloc, &found),
+            Some(call) => request(alloc, &found, &call, Cancelled::none()),
         },
         Action::Collision => match request_in(what) {
-            None => nothing(alloc, machine),
-            Some(call) => {
-                let cancelled = Cancelled::by(machine, line);
-                request(alloc, subs, machine, line, &call, cancelled)
-            }
+            None => nothing(alloc, &found),
+            Some(call) => request(alloc, &found, &call, Cancelled::by(&found)),
         },
         Action::Answer => match accepted_in(what) {
-            None => nothing(alloc, machine),
-            Some(accepted) => answer(alloc, subs, machine, line, &accepted),
+            None => nothing(alloc, &found),
+            Some(accepted) => answer(alloc, &found, &accepted),
         },
         Action::Confirm => match clear_in(what) {
-            None => nothing(alloc, machine),
-            Some(clear) => confirm(alloc, machine, line, &clear),
+            None => nothing(alloc, &found),
+            Some(clear) => confirm(alloc, &found, &clear),
         },
     }
 }
 
-fn nothing<A: Allocator>(alloc: A, machine: &Machine<A>) -> Result<Plan<A>, AllocError>
-    ensures { IfOk result (λ plan. IsPlainPlan plan machine.now nothing_told []) }
+fn nothing<A: Allocator>(alloc: A, _found: &Found<'_, A>) -> Result<Plan<A>, AllocError>
+    ensures { (before : List (Entered A)) → IfOk result (λ plan. IsPlainPlan plan (at_found _found.now before) nothing_told []) }
 {
-    let _ = machine;
     Ok(Plan::of(Buffer::with_room(alloc, 0)?))
 }

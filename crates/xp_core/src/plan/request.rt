@@ -4,20 +4,23 @@ ghost use Rattle.std.specs.Prelude.{◌≡◌, ◌<◌, [], ◌∷◌, ◌++◌,
 ghost use Rattle.xp_core.specs.Acts.{cancelled_told};
 ghost use Rattle.xp_core.specs.Asked.{request_of};
 ghost use Rattle.xp_core.specs.Changes.{Change as Changing, Begins, IsRefused};
+ghost use Rattle.xp_core.specs.declared.entry.Entry.{Entry as Entered};
+ghost use Rattle.xp_core.specs.Found.{IsFound, at_found};
 ghost use Rattle.xp_core.specs.Plan.{IsCancelled, IsPlan, PlansRequest};
 ghost use Rattle.xp_core.specs.Does.{cancels};
+ghost use Rattle.xp_core.specs.Setting.{Setting};
 ghost use Rattle.xp_core.specs.Told.{refused_told, taken_told};
-ghost use Rattle.xp_core.specs.World.{World, call_on};
+ghost use Rattle.xp_core.specs.World.{call_on};
 ghost use Rattle.xp_core.specs.declared.output.Output.{Output as Sent};
 ghost use Rattle.xp_answer.specs.Setup.{setup_of};
 ghost use Rattle.xp_subs.specs.Tables.{line_count};
 
 use super::Plan;
 use super::asked::CallRequest;
+use super::found::{Charged, Found};
 use super::send::{clear_indication, send_as, send_far};
 use crate::change::Change;
 use crate::channel::LogicalChannel;
-use crate::machine::Machine;
 use crate::outcome::Outcome;
 use crate::output::{Buffer, Output};
 use std::alloc::{AllocError, Allocator};
@@ -28,7 +31,7 @@ use xp_causes::diagnostic::CALL_COLLISION;
 use xp_charge::Record;
 use xp_decide::{Verdict, decide};
 use xp_packets::{End, Packet};
-use xp_subs::{LineNo, Subs};
+use xp_subs::LineNo;
 
 /// The incoming call that a call request from its line cancels (X.25 clause 4.1.6), if it cancels one.
 #[derive(Drop)]
@@ -43,7 +46,7 @@ pub struct Cancelled<A: Allocator> {
 impl<A: Allocator> Cancelled<A> {
     /// No call is cancelled.
     pub fn none() -> Cancelled<A>
-        ensures { (world : World) → IsCancelled result world [] [] }
+        ensures { (at : Setting A) → IsCancelled result at [] [] }
     {
         Cancelled {
             line: None,
@@ -53,15 +56,20 @@ impl<A: Allocator> Cancelled<A> {
     }
 
     /// The call that was put to the line.
-    pub fn by(machine: &Machine<A>, line: LineNo) -> Cancelled<A>
-        ensures { IsCancelled result machine.now (cancels line (call_on machine.now line)) (cancelled_told machine.now line) }
+    pub fn by(found: &Found<'_, A>) -> Cancelled<A>
+        ensures { (before : List (Entered A)) → IsFound found.now before → IsCancelled result (at_found found.now before) (cancels found.now.line (call_on found.now.machine.now found.now.line)) (cancelled_told found.now.machine.now found.now.line) }
     {
-        match machine.call_on(line) {
+        let (cause, diagnostic) = (NUMBER_BUSY, CALL_COLLISION);
+        match found.charged {
             None => Cancelled::none(),
-            Some(call) => Cancelled {
-                line: Some(line),
-                charged: Some(call.record(NUMBER_BUSY, CALL_COLLISION)),
-                told: send_far(machine, line, clear_indication(NUMBER_BUSY, CALL_COLLISION)),
+            Some(Charged { call, meter }) => Cancelled {
+                line: Some(found.line),
+                charged: Some(call.record(meter, cause, diagnostic)),
+                told: send_far(
+                    found.machine,
+                    found.line,
+                    clear_indication(cause, diagnostic),
+                ),
             },
         }
     }
@@ -70,35 +78,31 @@ impl<A: Allocator> Cancelled<A> {
 /// Decides a call request: it is put to the line that is taken, or cleared.
 pub fn request<A: Allocator + Copy>(
     alloc: A,
-    subs: &Subs,
-    machine: &Machine<A>,
-    caller: LineNo,
+    found: &Found<'_, A>,
     request: &CallRequest<'_, A>,
     cancelled: Cancelled<A>,
 ) -> Result<Plan<A>, AllocError>
-    requires { caller < line_count subs.now }
-    ensures { (ended : List Changing) (far : List (Sent A)) → IsCancelled cancelled machine.now ended far
-        → IfOk result (PlansRequest subs.now machine.now caller (request_of request.now) ended far) }
+    requires { found.now.line < line_count found.now.subs.now }
+    ensures { (before : List (Entered A)) (ended : List Changing) (far : List (Sent A)) → IsCancelled cancelled (at_found found.now before) ended far
+        → IfOk result (PlansRequest (at_found found.now before) (request_of request.now) ended far) }
 {
+    let (subs, caller) = (found.subs, found.line);
     let outputs = Buffer::with_room(alloc, 2)?;
-    match decide(alloc, subs, machine, caller, request.block)? {
-        Verdict::Refuse(why) => Ok(refused(machine, caller, request, why, cancelled, outputs)),
+    match decide(alloc, subs, found.machine, caller, request.block)? {
+        Verdict::Refuse(why) => Ok(refused(found, request, why, cancelled, outputs)),
         Verdict::Take(ring) => {
             let (called, calling) = (subs.address_of(ring.line), subs.address_of(caller));
             let packet = incoming_call(alloc, &ring, called, calling, request.d, request.block)?;
             let setup = Setup::of(&ring);
             let line = ring.line;
-            Ok(put(
-                machine, caller, request, line, setup, packet, cancelled, outputs,
-            ))
+            Ok(put(found, request, line, setup, packet, cancelled, outputs))
         }
     }
 }
 
 /// The call is put to a line.
 fn put<A: Allocator>(
-    machine: &Machine<A>,
-    caller: LineNo,
+    found: &Found<'_, A>,
     request: &CallRequest<'_, A>,
     called: LineNo,
     setup: Setup,
@@ -110,18 +114,19 @@ fn put<A: Allocator>(
     requires room { 1 < outputs.room }
     ensures outcome { result.outcome ≡ Outcome.Put called setup }
     ensures quiet { result.carriage ≡ None }
-    ensures planned { (ended : List Changing) (far : List (Sent A)) → IsCancelled cancelled machine.now ended far
-        → IsPlan result machine.now (taken_told machine.now far called packet)
-        (ended ++ Begins caller request.now.identifier called request.now.block.now.called setup ∷ []) }
+    ensures planned { (before : List (Entered A)) (ended : List Changing) (far : List (Sent A)) → IsCancelled cancelled (at_found found.now before) ended far
+        → IsPlan result (at_found found.now before) (taken_told found.now.machine.now far called packet)
+        (ended ++ Begins found.now.line request.now.identifier called request.now.block.now.called setup ∷ []) }
 {
     let begins = Change::Begin {
-        caller,
+        caller: found.line,
         identifier: request.identifier,
         called,
         dialled: request.block.called.copy(),
         setup,
     };
-    let ring = send_as(machine, called, LogicalChannel::INITIAL_IDENTIFIER, packet);
+    let identifier = LogicalChannel::INITIAL_IDENTIFIER;
+    let ring = send_as(found.machine, called, identifier, packet);
     let Cancelled {
         line,
         charged,
@@ -139,8 +144,7 @@ fn put<A: Allocator>(
 
 /// The call is cleared at once.
 fn refused<A: Allocator>(
-    machine: &Machine<A>,
-    caller: LineNo,
+    found: &Found<'_, A>,
     request: &CallRequest<'_, A>,
     why: Refusal,
     cancelled: Cancelled<A>,
@@ -150,15 +154,15 @@ fn refused<A: Allocator>(
     requires room { 1 < outputs.room }
     ensures outcome { result.outcome ≡ Outcome.Refused why }
     ensures quiet { result.carriage ≡ None }
-    ensures planned { (ended : List Changing) (far : List (Sent A)) → IsCancelled cancelled machine.now ended far
-        → IsPlan result machine.now (refused_told machine.now far caller request.now.identifier why)
-        (ended ++ IsRefused caller request.now.identifier request.now.block.now.called why ∷ []) }
+    ensures planned { (before : List (Entered A)) (ended : List Changing) (far : List (Sent A)) → IsCancelled cancelled (at_found found.now before) ended far
+        → IsPlan result (at_found found.now before) (refused_told found.now.machine.now far found.now.line request.now.identifier why)
+        (ended ++ IsRefused found.now.line request.now.identifier request.now.block.now.called why ∷ []) }
 {
-    let identifier = request.identifier;
+    let (caller, identifier) = (found.line, request.identifier);
     let indication = clear_indication(why.cause, why.diagnostic);
-    let own = send_as(machine, caller, identifier, indication);
+    let own = send_as(found.machine, caller, identifier, indication);
     let record = Record {
-        number: machine.next(),
+        number: found.machine.next(),
         caller,
         called: None,
         dialled: request.block.called.copy(),

@@ -1,9 +1,20 @@
-use Rattle.std.proofs.Common.{rules, option_to_list}
+use Rattle.std.proofs.Common.{rules, ◌≡◌, ◌∙◌, [], ◌∷◌, ◌++◌, option_to_list, ap}
 use Rattle.xp_core.specs.Asked.{clear_of}
+use Rattle.xp_core.specs.Found.{at_found}
+use Rattle.xp_core.specs.Told.{confirm_own}
+use Rattle.xp_core.specs.World.{call_on}
 use Rattle.xp_core.proofs.Clearings.{confirmed}
+use Rattle.xp_core.proofs.Leaving.{leaving}
 use Rattle.xp_core.proofs.plan.clearing.confirm.Goals as goal
 
 pub returns : goal.returns
-returns g c =
-    confirmed c.args.machine.now c.args.line (clear_of c.args.clear.now) c.withdrawing.result (option_to_list c.in_ok-far.far)
-    (search rules) (search rules) c.in_ok-far.ensures (search rules)
+returns g c before found =
+    let at = at_found c.args.found.now before in
+    let own = confirm_own at (call_on at.world at.line) in
+    let far = option_to_list c.in_ok-far.far in
+    let put : c.withdrawing.result.outputs.outputs ≡ (c.in_ok-own.own ∷ []) ++ far = search rules in
+    let left = c.withdraw-withdrawal.ensures before found in
+    let plain = leaving c.withdrawing.result at (own ∷ []) far c.withdraw-withdrawal.result _ (search (rules, left))
+    (put ∙ ap (λ o. (o ∷ []) ++ far) (c.in_ok-own.ensures before found))
+    (search rules) (search rules) (search rules) (search rules) (search rules) in
+    confirmed at (clear_of c.args.clear.now) c.withdrawing.result far plain.plain plain.quiet (c.in_ok-far.ensures before found) plain.planned

@@ -1,0 +1,141 @@
+-- The segments of the calls, as a history grows.
+use Rattle.std.proofs.Common.{◌≡◌, ◌≢◌, ◌∙◌, ℕ, ◌+◌, ◌≤◌, leb, ltb, cond, false, Option, Some, None, option_to_list, List, [], ◌∷◌, ◌++◌, refl, ap, sym, arith, append_assoc, append-nil}
+use Rattle.std.proofs.lemmas.Bool.{cond_both, cond-true, le-leb, leb-true, ltb-false}
+use Rattle.xp_answer.specs.CarriedOn.{AreCounts}
+use Rattle.xp_charge.specs.Counted.{Counted}
+use Rattle.xp_charge.specs.Meter.{counted_from, far_end as other_end, opening}
+use Rattle.xp_facilities.specs.declared.segment_counts.SegmentCounts.{SegmentCounts}
+use Rattle.xp_packets.specs.declared.end.End.{End}
+use Rattle.xp_packets.specs.declared.end.End.TheVariants.{Caller, Called}
+use Rattle.xp_relay.specs.Coupled.{Coupled, after, coupled}
+use Rattle.xp_relay.specs.Runs.{Arrival, run, same_end, turn_on}
+use Rattle.xp_subs.specs.Sound.{IsSound}
+use Rattle.xp_subs.specs.Tables.{Tables}
+use Rattle.xp_core.specs.declared.entry.Entry.{Entry}
+use Rattle.xp_core.specs.declared.outcome.Agreement.{Agreement}
+use Rattle.xp_core.specs.Carried.{Carried, arrivals, carried_in, directions, terms_of}
+use Rattle.xp_core.specs.Relays.{counted_by, counted_with, counting}
+use Rattle.xp_core.specs.Segments.{all_judged_from, goes_past, information_as, information_for, is_past_limit, judged_at, judged_from, segments_from, segments_of, sum_within}
+use Rattle.xp_core.specs.Setting.{Setting}
+use Rattle.xp_core.specs.Told.{far_information, own_information}
+use Rattle.xp_core.specs.World.{Call, World}
+use Rattle.xp_core.specs.Worlds.{world_after}
+use Rattle.xp_core.proofs.Carried.{arrivals_on, arrivals_still}
+
+-- ---- sums
+
+sum_few : (limit sum : ℕ) (more : List ℕ) → sum ≤ limit → sum_within limit sum more ≤ limit
+sum_few limit sum [] few = few
+sum_few limit sum (one ∷ more) few = sum_few limit (cond (leb (sum + one) limit) (sum + one) sum) more
+    (cond_both (leb (sum + one) limit) (sum + one) sum (λ n. n ≤ limit) (λ within. leb-true (sum + one) limit within) (λ past. few))
+
+sum_more : (limit sum : ℕ) (some more : List ℕ) → sum_within limit sum (some ++ more) ≡ sum_within limit (sum_within limit sum some) more
+sum_more limit sum [] more = refl
+sum_more limit sum (one ∷ some) more = sum_more limit (cond (leb (sum + one) limit) (sum + one) sum) some more
+
+-- a packet that is within the limit is counted for its end, and for no other
+within : (limit sum more : ℕ) → ltb limit (sum + more) ≡ false → cond (leb (sum + more) limit) (sum + more) sum ≡ sum + more
+within limit sum more past = cond-true (leb (sum + more) limit) (sum + more) sum (le-leb (sum + more) limit (ltb-false limit (sum + more) past))
+
+abbrev mine : End → End → Option ℕ → List ℕ
+mine end here more = option_to_list (cond (same_end end here) more None)
+
+grown : (counted : Counted) (here : End) (more : Option ℕ) → goes_past counted.limit (counted_from here counted) more ≡ false
+    → record {
+      limit = counted.limit;
+      from_caller = sum_within counted.limit counted.from_caller (mine Caller here more);
+      from_called = sum_within counted.limit counted.from_called (mine Called here more);
+    } ≡ counting here more counted
+grown counted Caller None past = refl
+grown counted Called None past = refl
+grown counted Caller (Some more) past = ap (λ n. record counted { from_caller = n }) (within counted.limit counted.from_caller more past)
+grown counted Called (Some more) past = ap (λ n. record counted { from_called = n }) (within counted.limit counted.from_called more past)
+
+-- ---- what is told
+
+told_counts : (call : Call) (counted : End → ℕ) (end : End) (agreed : Option Agreement) → ((e : End) → counted e ≤ 99_999_999) → AreCounts (information_as call counted end agreed)
+told_counts call counted end None few = tt
+told_counts call counted end (Some agreement) few =
+    let told : Option SegmentCounts = Some (record { sent = counted (other_end end); received = counted end }) in
+    cond_both _ told None AreCounts (λ pays. (few (other_end end), few end)) (λ other. tt)
+
+module _ {A : Type 0} where
+  segments_few : (tables : Tables) (history : List (Entry A)) (number : ℕ) (agreed : Option Agreement) (end : End) → segments_from tables history number agreed end ≤ tables.segment_limit
+  segments_few tables history number None end = omega arith
+  segments_few tables history number (Some agreement) end = sum_few tables.segment_limit 0 (all_judged_from end (coupled (terms_of agreement)) (arrivals tables history number)) (omega arith)
+
+  information_counts : (tables : Tables) → IsSound tables → (history : List (Entry A)) (number : ℕ) (call : Call) (end : End)
+      → AreCounts (information_for call (segments_of tables history number call) end)
+  information_counts tables sound history number call end =
+      told_counts call (segments_of tables history number call) end call.agreed
+      (λ e. omega (arith, segments_few tables history number call.agreed e, sound.limits.eight_digits))
+
+  pub own_counts : (at : Setting A) → IsSound at.tables → (found : Option (ℕ × Call)) → AreCounts (own_information at found)
+  own_counts at sound None = tt
+  own_counts at sound (Some found) = information_counts at.tables sound at.before found.0 found.1 _
+
+  pub far_counts : (at : Setting A) → IsSound at.tables → (found : Option (ℕ × Call)) → AreCounts (far_information at found)
+  far_counts at sound None = tt
+  far_counts at sound (Some found) = information_counts at.tables sound at.before found.0 found.1 _
+
+  -- ---- one entry more
+
+  judged_more : (end : End) (call : Coupled A) (came : List (Arrival A)) (arrival : Arrival A)
+      → all_judged_from end call (came ++ arrival ∷ []) ≡ all_judged_from end call came ++ option_to_list (judged_from end (run call came) arrival)
+  judged_more end call [] arrival = append-nil (option_to_list (judged_from end call arrival))
+  judged_more end call (first ∷ came) arrival =
+      ap (λ rest. option_to_list (judged_from end call first) ++ rest) (judged_more end (after first.here (turn_on call first)) came arrival)
+      ∙ sym (append_assoc (option_to_list (judged_from end call first)) (all_judged_from end (after first.here (turn_on call first)) came)
+      (option_to_list (judged_from end (run (after first.here (turn_on call first)) came) arrival)))
+
+  -- what a meter has for an end
+  pub counted_here : (tables : Tables) (history : List (Entry A)) (number : ℕ) (agreed : Option Agreement) (end : End)
+      → counted_from end (counted_by tables history number agreed) ≡ segments_from tables history number agreed end
+  counted_here tables history number agreed Caller = refl
+  counted_here tables history number agreed Called = refl
+
+  -- what is counted of packets
+  abbrev count_of : Tables → Agreement → List (Arrival A) → Counted
+  count_of tables agreement came = record {
+    limit = tables.segment_limit;
+    from_caller = sum_within tables.segment_limit 0 (all_judged_from Caller (coupled (terms_of agreement)) came);
+    from_called = sum_within tables.segment_limit 0 (all_judged_from Called (coupled (terms_of agreement)) came);
+  }
+
+  pub counted_none : (tables : Tables) (history : List (Entry A)) (number : ℕ) (agreement : Agreement) → arrivals tables history number ≡ []
+      → counted_by tables history number (Some agreement) ≡ opening tables.segment_limit
+  counted_none tables history number agreement none = ap (count_of tables agreement) none
+
+  module _ (tables : Tables) (before : List (Entry A)) (world : World) (entry : Entry A) (led : world ≡ world_after tables before) where
+    -- no packet for a call of this number
+    pub counted_still : (number : ℕ) (agreement : Agreement) → ((carried : Carried A) → carried_in world entry.event ≡ Some carried → number ≢ carried.number)
+        → counted_by tables (before ++ entry ∷ []) number (Some agreement) ≡ counted_by tables before number (Some agreement)
+    counted_still number agreement other =
+        ap (count_of tables agreement) (arrivals_still tables before world entry number led other)
+
+    -- one for it that is within the limit
+    module _ (c : Carried A) (by : carried_in world entry.event ≡ Some c) where
+      abbrev start : Coupled A
+      start = coupled (terms_of c.agreement)
+
+      segments_on : (end : End) → segments_from tables (before ++ entry ∷ []) c.number (Some c.agreement) end
+          ≡ sum_within tables.segment_limit (segments_from tables before c.number (Some c.agreement) end)
+          (option_to_list (judged_from end (directions tables before c.number c.agreement) c.arrival))
+      segments_on end =
+          ap (λ came. sum_within tables.segment_limit 0 (all_judged_from end start came)) (arrivals_on tables before world entry c led by)
+          ∙ ap (sum_within tables.segment_limit 0) (judged_more end start (arrivals tables before c.number) c.arrival)
+          ∙ sum_more tables.segment_limit 0 (all_judged_from end start (arrivals tables before c.number)) _
+
+      pub counted_on : is_past_limit tables before (Some c) ≡ false
+          → counted_by tables (before ++ entry ∷ []) c.number (Some c.agreement) ≡ counted_with tables before c
+      counted_on past =
+          ap (λ n. record { limit = tables.segment_limit; from_caller = n; from_called = segments_from tables (before ++ entry ∷ []) c.number (Some c.agreement) Called }) (segments_on Caller)
+          ∙ ap (λ n. record {
+            limit = tables.segment_limit;
+            from_caller = sum_within tables.segment_limit (segments_from tables before c.number (Some c.agreement) Caller)
+                (option_to_list (judged_from Caller (directions tables before c.number c.agreement) c.arrival));
+            from_called = n;
+          }) (segments_on Called)
+          ∙ grown (counted_by tables before c.number (Some c.agreement)) c.arrival.here (judged_at (directions tables before c.number c.agreement) c.arrival)
+          (ap (λ n. goes_past tables.segment_limit n (judged_at (directions tables before c.number c.agreement) c.arrival))
+          (counted_here tables before c.number (Some c.agreement) c.arrival.here) ∙ past)

@@ -1,0 +1,134 @@
+-- A line leaves the call that it is found in.
+use Rattle.std.proofs.Common.{◌≡◌, ◌∙◌, ℕ, is_none, false, option_to_list, Option, Some, None, List, [], ◌∷◌, ◌++◌, append-nil, refl, ap, sym, subst}
+use Rattle.xp_charge.specs.Meter.{counted_from, far_end as other_end, opening}
+use Rattle.xp_charge.specs.declared.record.Record.{Record}
+use Rattle.xp_facilities.specs.declared.segment_counts.SegmentCounts.{SegmentCounts}
+use Rattle.xp_packets.specs.declared.end.End.{End}
+use Rattle.xp_subs.specs.Tables.{Tables}
+use Rattle.xp_core.specs.declared.call.LiveCall.{LiveCall}
+use Rattle.xp_core.specs.declared.change.Change.TheVariants as kept
+use Rattle.xp_core.specs.declared.change.Way.{Way}
+use Rattle.xp_core.specs.declared.entry.Entry.{Entry}
+use Rattle.xp_core.specs.declared.outcome.Outcome.TheVariants.{Plain}
+use Rattle.xp_core.specs.declared.output.Output.{Output}
+use Rattle.xp_core.specs.declared.plan.Plan.{Plan}
+use Rattle.xp_core.specs.declared.plan.found.Charged.{Charged}
+use Rattle.xp_core.specs.declared.plan.found.Withdrawal.{Withdrawal}
+use Rattle.xp_core.specs.declared.relays.Metered.{Metered}
+use Rattle.xp_core.specs.Carried.{directions, end_of}
+use Rattle.xp_core.specs.Changes.{Change}
+use Rattle.xp_core.specs.Clearing.{record_of}
+use Rattle.xp_core.specs.Does.{leaves}
+use Rattle.xp_core.specs.Found.{IsCharged}
+use Rattle.xp_core.specs.Kept.{call_of_kept, entry_of, way_of}
+use Rattle.xp_core.specs.Plan.{IsPlainPlan, IsWithdrawal, applied, applied_if_any, freed_if_any, left}
+use Rattle.xp_core.specs.Relays.{AreCarried, IsShownBy, counted_by, relay_under}
+use Rattle.xp_core.specs.Segments.{information_for, segments_of}
+use Rattle.xp_core.specs.Setting.{Setting}
+use Rattle.xp_core.specs.Told.{Told, far_information, own_information}
+use Rattle.xp_core.specs.World.{Call, World, call_numbered, call_on}
+use Rattle.xp_core.proofs.Carrying.{some_of}
+use Rattle.xp_core.proofs.Counting.{counted_here}
+
+module _ {A : Type 0} where
+  -- ---- the meter of a live call
+
+  module _ (tables : Tables) (before : List (Entry A)) (call : LiveCall) where
+    pub meter_of_none : call.agreed ≡ None → opening tables.segment_limit ≡ counted_by tables before call.number call.agreed
+    meter_of_none none = ap (counted_by tables before call.number) (sym none)
+
+    module _ (world : World) (relays : List (Option (Metered A))) (carried : AreCarried tables before world relays) (live : call_numbered world call.number ≡ Some (call_of_kept call))
+        (some : is_none call.agreed ≡ false) where
+      abbrev Shows : Option (Metered A) → Type 0
+      Shows r =
+          let agreement = (some_of call.agreed some).0 in
+          IsShownBy r (directions tables before call.number agreement) (counted_by tables before call.number (Some agreement))
+
+      shows : Shows (relay_under relays call.caller)
+      shows = let it = some_of call.agreed some in carried call.number (call_of_kept call) it.0 live it.1
+
+      pub meter_not_lost : None ≡ relay_under relays call.caller → ⊥
+      meter_not_lost none = subst Shows (sym none) shows
+
+      pub meter_kept : (metered : Metered A) → Some metered ≡ relay_under relays call.caller → metered.meter ≡ counted_by tables before call.number call.agreed
+      meter_kept metered under =
+          let it = some_of call.agreed some in
+          (subst Shows (sym under) shows).1 ∙ ap (counted_by tables before call.number) (sym it.1)
+
+  -- ---- what is told and recorded of it
+
+  module _ (at : Setting A) (charged : Option Charged) (is : IsCharged at charged) where
+    pub not_in_call : charged ≡ None → call_on at.world at.line ≡ None
+    not_in_call none = let P : Option Charged → Type 0 = λ c. IsCharged at c in subst P none is
+
+    module _ (it : Charged) (some : charged ≡ Some it) where
+      in_it : IsCharged at (Some it)
+      in_it = let P : Option Charged → Type 0 = λ c. IsCharged at c in subst P some is
+
+      pub in_call : call_on at.world at.line ≡ Some (entry_of it.call.now)
+      in_call = in_it.0
+
+      abbrev call : Call
+      call = call_of_kept it.call.now
+
+      counts_are : (λ end. counted_from end it.meter) ≡ segments_of at.tables at.before it.call.now.number call
+      counts_are =
+          ap (λ m. λ (end : End). counted_from end m) in_it.1
+          ∙ (λ i end. counted_here at.tables at.before it.call.now.number it.call.now.agreed end i)
+
+      pub told_own : (told : Option SegmentCounts) → told ≡ information_for call (λ end. counted_from end it.meter) (end_of call at.line)
+          → told ≡ own_information at (call_on at.world at.line)
+      told_own told is_told =
+          is_told ∙ ap (λ counted. information_for call counted (end_of call at.line)) counts_are ∙ ap (own_information at) (sym in_call)
+
+      pub told_far : (told : Option SegmentCounts) → told ≡ information_for call (λ end. counted_from end it.meter) (other_end (end_of call at.line))
+          → told ≡ far_information at (call_on at.world at.line)
+      told_far told is_told =
+          is_told ∙ ap (λ counted. information_for call counted (other_end (end_of call at.line))) counts_are ∙ ap (far_information at) (sym in_call)
+
+      pub withdrawn : (way : Way) (cause diagnostic : ℕ) (charge : Record) → charge ≡ record_of it.call.now.number call (λ end. counted_from end it.meter) cause diagnostic
+          → IsWithdrawal (record { change = kept.Leave at.line way; charged = Some charge }) at (leaves at.line (way_of way) cause diagnostic (call_on at.world at.line))
+      withdrawn way cause diagnostic charge is_charge =
+          let W : Option (ℕ × Call) → Type 0 =
+          λ found. IsWithdrawal (record { change = kept.Leave at.line way; charged = Some charge }) at (leaves at.line (way_of way) cause diagnostic found) in
+          subst W (sym in_call) (record {
+            does = ap (λ found. left at.line (way_of way) found at.world) in_call;
+            records = ap (λ r. r ∷ []) (is_charge ∙ ap (λ counted. record_of it.call.now.number call counted cause diagnostic) counts_are);
+          })
+
+    pub told_none : charged ≡ None → None ≡ own_information at (call_on at.world at.line)
+    told_none none = ap (own_information at) (sym (not_in_call none))
+
+    pub told_none_far : charged ≡ None → None ≡ far_information at (call_on at.world at.line)
+    told_none_far none = ap (far_information at) (sym (not_in_call none))
+
+    pub withdrawn_alone : charged ≡ None → (way : Way) (cause diagnostic : ℕ)
+        → IsWithdrawal (record { change = kept.Leave at.line way; charged = None }) at (leaves at.line (way_of way) cause diagnostic (call_on at.world at.line))
+    withdrawn_alone none way cause diagnostic =
+        let W : Option (ℕ × Call) → Type 0 =
+        λ found. IsWithdrawal (record { change = kept.Leave at.line way; charged = None }) at (leaves at.line (way_of way) cause diagnostic found) in
+        subst W (sym (not_in_call none)) (record {
+          does = ap (λ found. left at.line (way_of way) found at.world) (not_in_call none);
+          records = refl;
+        })
+
+  -- ---- a plan by which a line leaves its call
+
+  module _ (plan : Plan A) (at : Setting A) (own far : List (Output A)) (withdrawal : Withdrawal) (change : Change) (is : IsWithdrawal withdrawal at change)
+      (outputs : plan.outputs.outputs ≡ own ++ far) (uncancelled : plan.cancelled ≡ None) (changes : plan.change ≡ Some withdrawal.change)
+      (records : plan.records.items ≡ option_to_list withdrawal.charged) where
+    abbrev told : Told A
+    told = record { carried = []; own = own; far = far; taken = [] }
+
+    pub leaving : plan.outcome ≡ Plain → plan.carriage ≡ None → IsPlainPlan plan at told (change ∷ [])
+    leaving plain quiet = record {
+      plain = plain;
+      quiet = quiet;
+      planned = record {
+        outputs = outputs ∙ sym (append-nil (own ++ far));
+        records = records ∙ is.records ∙ sym (append-nil _);
+        does = ap (λ c. applied_if_any c (freed_if_any plan.cancelled at.world)) changes
+            ∙ ap (λ l. applied withdrawal.change (freed_if_any l at.world)) uncancelled
+            ∙ is.does;
+      };
+    }

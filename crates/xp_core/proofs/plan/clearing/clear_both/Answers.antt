@@ -1,0 +1,16 @@
+use Rattle.std.proofs.Common.{rules, ◌≡◌, ◌∙◌, [], ◌∷◌, ◌++◌, option_to_list, ap}
+use Rattle.xp_core.specs.Found.{at_found}
+use Rattle.xp_core.specs.Told.{clear_far, clear_own}
+use Rattle.xp_core.specs.World.{call_on}
+use Rattle.xp_core.proofs.Leaving.{leaving}
+use Rattle.xp_core.proofs.plan.clearing.clear_both.Goals as goal
+
+pub returns : goal.returns
+returns g c before found =
+    let at = at_found c.args.found.now before in
+    let own = clear_own at (call_on at.world at.line) c.args.near c.args.diagnostic in
+    let far = clear_far at (call_on at.world at.line) c.args.far c.args.diagnostic in
+    let put : c.withdrawing.result.outputs.outputs ≡ (c.in_ok-own.own ∷ []) ++ option_to_list c.in_ok-other.other = search rules in
+    leaving c.withdrawing.result at (own ∷ []) far c.withdraw-withdrawal.result _ (c.withdraw-withdrawal.ensures before found)
+    (put ∙ ap (λ o. (o ∷ []) ++ option_to_list c.in_ok-other.other) (c.in_ok-own.ensures before found) ∙ ap (λ f. (own ∷ []) ++ f) (c.in_ok-other.ensures before found))
+    (search rules) (search rules) (search rules) (search rules) (search rules)
