@@ -20,6 +20,7 @@ use crate::records::Records;
 use crate::relays::Carriage;
 use arrayvec::ArrayVec;
 pub use event::plan_of;
+pub use send::{clear_indication, close, send_far};
 use std::alloc::{Allocator, Global};
 use xp_charge::Record;
 use xp_subs::LineNo;
