@@ -1,9 +1,9 @@
 -- What the passes of a closed exchange tell, and which pass is missing.
-use Rattle.std.specs.Prelude.{◌≡◌, ℕ, ◌<◌, ◌==◌, ◌||◌, Bool, true, false, List, [], ◌∷◌, All}
+use Rattle.std.specs.Prelude.{◌≡◌, ℕ, zero, suc, ◌+◌, ◌<◌, ◌==◌, ◌||◌, not, Bool, true, false, List, [], ◌∷◌, All, filter, length}
 use mathlib.Core.List.{IsPrefix}
 use Rattle.xp_subs.specs.Tables.{Tables}
 use Rattle.xp_core.specs.declared.entry.Entry.{Entry}
-use Rattle.xp_lock.specs.Handed.{handed}
+use Rattle.xp_lock.specs.Handed.{handed, is_stall}
 use Rattle.xp_lock.specs.Outgoing.{put_out_to}
 use Rattle.xp_lock.specs.Passes.{Pass, mine}
 use Rattle.xp_lock.specs.Views.{StartsWith}
@@ -22,6 +22,15 @@ module _ {A : Type 0} where
 
   abbrev pub AreTold : List (Entry A) → List (Pass A) → Type 0
   AreTold history passes = All (IsTold history) passes
+
+  -- what lines handed in: all but the stalls
+  abbrev pub all_handed : List (Entry A) → List (Entry A)
+  all_handed history = filter (λ entry. not (is_stall entry.event.what)) history
+
+  -- how much so many lines handed in together
+  abbrev pub handed_together : ℕ → List (Entry A) → ℕ
+  handed_together zero history = 0
+  handed_together (suc line) history = length (handed line history) + handed_together line history
 
   abbrev pub has_line : ℕ → List (Pass A) → Bool
   has_line line [] = false

@@ -1,10 +1,10 @@
 //! The exchange that threads share.
 
-ghost use Rattle.std.specs.Prelude.{◌≡◌, [], ◌∷◌, ◌++◌, false, IfErr, IfNone, IfOk, IfSome, OnErr};
+ghost use Rattle.std.specs.Prelude.{◌≡◌, [], ◌∷◌, ◌++◌, false, IfErr, IfNone, IfOk, IfSome, OnErr, length};
 ghost use Rattle.xp_outbox.specs.Rule.{HeldAtSomeMoment, taker};
 ghost use Rattle.xp_subs.specs.Tables.{line_count};
 ghost use Rattle.xp_core.specs.Exchange.{IsReadable};
-ghost use Rattle.xp_lock.specs.Closing.{AreTold, HasAll, IsMissing};
+ghost use Rattle.xp_lock.specs.Closing.{AreTold, HasAll, IsMissing, all_handed, handed_together};
 ghost use Rattle.xp_lock.specs.Faults.{event_in};
 ghost use Rattle.xp_lock.specs.Handed.{is_stall};
 ghost use Rattle.xp_lock.specs.Passes.{Freshens, IsLegal};
@@ -108,6 +108,7 @@ impl<N: Name, A: Allocator + Copy> Exchange<N, A> {
         ensures subs { IfOk result (λ book. book.subs ≡ N.subs) }
         ensures legal { IfOk result (λ book. IsLegal book.subs book.history) }
         ensures told { IfOk result (λ book. AreTold book.history passes.items) }
+        ensures counted { IfOk result (λ book. length (all_handed book.history) ≡ handed_together (line_count N.subs) book.history) }
         ensures missing { IfErr result (λ fault. IsMissing (line_count N.subs) passes.items fault.line) }
         ensures passes { IfErr result (λ fault. fault.passes.items ≡ passes.items) }
     {
