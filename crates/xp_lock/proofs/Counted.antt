@@ -10,6 +10,15 @@ use Rattle.xp_core.proofs.Sounds.{IsRight, run_right, step_right}
 use Rattle.xp_lock.specs.Closing.{all_handed, handed_together}
 use Rattle.xp_lock.specs.Handed.{handed, is_stall}
 
+-- one for an entry that is no stall
+abbrev counts : Bool → ℕ
+counts true = 0
+counts false = 1
+
+none_handed : (A : Type 0) (lines : ℕ) → handed_together {A = A} lines [] ≡ 0
+none_handed A zero = refl
+none_handed A (suc lines) = let rest = none_handed A lines in omega (arith, rest)
+
 module _ {A : Type 0} where
   -- each of these entries is of one of so many lines
   abbrev pub EachOf : ℕ → List (Entry A) → Type 0
@@ -25,11 +34,6 @@ module _ {A : Type 0} where
         omega (arith, within, lines),
         each_of tables (before ++ entry ∷ []) run.0 entries last (step_right tables before world entry run.0 right run.1) run.2,
       )
-
-  -- one where it is no stall
-  abbrev counts : Bool → ℕ
-  counts true = 0
-  counts false = 1
 
   module _ (entry : Entry A) (entries : List (Entry A)) where
     stalled : Bool
@@ -76,12 +80,8 @@ module _ {A : Type 0} where
         by true = refl
         by false = omega arith
 
-  none_handed : (lines : ℕ) → handed_together {A = A} lines [] ≡ 0
-  none_handed zero = refl
-  none_handed (suc lines) = let rest = none_handed lines in omega (arith, rest)
-
   counted_each : (lines : ℕ) (entries : List (Entry A)) → EachOf lines entries → length (all_handed entries) ≡ handed_together lines entries
-  counted_each lines [] each = sym (none_handed lines)
+  counted_each lines [] each = sym (none_handed A lines)
   counted_each lines (entry ∷ entries) each =
       let rest = counted_each lines entries each.1 in
       let this = one_more entry entries in
@@ -90,4 +90,4 @@ module _ {A : Type 0} where
 
   pub counted : (tables : Tables) (history : List (Entry A)) (world : World) → Run tables history world → length (all_handed history) ≡ handed_together (line_count tables) history
   counted tables history world run =
-      counted_each (line_count tables) history (each_of tables [] (opening (line_count tables)) history world (run_right tables [] (opening (line_count tables)) refl) run)
+      counted_each (line_count tables) history (each_of tables [] (opening (line_count tables)) history world (run_right {A = A} tables [] (opening (line_count tables)) refl) run)
