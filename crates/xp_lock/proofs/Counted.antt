@@ -50,7 +50,7 @@ module _ {A : Type 0} where
         ∙ by (is_stall entry.event.what)
       where
         by : (b : Bool) → length (cond (not b) (entry ∷ handed line entries) (handed line entries)) ≡ counts b + length (handed line entries)
-        by true = refl
+        by true = omega arith
         by false = omega arith
 
     below : (lines : ℕ) → lines ≤ entry.event.line → handed_together lines (entry ∷ entries) ≡ handed_together lines entries
@@ -77,7 +77,7 @@ module _ {A : Type 0} where
     one_more = by (is_stall entry.event.what)
       where
         by : (b : Bool) → length (cond (not b) (entry ∷ all_handed entries) (all_handed entries)) ≡ counts b + length (all_handed entries)
-        by true = refl
+        by true = omega arith
         by false = omega arith
 
   counted_each : (lines : ℕ) (entries : List (Entry A)) → EachOf lines entries → length (all_handed entries) ≡ handed_together lines entries

@@ -72,7 +72,7 @@ module _ {A : Type 0} (core : Exchange A) (from : ℕ) (boxes : List (Putting (O
     since_now now stalls is =
         let more : List (Entry A) = (entered.entry ∷ []) ++ stalls in
         let now_is : now.history ≡ entered.before ++ more =
-            is ∙ ap (λ xs. xs ++ stalls) entered.history ∙ append_assoc entered.before (entered.entry ∷ []) stalls in
+        is ∙ ap (λ xs. xs ++ stalls) entered.history ∙ append_assoc entered.before (entered.entry ∷ []) stalls in
         ap (λ n. drop n now.history) entered.count ∙ ap (drop (length entered.before)) now_is ∙ drop_front entered.before more ∙ ap (λ xs. xs ++ stalls) (sym since_is)
 
     abbrev old_world : World
@@ -118,7 +118,7 @@ module _ {A : Type 0} (core : Exchange A) (from : ℕ) (boxes : List (Putting (O
     looked now between after loop search =
         let known : ℕ → ℕ = λ line. (box_at after line).free + length (put_out_to line (since ++ loop.stalls)) in
         let grows : (line : ℕ) → loop.known line ≤ known line =
-            λ line. let was = loop.free line in let more = (search.alike.each line).free in omega (arith, was, more) in
+        λ line. let was = loop.free line in let more = (search.alike.each line).free in omega (arith, was, more) in
         record {
           stalls = loop.stalls;
           known = known;
@@ -270,7 +270,7 @@ module _ {A : Type 0} (core : Exchange A) (from : ℕ) (boxes : List (Putting (O
             step_core : Step core.subs (take from core.history ++ (since ++ loop.stalls)) (world_of now) advances.entry (world_of next)
             step_core =
                 let same : now.history ≡ take from core.history ++ (since ++ loop.stalls) =
-                    loop.history ∙ ap (λ xs. xs ++ loop.stalls) (sym whole_is) ∙ append_assoc (take from core.history) since loop.stalls in
+                loop.history ∙ ap (λ xs. xs ++ loop.stalls) (sym whole_is) ∙ append_assoc (take from core.history) since loop.stalls in
                 subst (λ xs. Step core.subs xs (world_of now) advances.entry (world_of next)) same
                 (subst (λ t. Step t now.history (world_of now) advances.entry (world_of next)) loop.subs advances.step)
 

@@ -268,11 +268,11 @@ module _ {A : Type 0} (tables : Tables) (before : List (Entry A)) (world : World
       let taken = option_to_list (taken_by entry.outcome) in
       let told = step.told in
       let wider : (outputs : List (Output A)) → All Near outputs → All In outputs =
-          λ outputs. All-weaker Near In (λ o. among_left (near_to world entry.event.line) taken o.line) outputs in
+      λ outputs. All-weaker Near In (λ o. among_left (near_to world entry.event.line) taken o.line) outputs in
       let last : All In told.taken =
-          All-weaker (λ (o : Output A). taken_by entry.outcome ≡ Some o.line) In
-          (λ o is. among_right (near_to world entry.event.line) taken o.line (among_taken (taken_by entry.outcome) o.line is)) told.taken goes_here.taken in
+      All-weaker (λ (o : Output A). taken_by entry.outcome ≡ Some o.line) In
+      (λ o is. among_right (near_to world entry.event.line) taken o.line (among_taken (taken_by entry.outcome) o.line is)) told.taken goes_here.taken in
       let all : All In (outputs_of told) =
-          All-append In (told.carried ++ told.own ++ told.far) told.taken
-          (All-append In (told.carried ++ told.own) told.far (All-append In told.carried told.own (wider told.carried goes_here.carried) (wider told.own goes_here.own)) (wider told.far goes_here.far)) last in
+      All-append In (told.carried ++ told.own ++ told.far) told.taken
+      (All-append In (told.carried ++ told.own) told.far (All-append In told.carried told.own (wider told.carried goes_here.carried) (wider told.own goes_here.own)) (wider told.far goes_here.far)) last in
       sent_to (Among three) (outputs_of told) all line (subst (λ os. 0 < length (to_line line os)) step.outputs some)

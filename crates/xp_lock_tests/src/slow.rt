@@ -71,12 +71,11 @@ fn cleared(item: Option<Outgoing>) -> Option<(u8, Option<u8>)> {
     match item?.put {
         Put::Send {
             identifier: _,
-            packet:
-                Packet::Clear {
-                    cause,
-                    diagnostic,
-                    block: _,
-                },
+            packet: Packet::Clear {
+                cause,
+                diagnostic,
+                block: _,
+            },
         } => Some((cause, diagnostic)),
         _ => None,
     }
