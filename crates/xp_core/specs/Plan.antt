@@ -68,17 +68,17 @@ abbrev pub freed_if_any : Option ℕ → World → World
 freed_if_any None world = world
 freed_if_any (Some line) world = left line IsFree (call_on world line) world
 
--- a line that leaves its call, and the record of the call, if it is in one
-pub record IsWithdrawal (withdrawal : Withdrawal) (world : World) (change : Change) : Type 0 where
-  pub does : applied withdrawal.change world ≡ changed change world
-  pub records : option_to_list withdrawal.charged ≡ recorded world change
-
 module _ {A : Type 0} where
+  -- a line that leaves its call, and the record of the call, if it is in one
+  pub record IsWithdrawal (withdrawal : Withdrawal A) (world : World) (change : Change) : Type 0 where
+    pub does : applied withdrawal.change world ≡ changed change world
+    pub records : withdrawal.records.items ≡ recorded world change
+
   -- the call that a collision cancels, if there is one, and what its caller is told
   pub record IsCancelled (cancelled : Cancelled A) (world : World) (ended : List Change) (far : List (Output A)) : Type 0 where
     pub does : freed_if_any cancelled.line world ≡ all_changed ended world
     pub next : (all_changed ended world).next ≡ world.next
-    pub records : option_to_list cancelled.charged ≡ recorded_by world ended
+    pub records : cancelled.records.items ≡ recorded_by world ended
     pub told : option_to_list cancelled.told ≡ far
 
   -- the call that is cancelled ends first

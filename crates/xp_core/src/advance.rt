@@ -28,7 +28,7 @@ pub struct Work<A: Allocator> {
     pub outputs: Outputs<A>,
     /// The copy that is told.
     pub told: Outputs<A>,
-    pub records: Records,
+    pub records: Records<A>,
 }
 
 /// Enters one event: makes all growths, and then changes the state, the history and the records.

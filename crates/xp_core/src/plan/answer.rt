@@ -38,7 +38,7 @@ pub fn answer<A: Allocator + Copy>(
     ensures { IfOk result (PlansAnswer subs.now machine.now line (answer_of answer.now)) }
 {
     let Some(call) = machine.call_on(line) else {
-        return Ok(Plan::of(Buffer::with_room(alloc, 0)?));
+        return Ok(Plan::nothing(alloc));
     };
     let address = subs.address_of(line);
     match examine(
@@ -53,7 +53,7 @@ pub fn answer<A: Allocator + Copy>(
             let outputs = Buffer::with_room(alloc, 1)?;
             let agreement = agreement_of(&connection);
             let relay = Relay::new(alloc, agreement.relay_terms())?;
-            let plan = connect(machine, line, call, connection, outputs);
+            let plan = connect(alloc, machine, line, call, connection, outputs);
             Ok(plan.carrying(Carriage {
                 caller: call.caller,
                 relay,
@@ -77,6 +77,7 @@ fn agreement_of<A: Allocator>(connection: &Connection<A>) -> Agreement
 
 /// The call is connected: both lines are in data transfer.
 fn connect<A: Allocator>(
+    alloc: A,
     machine: &Machine<A>,
     line: LineNo,
     call: &LiveCall,
@@ -92,7 +93,8 @@ fn connect<A: Allocator>(
 {
     let agreement = agreement_of(&connection);
     let change = Change::Connect { line, agreement };
-    Plan::of(outputs.with(send(machine, call.caller, connection.packet)))
+    let outputs = outputs.with(send(machine, call.caller, connection.packet));
+    Plan::of(outputs, Vec::new(alloc))
         .settling(Outcome::Connected(agreement))
         .changing(change)
 }

@@ -39,22 +39,22 @@ pub fn carry<A: Allocator + Copy>(
     ensures { IfOk result (PlansCarried (setting _subs.now _before.now machine.now line) what.now) }
 {
     let Some(call) = machine.call_on(line) else {
-        return Ok(Plan::of(Buffer::with_room(alloc, 0)?));
+        return Ok(Plan::nothing(alloc));
     };
     let Some(packet) = packet_in(what) else {
-        return Ok(Plan::of(Buffer::with_room(alloc, 0)?));
+        return Ok(Plan::nothing(alloc));
     };
     if call.agreed.is_none() {
-        return Ok(Plan::of(Buffer::with_room(alloc, 0)?));
+        return Ok(Plan::nothing(alloc));
     }
     let Some(relay) = relays.under(call.caller) else {
-        return Ok(Plan::of(Buffer::with_room(alloc, 0)?));
+        return Ok(Plan::nothing(alloc));
     };
     let mut relay = relay.copy()?;
     let room = Moves::with_room(alloc, MOST_MOVES)?;
     let moves = relay.take(call.end_of(line), packet, room)?;
     let outputs = send_all(alloc, machine, call, moves)?;
-    Ok(Plan::of(outputs).carrying(Carriage {
+    Ok(Plan::of(outputs, Vec::new(alloc)).carrying(Carriage {
         caller: call.caller,
         relay,
     }))

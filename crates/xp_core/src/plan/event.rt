@@ -21,7 +21,6 @@ use super::request::{Cancelled, request};
 use crate::entry::Entry;
 use crate::event::{Event, What};
 use crate::machine::Machine;
-use crate::output::Buffer;
 use crate::relays::Relays;
 use crate::table::action_of;
 use std::alloc::{AllocError, Allocator};
@@ -46,38 +45,37 @@ pub fn plan_of<A: Allocator + Copy>(
     let line = event.line;
     let what = &event.what;
     match action_of(machine.line(line).state, what) {
-        Action::Nothing => nothing(alloc, machine),
+        Action::Nothing => Ok(nothing(alloc, machine)),
         Action::Relayed => carry(alloc, subs, machine, relays, before, line, what),
-        Action::Rise => rise(alloc, machine, line),
+        Action::Rise => Ok(rise(alloc, machine, line)),
         Action::Fall => fall(alloc, machine, line, what),
-        Action::Free => free(alloc, machine, line),
+        Action::Free => Ok(free(alloc, machine, line)),
         Action::Error(diagnostic) => clear_both(alloc, machine, line, diagnostic),
         Action::Expired => clear_both(alloc, machine, line, TIMER_EXPIRED_FOR_INCOMING_CALL),
         Action::NewCall => match request_in(what) {
-            None => nothing(alloc, machine),
-            Some(call) => request(alloc, subs, machine, line, &call, Cancelled::none()),
+            None => Ok(nothing(alloc, machine)),
+            Some(call) => request(alloc, subs, machine, line, &call, Cancelled::none(alloc)),
         },
         Action::Collision => match request_in(what) {
-            None => nothing(alloc, machine),
+            None => Ok(nothing(alloc, machine)),
             Some(call) => {
-                let cancelled = Cancelled::by(machine, line);
+                let cancelled = Cancelled::by(alloc, machine, line)?;
                 request(alloc, subs, machine, line, &call, cancelled)
             }
         },
         Action::Answer => match accepted_in(what) {
-            None => nothing(alloc, machine),
+            None => Ok(nothing(alloc, machine)),
             Some(accepted) => answer(alloc, subs, machine, line, &accepted),
         },
         Action::Confirm => match clear_in(what) {
-            None => nothing(alloc, machine),
+            None => Ok(nothing(alloc, machine)),
             Some(clear) => confirm(alloc, machine, line, &clear),
         },
     }
 }
 
-fn nothing<A: Allocator>(alloc: A, machine: &Machine<A>) -> Result<Plan<A>, AllocError>
-    ensures { IfOk result (λ plan. IsPlainPlan plan machine.now nothing_told []) }
+fn nothing<A: Allocator + Copy>(alloc: A, _machine: &Machine<A>) -> Plan<A>
+    ensures { IsPlainPlan result _machine.now nothing_told [] }
 {
-    let _ = machine;
-    Ok(Plan::of(Buffer::with_room(alloc, 0)?))
+    Plan::nothing(alloc)
 }

@@ -1,4 +1,4 @@
-use Rattle.std.proofs.Common.{[], ap, ◌∙◌}
+use Rattle.std.proofs.Common.{Ok, [], ap, ◌∙◌}
 use Rattle.xp_channel.specs.Table.{cell}
 use Rattle.xp_core.specs.Acts.{cancelled_told}
 use Rattle.xp_core.specs.Asked.{request_of}
@@ -11,19 +11,19 @@ use Rattle.xp_core.proofs.Events.{collision_planned, error_planned, expired_plan
 use Rattle.xp_core.proofs.plan.event.plan_of.Goals as goal
 
 pub returns-in-Nothing : goal.returns-in-Nothing
-returns-in-Nothing g c = nothing_planned (setting c.args.subs.now c.args.before.now c.args.machine.now c.args.event.now.line) c.args.event.now.what (action_at c.args.machine.now c.args.event.now) c.nothing.result (c.in-Nothing.ensures ∙ ap (λ state. cell (channel_of state) (kind_of c.args.event.now.what)) c.line.ensures.state) c.nothing.ensures
+returns-in-Nothing g c = nothing_planned (setting c.args.subs.now c.args.before.now c.args.machine.now c.args.event.now.line) c.args.event.now.what (action_at c.args.machine.now c.args.event.now) (Ok c.nothing.result) (c.in-Nothing.ensures ∙ ap (λ state. cell (channel_of state) (kind_of c.args.event.now.what)) c.line.ensures.state) c.nothing.ensures
 
 pub returns-in-Relayed : goal.returns-in-Relayed
 returns-in-Relayed g c = relayed_planned (setting c.args.subs.now c.args.before.now c.args.machine.now c.args.event.now.line) c.args.event.now.what (action_at c.args.machine.now c.args.event.now) c.carry.result (c.in-Relayed.ensures ∙ ap (λ state. cell (channel_of state) (kind_of c.args.event.now.what)) c.line.ensures.state) c.carry.ensures
 
 pub returns-in-Rise : goal.returns-in-Rise
-returns-in-Rise g c = rise_planned (setting c.args.subs.now c.args.before.now c.args.machine.now c.args.event.now.line) c.args.event.now.what (action_at c.args.machine.now c.args.event.now) c.rise.result (c.in-Rise.ensures ∙ ap (λ state. cell (channel_of state) (kind_of c.args.event.now.what)) c.line.ensures.state) c.rise.ensures
+returns-in-Rise g c = rise_planned (setting c.args.subs.now c.args.before.now c.args.machine.now c.args.event.now.line) c.args.event.now.what (action_at c.args.machine.now c.args.event.now) (Ok c.rise.result) (c.in-Rise.ensures ∙ ap (λ state. cell (channel_of state) (kind_of c.args.event.now.what)) c.line.ensures.state) c.rise.ensures
 
 pub returns-in-Fall : goal.returns-in-Fall
 returns-in-Fall g c = fall_planned (setting c.args.subs.now c.args.before.now c.args.machine.now c.args.event.now.line) c.args.event.now.what (action_at c.args.machine.now c.args.event.now) c.fall.result (c.in-Fall.ensures ∙ ap (λ state. cell (channel_of state) (kind_of c.args.event.now.what)) c.line.ensures.state) c.fall.ensures
 
 pub returns-in-Free : goal.returns-in-Free
-returns-in-Free g c = free_planned (setting c.args.subs.now c.args.before.now c.args.machine.now c.args.event.now.line) c.args.event.now.what (action_at c.args.machine.now c.args.event.now) c.free.result (c.in-Free.ensures ∙ ap (λ state. cell (channel_of state) (kind_of c.args.event.now.what)) c.line.ensures.state) c.free.ensures
+returns-in-Free g c = free_planned (setting c.args.subs.now c.args.before.now c.args.machine.now c.args.event.now.line) c.args.event.now.what (action_at c.args.machine.now c.args.event.now) (Ok c.free.result) (c.in-Free.ensures ∙ ap (λ state. cell (channel_of state) (kind_of c.args.event.now.what)) c.line.ensures.state) c.free.ensures
 
 pub returns-in-Error : goal.returns-in-Error
 returns-in-Error g c = error_planned (setting c.args.subs.now c.args.before.now c.args.machine.now c.args.event.now.line) c.args.event.now.what (action_at c.args.machine.now c.args.event.now) c.clear_both.result c.in-Error.diagnostic (c.in-Error.ensures ∙ ap (λ state. cell (channel_of state) (kind_of c.args.event.now.what)) c.line.ensures.state) c.clear_both.ensures
@@ -38,4 +38,4 @@ returns-in-Some g c =
 pub returns-in-Some-request_in : goal.returns-in-Some-request_in
 returns-in-Some-request_in g c =
     collision_planned (setting c.args.subs.now c.args.before.now c.args.machine.now c.args.event.now.line) c.args.event.now.what (action_at c.args.machine.now c.args.event.now) c.request-in-Some-request_in.result (request_of c.in-Some-request_in.call) (c.in-Collision.ensures ∙ ap (λ state. cell (channel_of state) (kind_of c.args.event.now.what)) c.line.ensures.state) c.in-Some-request_in.ensures
-    (c.request-in-Some-request_in.ensures (cancels c.args.event.now.line (call_on c.args.machine.now c.args.event.now.line)) (cancelled_told c.args.machine.now c.args.event.now.line) c.by-cancelled.ensures)
+    (c.request-in-Some-request_in.ensures (cancels c.args.event.now.line (call_on c.args.machine.now c.args.event.now.line)) (cancelled_told c.args.machine.now c.args.event.now.line) c.in_ok-cancelled.ensures)
