@@ -100,14 +100,14 @@ fn work_out<A: Allocator + Copy>(
     ensures machine { OnErr result (machine.new ≡ machine.old) }
     ensures relays { OnErr result (relays.new ≡ relays.old) }
 {
+    let mut carriage = None;
     let Plan {
         outcome,
         outputs,
         cancelled,
         change,
         records,
-        carriage,
-    } = plan_of(alloc, subs, machine, relays, history.as_slice(), event)?;
+    } = plan_of(alloc, subs, machine, relays, history.as_slice(), event, &mut carriage)?;
     let outputs = outputs.into_outputs();
     let told = outputs.copy()?;
     history.reserve(1)?;

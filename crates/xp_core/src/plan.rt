@@ -14,7 +14,6 @@ use crate::change::Change;
 use crate::outcome::Outcome;
 use crate::output::Buffer;
 use crate::records::Records;
-use crate::relays::Carriage;
 pub use event::plan_of;
 use std::alloc::{Allocator, Global};
 use xp_subs::LineNo;
@@ -28,8 +27,6 @@ pub struct Plan<A: Allocator = Global> {
     pub cancelled: Option<LineNo>,
     pub change: Option<Change>,
     pub records: Records<A>,
-    /// The relay that a call has from now on, if another.
-    pub carriage: Option<Carriage<A>>,
 }
 
 impl<A: Allocator> Plan<A> {
@@ -40,7 +37,6 @@ impl<A: Allocator> Plan<A> {
         ensures cancelled { result.cancelled ≡ None }
         ensures change { result.change ≡ None }
         ensures records { result.records ≡ records }
-        ensures carriage { result.carriage ≡ None }
     {
         Plan {
             outcome: Outcome::Plain,
@@ -48,7 +44,6 @@ impl<A: Allocator> Plan<A> {
             cancelled: None,
             change: None,
             records,
-            carriage: None,
         }
     }
 
@@ -75,16 +70,6 @@ impl<A: Allocator> Plan<A> {
             ..self
         }
     }
-
-    /// The plan with this relay of a call.
-    pub fn carrying(self, carriage: Carriage<A>) -> Plan<A>
-        ensures { result ≡ record self { carriage = Some carriage } }
-    {
-        Plan {
-            carriage: Some(carriage),
-            ..self
-        }
-    }
 }
 
 impl<A: Allocator + Copy> Plan<A> {
@@ -95,7 +80,6 @@ impl<A: Allocator + Copy> Plan<A> {
         ensures cancelled { result.cancelled ≡ None }
         ensures change { result.change ≡ None }
         ensures records { result.records.items ≡ [] }
-        ensures carriage { result.carriage ≡ None }
     {
         Plan::of(Buffer::new(alloc), Vec::new(alloc))
     }

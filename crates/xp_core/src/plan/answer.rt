@@ -32,10 +32,12 @@ pub fn answer<A: Allocator + Copy>(
     machine: &Machine<A>,
     line: LineNo,
     answer: &CallAccepted<'_, A>,
+    carriage: &mut Option<Carriage<A>>,
 ) -> Result<Plan<A>, AllocError>
     requires line { line < line_count subs.now }
     requires terms { AllHaveTerms machine.now }
-    ensures { IfOk result (PlansAnswer subs.now machine.now line (answer_of answer.now)) }
+    requires none { carriage.old ≡ None }
+    ensures { IfOk result (λ plan. PlansAnswer subs.now machine.now line (answer_of answer.now) plan carriage.new) }
 {
     let Some(call) = machine.call_on(line) else {
         return Ok(Plan::nothing(alloc));
@@ -53,11 +55,9 @@ pub fn answer<A: Allocator + Copy>(
             let outputs = Buffer::with_room(alloc, 1)?;
             let agreement = agreement_of(&connection);
             let relay = Relay::new(alloc, agreement.relay_terms())?;
-            let plan = connect(alloc, machine, line, call, connection, outputs);
-            Ok(plan.carrying(Carriage {
-                caller: call.caller,
-                relay,
-            }))
+            let caller = call.caller;
+            *carriage = Some(Carriage { caller, relay });
+            Ok(connect(alloc, machine, line, call, connection, outputs))
         }
         Answer::Refused(diagnostic) => {
             let plan = clear_both(alloc, machine, line, diagnostic)?;
@@ -87,7 +87,6 @@ fn connect<A: Allocator>(
     requires empty { outputs.outputs ≡ [] }
     requires room { 0 < outputs.room }
     ensures outcome { result.outcome ≡ Outcome.Connected (agreed_by connection) }
-    ensures quiet { result.carriage ≡ None }
     ensures planned { call_on machine.now line ≡ Some (entry_of call.now)
         → IsPlan result machine.now (told_connected machine.now call.now.caller connection.packet) (Connects call.now.number (call_of_kept call.now) (agreed_by connection) ∷ []) }
 {

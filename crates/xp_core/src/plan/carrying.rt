@@ -1,6 +1,6 @@
 //! A packet that a line hands in for its connected call: data, flow control, interrupts and resets.
 
-ghost use Rattle.std.specs.Prelude.{◌≡◌, IfOk, map};
+ghost use Rattle.std.specs.Prelude.{◌≡◌, None, IfOk, map};
 ghost use Rattle.std.specs.Option.{option_copied};
 ghost use Rattle.xp_core.specs.Kept.{call_of_kept};
 ghost use Rattle.xp_core.specs.Plan.{PlansCarried};
@@ -34,9 +34,11 @@ pub fn carry<A: Allocator + Copy>(
     _before: &[Entry<A>],
     line: LineNo,
     what: &What<A>,
+    carriage: &mut Option<Carriage<A>>,
 ) -> Result<Plan<A>, AllocError>
-    requires { AreCarried _subs.now _before.now machine.now relays.now }
-    ensures { IfOk result (PlansCarried (setting _subs.now _before.now machine.now line) what.now) }
+    requires carried { AreCarried _subs.now _before.now machine.now relays.now }
+    requires none { carriage.old ≡ None }
+    ensures { IfOk result (λ plan. PlansCarried (setting _subs.now _before.now machine.now line) what.now plan carriage.new) }
 {
     let Some(call) = machine.call_on(line) else {
         return Ok(Plan::nothing(alloc));
@@ -54,10 +56,9 @@ pub fn carry<A: Allocator + Copy>(
     let room = Moves::with_room(alloc, MOST_MOVES)?;
     let moves = relay.take(call.end_of(line), packet, room)?;
     let outputs = send_all(alloc, machine, call, moves)?;
-    Ok(Plan::of(outputs, Vec::new(alloc)).carrying(Carriage {
-        caller: call.caller,
-        relay,
-    }))
+    let caller = call.caller;
+    *carriage = Some(Carriage { caller, relay });
+    Ok(Plan::of(outputs, Vec::new(alloc)))
 }
 
 /// The packet in an event.

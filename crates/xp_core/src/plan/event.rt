@@ -1,6 +1,6 @@
 //! What each event does, by the table of actions.
 
-ghost use Rattle.std.specs.Prelude.{◌≡◌, ◌<◌, [], IfOk};
+ghost use Rattle.std.specs.Prelude.{◌≡◌, ◌<◌, [], None, IfOk};
 ghost use Rattle.xp_channel.specs.Table.{cell};
 ghost use Rattle.xp_core.specs.Agreed.{AllHaveTerms};
 ghost use Rattle.xp_core.specs.Channel.{channel_of};
@@ -21,14 +21,14 @@ use super::request::{Cancelled, request};
 use crate::entry::Entry;
 use crate::event::{Event, What};
 use crate::machine::Machine;
-use crate::relays::Relays;
+use crate::relays::{Carriage, Relays};
 use crate::table::action_of;
 use std::alloc::{AllocError, Allocator};
 use xp_causes::diagnostic::TIMER_EXPIRED_FOR_INCOMING_CALL;
 use xp_channel::Action;
 use xp_subs::{LineNo, Subs};
 
-/// Works out what an event does. It fails only for memory.
+/// Works out what an event does, and the relay that its call has from then on, if another. It fails only for memory.
 pub fn plan_of<A: Allocator + Copy>(
     alloc: A,
     subs: &Subs,
@@ -36,17 +36,19 @@ pub fn plan_of<A: Allocator + Copy>(
     relays: &Relays<A>,
     before: &[Entry<A>],
     event: &Event<A>,
+    carriage: &mut Option<Carriage<A>>,
 ) -> Result<Plan<A>, AllocError>
     requires line { event.now.line < line_count subs.now }
     requires terms { AllHaveTerms machine.now }
     requires carried { AreCarried subs.now before.now machine.now relays.now }
-    ensures { IfOk result (λ plan. Plans (setting subs.now before.now machine.now event.now.line) event.now.what (cell (channel_of (state_at machine.now event.now.line)) (kind_of event.now.what)) plan) }
+    requires none { carriage.old ≡ None }
+    ensures { IfOk result (λ plan. Plans (setting subs.now before.now machine.now event.now.line) event.now.what (cell (channel_of (state_at machine.now event.now.line)) (kind_of event.now.what)) plan carriage.new) }
 {
     let line = event.line;
     let what = &event.what;
     match action_of(machine.line(line).state, what) {
         Action::Nothing => Ok(nothing(alloc, machine)),
-        Action::Relayed => carry(alloc, subs, machine, relays, before, line, what),
+        Action::Relayed => carry(alloc, subs, machine, relays, before, line, what, carriage),
         Action::Rise => Ok(rise(alloc, machine, line)),
         Action::Fall => fall(alloc, machine, line, what),
         Action::Free => Ok(free(alloc, machine, line)),
@@ -65,7 +67,7 @@ pub fn plan_of<A: Allocator + Copy>(
         },
         Action::Answer => match accepted_in(what) {
             None => Ok(nothing(alloc, machine)),
-            Some(accepted) => answer(alloc, subs, machine, line, &accepted),
+            Some(accepted) => answer(alloc, subs, machine, line, &accepted, carriage),
         },
         Action::Confirm => match clear_in(what) {
             None => Ok(nothing(alloc, machine)),

@@ -128,7 +128,6 @@ fn put<A: Allocator>(
     requires empty { outputs.outputs ≡ [] }
     requires room { outputs.room ≡ length (option_to_list cancelled.told) + 1 }
     ensures outcome { result.outcome ≡ Outcome.Put called setup }
-    ensures quiet { result.carriage ≡ None }
     ensures planned { (ended : List Changing) (far : List (Sent A)) → IsCancelled cancelled machine.now ended far
         → IsPlan result machine.now (taken_told machine.now far called packet)
         (ended ++ Begins caller request.now.identifier called request.now.block.now.called setup ∷ []) }
@@ -167,7 +166,6 @@ fn refused<A: Allocator>(
     requires empty { outputs.outputs ≡ [] }
     requires room { outputs.room ≡ length (option_to_list cancelled.told) + 1 }
     ensures outcome { IfOk result (λ plan. plan.outcome ≡ Outcome.Refused why) }
-    ensures quiet { IfOk result (λ plan. plan.carriage ≡ None) }
     ensures planned { (ended : List Changing) (far : List (Sent A)) → IsCancelled cancelled machine.now ended far
         → IfOk result (λ plan. IsPlan plan machine.now (refused_told machine.now far caller request.now.identifier why)
         (ended ++ IsRefused caller request.now.identifier request.now.block.now.called why ∷ [])) }
