@@ -14,6 +14,7 @@ pub mod Exchange
 pub mod Existence
 pub mod Few
 pub mod Joined
+pub mod Journal
 pub mod Kept
 pub mod Keyed
 pub mod Lines
@@ -25,6 +26,7 @@ pub mod Run
 pub mod Setting
 pub mod Shown
 pub mod Sound
+pub mod Stalls
 pub mod Step
 pub mod Table
 pub mod Told

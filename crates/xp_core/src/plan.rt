@@ -15,6 +15,7 @@ use crate::outcome::Outcome;
 use crate::output::Buffer;
 use crate::records::Records;
 pub use event::plan_of;
+pub use send::{clear_indication, close, send_far};
 use std::alloc::{Allocator, Global};
 use xp_subs::LineNo;
 
