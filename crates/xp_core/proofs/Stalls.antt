@@ -6,11 +6,12 @@ use Rattle.xp_channel.specs.declared.action.Action.{Action}
 use Rattle.xp_channel.specs.declared.action.Action.TheVariants.{Nothing, Fall}
 use Rattle.xp_channel.specs.declared.kind.Kind.TheVariants as kinds
 use Rattle.xp_channel.specs.Table.{cell}
-use Rattle.xp_relay.specs.Coupled.{KeptPair}
 use Rattle.xp_subs.specs.Tables.{Tables}
 use Rattle.xp_core.specs.declared.advance.Work.{Work}
 use Rattle.xp_core.specs.declared.entry.Entry.{Entry}
-use Rattle.xp_core.specs.declared.event.What.TheVariants.{Stall}
+use Rattle.xp_core.specs.declared.event.Event.{Event}
+use Rattle.xp_core.specs.declared.event.What.{What}
+use Rattle.xp_core.specs.declared.event.What.TheVariants.{Up, Down, Frame, WrongFrame, Expire, Stall}
 use Rattle.xp_core.specs.declared.outcome.Outcome.TheVariants.{Plain}
 use Rattle.xp_core.specs.Acts.{Acts, told_of_fall}
 use Rattle.xp_core.specs.Carried.{carried_as, carried_by}
@@ -18,12 +19,11 @@ use Rattle.xp_core.specs.Changes.{GoesOut, Way, all_changed, changed, recorded_b
 use Rattle.xp_core.specs.Channel.{State, Off, Ready, Waiting, Ringing, Talking, Cleared, channel_of, is_off}
 use Rattle.xp_core.specs.Does.{does, leaves}
 use Rattle.xp_core.specs.Plan.{left}
-use Rattle.xp_core.specs.Relays.{Relays, relays_with}
+use Rattle.xp_core.specs.Relays.{Relays}
 use Rattle.xp_core.specs.Setting.{setting}
-use Rattle.xp_core.specs.Stalls.{MakesStall, stall_of}
+use Rattle.xp_core.specs.Stalls.{MakesStall, is_stall, places_for, stall_of}
 use Rattle.xp_core.specs.Table.{action_at, packet_in}
 use Rattle.xp_core.specs.Told.{Told, nothing_told, outputs_of}
-use Rattle.xp_core.specs.Work.{Works}
 use Rattle.xp_core.specs.World.{Call, World, call_on, state_at}
 use Rattle.xp_core.proofs.Quiet.{leaves_quiet}
 
@@ -89,3 +89,24 @@ module _ {A : Type 0} (world : World) (line : ℕ) (work : Work A) (next : World
       makes Fall (told_of_fall world line Stall) (when_on (state_at world line) on) (λ tables before. (plain, refl)) outputs (λ tables before. records)
       (λ tables before. leaves_quiet line _ _ _ (call_on world line) None refl)
       (λ tables before. out ∙ left_changed line GoesOut OUT_OF_ORDER NO_ADDITIONAL_INFORMATION (call_on world line) world)
+
+-- which event a stall is
+stall_what : {A : Type 0} (what : What A) → is_stall what ≡ true → what ≡ Stall
+stall_what Stall is = refl
+stall_what Up is = absurd (cc)
+stall_what Down is = absurd (cc)
+stall_what (Frame identifier packet) is = absurd (cc)
+stall_what (WrongFrame wrong) is = absurd (cc)
+stall_what Expire is = absurd (cc)
+
+pub stall_is : {A : Type 0} (event : Event A) → is_stall event.what ≡ true → stall_of event.line ≡ event
+stall_is event is = ap (λ w. record { line = event.line; what = w }) (sym (stall_what event.what is))
+
+-- any other event has to have four places left
+pub places_for_others : {A : Type 0} (what : What A) → is_stall what ≡ false → places_for what ≡ 4
+places_for_others Stall is = absurd (cc)
+places_for_others Up is = refl
+places_for_others Down is = refl
+places_for_others (Frame identifier packet) is = refl
+places_for_others (WrongFrame wrong) is = refl
+places_for_others Expire is = refl

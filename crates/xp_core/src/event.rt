@@ -62,11 +62,8 @@ impl<A: Allocator> What<A> {
     {
         match self {
             What::Stall => 1,
-            What::Up
-            | What::Down
-            | What::Frame { .. }
-            | What::WrongFrame(_)
-            | What::Expire => 1 + MOST_STALLS,
+            What::Up | What::Down | What::Frame { .. } | What::WrongFrame(_) | What::Expire => 1
+                + MOST_STALLS,
         }
     }
 }

@@ -19,7 +19,7 @@ use crate::change::Change;
 use crate::machine::Machine;
 use crate::outcome::{Agreement, Outcome};
 use crate::output::Buffer;
-use crate::relays::Carriage;
+use crate::relays::{Carriage, Turning};
 use std::alloc::{AllocError, Allocator};
 use xp_answer::{Answer, Connection, examine};
 use xp_relay::Relay;
@@ -32,12 +32,12 @@ pub fn answer<A: Allocator + Copy>(
     machine: &Machine<A>,
     line: LineNo,
     answer: &CallAccepted<'_, A>,
-    carriage: &mut Option<Carriage<A>>,
+    turning: &mut Turning<A>,
 ) -> Result<Plan<A>, AllocError>
     requires line { line < line_count subs.now }
     requires terms { AllHaveTerms machine.now }
-    requires none { carriage.old ≡ None }
-    ensures { IfOk result (λ plan. PlansAnswer subs.now machine.now line (answer_of answer.now) plan carriage.new) }
+    requires none { turning.old ≡ None }
+    ensures { IfOk result (λ plan. PlansAnswer subs.now machine.now line (answer_of answer.now) plan turning.new) }
 {
     let Some(call) = machine.call_on(line) else {
         return Ok(Plan::nothing(alloc));
@@ -56,7 +56,7 @@ pub fn answer<A: Allocator + Copy>(
             let agreement = agreement_of(&connection);
             let relay = Relay::new(alloc, agreement.relay_terms())?;
             let caller = call.caller;
-            *carriage = Some(Carriage { caller, relay });
+            turning.set(Carriage { caller, relay });
             Ok(connect(alloc, machine, line, call, connection, outputs))
         }
         Answer::Refused(diagnostic) => {

@@ -16,7 +16,7 @@ use crate::entry::Entry;
 use crate::event::What;
 use crate::machine::Machine;
 use crate::output::Buffer;
-use crate::relays::{Carriage, Relays};
+use crate::relays::{Carriage, Relays, Turning};
 use std::alloc::{AllocError, Allocator};
 use xp_packets::Packet;
 use xp_relay::Moves;
@@ -34,11 +34,11 @@ pub fn carry<A: Allocator + Copy>(
     _before: &[Entry<A>],
     line: LineNo,
     what: &What<A>,
-    carriage: &mut Option<Carriage<A>>,
+    turning: &mut Turning<A>,
 ) -> Result<Plan<A>, AllocError>
     requires carried { AreCarried _subs.now _before.now machine.now relays.now }
-    requires none { carriage.old ≡ None }
-    ensures { IfOk result (λ plan. PlansCarried (setting _subs.now _before.now machine.now line) what.now plan carriage.new) }
+    requires none { turning.old ≡ None }
+    ensures { IfOk result (λ plan. PlansCarried (setting _subs.now _before.now machine.now line) what.now plan turning.new) }
 {
     let Some(call) = machine.call_on(line) else {
         return Ok(Plan::nothing(alloc));
@@ -52,12 +52,12 @@ pub fn carry<A: Allocator + Copy>(
     let Some(relay) = relays.under(call.caller) else {
         return Ok(Plan::nothing(alloc));
     };
-    let mut relay = relay.copy()?;
+    let mut relay = turning.copy_of(relay)?;
     let room = Moves::with_room(alloc, MOST_MOVES)?;
     let moves = relay.take(call.end_of(line), packet, room)?;
     let outputs = send_all(alloc, machine, call, moves)?;
     let caller = call.caller;
-    *carriage = Some(Carriage { caller, relay });
+    turning.set(Carriage { caller, relay });
     Ok(Plan::of(outputs, Vec::new(alloc)))
 }
 

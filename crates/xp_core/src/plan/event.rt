@@ -21,7 +21,7 @@ use super::request::{Cancelled, request};
 use crate::entry::Entry;
 use crate::event::{Event, What};
 use crate::machine::Machine;
-use crate::relays::{Carriage, Relays};
+use crate::relays::{Relays, Turning};
 use crate::table::action_of;
 use std::alloc::{AllocError, Allocator};
 use xp_causes::diagnostic::TIMER_EXPIRED_FOR_INCOMING_CALL;
@@ -36,19 +36,19 @@ pub fn plan_of<A: Allocator + Copy>(
     relays: &Relays<A>,
     before: &[Entry<A>],
     event: &Event<A>,
-    carriage: &mut Option<Carriage<A>>,
+    turning: &mut Turning<A>,
 ) -> Result<Plan<A>, AllocError>
     requires line { event.now.line < line_count subs.now }
     requires terms { AllHaveTerms machine.now }
     requires carried { AreCarried subs.now before.now machine.now relays.now }
-    requires none { carriage.old ≡ None }
-    ensures { IfOk result (λ plan. Plans (setting subs.now before.now machine.now event.now.line) event.now.what (cell (channel_of (state_at machine.now event.now.line)) (kind_of event.now.what)) plan carriage.new) }
+    requires none { turning.old ≡ None }
+    ensures { IfOk result (λ plan. Plans (setting subs.now before.now machine.now event.now.line) event.now.what (cell (channel_of (state_at machine.now event.now.line)) (kind_of event.now.what)) plan turning.new) }
 {
     let line = event.line;
     let what = &event.what;
     match action_of(machine.line(line).state, what) {
         Action::Nothing => Ok(nothing(alloc, machine)),
-        Action::Relayed => carry(alloc, subs, machine, relays, before, line, what, carriage),
+        Action::Relayed => carry(alloc, subs, machine, relays, before, line, what, turning),
         Action::Rise => Ok(rise(alloc, machine, line)),
         Action::Fall => fall(alloc, machine, line, what),
         Action::Free => Ok(free(alloc, machine, line)),
@@ -67,7 +67,7 @@ pub fn plan_of<A: Allocator + Copy>(
         },
         Action::Answer => match accepted_in(what) {
             None => Ok(nothing(alloc, machine)),
-            Some(accepted) => answer(alloc, subs, machine, line, &accepted, carriage),
+            Some(accepted) => answer(alloc, subs, machine, line, &accepted, turning),
         },
         Action::Confirm => match clear_in(what) {
             None => Ok(nothing(alloc, machine)),

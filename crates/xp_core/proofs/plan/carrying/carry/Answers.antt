@@ -1,4 +1,4 @@
-use Rattle.std.proofs.Common.{rules, ◌≡◌, Some, is_none, false, refl, subst, sym}
+use Rattle.std.proofs.Common.{rules, ◌≡◌, is_none, false, subst, sym}
 use Rattle.xp_packets.specs.declared.end.End.{End}
 use Rattle.xp_relay.specs.Coupled.{Follows, KeptPair, ShowsCall}
 use Rattle.xp_relay.specs.Turns.{turn_of}
@@ -20,10 +20,10 @@ returns g c =
     let packet = c.in-Some-packet_in.packet.now in
     let some : is_none call.agreed ≡ false = search rules in
     let it = some_of call.agreed some in
-    goes_through at c.args.what.now c.of.result (Some (record { caller = call.caller; relay = c.take.new.self })) call c.in-Some.ensures packet c.in-Some-packet_in.ensures it.0 it.1 c.args.relays.now c.requires.carried
+    goes_through at c.args.what.now c.of.result c.set.new.self call c.in-Some.ensures packet c.in-Some-packet_in.ensures it.0 it.1 c.args.relays.now c.requires.carried
     c.in-Some-under.relay.now c.take.new.self c.in_ok-moves.moves.moves c.in-Some-under.ensures
     (λ before shows.
     let F : End → Type 0 = λ e. Follows e (turn_of e packet) before c.take.new.self c.in_ok-moves.moves.moves in
     let S : KeptPair _ → Type 0 = λ r. ShowsCall r before in
-    subst F c.end_of.ensures (c.in_ok-moves.ensures.ok before (subst S (sym c.in_ok-relay.ensures) shows)))
-    (search rules) refl (search rules) (search rules) (search rules) (search rules)
+    subst F c.end_of.ensures (c.in_ok-moves.ensures.ok before (subst S (sym c.in_ok-relay.ensures.copy) shows)))
+    (search rules) c.set.ensures (search rules) (search rules) (search rules) (search rules)
