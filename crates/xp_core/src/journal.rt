@@ -86,7 +86,8 @@ impl<A: Allocator> Journal<A> {
     {
         let stalls = self.spares.len();
         self.history.reserve(stalls + 1)?;
-        self.records.reserve(stalls + records)?;
+        let places = stalls.checked_add(records).ok_or(AllocError)?;
+        self.records.reserve(places)?;
         Ok(())
     }
 
