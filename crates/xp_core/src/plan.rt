@@ -82,6 +82,6 @@ impl<A: Allocator + Copy> Plan<A> {
         ensures change { result.change ≡ None }
         ensures records { result.records.items ≡ [] }
     {
-        Plan::of(Buffer::new(alloc), Vec::new(alloc))
+        Plan::of(Buffer::new(alloc), Records::empty(alloc))
     }
 }

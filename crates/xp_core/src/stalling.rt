@@ -23,6 +23,7 @@ use std::alloc::{AllocError, Allocator};
 use std::marker::Model;
 use xp_causes::clearing_cause::OUT_OF_ORDER;
 use xp_causes::diagnostic::NO_ADDITIONAL_INFORMATION;
+use xp_charge::Record;
 use xp_subs::LineNo;
 
 /// How much a stall puts out at most: the line's connection is to be closed, and the far end of its call is told.
@@ -33,7 +34,7 @@ const MOST_OUTPUTS: usize = 2;
 pub struct Spare<A: Allocator> {
     outputs: Buffer<A>,
     told: Buffer<A>,
-    records: Records<A>,
+    records: Vec<Record, A>,
 }
 
 impl<A: Allocator> Model for Spare<A> {
@@ -71,7 +72,7 @@ pub fn give_up<A: Allocator>(machine: &mut Machine<A>, spare: Spare<A>, line: Li
             outcome: Outcome::Plain,
             outputs: outputs.into_outputs(),
             told: told.into_outputs(),
-            records,
+            records: Records::of(records),
         };
     }
     let outputs = tell(outputs, machine, line);
@@ -107,7 +108,7 @@ fn tell<A: Allocator>(buffer: Buffer<A>, machine: &Machine<A>, line: LineNo) -> 
 
 /// The record of the call that the line is in, if it is in one.
 fn charge<A: Allocator>(
-    mut records: Records<A>,
+    mut records: Vec<Record, A>,
     machine: &Machine<A>,
     line: LineNo,
 ) -> Records<A>
@@ -119,5 +120,5 @@ fn charge<A: Allocator>(
     if let Some(call) = machine.call_on(line) {
         records.push_reserved(call.record(OUT_OF_ORDER, NO_ADDITIONAL_INFORMATION));
     }
-    records
+    Records::of(records)
 }

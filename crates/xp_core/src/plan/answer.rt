@@ -19,6 +19,7 @@ use crate::change::Change;
 use crate::machine::Machine;
 use crate::outcome::{Agreement, Outcome};
 use crate::output::Buffer;
+use crate::records::Records;
 use crate::relays::{Carriage, Turning};
 use std::alloc::{AllocError, Allocator};
 use xp_answer::{Answer, Connection, examine};
@@ -93,7 +94,7 @@ fn connect<A: Allocator>(
     let agreement = agreement_of(&connection);
     let change = Change::Connect { line, agreement };
     let outputs = outputs.with(send(machine, call.caller, connection.packet));
-    Plan::of(outputs, Vec::new(alloc))
+    Plan::of(outputs, Records::empty(alloc))
         .settling(Outcome::Connected(agreement))
         .changing(change)
 }

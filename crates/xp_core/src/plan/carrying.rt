@@ -16,6 +16,7 @@ use crate::entry::Entry;
 use crate::event::What;
 use crate::machine::Machine;
 use crate::output::Buffer;
+use crate::records::Records;
 use crate::relays::{Carriage, Relays, Turning};
 use std::alloc::{AllocError, Allocator};
 use xp_packets::Packet;
@@ -58,7 +59,7 @@ pub fn carry<A: Allocator + Copy>(
     let outputs = send_all(alloc, machine, call, moves)?;
     let caller = call.caller;
     turning.set(Carriage { caller, relay });
-    Ok(Plan::of(outputs, Vec::new(alloc)))
+    Ok(Plan::of(outputs, Records::empty(alloc)))
 }
 
 /// The packet in an event.

@@ -20,7 +20,7 @@ use crate::change::{Change, Way};
 use crate::event::What;
 use crate::machine::Machine;
 use crate::output::{Buffer, Output};
-use crate::records::{Records, with_record};
+use crate::records::Records;
 use std::alloc::{AllocError, Allocator};
 use xp_answer::carry_clear;
 use xp_causes::clearing_cause::{LOCAL_PROCEDURE_ERROR, OUT_OF_ORDER, REMOTE_PROCEDURE_ERROR};
@@ -49,10 +49,10 @@ pub fn withdraw<A: Allocator>(
     ensures { IfOk result (λ withdrawal. IsWithdrawal withdrawal machine.now (leaves line (way_of way) cause diagnostic (call_on machine.now line))) }
 {
     let change = Change::Leave { line, way };
-    let none = Vec::new(alloc);
+    let none = Records::empty(alloc);
     let records = match machine.call_on(line) {
         None => none,
-        Some(call) => with_record(none, call.record(cause, diagnostic))?,
+        Some(call) => none.with(call.record(cause, diagnostic))?,
     };
     Ok(Withdrawal { change, records })
 }

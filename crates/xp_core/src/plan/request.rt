@@ -20,7 +20,7 @@ use crate::channel::LogicalChannel;
 use crate::machine::Machine;
 use crate::outcome::Outcome;
 use crate::output::{Buffer, Output};
-use crate::records::{Records, with_record};
+use crate::records::Records;
 use std::alloc::{AllocError, Allocator};
 use xp_answer::{Setup, incoming_call};
 use xp_causes::Refusal;
@@ -48,7 +48,7 @@ impl<A: Allocator> Cancelled<A> {
     {
         Cancelled {
             line: None,
-            records: Vec::new(alloc),
+            records: Records::empty(alloc),
             told: None,
         }
     }
@@ -67,7 +67,7 @@ impl<A: Allocator> Cancelled<A> {
         let record = call.record(NUMBER_BUSY, CALL_COLLISION);
         Ok(Cancelled {
             line: Some(line),
-            records: with_record(Vec::new(alloc), record)?,
+            records: Records::empty(alloc).with(record)?,
             told: send_far(machine, line, clear_indication(NUMBER_BUSY, CALL_COLLISION)),
         })
     }
@@ -189,7 +189,7 @@ fn refused<A: Allocator>(
         records,
         told,
     } = cancelled;
-    let records = with_record(records, record)?;
+    let records = records.with(record)?;
     Ok(Plan::of(outputs.with(own).with_some(told), records)
         .settling(Outcome::Refused(why))
         .cancelling(line)
