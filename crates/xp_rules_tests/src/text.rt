@@ -57,7 +57,8 @@ pub fn told(alloc: Global, reader: Reader, text: &str) -> Result<String, AllocEr
 
 /// Takes the next row off a table: the lines of a text, and what stands for it behind `> `.
 pub fn row<'a>(table: &mut &'a str) -> Option<(&'a str, &'a str)> {
-    let (text, rest) = table.split_once("> ")?;
+    let whole = *table;
+    let (text, rest) = whole.split_once("> ")?;
     let (expected, rest) = rest.split_once('\n')?;
     *table = rest;
     Some((text.trim_end(), expected))
