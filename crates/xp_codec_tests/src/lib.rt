@@ -11,3 +11,5 @@ mod packets;
 mod plain;
 #[cfg(test)]
 mod testing;
+#[cfg(test)]
+mod words;
