@@ -35,10 +35,10 @@ pub returns-in-Some : goal.returns-in-Some
 returns-in-Some g c =
     request_planned (setting c.args.subs.now c.args.before.now c.args.machine.now c.args.event.now.line) c.args.event.now.what (action_at c.args.machine.now c.args.event.now) c.request.result c.args.turning.now c.requires.none (request_of c.in-Some.call) (c.in-NewCall.ensures ∙ ap (λ state. cell (channel_of state) (kind_of c.args.event.now.what)) c.line.ensures.state) c.in-Some.ensures (c.request.ensures [] [] (c.none.ensures c.args.machine.now))
 
-pub returns-in-Some-request_in : goal.returns-in-Some-request_in
-returns-in-Some-request_in g c =
+pub returns-in_ok-cancelled-in-Some-request_in : goal.returns-in_ok-cancelled-in-Some-request_in
+returns-in_ok-cancelled-in-Some-request_in g c =
     collision_planned (setting c.args.subs.now c.args.before.now c.args.machine.now c.args.event.now.line) c.args.event.now.what (action_at c.args.machine.now c.args.event.now) c.request-in-Some-request_in.result c.args.turning.now c.requires.none (request_of c.in-Some-request_in.call) (c.in-Collision.ensures ∙ ap (λ state. cell (channel_of state) (kind_of c.args.event.now.what)) c.line.ensures.state) c.in-Some-request_in.ensures
-    (c.request-in-Some-request_in.ensures (cancels c.args.event.now.line (call_on c.args.machine.now c.args.event.now.line)) (cancelled_told c.args.machine.now c.args.event.now.line) c.in_ok-cancelled.ensures)
+    (c.request-in-Some-request_in.ensures (cancels c.args.event.now.line (call_on c.args.machine.now c.args.event.now.line)) (cancelled_told c.args.machine.now c.args.event.now.line) c.in_ok-cancelled-in-Some-request_in.ensures)
 
 pub returns-in-Some-accepted_in : goal.returns-in-Some-accepted_in
 returns-in-Some-accepted_in g c =
