@@ -1,98 +1,174 @@
 //! Facility fields (X.25 clauses 6 and 7): what they ask and what they tell.
 
-mod rows;
-mod values;
+mod asked_rows;
+mod told_rows;
 
-use self::rows::{ASKED, FAULTS, REFUSED, TOLD, UNTOLD};
-use self::values::{asked, fault, told};
-use crate::words::{octets, words};
-use std::alloc::{Allocator, Global};
+use self::asked_rows::{ASKED, REFUSED};
+use self::told_rows::{TOLD, UNTOLD};
+use std::alloc::{AllocError, Allocator, Global};
+use std::process::Abort;
 use std::test::Fail;
-use xp_facilities::{FacilityFault, Selection, Told, parse, write};
-use xp_packets::Octets;
+use xp_facilities::{
+    Asked, FacilityFault, FastSelect, Pair, Reason, Redirected, SegmentCounts, Selection, Told,
+    parse, write,
+};
+use xp_packets::{Digits, Octets};
 use xp_testing::Refusing;
 
-fn is_asked(alloc: Global, row: &str) -> Result<bool, Fail> {
-    let words = words(alloc, row)?;
-    let [field, values @ ..] = words.as_slice() else {
-        return Err("a row".into());
-    };
-    let field = octets(alloc, field)?;
-    let expected = asked(alloc, values)?;
-    Ok(parse(alloc, field.as_slice())? == expected)
+/// Both sizes: from the called, from the calling DTE.
+pub type Sizes = Option<(u8, u8)>;
+
+/// The reason of a redirection and the dialled address.
+pub type Redirection = Option<(Reason, &'static str)>;
+
+/// What is asked and told alike.
+#[derive(Clone, Copy)]
+pub struct Common {
+    pub selection: Selection,
+    pub fast: FastSelect,
+    pub reverse: bool,
+    pub throughput: Option<u8>,
+    pub packet: Sizes,
+    pub window: Sizes,
+    pub dte: &'static [u8],
+}
+
+pub const NOTHING: Common = Common {
+    selection: Selection::Nothing,
+    fast: FastSelect::No,
+    reverse: false,
+    throughput: None,
+    packet: None,
+    window: None,
+    dte: &[],
+};
+
+fn pair(sizes: Sizes) -> Option<Pair> {
+    sizes.map(|sizes| Pair {
+        from_called: sizes.0,
+        from_calling: sizes.1,
+    })
+}
+
+fn asked(alloc: Global, charging: bool, common: &Common) -> Result<Asked, AllocError> {
+    let dte = Octets::from_slice(alloc, common.dte)?;
+    Ok(Asked {
+        selection: common.selection,
+        fast: common.fast,
+        reverse: common.reverse,
+        throughput: common.throughput,
+        charging,
+        packet: pair(common.packet),
+        window: pair(common.window),
+        dte,
+    })
+}
+
+/// What is told alone.
+#[derive(Clone, Copy)]
+pub struct Alone {
+    pub modified: Option<Reason>,
+    pub segments: Option<(u32, u32)>,
+    pub redirected: Redirection,
+}
+
+pub const NO_MORE: Alone = Alone {
+    modified: None,
+    segments: None,
+    redirected: None,
+};
+
+fn told<A: Allocator + Copy>(
+    alloc: A,
+    common: &Common,
+    alone: &Alone,
+) -> Result<Told<A>, AllocError> {
+    let dte = Octets::from_slice(alloc, common.dte)?;
+    Ok(Told {
+        selection: common.selection,
+        fast: common.fast,
+        reverse: common.reverse,
+        throughput: common.throughput,
+        modified: alone.modified,
+        packet: pair(common.packet),
+        window: pair(common.window),
+        redirected: alone.redirected.map(|redirection| Redirected {
+            reason: redirection.0,
+            dialled: Digits::from_text(redirection.1).unwrap_or_default(),
+        }),
+        segments: alone.segments.map(|counts| SegmentCounts {
+            sent: counts.0,
+            received: counts.1,
+        }),
+        dte,
+    })
+}
+
+fn are_asked(rt: &impl Abort, alloc: Global, rows: &[(&[u8], bool, Common)]) -> Result<(), Fail> {
+    for (field, charging, common) in rows {
+        let expected = asked(alloc, *charging, common)?;
+        assert_eq!(rt; parse(alloc, field)?, expected, "{field:?}");
+    }
+    Ok(())
 }
 
 #[test]
 fn fields_are_read(rt: HostRuntime) -> Result<(), Fail> {
-    for row in ASKED.lines() {
-        assert!(rt; row.starts_with('#') || is_asked(rt.alloc(), row)?, "{row}");
-    }
+    are_asked(&rt, rt.alloc(), &ASKED)?;
     assert_eq!(rt; Selection::default(), Selection::Nothing);
     Ok(())
 }
 
-fn is_refused(alloc: Global, row: &str) -> Result<bool, Fail> {
-    let (field, word) = row.split_once(' ').ok_or("a row")?;
-    let field = octets(alloc, field)?;
-    Ok(parse(alloc, field.as_slice()).err() == Some(fault(word)?))
-}
-
-// How many octets of facilities between DTEs are read from an item of so many parameters.
-fn between_dtes(alloc: Global, parameters: u8) -> Result<usize, FacilityFault> {
-    let mut field = Vec::from_slice(alloc, &[0x00, 0x0f, 0xc9, parameters])?;
-    field.resize(usize::from(parameters) + 4, 0x41)?;
-    Ok(parse(alloc, &field)?.dte.len())
+fn are_refused(rt: &impl Abort, alloc: Global, rows: &[(&[u8], FacilityFault)]) {
+    for (field, fault) in rows {
+        assert_eq!(rt; parse(alloc, field).err(), Some(*fault), "{field:?}");
+    }
 }
 
 #[test]
 fn fields_are_refused(rt: HostRuntime) -> Result<(), Fail> {
-    for row in REFUSED.lines() {
-        assert!(rt; is_refused(rt.alloc(), row)?, "{row}");
-    }
+    are_refused(&rt, rt.alloc(), &REFUSED);
     // At most 80 octets of facilities between DTEs.
-    assert_eq!(rt; between_dtes(rt.alloc(), 78), Ok(80));
-    assert_eq!(rt; between_dtes(rt.alloc(), 79), Err(FacilityFault::Param));
+    for (parameters, few) in [(78u8, true), (79, false)] {
+        let mut field = Vec::from_slice(rt.alloc(), &[0x00, 0x0f, 0xc9, parameters])?;
+        field.resize(usize::from(parameters) + 4, 0x41)?;
+        match parse(rt.alloc(), &field) {
+            Ok(read) => assert_eq!(rt; (read.dte.len(), few), (80, true)),
+            Err(fault) => assert_eq!(rt; (fault, few), (FacilityFault::Param, false)),
+        }
+    }
     Ok(())
 }
 
-fn is_told(alloc: Global, row: &str) -> Result<bool, Fail> {
-    let words = words(alloc, row)?;
-    let [field, values @ ..] = words.as_slice() else {
-        return Err("a row".into());
-    };
-    let field = octets(alloc, field)?;
-    let values = told(alloc, values)?;
-    let written = write(alloc, &values)?;
-    Ok(written.as_slice() == field.as_slice())
+fn are_told(rt: &impl Abort, alloc: Global, rows: &[(Common, Alone, &[u8])]) -> Result<(), Fail> {
+    for (common, alone, field) in rows {
+        let values = told(alloc, common, alone)?;
+        let written = write(alloc, &values)?;
+        assert_eq!(rt; written.as_slice(), *field);
+    }
+    Ok(())
 }
 
 #[test]
 fn values_are_told(rt: HostRuntime) -> Result<(), Fail> {
-    for row in TOLD.lines() {
-        assert!(rt; is_told(rt.alloc(), row)?, "{row}");
-    }
-    Ok(())
+    are_told(&rt, rt.alloc(), &TOLD)
 }
 
-fn is_untold(alloc: Global, row: &str) -> Result<bool, Fail> {
-    let words = words(alloc, row)?;
-    let [word, values @ ..] = words.as_slice() else {
-        return Err("a row".into());
-    };
-    let expected = fault(word)?;
-    let values = told(alloc, values)?;
-    Ok(write(alloc, &values).err() == Some(expected))
+fn are_untold(
+    rt: &impl Abort,
+    alloc: Global,
+    rows: &[(Common, Alone, FacilityFault)],
+) -> Result<(), Fail> {
+    for (common, alone, fault) in rows {
+        let values = told(alloc, common, alone)?;
+        assert_eq!(rt; write(alloc, &values).err(), Some(*fault));
+    }
+    Ok(())
 }
 
 #[test]
 fn values_are_refused(rt: HostRuntime) -> Result<(), Fail> {
-    for row in UNTOLD.lines() {
-        assert!(rt;
-            row.starts_with('#') || is_untold(rt.alloc(), row)?,
-            "{row}"
-        );
-    }
-    Ok(())
+    are_untold(&rt, rt.alloc(), &UNTOLD)
 }
 
 const FIELD: &[u8] = b"\x43\x02\x02\x00\x0f\xc9\x01\x41";
@@ -140,9 +216,14 @@ fn refused_memory(rt: HostRuntime) -> Result<(), Fail> {
 
 #[test]
 fn faults_are_told(rt: HostRuntime) -> Result<(), Fail> {
-    for row in FAULTS.lines() {
-        let (word, text) = row.split_once(' ').ok_or("a row")?;
-        assert_eq!(rt; fault(word)?.to_string(rt.alloc())?.as_str(), text);
+    for (fault, text) in [
+        (FacilityFault::Length, "invalid facility length"),
+        (FacilityFault::Code, "facility code not allowed"),
+        (FacilityFault::Param, "facility parameter not allowed"),
+        (FacilityFault::Memory, "out of memory"),
+    ] {
+        let told = format!(in rt.alloc(); "{fault}")?;
+        assert_eq!(rt; told.as_str(), text);
     }
     Ok(())
 }

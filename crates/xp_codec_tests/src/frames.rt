@@ -1,7 +1,7 @@
 //! Frames (RFC 1613): how a stream is cut, and what is refused.
 
-use crate::words::octets;
 use std::alloc::{Allocator, Global};
+use std::process::Abort;
 use std::test::Fail;
 use xp_frames::{Deframer, FrameFault, write_frame};
 use xp_testing::Refusing;
@@ -21,96 +21,87 @@ const FRAMED_CONFIRMATION: [u8; 7] = [0x00, 0x00, 0x00, 0x03, 0x10, 0x01, 0x17];
 
 const CONFIRMATION: [u8; 3] = [0x10, 0x01, 0x17];
 
-// Pieces that are fed one after another, each with its answer, and the packets that come out next. Behind the end of
-// a stream a new one begins; a row behind `#` says what the next ones are about.
-const STREAMS: &str = "\
-feed - ok
-feed 00000003100117 ok
-feed 0000000d10010b07208002000001000000 ok
-next 100117
-next 10010b07208002000001000000
-end
-# The version is judged first, and as soon as the head is there.
-feed 000100 ok
-feed 03 version 1
-feed 0000000d10010b07208002000001000000 failed
-end
-feed 12340002 version 4660
-end
-# Lengths outside 3 to 1,028.
-feed 00000002 length 2
-end
-feed 000004 ok
-feed 05 length 1029
-feed - failed
-end
-feed 00000404 ok
-end
-# The frames before a bad head come out, those behind it never.
-feed 0000000d10010b07208002000001000000 ok
-feed 000000031001170000000000000003100117 length 0
-feed 0000000d10010b07208002000001000000 failed
-next 10010b07208002000001000000
-next 100117
-end
-";
+// Pieces that are fed one after another, each with its answer, and the packets that come out at the end.
+#[derive(Clone, Copy)]
+struct Stream {
+    pieces: &'static [(&'static [u8], Result<(), FrameFault>)],
+    packets: &'static [&'static [u8]],
+}
 
-// What is answered where octets are taken or are no frame.
-fn answer(text: &str) -> Result<Result<(), FrameFault>, Fail> {
-    match text {
-        "ok" => Ok(Ok(())),
-        "failed" => Ok(Err(FrameFault::Failed)),
-        "memory" => Ok(Err(FrameFault::Memory)),
-        _numbered => Ok(Err(numbered(text)?)),
+const STREAMS: [Stream; 7] = [
+    Stream {
+        pieces: &[
+            (&[], Ok(())),
+            (&FRAMED_CONFIRMATION, Ok(())),
+            (&FRAMED_CALL, Ok(())),
+        ],
+        packets: &[&CONFIRMATION, &CALL],
+    },
+    // The version is judged first, and as soon as the head is there.
+    Stream {
+        pieces: &[
+            (&[0x00, 0x01, 0x00], Ok(())),
+            (&[0x03], Err(FrameFault::Version(1))),
+            (&FRAMED_CALL, Err(FrameFault::Failed)),
+        ],
+        packets: &[],
+    },
+    Stream {
+        pieces: &[(&[0x12, 0x34, 0x00, 0x02], Err(FrameFault::Version(0x1234)))],
+        packets: &[],
+    },
+    // Lengths outside 3 to 1,028.
+    Stream {
+        pieces: &[(&[0x00, 0x00, 0x00, 0x02], Err(FrameFault::Length(2)))],
+        packets: &[],
+    },
+    Stream {
+        pieces: &[
+            (&[0x00, 0x00, 0x04], Ok(())),
+            (&[0x05], Err(FrameFault::Length(1029))),
+            (&[], Err(FrameFault::Failed)),
+        ],
+        packets: &[],
+    },
+    Stream {
+        pieces: &[(&[0x00, 0x00, 0x04, 0x04], Ok(()))],
+        packets: &[],
+    },
+    // The frames before a bad head come out, those behind it never.
+    Stream {
+        pieces: &[
+            (&FRAMED_CALL, Ok(())),
+            (
+                &[
+                    0x00, 0x00, 0x00, 0x03, 0x10, 0x01, 0x17, 0x00, 0x00, 0x00, 0x00, 0x00, 0x00,
+                    0x00, 0x03, 0x10, 0x01, 0x17,
+                ],
+                Err(FrameFault::Length(0)),
+            ),
+            (&FRAMED_CALL, Err(FrameFault::Failed)),
+        ],
+        packets: &[&CALL, &CONFIRMATION],
+    },
+];
+
+fn are_cut(rt: &impl Abort, alloc: Global, streams: &[Stream]) -> Result<(), Fail> {
+    for stream in streams {
+        let mut frames = Deframer::new(alloc);
+        for (piece, answer) in stream.pieces {
+            assert_eq!(rt; frames.feed(piece), *answer, "{piece:?}");
+        }
+        for packet in stream.packets {
+            let next = frames.next().ok_or("no packet")?;
+            assert_eq!(rt; next.as_slice(), *packet);
+        }
+        assert!(rt; frames.next().is_none());
     }
-}
-
-fn numbered(text: &str) -> Result<FrameFault, Fail> {
-    let (kind, number) = text.split_once(' ').ok_or("an answer")?;
-    let number = number.parse()?;
-    match kind {
-        "version" => Ok(FrameFault::Version(number)),
-        "length" => Ok(FrameFault::Length(number)),
-        _ => Err("an answer".into()),
-    }
-}
-
-fn is_fed(alloc: Global, frames: &mut Deframer, row: &str) -> Result<bool, Fail> {
-    let (piece, expected) = row.split_once(' ').ok_or("a piece and its answer")?;
-    let piece = octets(alloc, piece)?;
-    Ok(frames.feed(piece.as_slice()) == answer(expected)?)
-}
-
-fn is_next(alloc: Global, frames: &mut Deframer, packet: &str) -> Result<bool, Fail> {
-    let packet = octets(alloc, packet)?;
-    let next = frames.next().ok_or("no packet")?;
-    Ok(next.as_slice() == packet.as_slice())
-}
-
-// Whether nothing is left, and then a new stream.
-fn is_end(alloc: Global, frames: &mut Deframer) -> bool {
-    let is_end = frames.next().is_none();
-    *frames = Deframer::new(alloc);
-    is_end
-}
-
-fn is_so(alloc: Global, frames: &mut Deframer, row: &str) -> Result<bool, Fail> {
-    let (word, rest) = row.split_once(' ').unwrap_or((row, ""));
-    match word {
-        "feed" => is_fed(alloc, frames, rest),
-        "next" => is_next(alloc, frames, rest),
-        "end" => Ok(is_end(alloc, frames)),
-        _remark => Ok(word == "#"),
-    }
+    Ok(())
 }
 
 #[test]
 fn streams_are_cut(rt: HostRuntime) -> Result<(), Fail> {
-    let mut frames = Deframer::new(rt.alloc());
-    for row in STREAMS.lines() {
-        assert!(rt; is_so(rt.alloc(), &mut frames, row)?, "{row}");
-    }
-    Ok(())
+    are_cut(&rt, rt.alloc(), &STREAMS)
 }
 
 #[test]
@@ -151,37 +142,28 @@ fn many_frames_in_one_piece(rt: HostRuntime) -> Result<(), Fail> {
     Ok(())
 }
 
-// The octets of a packet, and its head or why it is refused.
-const HEADS: &str = "\
-0 length 0
-2 length 2
-3 00000003
-1028 00000404
-1029 length 1029
-65535 length 65535
-65536 length 65535
-";
-
 // A packet of so many octets is framed behind what stood there, or the vector is as it was.
-fn is_framed(alloc: Global, row: &str) -> Result<bool, Fail> {
-    let (len, told) = row.split_once(' ').ok_or("a row")?;
-    let packet = Vec::from_elem(alloc, 0xa5u8, len.parse()?)?;
-    let mut out = Vec::from_slice(alloc, &[7])?;
-    let mut expected = Vec::from_slice(alloc, &[7])?;
-    match write_frame(&packet, &mut out) {
-        Ok(()) => {
-            expected.extend_from_slice(octets(alloc, told)?.as_slice())?;
-            expected.extend_from_slice(&packet)?;
-            Ok(out.as_slice() == expected.as_slice())
-        }
-        refused => Ok(refused == answer(told)? && out.as_slice() == expected.as_slice()),
-    }
-}
-
 #[test]
 fn packets_are_framed(rt: HostRuntime) -> Result<(), Fail> {
-    for row in HEADS.lines() {
-        assert!(rt; is_framed(rt.alloc(), row)?, "{row}");
+    for (len, head) in [
+        (0, Err(FrameFault::Length(0))),
+        (2, Err(FrameFault::Length(2))),
+        (3, Ok([0x00, 0x00, 0x00, 0x03])),
+        (1028, Ok([0x00, 0x00, 0x04, 0x04])),
+        (1029, Err(FrameFault::Length(1029))),
+        (65_535, Err(FrameFault::Length(65_535))),
+        (65_536, Err(FrameFault::Length(65_535))),
+    ] {
+        let packet = Vec::from_elem(rt.alloc(), 0xa5u8, len)?;
+        let mut out = Vec::from_slice(rt.alloc(), &[7])?;
+        let mut expected = Vec::from_slice(rt.alloc(), &[7])?;
+        let answer = write_frame(&packet, &mut out);
+        assert_eq!(rt; answer.err(), head.err(), "of {len}");
+        if let Ok(octets) = head {
+            expected.extend_from_slice(&octets)?;
+            expected.extend_from_slice(&packet)?;
+        }
+        assert_eq!(rt; out.as_slice(), expected.as_slice(), "of {len}");
     }
     Ok(())
 }
@@ -232,20 +214,19 @@ fn refused_memory_changes_nothing(rt: HostRuntime) -> Result<(), Fail> {
     Ok(())
 }
 
-// Faults, and how they are told.
-const FAULTS: &str = "\
-version 1: frame version 1 in place of 0
-length 2: packet length 2 outside 3 to 1028 octets
-failed: the stream has failed
-memory: out of memory
-";
-
 #[test]
 fn faults_are_told(rt: HostRuntime) -> Result<(), Fail> {
-    for row in FAULTS.lines() {
-        let (fault, text) = row.split_once(": ").ok_or("a row")?;
-        let fault = answer(fault)?.err().ok_or("a fault")?;
-        assert_eq!(rt; fault.to_string(rt.alloc())?.as_str(), text);
+    for (fault, text) in [
+        (FrameFault::Version(1), "frame version 1 in place of 0"),
+        (
+            FrameFault::Length(2),
+            "packet length 2 outside 3 to 1028 octets",
+        ),
+        (FrameFault::Failed, "the stream has failed"),
+        (FrameFault::Memory, "out of memory"),
+    ] {
+        let told = format!(in rt.alloc(); "{fault}")?;
+        assert_eq!(rt; told.as_str(), text);
     }
     Ok(())
 }

@@ -11,5 +11,3 @@ mod packets;
 mod plain;
 #[cfg(test)]
 mod testing;
-#[cfg(test)]
-mod words;

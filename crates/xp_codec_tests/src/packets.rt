@@ -1,232 +1,239 @@
-//! Packets (X.25 clause 5): octets and what they spell. A row behind `#` says what the next ones are about.
+//! Packets (X.25 clause 5): octets and what they spell.
 
-use crate::plain::packet;
-use crate::words::{number, octets, words};
+use crate::plain::{Form, Plain, packet};
 use std::alloc::{Allocator, Global};
+use std::process::Abort;
 use std::test::Fail;
-use xp_packets::{Digits, Packet, PacketFault, Wrong, decode, encode};
+use xp_packets::{Digits, PacketFault, Wrong, decode, encode};
 use xp_testing::Refusing;
 
+// The addresses of two stations.
+const A: &str = "2080010";
+
+const B: &str = "2080020";
+
+// Packet and window sizes.
+const SIZES: &[u8] = &[0x42, 0x07, 0x07, 0x43, 0x02, 0x02];
+
+const COUNTS: &[u8] = &[0xc2, 8, 0, 0, 0, 0, 0, 0, 0, 2];
+
+const NONE: Plain = Plain("", "", &[], &[]);
+
 // Octets, the identifier and the packet that they spell; what is written for it is the same octets.
-const SPELLED: &str = "\
-10010b07208002000001000000 1 call - 2080020 - - 01000000
-10010b77208002020800100642070743020201000000 1 call - 2080020 2080010 420707430202 01000000
-5fff0b21917000 4095 call d 9 17 - -
-10010f 1 accepted -
-51020f0006420707430202 258 accepted d - - 420707430202 -
-10011300 1 clear 0 -
-1001130d43 1 clear 13 67
-10011300070000c0ff 1 clear 0 7 - - - c0ff
-100117 1 clear_confirm
-100117000ac2080000000000000002 1 clear_confirm - - c2080000000000000002 -
-10010041 1 data - 0 0 41
-d001b6 1 data qdm 3 5 -
-100121 1 ready 1
-100105 1 not_ready 0
-1001e9 1 reject 7
-10012341 1 interrupt 41
-100127 1 interrupt_confirm
-10011b00 1 reset 0 -
-10011b0501 1 reset 5 1
-10011f 1 reset_confirm
-10001f 0 reset_confirm
-# With the fields that another reader finds in them: the dissectors of XOT and X.25 of Wireshark 4.0.17.
-1aff0b77208002020800100642070743020201000000 2815 call - 2080020 2080010 420707430202 01000000
-10ff130949 255 clear 9 73
-10013a776f726c64 1 data m 5 1 776f726c64
-d0012448656c6c6f 1 data qd 2 1 48656c6c6f
-100161 1 ready 3
-1001a5 1 not_ready 5
-1001c9 1 reject 6
-10011b0527 1 reset 5 39
-";
+const SPELLED: [(&[u8], u16, Form); 29] = [
+    (
+        b"\x10\x01\x0b\x07\x20\x80\x02\x00\x00\x01\x00\x00\x00",
+        1,
+        Form::Call(false, Plain(B, "", &[], &[1, 0, 0, 0])),
+    ),
+    (
+        b"\x10\x01\x0b\x77\x20\x80\x02\x02\x08\x00\x10\x06\x42\x07\x07\x43\x02\x02\x01\x00\x00\x00",
+        1,
+        Form::Call(false, Plain(B, A, SIZES, &[1, 0, 0, 0])),
+    ),
+    (
+        b"\x5f\xff\x0b\x21\x91\x70\x00",
+        4095,
+        Form::Call(true, Plain("9", "17", &[], &[])),
+    ),
+    (b"\x10\x01\x0f", 1, Form::Accepted(false, None)),
+    (
+        b"\x51\x02\x0f\x00\x06\x42\x07\x07\x43\x02\x02",
+        258,
+        Form::Accepted(true, Some(Plain("", "", SIZES, &[]))),
+    ),
+    (b"\x10\x01\x13\x00", 1, Form::Clear(0, None, None)),
+    (b"\x10\x01\x13\x0d\x43", 1, Form::Clear(13, Some(67), None)),
+    (
+        b"\x10\x01\x13\x00\x07\x00\x00\xc0\xff",
+        1,
+        Form::Clear(0, Some(7), Some(Plain("", "", &[], &[0xc0, 0xff]))),
+    ),
+    (b"\x10\x01\x17", 1, Form::ClearConfirm(None)),
+    (
+        b"\x10\x01\x17\x00\x0a\xc2\x08\x00\x00\x00\x00\x00\x00\x00\x02",
+        1,
+        Form::ClearConfirm(Some(Plain("", "", COUNTS, &[]))),
+    ),
+    (
+        b"\x10\x01\x00\x41",
+        1,
+        Form::Data(false, false, false, 0, 0, b"A"),
+    ),
+    (b"\xd0\x01\xb6", 1, Form::Data(true, true, true, 3, 5, &[])),
+    (b"\x10\x01\x21", 1, Form::Ready(1)),
+    (b"\x10\x01\x05", 1, Form::NotReady(0)),
+    (b"\x10\x01\xe9", 1, Form::Reject(7)),
+    (b"\x10\x01\x23\x41", 1, Form::Interrupt(b"A")),
+    (b"\x10\x01\x27", 1, Form::InterruptConfirm),
+    (b"\x10\x01\x1b\x00", 1, Form::Reset(0, None)),
+    (b"\x10\x01\x1b\x05\x01", 1, Form::Reset(5, Some(1))),
+    (b"\x10\x01\x1f", 1, Form::ResetConfirm),
+    (b"\x10\x00\x1f", 0, Form::ResetConfirm),
+    // With the fields that another reader finds in them: the dissectors of XOT and X.25 of Wireshark 4.0.17.
+    (
+        b"\x1a\xff\x0b\x77\x20\x80\x02\x02\x08\x00\x10\x06\x42\x07\x07\x43\x02\x02\x01\x00\x00\x00",
+        2815,
+        Form::Call(false, Plain(B, A, SIZES, &[1, 0, 0, 0])),
+    ),
+    (b"\x10\xff\x13\x09\x49", 255, Form::Clear(9, Some(73), None)),
+    (
+        b"\x10\x01\x3aworld",
+        1,
+        Form::Data(false, false, true, 5, 1, b"world"),
+    ),
+    (
+        b"\xd0\x01\x24Hello",
+        1,
+        Form::Data(true, true, false, 2, 1, b"Hello"),
+    ),
+    (b"\x10\x01\x61", 1, Form::Ready(3)),
+    (b"\x10\x01\xa5", 1, Form::NotReady(5)),
+    (b"\x10\x01\xc9", 1, Form::Reject(6)),
+    (b"\x10\x01\x1b\x05\x27", 1, Form::Reset(5, Some(39))),
+];
 
 // Octets that end after the digits, and what is written for them: both lengths.
-const SHORTER: &str = "\
-10010b031230 10010b03123000
-100113000700 10011300070000
-";
+const SHORTER: [(&[u8], &[u8]); 2] = [
+    (b"\x10\x01\x0b\x03\x12\x30", b"\x10\x01\x0b\x03\x12\x30\x00"),
+    (b"\x10\x01\x13\x00\x07\x00", b"\x10\x01\x13\x00\x07\x00\x00"),
+];
 
-// Whether these octets and no others are written for the packet.
-fn is_written(
-    alloc: Global,
-    text: &[u8],
-    identifier: u16,
-    packet: &Packet,
-) -> Result<bool, PacketFault> {
-    let written = encode(alloc, identifier, packet)?;
-    Ok(written.as_slice() == text)
-}
-
-// Whether the octets are read as the packet.
-fn is_read(
-    alloc: Global,
-    text: &[u8],
-    identifier: u16,
-    packet: &Packet,
-) -> Result<bool, PacketFault> {
-    let (found, read) = decode(alloc, text)?;
-    let copied = read.copy().map_err(|_| PacketFault::Memory)?;
-    Ok(found == identifier && read == *packet && copied == *packet)
-}
-
-fn is_spelled(alloc: Global, row: &str) -> Result<bool, Fail> {
-    let words = words(alloc, row)?;
-    let [text, identifier, kind, fields @ ..] = words.as_slice() else {
-        return Err("a row".into());
-    };
-    let text = octets(alloc, text)?;
-    let identifier = identifier.parse()?;
-    let packet = packet(alloc, kind, fields)?;
-    Ok(
-        is_written(alloc, text.as_slice(), identifier, &packet)?
-            && is_read(alloc, text.as_slice(), identifier, &packet)?,
-    )
-}
-
-// What is written for the packet that the octets spell.
-fn written_again(alloc: Global, text: &str) -> Result<String, Fail> {
-    let text = octets(alloc, text)?;
-    let (identifier, read) = decode(alloc, text.as_slice())?;
-    let written = encode(alloc, identifier, &read)?;
-    Ok(hex::encode(alloc, written.as_slice())?)
+fn both_ways(rt: &impl Abort, alloc: Global, rows: &[(&[u8], u16, Form)]) -> Result<(), Fail> {
+    for (text, identifier, form) in rows {
+        let expected = packet(alloc, form)?;
+        let written = encode(alloc, *identifier, &expected)?;
+        assert_eq!(rt; written.as_slice(), *text);
+        let (found, read) = decode(alloc, text)?;
+        assert_eq!(rt; found, *identifier, "{text:?}");
+        assert_eq!(rt; read, expected, "{text:?}");
+        assert_eq!(rt; read.copy()?, expected, "{text:?}");
+    }
+    Ok(())
 }
 
 #[test]
 fn packets_are_read_and_written(rt: HostRuntime) -> Result<(), Fail> {
-    for row in SPELLED.lines() {
-        assert!(rt;
-            row.starts_with('#') || is_spelled(rt.alloc(), row)?,
-            "{row}"
-        );
-    }
-    for row in SHORTER.lines() {
-        let (text, again) = row.split_once(' ').ok_or("a row")?;
-        assert_eq!(rt; written_again(rt.alloc(), text)?.as_str(), again);
+    both_ways(&rt, rt.alloc(), &SPELLED)?;
+    for (text, again) in &SHORTER {
+        let (identifier, read) = decode(rt.alloc(), text)?;
+        let written = encode(rt.alloc(), identifier, &read)?;
+        assert_eq!(rt; written.as_slice(), *again);
     }
     Ok(())
 }
 
 // Octets, and what is wrong with them.
-const WRONG: &str = "\
-- short
-1001 short
-10010b short
-100113 short
-100123 short
-10011b short
-20010b format
-50011300 format
-# The format is judged before the type.
-9001ff format
-900101 format
-1001ff unknown
-10010b01a0 address
-10010b0191 address
-10010b0312 address
-10010f01916e address
-100113000701a0010441 address
-10011701a0010441 address
-10010b006e facilities
-10010b000204 facilities
-10010f000204 facilities
-100113000700030441 facilities
-10011700030441 facilities
-10010100 long
-10011f00 long
-10011b000000 long
-100117000041 long
-1001170002040141 long
-";
-
-fn wrong(word: &str) -> Result<Wrong, Fail> {
-    match word {
-        "short" => Ok(Wrong::Short),
-        "format" => Ok(Wrong::Format),
-        "unknown" => Ok(Wrong::Unknown),
-        "address" => Ok(Wrong::Address),
-        "facilities" => Ok(Wrong::Facilities),
-        "long" => Ok(Wrong::Long),
-        _ => Err("what is wrong".into()),
-    }
-}
+const WRONG: [(&[u8], Wrong); 27] = [
+    (b"", Wrong::Short),
+    (b"\x10\x01", Wrong::Short),
+    (b"\x10\x01\x0b", Wrong::Short),
+    (b"\x10\x01\x13", Wrong::Short),
+    (b"\x10\x01\x23", Wrong::Short),
+    (b"\x10\x01\x1b", Wrong::Short),
+    (b"\x20\x01\x0b", Wrong::Format),
+    (b"\x50\x01\x13\x00", Wrong::Format),
+    // The format is judged before the type.
+    (b"\x90\x01\xff", Wrong::Format),
+    (b"\x90\x01\x01", Wrong::Format),
+    (b"\x10\x01\xff", Wrong::Unknown),
+    (b"\x10\x01\x0b\x01\xa0", Wrong::Address),
+    (b"\x10\x01\x0b\x01\x91", Wrong::Address),
+    (b"\x10\x01\x0b\x03\x12", Wrong::Address),
+    (b"\x10\x01\x0f\x01\x91\x6e", Wrong::Address),
+    (b"\x10\x01\x13\x00\x07\x01\xa0\x01\x04\x41", Wrong::Address),
+    (b"\x10\x01\x17\x01\xa0\x01\x04\x41", Wrong::Address),
+    (b"\x10\x01\x0b\x00\x6e", Wrong::Facilities),
+    (b"\x10\x01\x0b\x00\x02\x04", Wrong::Facilities),
+    (b"\x10\x01\x0f\x00\x02\x04", Wrong::Facilities),
+    (b"\x10\x01\x13\x00\x07\x00\x03\x04\x41", Wrong::Facilities),
+    (b"\x10\x01\x17\x00\x03\x04\x41", Wrong::Facilities),
+    (b"\x10\x01\x01\x00", Wrong::Long),
+    (b"\x10\x01\x1f\x00", Wrong::Long),
+    (b"\x10\x01\x1b\x00\x00\x00", Wrong::Long),
+    (b"\x10\x01\x17\x00\x00\x41", Wrong::Long),
+    (b"\x10\x01\x17\x00\x02\x04\x01\x41", Wrong::Long),
+];
 
 // What is wrong is told without any request for memory.
-fn is_wrong(alloc: Global, row: &str) -> Result<bool, Fail> {
-    let (text, word) = row.split_once(' ').ok_or("a row")?;
-    let text = octets(alloc, text)?;
-    let expected = PacketFault::Wrong(wrong(word)?);
-    let scarce = Refusing::new(alloc, 1);
-    let read = decode(&scarce, text.as_slice());
-    Ok(read.err() == Some(expected) && scarce.is_pending())
+fn are_wrong(rt: &impl Abort, alloc: Global, rows: &[(&[u8], Wrong)]) {
+    for (text, wrong) in rows {
+        let alloc = Refusing::new(alloc, 1);
+        let read = decode(&alloc, text);
+        assert_eq!(rt; read.err(), Some(PacketFault::Wrong(*wrong)), "{text:?}");
+        assert!(rt; alloc.is_pending(), "{text:?}");
+    }
 }
 
 #[test]
-fn wrong_octets_are_told(rt: HostRuntime) -> Result<(), Fail> {
-    for row in WRONG.lines() {
-        assert!(rt; row.starts_with('#') || is_wrong(rt.alloc(), row)?, "{row}");
-    }
-    Ok(())
+fn wrong_octets_are_told(rt: HostRuntime) {
+    are_wrong(&rt, rt.alloc(), &WRONG);
 }
 
 // So many octets behind these are read and written again; one more is too many.
-const LONGEST: &str = "\
-100100 1024
-100123 32
-10010b0000 128
-10010f0000 128
-1001130007000104 128
-";
-
-fn is_longest(alloc: Global, row: &str) -> Result<bool, Fail> {
-    let (front, most) = row.split_once(' ').ok_or("a row")?;
-    let mut text = hex::decode(alloc, front)?;
-    text.resize(text.len().saturating_add(most.parse()?), 0x41)?;
-    let (identifier, read) = decode(alloc, &text)?;
-    let is_written = is_written(alloc, &text, identifier, &read)?;
-    text.push(0x41)?;
-    let longer = decode(alloc, &text);
-    Ok(is_written && longer.err() == Some(PacketFault::Wrong(Wrong::Long)))
-}
-
 #[test]
 fn longest_packets(rt: HostRuntime) -> Result<(), Fail> {
-    for row in LONGEST.lines() {
-        assert!(rt; is_longest(rt.alloc(), row)?, "{row}");
+    let fronts: [(&[u8], usize); 5] = [
+        (b"\x10\x01\x00", 1024),
+        (b"\x10\x01\x23", 32),
+        (b"\x10\x01\x0b\x00\x00", 128),
+        (b"\x10\x01\x0f\x00\x00", 128),
+        (b"\x10\x01\x13\x00\x07\x00\x01\x04", 128),
+    ];
+    for (front, most) in fronts {
+        let mut text = Vec::from_slice(rt.alloc(), front)?;
+        text.resize(front.len().saturating_add(most), 0x41)?;
+        let (identifier, read) = decode(rt.alloc(), &text)?;
+        let written = encode(rt.alloc(), identifier, &read)?;
+        assert_eq!(rt; written.as_slice(), text.as_slice());
+        text.push(0x41)?;
+        let longer = decode(rt.alloc(), &text);
+        assert_eq!(rt; longer.err(), Some(PacketFault::Wrong(Wrong::Long)));
     }
     Ok(())
 }
 
-// What is wrong with packets that nothing spells: their identifiers, and the packets.
-const UNSPELLED: &str = "\
-short 1 interrupt -
-short 4096 clear 0 - - - - -
-format 4096 reset_confirm
-format 1 ready 8
-format 1 data - 8 0 41
-facilities 1 clear_confirm 2080020 - 00*110 01
-long 1 clear_confirm 2080020 - - 01
-long 1 call - 2080020 2080010 420707430202 00*129
-long 1 interrupt 00*33
-";
+// Packets that nothing spells.
+const UNSPELLED: [(u16, Form, Wrong); 9] = [
+    (1, Form::Interrupt(&[]), Wrong::Short),
+    (4096, Form::Clear(0, None, Some(NONE)), Wrong::Short),
+    (4096, Form::ResetConfirm, Wrong::Format),
+    (1, Form::Ready(8), Wrong::Format),
+    (
+        1,
+        Form::Data(false, false, false, 8, 0, b"A"),
+        Wrong::Format,
+    ),
+    (
+        1,
+        Form::ClearConfirm(Some(Plain(B, "", &[0; 110], &[1]))),
+        Wrong::Facilities,
+    ),
+    (
+        1,
+        Form::ClearConfirm(Some(Plain(B, "", &[], &[1]))),
+        Wrong::Long,
+    ),
+    (
+        1,
+        Form::Call(false, Plain(B, A, SIZES, &[0; 129])),
+        Wrong::Long,
+    ),
+    (1, Form::Interrupt(&[0; 33]), Wrong::Long),
+];
 
-fn is_unspelled(alloc: Global, row: &str) -> Result<bool, Fail> {
-    let words = words(alloc, row)?;
-    let [fault, identifier, kind, fields @ ..] = words.as_slice() else {
-        return Err("a row".into());
-    };
-    let expected = PacketFault::Wrong(wrong(fault)?);
-    let identifier = identifier.parse()?;
-    let unspelled = packet(alloc, kind, fields)?;
-    Ok(encode(alloc, identifier, &unspelled).err() == Some(expected))
+fn are_unspelled(rt: &impl Abort, alloc: Global, rows: &[(u16, Form, Wrong)]) -> Result<(), Fail> {
+    for (identifier, form, wrong) in rows {
+        let unspelled = packet(alloc, form)?;
+        let written = encode(alloc, *identifier, &unspelled);
+        assert_eq!(rt; written.err(), Some(PacketFault::Wrong(*wrong)));
+    }
+    Ok(())
 }
 
 #[test]
 fn packets_without_spelling(rt: HostRuntime) -> Result<(), Fail> {
-    for row in UNSPELLED.lines() {
-        assert!(rt; is_unspelled(rt.alloc(), row)?, "{row}");
-    }
-    Ok(())
+    are_unspelled(&rt, rt.alloc(), &UNSPELLED)
 }
 
 // A call with facilities and user data, data, and an interrupt.
@@ -275,36 +282,26 @@ fn copies_take_no_memory(rt: HostRuntime) -> Result<(), Fail> {
     Ok(())
 }
 
-// What is wrong, its diagnostic code, and how it is told.
-const TOLD: &str = "\
-short 38 packet too short
-format 40 invalid general format identifier
-unknown 33 unidentifiable packet
-address 67 invalid address
-facilities 69 invalid facility length
-long 39 packet too long
-";
-
-fn is_told(alloc: Global, row: &str) -> Result<bool, Fail> {
-    let (word, rest) = row.split_once(' ').ok_or("a row")?;
-    let (diagnostic, text) = rest.split_once(' ').ok_or("a row")?;
-    let wrong = wrong(word)?;
-    Ok(
-        wrong.diagnostic() == number(diagnostic)?
-            && wrong.to_string(alloc)?.as_str() == text
-            && PacketFault::Wrong(wrong).to_string(alloc)?.as_str() == text,
-    )
-}
-
 #[test]
 fn faults_are_told(rt: HostRuntime) -> Result<(), Fail> {
-    for row in TOLD.lines() {
-        assert!(rt; is_told(rt.alloc(), row)?, "{row}");
+    for (wrong, text, diagnostic) in [
+        (Wrong::Short, "packet too short", 38),
+        (Wrong::Format, "invalid general format identifier", 40),
+        (Wrong::Unknown, "unidentifiable packet", 33),
+        (Wrong::Address, "invalid address", 67),
+        (Wrong::Facilities, "invalid facility length", 69),
+        (Wrong::Long, "packet too long", 39),
+    ] {
+        let told = format!(in rt.alloc(); "{wrong}")?;
+        assert_eq!(rt; told.as_str(), text);
+        let fault = PacketFault::Wrong(wrong);
+        let told = format!(in rt.alloc(); "{fault}")?;
+        assert_eq!(rt; told.as_str(), text);
+        assert_eq!(rt; wrong.diagnostic(), diagnostic);
     }
-    assert_eq!(rt;
-        PacketFault::Memory.to_string(rt.alloc())?.as_str(),
-        "out of memory"
-    );
+    let memory = PacketFault::Memory;
+    let told = format!(in rt.alloc(); "{memory}")?;
+    assert_eq!(rt; told.as_str(), "out of memory");
     Ok(())
 }
 

@@ -1,125 +1,105 @@
-//! Packets in words, as tables have them.
+//! Packets in plain values, as tables have them. No helper here has a contract, so that a test's proof carries none of
+//! the tables.
 
-use crate::words::{digits, number, octets, optional};
-use std::alloc::Global;
-use std::test::Fail;
-use xp_packets::{Block, Packet};
+use std::alloc::{AllocError, Allocator, Global};
+use xp_packets::{Block, Digits, Octets, Packet};
 
-/// The packet of this kind with these fields, the last of which are those of its block.
-pub fn packet(alloc: Global, kind: &str, fields: &[&str]) -> Result<Packet, Fail> {
-    match kind {
-        "call" => call(alloc, fields),
-        "accepted" => accepted(alloc, fields),
-        "clear" => clear(alloc, fields),
-        "clear_confirm" => clear_confirm(alloc, fields),
-        "data" => carried(alloc, fields),
-        "interrupt" => interrupt(alloc, fields),
-        "interrupt_confirm" => Ok(Packet::InterruptConfirm),
-        "reset" => reset(fields),
-        "reset_confirm" => Ok(Packet::ResetConfirm),
-        _flow => flow(kind, fields),
-    }
+/// A block: both addresses as texts, facilities, user data.
+#[derive(Clone, Copy)]
+pub struct Plain(
+    pub &'static str,
+    pub &'static str,
+    pub &'static [u8],
+    pub &'static [u8],
+);
+
+/// A packet.
+#[derive(Clone, Copy)]
+pub enum Form {
+    Call(bool, Plain),
+    Accepted(bool, Option<Plain>),
+    Clear(u8, Option<u8>, Option<Plain>),
+    ClearConfirm(Option<Plain>),
+    /// Q, D, M, P(S), P(R), and the data.
+    Data(bool, bool, bool, u8, u8, &'static [u8]),
+    Ready(u8),
+    NotReady(u8),
+    Reject(u8),
+    Interrupt(&'static [u8]),
+    InterruptConfirm,
+    Reset(u8, Option<u8>),
+    ResetConfirm,
 }
 
-// Both addresses, facilities, user data.
-fn fields_of(alloc: Global, words: &[&str]) -> Result<Block, Fail> {
-    let [called, calling, facilities, user] = words else {
-        return Err("a block".into());
-    };
+// The digits of a text of a table.
+fn digits(text: &str) -> Digits {
+    Digits::from_text(text).unwrap_or_default()
+}
+
+fn block(alloc: Global, plain: &Plain) -> Result<Block, AllocError> {
+    let facilities = Octets::from_slice(alloc, plain.2)?;
+    let user = Octets::from_slice(alloc, plain.3)?;
     Ok(Block {
-        called: digits(called)?,
-        calling: digits(calling)?,
-        facilities: octets(alloc, facilities)?,
-        user: octets(alloc, user)?,
+        called: digits(plain.0),
+        calling: digits(plain.1),
+        facilities,
+        user,
     })
 }
 
-fn optional_block(alloc: Global, words: &[&str]) -> Result<Option<Block>, Fail> {
-    if words.is_empty() {
-        Ok(None)
-    } else {
-        Ok(Some(fields_of(alloc, words)?))
+fn option(alloc: Global, plain: &Option<Plain>) -> Result<Option<Block>, AllocError> {
+    match plain {
+        None => Ok(None),
+        Some(plain) => Ok(Some(block(alloc, plain)?)),
     }
 }
 
-fn call(alloc: Global, fields: &[&str]) -> Result<Packet, Fail> {
-    let [d, block @ ..] = fields else {
-        return Err("a call".into());
-    };
-    Ok(Packet::Call {
-        d: *d == "d",
-        block: fields_of(alloc, block)?,
+/// The packet of such a form.
+pub fn packet(alloc: Global, form: &Form) -> Result<Packet, AllocError> {
+    Ok(match form {
+        Form::Call(d, plain) => {
+            let block = block(alloc, plain)?;
+            Packet::Call { d: *d, block }
+        }
+        Form::Accepted(d, plain) => {
+            let block = option(alloc, plain)?;
+            Packet::Accepted { d: *d, block }
+        }
+        Form::Clear(cause, diagnostic, plain) => {
+            let block = option(alloc, plain)?;
+            Packet::Clear {
+                cause: *cause,
+                diagnostic: *diagnostic,
+                block,
+            }
+        }
+        Form::ClearConfirm(plain) => {
+            let block = option(alloc, plain)?;
+            Packet::ClearConfirm { block }
+        }
+        Form::Interrupt(octets) => {
+            let octets = Octets::from_slice(alloc, octets)?;
+            Packet::Interrupt { octets }
+        }
+        Form::Data(q, d, more, ps, pr, octets) => {
+            let octets = Octets::from_slice(alloc, octets)?;
+            Packet::DataPacket {
+                q: *q,
+                d: *d,
+                more: *more,
+                ps: *ps,
+                pr: *pr,
+                octets,
+            }
+        }
+        Form::Ready(pr) => Packet::Ready { pr: *pr },
+        Form::NotReady(pr) => Packet::NotReady { pr: *pr },
+        Form::Reject(pr) => Packet::Reject { pr: *pr },
+        Form::InterruptConfirm => Packet::InterruptConfirm,
+        Form::Reset(cause, diagnostic) => Packet::Reset {
+            cause: *cause,
+            diagnostic: *diagnostic,
+        },
+        Form::ResetConfirm => Packet::ResetConfirm,
     })
-}
-
-fn accepted(alloc: Global, fields: &[&str]) -> Result<Packet, Fail> {
-    let [d, block @ ..] = fields else {
-        return Err("an answer".into());
-    };
-    Ok(Packet::Accepted {
-        d: *d == "d",
-        block: optional_block(alloc, block)?,
-    })
-}
-
-fn clear(alloc: Global, fields: &[&str]) -> Result<Packet, Fail> {
-    let [cause, diagnostic, block @ ..] = fields else {
-        return Err("a clear request".into());
-    };
-    Ok(Packet::Clear {
-        cause: number(cause)?,
-        diagnostic: optional(diagnostic)?,
-        block: optional_block(alloc, block)?,
-    })
-}
-
-fn clear_confirm(alloc: Global, fields: &[&str]) -> Result<Packet, Fail> {
-    let block = optional_block(alloc, fields)?;
-    Ok(Packet::ClearConfirm { block })
-}
-
-// The letters of the bits Q, D and M, P(S), P(R), and the data.
-fn carried(alloc: Global, fields: &[&str]) -> Result<Packet, Fail> {
-    let [bits, ps, pr, user] = fields else {
-        return Err("data".into());
-    };
-    Ok(Packet::DataPacket {
-        q: bits.contains('q'),
-        d: bits.contains('d'),
-        more: bits.contains('m'),
-        ps: number(ps)?,
-        pr: number(pr)?,
-        octets: octets(alloc, user)?,
-    })
-}
-
-fn interrupt(alloc: Global, fields: &[&str]) -> Result<Packet, Fail> {
-    let [user] = fields else {
-        return Err("an interrupt".into());
-    };
-    let octets = octets(alloc, user)?;
-    Ok(Packet::Interrupt { octets })
-}
-
-fn reset(fields: &[&str]) -> Result<Packet, Fail> {
-    let [cause, diagnostic] = fields else {
-        return Err("a reset".into());
-    };
-    Ok(Packet::Reset {
-        cause: number(cause)?,
-        diagnostic: optional(diagnostic)?,
-    })
-}
-
-fn flow(kind: &str, fields: &[&str]) -> Result<Packet, Fail> {
-    let [pr] = fields else {
-        return Err("P(R)".into());
-    };
-    let pr = number(pr)?;
-    match kind {
-        "ready" => Ok(Packet::Ready { pr }),
-        "not_ready" => Ok(Packet::NotReady { pr }),
-        "reject" => Ok(Packet::Reject { pr }),
-        _ => Err("a packet".into()),
-    }
 }

@@ -1,70 +1,45 @@
-use crate::text::words;
-use std::alloc::{AllocError, Allocator, Global};
+use std::alloc::{AllocError, Allocator};
 use std::process::Abort;
 use std::test::Fail;
-use xp_charge::{Meter, Record, segments_of};
+use xp_charge::{Meter, OverLimit, Record, segments_of};
 use xp_packets::{Digits, End};
 use xp_subs::Subs;
 use xp_testing::{Refusing, THREE_STATIONS};
 
 /// Octets of user data, and the segments for which they are charged.
-const SEGMENTS: &str = "\
-0 1
-1 1
-63 1
-64 1
-65 2
-128 2
-129 3
-1024 16
-";
+const SEGMENTS: [(usize, usize); 8] = [
+    (0, 1),
+    (1, 1),
+    (63, 1),
+    (64, 1),
+    (65, 2),
+    (128, 2),
+    (129, 3),
+    (1024, 16),
+];
 
 /// The end of a packet, its octets, whether it is counted, and the segments from the caller and from the called line then.
-const ADDED: &str = "\
-caller 64 ok 1 0
-called 65 ok 1 2
-called 65 over 1 2
-called 0 ok 1 3
-called 0 over 1 3
-caller 129 over 1 3
-caller 128 ok 3 3
-";
-
-fn are_segments(row: &str) -> Result<bool, Fail> {
-    let (octets, segments) = row.split_once(' ').ok_or("a row")?;
-    let counted: usize = segments.parse()?;
-    Ok(segments_of(octets.parse()?) == counted)
-}
-
-fn is_added(alloc: Global, meter: &mut Meter, row: &str) -> Result<bool, Fail> {
-    let words = words(alloc, row)?;
-    let [end, octets, result, from_caller, from_called] = words.as_slice() else {
-        return Err("a row".into());
-    };
-    let end = if *end == "caller" {
-        End::Caller
-    } else {
-        End::Called
-    };
-    let is_counted = meter.add(end, octets.parse()?).is_ok() == (*result == "ok");
-    let (from_caller, from_called) = (from_caller.parse()?, from_called.parse()?);
-    Ok(
-        is_counted
-            && meter.counts_for(End::Caller) == (from_called, from_caller)
-            && meter.counts_for(End::Called) == (from_caller, from_called),
-    )
-}
+const ADDED: [(End, usize, Result<(), OverLimit>, u32, u32); 7] = [
+    (End::Caller, 64, Ok(()), 1, 0),
+    (End::Called, 65, Ok(()), 1, 2),
+    (End::Called, 65, Err(OverLimit), 1, 2),
+    (End::Called, 0, Ok(()), 1, 3),
+    (End::Called, 0, Err(OverLimit), 1, 3),
+    (End::Caller, 129, Err(OverLimit), 1, 3),
+    (End::Caller, 128, Ok(()), 3, 3),
+];
 
 #[test]
-fn segments_and_meters(rt: HostRuntime) -> Result<(), Fail> {
-    for row in SEGMENTS.lines() {
-        assert!(rt; are_segments(row)?, "{row}");
+fn segments_and_meters(rt: HostRuntime) {
+    for (octets, segments) in SEGMENTS {
+        assert_eq!(rt; segments_of(octets), segments, "{octets} octets");
     }
     let mut meter = Meter::new(3);
-    for row in ADDED.lines() {
-        assert!(rt; is_added(rt.alloc(), &mut meter, row)?, "{row}");
+    for (end, octets, result, from_caller, from_called) in ADDED {
+        assert_eq!(rt; meter.add(end, octets), result, "{octets} octets");
+        assert_eq!(rt; meter.counts_for(End::Caller), (from_called, from_caller));
+        assert_eq!(rt; meter.counts_for(End::Called), (from_caller, from_called));
     }
-    Ok(())
 }
 
 /// A call that was put to a line which pays for it, and a refused one without digits.

@@ -1,8 +1,5 @@
 //! Which line of a hunt group is taken.
 
-use crate::text::words;
-use std::alloc::Global;
-use std::test::Fail;
 use xp_hunt::LineState::{Busy, Idle, Off};
 use xp_hunt::{LineState, Lines, Picked, pick};
 use xp_subs::LineNo;
@@ -22,68 +19,25 @@ impl<'a> Lines for Known<'a> {
     }
 }
 
-/// The states of lines from number 0 on, by their first letters.
-pub fn states(alloc: Global, letters: &str) -> Result<Vec<LineState>, Fail> {
-    let mut states = Vec::new(alloc);
-    for letter in letters.as_bytes() {
-        states.push(match letter {
-            b'i' => Idle,
-            b'b' => Busy,
-            b'o' => Off,
-            _ => return Err("a state".into()),
-        })?;
-    }
-    Ok(states)
-}
-
-/// The states of the lines 0 to 2, a hunt group, and what is found. A line with an address of its own is a group of one,
-/// and what the others do is of no account.
-const HUNTS: &str = "\
-iob 012 0
-bio 012 1
-obi 012 2
-obo 012 busy
-bbb 012 busy
-ooo 012 off
-ibo 0 0
-ibo 1 busy
-ibo 2 off
-ibo - off
-";
-
-/// A hunt group, each line by its digit.
-fn group(alloc: Global, digits: &str) -> Result<Vec<LineNo>, Fail> {
-    let mut group = Vec::new(alloc);
-    for digit in digits.as_bytes() {
-        if digit.is_ascii_digit() {
-            group.push(LineNo::from(digit.wrapping_sub(b'0')))?;
-        }
-    }
-    Ok(group)
-}
-
-fn picked(word: &str) -> Result<Picked, Fail> {
-    match word {
-        "busy" => Ok(Picked::Busy),
-        "off" => Ok(Picked::AllOff),
-        _line => Ok(Picked::Take(word.parse()?)),
-    }
-}
-
-fn is_picked(alloc: Global, row: &str) -> Result<bool, Fail> {
-    let words = words(alloc, row)?;
-    let [letters, digits, expected] = words.as_slice() else {
-        return Err("a row".into());
-    };
-    let states = states(alloc, letters)?;
-    let group = group(alloc, digits)?;
-    Ok(pick(&group, &Known(&states)) == picked(expected)?)
-}
+/// The states of the lines 0 to 2, a hunt group, and what is found.
+static HUNTS: [([LineState; 3], &[LineNo], Picked); 10] = [
+    ([Idle, Off, Busy], &[0, 1, 2], Picked::Take(0)),
+    ([Busy, Idle, Off], &[0, 1, 2], Picked::Take(1)),
+    ([Off, Busy, Idle], &[0, 1, 2], Picked::Take(2)),
+    ([Off, Busy, Off], &[0, 1, 2], Picked::Busy),
+    ([Busy, Busy, Busy], &[0, 1, 2], Picked::Busy),
+    ([Off, Off, Off], &[0, 1, 2], Picked::AllOff),
+    // A line with an address of its own is a group of one, and what the others do is of no account.
+    ([Idle, Busy, Off], &[0], Picked::Take(0)),
+    ([Idle, Busy, Off], &[1], Picked::Busy),
+    ([Idle, Busy, Off], &[2], Picked::AllOff),
+    ([Idle, Busy, Off], &[], Picked::AllOff),
+];
 
 #[test]
-fn hunting(rt: HostRuntime) -> Result<(), Fail> {
-    for row in HUNTS.lines() {
-        assert!(rt; is_picked(rt.alloc(), row)?, "{row}");
+fn hunting(rt: HostRuntime) {
+    for hunt in &HUNTS {
+        let (states, group, found) = *hunt;
+        assert_eq!(rt; pick(group, &Known(&states)), found, "{states:?} {group:?}");
     }
-    Ok(())
 }

@@ -1,56 +1,177 @@
 //! What subscription files set up, and which of two refusals is told.
 
-mod rows;
-
-use self::rows::{LINES, STATION, WHOLE};
-use crate::text::{Place, Reader, assert_told, file_with, told, words};
+use crate::text::{Place, file_with};
 use std::alloc::{AllocError, Global};
 use std::fmt::Write;
 use std::test::Fail;
 use xp_packets::Digits;
-use xp_subs::{LineNo, Station, Subs, Target};
+use xp_subs::{Station, Subs, Target};
+
+/// Whole files.
+const WHOLE: [(&str, &str); 15] = [
+    (
+        "[[station]]\naddress = \"1\"\nline = [{ name = \"a\", port = 1 }, { name = \"b\", port = 1 }]\n[[station]]\naddress = \"1\"\nline = [{ name = \"c\", port = 2 }]",
+        "twice port",
+    ),
+    (
+        "[[station]]\naddress = \"2080010\"\nline = [{ name = \"a1\", port = 19981 }]\n[[station]]\naddress = \"2080020\"\nline = [{ name = \"a1\", port = 19982 }]",
+        "twice name",
+    ),
+    (
+        "[[station]]\naddress = \"1\"\nline = [{ name = \"a\", port = 7 }]\n[[station]]\naddress = \"2\"\nline = [{ name = \"b\", port = 7 }]",
+        "twice port",
+    ),
+    (
+        "[[station]]\naddress = \"1\"\nline = [{ name = \"a\", port = 1 }]\n[[station]]\naddress = \"1\"\nline = [{ name = \"b\", port = 2 }]",
+        "twice address",
+    ),
+    (
+        "[[station]]\naddress = \"1\"\nline = [{ name = \"a\", port = 1, address = \"2\" }]\n[[station]]\naddress = \"2\"\nline = [{ name = \"b\", port = 2 }]",
+        "twice address",
+    ),
+    (
+        "[[station]]\naddress = \"1\"\nline = [{ name = \"a\", port = 1 }]\ngroup = [{ name = \"G\", index = 6 }]\n[[station]]\naddress = \"2\"\nline = [{ name = \"b\", port = 2 }]\ngroup = [{ name = \"G\", index = 6 }]",
+        "ok",
+    ),
+    (
+        "[[station]]\naddress = \"1\"\nline = [{ name = \"a\", port = 1 }]\npreferential = 5\n[[station]]\naddress = \"2\"\nline = [{ name = \"b\", port = 1 }, { name = \"b\", port = 1 }]\n\n",
+        "twice name",
+    ),
+    (
+        "[[station]]\naddress = \"1\"\nline = [{ name = \"a\", port = 1 }]\npreferential = 5\n[[station]]\naddress = \"2\"\nline = [{ name = \"a\", port = 1 }]\n\n",
+        "twice name",
+    ),
+    (
+        "[[station]]\naddress = \"1\"\nline = [{ name = \"a\", port = 1 }]\npreferential = 5\n[[station]]\naddress = \"2\"\nline = [{ name = \"b\", port = 1 }]\n\n",
+        "twice port",
+    ),
+    (
+        "[[station]]\naddress = \"1\"\nline = [{ name = \"a\", port = 1 }]\npreferential = 5\n[[station]]\naddress = \"2\"\nline = [{ name = \"b\", port = 2 }]\n\n",
+        "index",
+    ),
+    (
+        "[[station]]\naddress = \"1\"\nline = [{ name = \"a\", port = 1 }]\npreferential = 5\n[[station]]\naddress = \"1\"\nline = [{ name = \"b\", port = 2 }]\nfast_select = 1\n",
+        "field fast_select",
+    ),
+    (
+        "[[station]]\naddress = \"1\"\nline = [{ name = \"a\", port = 1 }]\n\n[[station]]\naddress = \"1\"\nline = [{ name = \"a\", port = 1 }]\n\n",
+        "twice address",
+    ),
+    (
+        "[[station]]\naddress = \"1\"\nline = [{ name = \"a\", port = 1 }]\n\n[[station]]\naddress = \"2\"\nline = [{ name = \"b\", port = 1 }, { name = \"a\", port = 2 }]\n\n",
+        "twice name",
+    ),
+    (
+        "[[station]]\naddress = \"1\"\nline = [{ name = \"a\", port = 1 }]\n\n[[station]]\naddress = \"2\"\nline = [{ name = \"b\", port = 2, address = \"1\" }, { name = \"c\", port = 1 }]\n\n",
+        "twice port",
+    ),
+    (
+        "[[station]]\naddress = \"1\"\nline = [{ name = \"a\", port = 1 }]\n\n[[station]]\naddress = \"2\"\nline = [{ name = \"b\", port = 2, address = \"1\" }]\n\n",
+        "twice address",
+    ),
+];
+
+/// What else stands in the table of a station with one line.
+const STATION: [(&str, &str); 7] = [
+    ("preferential = 5", "index"),
+    ("preferential = 5\ngroup = []", "index"),
+    (
+        "preferential = 5\ngroup = [{ name = \"G\", index = 6 }]",
+        "index",
+    ),
+    (
+        "preferential = 5\ngroup = [{ name = \"G\", index = 6 }, { name = \"H\", index = 5 }]",
+        "ok",
+    ),
+    (
+        r#"group = [{ name = "G", index = 6 }, { name = "H", index = 6 }]"#,
+        "index",
+    ),
+    (
+        r#"group = [{ name = "G", index = 6 }, { name = "G", index = 5 }]"#,
+        "index",
+    ),
+    (
+        r#"group = [{ name = "G", index = 6 }, { name = "g", index = 5 }]"#,
+        "ok",
+    ),
+];
+
+/// The lines of a station.
+const LINES: [(&str, &str); 6] = [
+    (
+        r#"[{ name = "a", port = 1 }, { name = "a", port = 2 }]"#,
+        "twice name",
+    ),
+    (
+        r#"[{ name = "a", port = 1 }, { name = "aa", port = 2 }]"#,
+        "ok",
+    ),
+    (
+        r#"[{ name = "a", port = 1 }, { name = "b", port = 1 }]"#,
+        "twice port",
+    ),
+    (
+        r#"[{ name = "a", port = 1, address = "1" }]"#,
+        "twice address",
+    ),
+    (
+        r#"[{ name = "a", port = 1, address = "2" }, { name = "b", port = 2, address = "2" }]"#,
+        "twice address",
+    ),
+    (
+        r#"[{ name = "a", port = 1, address = "2" }, { name = "b", port = 2, address = "3" }]"#,
+        "ok",
+    ),
+];
+
+/// What is told of a text: `ok`, or the words of its refusal.
+fn told(alloc: Global, text: &str) -> Result<String, AllocError> {
+    match Subs::read(alloc, text) {
+        Ok(_) => String::from_str(alloc, "ok"),
+        Err(fault) => fault.to_string(alloc),
+    }
+}
 
 #[test]
 fn values_used_twice(rt: HostRuntime) -> Result<(), Fail> {
-    let alloc = rt.alloc();
-    assert_told(&rt, alloc, Reader::Exchange, Place::Whole, WHOLE)?;
-    assert_told(&rt, alloc, Reader::Exchange, Place::Station, STATION)?;
-    assert_told(&rt, alloc, Reader::Exchange, Place::Lines, LINES)
+    for (place, rows) in [
+        (Place::Whole, WHOLE.as_slice()),
+        (Place::Station, STATION.as_slice()),
+        (Place::Lines, LINES.as_slice()),
+    ] {
+        for (text, expected) in rows {
+            let file = file_with(rt.alloc(), place, text)?;
+            assert_eq!(rt; told(rt.alloc(), &file)?.as_str(), *expected, "{text}");
+        }
+    }
+    Ok(())
 }
-
-/// Stations of one size and of another, in the file of which nothing is used twice but where both are there, and what is
-/// told of it.
-const LIMITS: &str = "\
-1 32 0 and 0 0 0: ok
-1 33 0 and 0 0 0: limit line
-16 32 0 and 0 0 0: ok
-27 19 0 and 0 0 0: limit line
-256 2 64 and 0 0 0: ok
-257 1 0 and 0 0 0: limit station
-1 1 64 and 0 0 0: ok
-1 1 65 and 0 0 0: limit group
-257 3 65 and 1 33 0: limit station
-1 1 65 and 16 32 0: limit line
-1 1 65 and 1 33 0: limit group
-1 33 0 and 1 1 65: limit line
-1 33 65 and 1 1 0: limit line
-1 1 0 and 1 33 0: limit line
-1 1 0 and 1 1 65: limit group
-1 1 0 and 256 1 0: limit station
-1 1 64 and 1 32 64: twice address
-16 32 0 and 0 1 1: ok
-";
 
 /// How many stations a file has, with how many lines and groups in each.
 type Size = (u16, u16, u16);
 
-fn size(alloc: Global, text: &str) -> Result<Size, Fail> {
-    let words = words(alloc, text)?;
-    match words.as_slice() {
-        [stations, lines, groups] => Ok((stations.parse()?, lines.parse()?, groups.parse()?)),
-        _ => Err("a size".into()),
-    }
-}
+/// Stations of one size, then of another, in the file of which nothing is used twice but where both are there.
+const LIMITS: [(Size, Size, &str); 18] = [
+    ((1, 32, 0), (0, 0, 0), "ok"),
+    ((1, 33, 0), (0, 0, 0), "limit line"),
+    ((16, 32, 0), (0, 0, 0), "ok"),
+    ((27, 19, 0), (0, 0, 0), "limit line"),
+    ((256, 2, 64), (0, 0, 0), "ok"),
+    ((257, 1, 0), (0, 0, 0), "limit station"),
+    ((1, 1, 64), (0, 0, 0), "ok"),
+    ((1, 1, 65), (0, 0, 0), "limit group"),
+    ((257, 3, 65), (1, 33, 0), "limit station"),
+    ((1, 1, 65), (16, 32, 0), "limit line"),
+    ((1, 1, 65), (1, 33, 0), "limit group"),
+    ((1, 33, 0), (1, 1, 65), "limit line"),
+    ((1, 33, 65), (1, 1, 0), "limit line"),
+    ((1, 1, 0), (1, 33, 0), "limit line"),
+    ((1, 1, 0), (1, 1, 65), "limit group"),
+    ((1, 1, 0), (256, 1, 0), "limit station"),
+    ((1, 1, 64), (1, 32, 64), "twice address"),
+    ((16, 32, 0), (0, 1, 1), "ok"),
+];
 
 /// Adds stations of this size.
 fn push_stations(text: &mut String, size: Size) -> Result<(), AllocError> {
@@ -73,16 +194,14 @@ fn push_stations(text: &mut String, size: Size) -> Result<(), AllocError> {
 
 #[test]
 fn limits_of_an_exchange(rt: HostRuntime) -> Result<(), Fail> {
-    for row in LIMITS.lines() {
-        let (sizes, expected) = row.split_once(": ").ok_or("a row")?;
-        let (first, second) = sizes.split_once(" and ").ok_or("both sizes")?;
+    for (first, second, expected) in LIMITS {
         let mut text = String::new(rt.alloc());
-        push_stations(&mut text, size(rt.alloc(), first)?)?;
-        push_stations(&mut text, size(rt.alloc(), second)?)?;
+        push_stations(&mut text, first)?;
+        push_stations(&mut text, second)?;
         assert_eq!(rt;
-            told(rt.alloc(), Reader::Exchange, &text)?.as_str(),
+            told(rt.alloc(), &text)?.as_str(),
             expected,
-            "{sizes}"
+            "{first:?}, {second:?}"
         );
     }
     Ok(())
@@ -116,19 +235,19 @@ line = [{ name = "c1", port = 3 }]
 
 /// The same as its readers tell it: of each station its address, lines, facilities, preferential index, groups by
 /// number, index and what is barred, and redirection.
-const STATIONS: &str = "\
-2080010 0 1 [true, false, true, false, false, true] Some(9999); 0 17 false false; 1 9999 true false; 2 0 false true; to 31101 false true false
-2080020 2 [false, true, false, true, true, false] None; 1 5 false false; 3 6 false false; to 12 true false true
-2080030 3 [false, false, false, false, false, false] None
-";
+const STATIONS: [&str; 3] = [
+    "2080010 0 1 [true, false, true, false, false, true] Some(9999); 0 17 false false; 1 9999 true false; 2 0 false true; to 31101 false true false",
+    "2080020 2 [false, true, false, true, true, false] None; 1 5 false false; 3 6 false false; to 12 true false true",
+    "2080030 3 [false, false, false, false, false, false] None",
+];
 
 /// And of each line its name, port, station, address, and whether the address is its own.
-const LINES_TOLD: &str = "\
-a1 1 0 2080010 shared
-a2 65535 0 12 own
-b1 2 1 2080020 shared
-c1 3 2 2080030 shared
-";
+const LINES_TOLD: [(&str, u16, u16, &str, bool); 4] = [
+    ("a1", 1, 0, "2080010", false),
+    ("a2", 65535, 0, "12", true),
+    ("b1", 2, 1, "2080020", false),
+    ("c1", 3, 2, "2080030", false),
+];
 
 /// A station as text.
 fn station_text(alloc: Global, station: &Station) -> Result<String, AllocError> {
@@ -163,24 +282,6 @@ fn station_text(alloc: Global, station: &Station) -> Result<String, AllocError> 
     Ok(text)
 }
 
-/// Whether these are the name, port, station and address of a line.
-fn is_line(alloc: Global, subs: &Subs, line: LineNo, row: &str) -> Result<bool, Fail> {
-    let words = words(alloc, row)?;
-    let [name, port, station, address, own] = words.as_slice() else {
-        return Err("a line".into());
-    };
-    if usize::from(line) >= subs.counts().lines {
-        return Err("no such line".into());
-    }
-    Ok(
-        subs.name_of(line) == *name
-            && subs.port_of(line) == port.parse()?
-            && subs.station_of(line) == station.parse()?
-            && subs.address_of(line).to_string(alloc)?.as_str() == *address
-            && subs.line(line).address.is_some() == (*own == "own"),
-    )
-}
-
 #[test]
 fn stations_and_lines_told(rt: HostRuntime) -> Result<(), Fail> {
     let subs = Subs::read(rt.alloc(), EVERY_KEY)?;
@@ -191,62 +292,26 @@ fn stations_and_lines_told(rt: HostRuntime) -> Result<(), Fail> {
         (64, 8, "::1")
     );
     let mut number = 0u16;
-    for expected in STATIONS.lines() {
+    for expected in STATIONS {
         assert!(rt; usize::from(number) < counts.stations);
         let text = station_text(rt.alloc(), subs.station(number))?;
         assert_eq!(rt; text.as_str(), expected);
         number = number.wrapping_add(1);
     }
     let mut number = 0u16;
-    for row in LINES_TOLD.lines() {
-        assert!(rt; is_line(rt.alloc(), &subs, number, row)?, "{row}");
+    for (name, port, station, address, own) in LINES_TOLD {
+        assert!(rt; usize::from(number) < counts.lines);
+        assert_eq!(rt; subs.name_of(number), name);
+        assert_eq!(rt; subs.port_of(number), port);
+        assert_eq!(rt; subs.station_of(number), station);
+        assert_eq!(rt;
+            subs.address_of(number).to_string(rt.alloc())?.as_str(),
+            address
+        );
+        assert_eq!(rt; subs.line(number).address.is_some(), own);
         number = number.wrapping_add(1);
     }
     Ok(())
-}
-
-/// Addresses, and their stations and lines.
-const ADDRESSES: &str = "\
-2080010 0 -
-2080030 2 -
-2080032 2 3
-2080031 -
-208003 -
-20800300 -
- -
-";
-
-/// Names, and their lines.
-const NAMES: &str = "\
-a1 0
-h2 3
-h -
-H1 -
-h12345678901234567 -
- -
-";
-
-/// The number of a line, `-` for none.
-fn line_number(word: &str) -> Result<Option<LineNo>, Fail> {
-    if word == "-" {
-        Ok(None)
-    } else {
-        Ok(Some(word.parse()?))
-    }
-}
-
-fn target(text: &str) -> Result<Option<Target>, Fail> {
-    match text.split_once(' ') {
-        Some((station, line)) => Ok(Some(Target {
-            station: station.parse()?,
-            line: line_number(line)?,
-        })),
-        None => Ok(None),
-    }
-}
-
-fn found(subs: &Subs, address: &str) -> Option<Target> {
-    Digits::from_text(address).and_then(|digits| subs.find(&digits))
 }
 
 #[test]
@@ -257,13 +322,28 @@ fn addresses_and_names_found(rt: HostRuntime) -> Result<(), Fail> {
         (subs.segment_limit(), subs.journal(), subs.host()),
         (99_999_999, 1_000_000, "127.0.0.1")
     );
-    for row in ADDRESSES.lines() {
-        let (address, expected) = row.split_once(' ').ok_or("a row")?;
-        assert_eq!(rt; found(&subs, address), target(expected)?, "{address}");
+    for (address, expected) in [
+        ("2080010", Some((0, None))),
+        ("2080030", Some((2, None))),
+        ("2080032", Some((2, Some(3)))),
+        ("2080031", None),
+        ("208003", None),
+        ("20800300", None),
+        ("", None),
+    ] {
+        let expected = expected.map(|(station, line)| Target { station, line });
+        let found = Digits::from_text(address).and_then(|digits| subs.find(&digits));
+        assert_eq!(rt; found, expected, "{address}");
     }
-    for row in NAMES.lines() {
-        let (name, expected) = row.split_once(' ').ok_or("a row")?;
-        assert_eq!(rt; subs.line_named(name), line_number(expected)?, "{name}");
+    for (name, expected) in [
+        ("a1", Some(0)),
+        ("h2", Some(3)),
+        ("h", None),
+        ("H1", None),
+        ("h12345678901234567", None),
+        ("", None),
+    ] {
+        assert_eq!(rt; subs.line_named(name), expected, "{name}");
     }
     Ok(())
 }

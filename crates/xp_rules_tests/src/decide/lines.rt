@@ -1,102 +1,209 @@
 //! Which line rings, and what it is told of the group and the facilities.
 
-pub const CALLS: &str = "\
-* out of order
-lines io
-> 09 0
-* number busy
-lines ib
-> 01 71
-* hunt first
-lines iiiob
-to 2080030
-> h1 420707430202 -
-* hunt last
-lines iiboi
-to 2080030
-> h3 420707430202 -
-* hunt all busy
-lines iibbb
-to 2080030
-> 01 71
-* hunt one busy
-lines iiobo
-to 2080030
-> 01 71
-* hunt all off
-lines ii
-to 2080030
-> 09 0
-* one line
-lines iiiii
-to 2080032
-> h2 420707430202 -
-* one line busy
-lines iiibi
-to 2080032
-> 01 71
-* one line off
-lines iiioi
-to 2080032
-> 09 0
-* own line
-to 2080010
-> 01 71
-* own station
-lines iiioi
-from h1
-to 2080030
-> h3 420707430202 -
-* group index told
-A group = [{ name = 'X', index = 3 }]
-B group = [{ name = 'X', index = 17 }]
-asks 0303
-> b1 0317420707430202 -
-* long selection
-A group = [{ name = 'X', index = 3 }]
-B group = [{ name = 'X', index = 17 }]
-asks 470003
-> b1 0317420707430202 -
-* long index told
-A group = [{ name = 'X', index = 3 }]
-B group = [{ name = 'X', index = 1234 }]
-asks 0303
-> b1 420707430202471234 -
-* open selection
-A outgoing_access = true
-A group = [{ name = 'X', index = 3 }]
-B incoming_access = true
-B group = [{ name = 'X', index = 17 }]
-asks 0903
-> b1 0917420707430202 -
-* access between groups
-A outgoing_access = true
-A group = [{ name = 'X', index = 3 }]
-B incoming_access = true
-B group = [{ name = 'Y', index = 17 }]
-> b1 420707430202 -
-* no incoming access
-A outgoing_access = true
-A group = [{ name = 'X', index = 3 }]
-B group = [{ name = 'Y', index = 17 }]
-> 0b 0
-* preferential group
-A preferential = 3
-A group = [{ name = 'X', index = 3 }]
-B group = [{ name = 'X', index = 17 }]
-> b1 0317420707430202 -
-* least sizes
-asks 420404430101
-> b1 420404430101 -
-* sizes lowered
-asks 420c08430703
-> b1 420a08430703 -
-* other size lowered
-asks 42090b430207
-> b1 42090a430207 -
-* facilities told
-B reverse_charging = true
-B fast_select = true
-asks 01c102990401000fc90141
-> b1 01c10299420707430202000fc90141 -
-";
+use super::{Call, USUAL, USUALLY_TOLD};
+use xp_hunt::LineState::{Busy, Idle, Off};
+use xp_subs::LineNo;
+
+const B1: LineNo = 1;
+
+const H1: LineNo = 2;
+
+const H2: LineNo = 3;
+
+const H3: LineNo = 4;
+
+pub static CALLS: [Call; 23] = [
+    Call {
+        shows: "out of order",
+        states: &[Idle, Off],
+        wanted: Err((0x09, 0)),
+        ..USUAL
+    },
+    Call {
+        shows: "number busy",
+        states: &[Idle, Busy],
+        wanted: Err((0x01, 71)),
+        ..USUAL
+    },
+    Call {
+        shows: "hunt first",
+        states: &[Idle, Idle, Idle, Off, Busy],
+        to: "2080030",
+        wanted: Ok((H1, USUALLY_TOLD, None)),
+        ..USUAL
+    },
+    Call {
+        shows: "hunt last",
+        states: &[Idle, Idle, Busy, Off, Idle],
+        to: "2080030",
+        wanted: Ok((H3, USUALLY_TOLD, None)),
+        ..USUAL
+    },
+    Call {
+        shows: "hunt all busy",
+        states: &[Idle, Idle, Busy, Busy, Busy],
+        to: "2080030",
+        wanted: Err((0x01, 71)),
+        ..USUAL
+    },
+    Call {
+        shows: "hunt one busy",
+        states: &[Idle, Idle, Off, Busy, Off],
+        to: "2080030",
+        wanted: Err((0x01, 71)),
+        ..USUAL
+    },
+    Call {
+        shows: "hunt all off",
+        states: &[Idle, Idle],
+        to: "2080030",
+        wanted: Err((0x09, 0)),
+        ..USUAL
+    },
+    Call {
+        shows: "one line",
+        states: &[Idle, Idle, Idle, Idle, Idle],
+        to: "2080032",
+        wanted: Ok((H2, USUALLY_TOLD, None)),
+        ..USUAL
+    },
+    Call {
+        shows: "one line busy",
+        states: &[Idle, Idle, Idle, Busy, Idle],
+        to: "2080032",
+        wanted: Err((0x01, 71)),
+        ..USUAL
+    },
+    Call {
+        shows: "one line off",
+        states: &[Idle, Idle, Idle, Off, Idle],
+        to: "2080032",
+        wanted: Err((0x09, 0)),
+        ..USUAL
+    },
+    Call {
+        shows: "own line",
+        to: "2080010",
+        wanted: Err((0x01, 71)),
+        ..USUAL
+    },
+    Call {
+        shows: "own station",
+        states: &[Idle, Idle, Idle, Off, Idle],
+        from: H1,
+        to: "2080030",
+        wanted: Ok((H3, USUALLY_TOLD, None)),
+        ..USUAL
+    },
+    Call {
+        shows: "group index told",
+        keys: [
+            "group = [{ name = 'X', index = 3 }]",
+            "group = [{ name = 'X', index = 17 }]",
+            "",
+        ],
+        facilities: &[0x03, 0x03],
+        wanted: Ok((B1, &[0x03, 0x17, 0x42, 0x07, 0x07, 0x43, 0x02, 0x02], None)),
+        ..USUAL
+    },
+    Call {
+        shows: "long selection",
+        keys: [
+            "group = [{ name = 'X', index = 3 }]",
+            "group = [{ name = 'X', index = 17 }]",
+            "",
+        ],
+        facilities: &[0x47, 0x00, 0x03],
+        wanted: Ok((B1, &[0x03, 0x17, 0x42, 0x07, 0x07, 0x43, 0x02, 0x02], None)),
+        ..USUAL
+    },
+    Call {
+        shows: "long index told",
+        keys: [
+            "group = [{ name = 'X', index = 3 }]",
+            "group = [{ name = 'X', index = 1234 }]",
+            "",
+        ],
+        facilities: &[0x03, 0x03],
+        wanted: Ok((
+            B1,
+            &[0x42, 0x07, 0x07, 0x43, 0x02, 0x02, 0x47, 0x12, 0x34],
+            None,
+        )),
+        ..USUAL
+    },
+    Call {
+        shows: "open selection",
+        keys: [
+            "outgoing_access = true\ngroup = [{ name = 'X', index = 3 }]",
+            "incoming_access = true\ngroup = [{ name = 'X', index = 17 }]",
+            "",
+        ],
+        facilities: &[0x09, 0x03],
+        wanted: Ok((B1, &[0x09, 0x17, 0x42, 0x07, 0x07, 0x43, 0x02, 0x02], None)),
+        ..USUAL
+    },
+    Call {
+        shows: "access between groups",
+        keys: [
+            "outgoing_access = true\ngroup = [{ name = 'X', index = 3 }]",
+            "incoming_access = true\ngroup = [{ name = 'Y', index = 17 }]",
+            "",
+        ],
+        ..USUAL
+    },
+    Call {
+        shows: "no incoming access",
+        keys: [
+            "outgoing_access = true\ngroup = [{ name = 'X', index = 3 }]",
+            "group = [{ name = 'Y', index = 17 }]",
+            "",
+        ],
+        wanted: Err((0x0b, 0)),
+        ..USUAL
+    },
+    Call {
+        shows: "preferential group",
+        keys: [
+            "preferential = 3\ngroup = [{ name = 'X', index = 3 }]",
+            "group = [{ name = 'X', index = 17 }]",
+            "",
+        ],
+        wanted: Ok((B1, &[0x03, 0x17, 0x42, 0x07, 0x07, 0x43, 0x02, 0x02], None)),
+        ..USUAL
+    },
+    Call {
+        shows: "least sizes",
+        facilities: &[0x42, 0x04, 0x04, 0x43, 0x01, 0x01],
+        wanted: Ok((B1, &[0x42, 0x04, 0x04, 0x43, 0x01, 0x01], None)),
+        ..USUAL
+    },
+    Call {
+        shows: "sizes lowered",
+        facilities: &[0x42, 0x0c, 0x08, 0x43, 0x07, 0x03],
+        wanted: Ok((B1, &[0x42, 0x0a, 0x08, 0x43, 0x07, 0x03], None)),
+        ..USUAL
+    },
+    Call {
+        shows: "other size lowered",
+        facilities: &[0x42, 0x09, 0x0b, 0x43, 0x02, 0x07],
+        wanted: Ok((B1, &[0x42, 0x09, 0x0a, 0x43, 0x02, 0x07], None)),
+        ..USUAL
+    },
+    Call {
+        shows: "facilities told",
+        keys: ["", "reverse_charging = true\nfast_select = true", ""],
+        facilities: &[
+            0x01, 0xc1, 0x02, 0x99, 0x04, 0x01, 0x00, 0x0f, 0xc9, 0x01, 0x41,
+        ],
+        wanted: Ok((
+            B1,
+            &[
+                0x01, 0xc1, 0x02, 0x99, 0x42, 0x07, 0x07, 0x43, 0x02, 0x02, 0x00, 0x0f, 0xc9, 0x01,
+                0x41,
+            ],
+            None,
+        )),
+        ..USUAL
+    },
+];

@@ -1,77 +1,131 @@
 //! What looks at the request and its caller alone: each refusal, and the first of several.
 
-pub const CALLS: &str = "\
-* usual
-> b1 420707430202 -
-* facility length
-asks 4207
-> 13 69
-* facility code
-asks 0807
-> 03 65
-* facility parameter
-asks 420307
-> 03 66
-* user data 16
-user 16
-> b1 420707430202 -
-* user data 17
-user 17
-> 13 39
-* outgoing calls barred
-A outgoing_barred = true
-> 0b 0
-* group not known
-A group = [{ name = 'X', index = 3 }]
-asks 0309
-> 0b 66
-* selection without groups
-asks 0303
-> 03 65
-* no outgoing access
-A group = [{ name = 'X', index = 3 }]
-asks 0903
-> 03 65
-* no way out
-A group = [{ name = 'X', index = 3 }]
-> 0b 0
-* length before code
-A outgoing_barred = true
-to 2080099
-asks 420307080742
-user 17
-> 13 69
-* code before parameter
-A outgoing_barred = true
-to 2080099
-asks 4203070807
-user 17
-> 03 65
-* parameter before user data
-A outgoing_barred = true
-to 2080099
-asks 4203070309
-user 17
-> 03 66
-* user data before bar
-A outgoing_barred = true
-to 2080099
-asks 0309
-user 17
-> 13 39
-* bar before groups
-A outgoing_barred = true
-to 2080099
-asks 0309
-> 0b 0
-* groups before address
-to 2080099
-asks 0309
-> 03 65
-* unknown address
-to 2080099
-> 0d 67
-* no address
-to -
-> 0d 67
-";
+use super::{Call, USUAL};
+
+pub static CALLS: [Call; 19] = [
+    USUAL,
+    Call {
+        shows: "facility length",
+        facilities: &[0x42, 0x07],
+        wanted: Err((0x13, 69)),
+        ..USUAL
+    },
+    Call {
+        shows: "facility code",
+        facilities: &[0x08, 0x07],
+        wanted: Err((0x03, 65)),
+        ..USUAL
+    },
+    Call {
+        shows: "facility parameter",
+        facilities: &[0x42, 0x03, 0x07],
+        wanted: Err((0x03, 66)),
+        ..USUAL
+    },
+    Call {
+        shows: "user data 16",
+        user: 16,
+        ..USUAL
+    },
+    Call {
+        shows: "user data 17",
+        user: 17,
+        wanted: Err((0x13, 39)),
+        ..USUAL
+    },
+    Call {
+        shows: "outgoing calls barred",
+        keys: ["outgoing_barred = true", "", ""],
+        wanted: Err((0x0b, 0)),
+        ..USUAL
+    },
+    Call {
+        shows: "group not known",
+        keys: ["group = [{ name = 'X', index = 3 }]", "", ""],
+        facilities: &[0x03, 0x09],
+        wanted: Err((0x0b, 66)),
+        ..USUAL
+    },
+    Call {
+        shows: "selection without groups",
+        facilities: &[0x03, 0x03],
+        wanted: Err((0x03, 65)),
+        ..USUAL
+    },
+    Call {
+        shows: "no outgoing access",
+        keys: ["group = [{ name = 'X', index = 3 }]", "", ""],
+        facilities: &[0x09, 0x03],
+        wanted: Err((0x03, 65)),
+        ..USUAL
+    },
+    Call {
+        shows: "no way out",
+        keys: ["group = [{ name = 'X', index = 3 }]", "", ""],
+        wanted: Err((0x0b, 0)),
+        ..USUAL
+    },
+    Call {
+        shows: "length before code",
+        keys: ["outgoing_barred = true", "", ""],
+        to: "2080099",
+        facilities: &[0x42, 0x03, 0x07, 0x08, 0x07, 0x42],
+        user: 17,
+        wanted: Err((0x13, 69)),
+        ..USUAL
+    },
+    Call {
+        shows: "code before parameter",
+        keys: ["outgoing_barred = true", "", ""],
+        to: "2080099",
+        facilities: &[0x42, 0x03, 0x07, 0x08, 0x07],
+        user: 17,
+        wanted: Err((0x03, 65)),
+        ..USUAL
+    },
+    Call {
+        shows: "parameter before user data",
+        keys: ["outgoing_barred = true", "", ""],
+        to: "2080099",
+        facilities: &[0x42, 0x03, 0x07, 0x03, 0x09],
+        user: 17,
+        wanted: Err((0x03, 66)),
+        ..USUAL
+    },
+    Call {
+        shows: "user data before bar",
+        keys: ["outgoing_barred = true", "", ""],
+        to: "2080099",
+        facilities: &[0x03, 0x09],
+        user: 17,
+        wanted: Err((0x13, 39)),
+        ..USUAL
+    },
+    Call {
+        shows: "bar before groups",
+        keys: ["outgoing_barred = true", "", ""],
+        to: "2080099",
+        facilities: &[0x03, 0x09],
+        wanted: Err((0x0b, 0)),
+        ..USUAL
+    },
+    Call {
+        shows: "groups before address",
+        to: "2080099",
+        facilities: &[0x03, 0x09],
+        wanted: Err((0x03, 65)),
+        ..USUAL
+    },
+    Call {
+        shows: "unknown address",
+        to: "2080099",
+        wanted: Err((0x0d, 67)),
+        ..USUAL
+    },
+    Call {
+        shows: "no address",
+        to: "",
+        wanted: Err((0x0d, 67)),
+        ..USUAL
+    },
+];

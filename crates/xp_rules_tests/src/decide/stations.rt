@@ -1,53 +1,98 @@
 //! What looks at the called station: each refusal, the first of several, and calls that are taken.
 
-pub const CALLS: &str = "\
-* incoming calls barred
-B incoming_barred = true
-> 0b 70
-* not admitted
-B group = [{ name = 'X', index = 17 }]
-> 0b 0
-* reverse charging
-asks 0101
-> 19 0
-* fast select
-asks 0180
-> 29 0
-* restricted fast select
-asks 01c0
-> 29 0
-* bar before admission
-B incoming_barred = true
-B group = [{ name = 'X', index = 17 }]
-lines io
-asks 0181
-> 0b 70
-* admission before charging
-B group = [{ name = 'X', index = 17 }]
-lines io
-asks 0181
-> 0b 0
-* charging before fast select
-lines io
-asks 0181
-> 19 0
-* fast select before lines
-B reverse_charging = true
-lines io
-asks 0181
-> 29 0
-* reverse charging taken
-B reverse_charging = true
-asks 0101
-> b1 0101420707430202 -
-* fast select taken
-B fast_select = true
-asks 0180
-user 128
-> b1 0180420707430202 -
-* restricted fast select taken
-B fast_select = true
-asks 01c0
-user 17
-> b1 01c0420707430202 -
-";
+use super::{Call, USUAL};
+use xp_hunt::LineState::{Idle, Off};
+use xp_subs::LineNo;
+
+const B1: LineNo = 1;
+
+pub static CALLS: [Call; 12] = [
+    Call {
+        shows: "incoming calls barred",
+        keys: ["", "incoming_barred = true", ""],
+        wanted: Err((0x0b, 70)),
+        ..USUAL
+    },
+    Call {
+        shows: "not admitted",
+        keys: ["", "group = [{ name = 'X', index = 17 }]", ""],
+        wanted: Err((0x0b, 0)),
+        ..USUAL
+    },
+    Call {
+        shows: "reverse charging",
+        facilities: &[0x01, 0x01],
+        wanted: Err((0x19, 0)),
+        ..USUAL
+    },
+    Call {
+        shows: "fast select",
+        facilities: &[0x01, 0x80],
+        wanted: Err((0x29, 0)),
+        ..USUAL
+    },
+    Call {
+        shows: "restricted fast select",
+        facilities: &[0x01, 0xc0],
+        wanted: Err((0x29, 0)),
+        ..USUAL
+    },
+    Call {
+        shows: "bar before admission",
+        keys: [
+            "",
+            "incoming_barred = true\ngroup = [{ name = 'X', index = 17 }]",
+            "",
+        ],
+        states: &[Idle, Off],
+        facilities: &[0x01, 0x81],
+        wanted: Err((0x0b, 70)),
+        ..USUAL
+    },
+    Call {
+        shows: "admission before charging",
+        keys: ["", "group = [{ name = 'X', index = 17 }]", ""],
+        states: &[Idle, Off],
+        facilities: &[0x01, 0x81],
+        wanted: Err((0x0b, 0)),
+        ..USUAL
+    },
+    Call {
+        shows: "charging before fast select",
+        states: &[Idle, Off],
+        facilities: &[0x01, 0x81],
+        wanted: Err((0x19, 0)),
+        ..USUAL
+    },
+    Call {
+        shows: "fast select before lines",
+        keys: ["", "reverse_charging = true", ""],
+        states: &[Idle, Off],
+        facilities: &[0x01, 0x81],
+        wanted: Err((0x29, 0)),
+        ..USUAL
+    },
+    Call {
+        shows: "reverse charging taken",
+        keys: ["", "reverse_charging = true", ""],
+        facilities: &[0x01, 0x01],
+        wanted: Ok((B1, &[0x01, 0x01, 0x42, 0x07, 0x07, 0x43, 0x02, 0x02], None)),
+        ..USUAL
+    },
+    Call {
+        shows: "fast select taken",
+        keys: ["", "fast_select = true", ""],
+        facilities: &[0x01, 0x80],
+        user: 128,
+        wanted: Ok((B1, &[0x01, 0x80, 0x42, 0x07, 0x07, 0x43, 0x02, 0x02], None)),
+        ..USUAL
+    },
+    Call {
+        shows: "restricted fast select taken",
+        keys: ["", "fast_select = true", ""],
+        facilities: &[0x01, 0xc0],
+        user: 17,
+        wanted: Ok((B1, &[0x01, 0xc0, 0x42, 0x07, 0x07, 0x43, 0x02, 0x02], None)),
+        ..USUAL
+    },
+];
