@@ -11,19 +11,19 @@ use Rattle.xp_core.proofs.Events.{answer_planned, collision_planned, confirm_pla
 use Rattle.xp_core.proofs.plan.event.plan_of.Goals as goal
 
 pub returns-in-Nothing : goal.returns-in-Nothing
-returns-in-Nothing g c = nothing_planned (setting c.args.subs.now c.args.before.now c.args.machine.now c.args.event.now.line) c.args.event.now.what (action_at c.args.machine.now c.args.event.now) (Ok c.nothing.result) c.args.turning.now c.requires.none (c.in-Nothing.ensures ∙ ap (λ state. cell (channel_of state) (kind_of c.args.event.now.what)) c.line.ensures.state) c.nothing.ensures
+returns-in-Nothing g c = nothing_planned {E = Unit {0}} (setting c.args.subs.now c.args.before.now c.args.machine.now c.args.event.now.line) c.args.event.now.what (action_at c.args.machine.now c.args.event.now) (Ok c.nothing.result) c.args.turning.now c.requires.none (c.in-Nothing.ensures ∙ ap (λ state. cell (channel_of state) (kind_of c.args.event.now.what)) c.line.ensures.state) c.nothing.ensures
 
 pub returns-in-Relayed : goal.returns-in-Relayed
 returns-in-Relayed g c = relayed_planned (setting c.args.subs.now c.args.before.now c.args.machine.now c.args.event.now.line) c.args.event.now.what (action_at c.args.machine.now c.args.event.now) c.carry.result c.carry.new.turning (c.in-Relayed.ensures ∙ ap (λ state. cell (channel_of state) (kind_of c.args.event.now.what)) c.line.ensures.state) c.carry.ensures
 
 pub returns-in-Rise : goal.returns-in-Rise
-returns-in-Rise g c = rise_planned (setting c.args.subs.now c.args.before.now c.args.machine.now c.args.event.now.line) c.args.event.now.what (action_at c.args.machine.now c.args.event.now) (Ok c.rise.result) c.args.turning.now c.requires.none (c.in-Rise.ensures ∙ ap (λ state. cell (channel_of state) (kind_of c.args.event.now.what)) c.line.ensures.state) c.rise.ensures
+returns-in-Rise g c = rise_planned {E = Unit {0}} (setting c.args.subs.now c.args.before.now c.args.machine.now c.args.event.now.line) c.args.event.now.what (action_at c.args.machine.now c.args.event.now) (Ok c.rise.result) c.args.turning.now c.requires.none (c.in-Rise.ensures ∙ ap (λ state. cell (channel_of state) (kind_of c.args.event.now.what)) c.line.ensures.state) c.rise.ensures
 
 pub returns-in-Fall : goal.returns-in-Fall
 returns-in-Fall g c = fall_planned (setting c.args.subs.now c.args.before.now c.args.machine.now c.args.event.now.line) c.args.event.now.what (action_at c.args.machine.now c.args.event.now) c.fall.result c.args.turning.now c.requires.none (c.in-Fall.ensures ∙ ap (λ state. cell (channel_of state) (kind_of c.args.event.now.what)) c.line.ensures.state) c.fall.ensures
 
 pub returns-in-Free : goal.returns-in-Free
-returns-in-Free g c = free_planned (setting c.args.subs.now c.args.before.now c.args.machine.now c.args.event.now.line) c.args.event.now.what (action_at c.args.machine.now c.args.event.now) (Ok c.free.result) c.args.turning.now c.requires.none (c.in-Free.ensures ∙ ap (λ state. cell (channel_of state) (kind_of c.args.event.now.what)) c.line.ensures.state) c.free.ensures
+returns-in-Free g c = free_planned {E = Unit {0}} (setting c.args.subs.now c.args.before.now c.args.machine.now c.args.event.now.line) c.args.event.now.what (action_at c.args.machine.now c.args.event.now) (Ok c.free.result) c.args.turning.now c.requires.none (c.in-Free.ensures ∙ ap (λ state. cell (channel_of state) (kind_of c.args.event.now.what)) c.line.ensures.state) c.free.ensures
 
 pub returns-in-Error : goal.returns-in-Error
 returns-in-Error g c = error_planned (setting c.args.subs.now c.args.before.now c.args.machine.now c.args.event.now.line) c.args.event.now.what (action_at c.args.machine.now c.args.event.now) c.clear_both.result c.args.turning.now c.requires.none c.in-Error.diagnostic (c.in-Error.ensures ∙ ap (λ state. cell (channel_of state) (kind_of c.args.event.now.what)) c.line.ensures.state) c.clear_both.ensures
