@@ -62,5 +62,5 @@ module _ {A : Type 0} (tables : Tables) (world : World) (line : ℕ) (request : 
           incoming = subst Q calling_is (subst P called_is incoming);
           told_is = refl;
         });
-            planned = subst (Planned told) (sym outcome) planned;
+        planned = subst (Planned told) (sym outcome) planned;
       }

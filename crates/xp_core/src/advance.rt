@@ -101,7 +101,15 @@ fn work_out<A: Allocator + Copy>(
         cancelled,
         change,
         records,
-    } = plan_of(alloc, subs, machine, relays, journal.history(), event, turning)?;
+    } = plan_of(
+        alloc,
+        subs,
+        machine,
+        relays,
+        journal.history(),
+        event,
+        turning,
+    )?;
     let outputs = outputs.into_outputs();
     let told = outputs.copy()?;
     journal.reserve(records.len())?;

@@ -84,8 +84,14 @@ pub fn fall<A: Allocator + Copy>(
     let own = closing(machine, line, what);
     let far = send_far(machine, line, clear_indication(cause, diagnostic));
     let outputs = Buffer::with_room(alloc, 2)?.with_some(own).with_some(far);
-    let Withdrawal { change, records } =
-        withdraw(alloc, machine, line, Way::GoesOut, cause, diagnostic)?;
+    let Withdrawal { change, records } = withdraw(
+        alloc,
+        machine,
+        line,
+        Way::GoesOut,
+        cause,
+        diagnostic,
+    )?;
     Ok(Plan::of(outputs, records).changing(change))
 }
 
@@ -141,8 +147,14 @@ pub fn confirm<A: Allocator + Copy>(
     let outputs = Buffer::with_room(alloc, 2)?.with(own).with_some(far);
     let cause = cause_told(clear.cause);
     let diagnostic = diagnostic_told(clear.diagnostic);
-    let Withdrawal { change, records } =
-        withdraw(alloc, machine, line, Way::IsFree, cause, diagnostic)?;
+    let Withdrawal { change, records } = withdraw(
+        alloc,
+        machine,
+        line,
+        Way::IsFree,
+        cause,
+        diagnostic,
+    )?;
     Ok(Plan::of(outputs, records).changing(change))
 }
 

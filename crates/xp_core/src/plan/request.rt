@@ -54,11 +54,7 @@ impl<A: Allocator> Cancelled<A> {
     }
 
     /// The call that was put to the line.
-    pub fn by(
-        alloc: A,
-        machine: &Machine<A>,
-        line: LineNo,
-    ) -> Result<Cancelled<A>, AllocError>
+    pub fn by(alloc: A, machine: &Machine<A>, line: LineNo) -> Result<Cancelled<A>, AllocError>
         ensures { IfOk result (λ cancelled. IsCancelled cancelled machine.now (cancels line (call_on machine.now line)) (cancelled_told machine.now line)) }
     {
         let Some(call) = machine.call_on(line) else {
@@ -190,11 +186,13 @@ fn refused<A: Allocator>(
         told,
     } = cancelled;
     let records = records.with(record)?;
-    Ok(Plan::of(outputs.with(own).with_some(told), records)
-        .settling(Outcome::Refused(why))
-        .cancelling(line)
-        .changing(Change::Refuse {
-            line: caller,
-            identifier,
-        }))
+    Ok(
+        Plan::of(outputs.with(own).with_some(told), records)
+            .settling(Outcome::Refused(why))
+            .cancelling(line)
+            .changing(Change::Refuse {
+                line: caller,
+                identifier,
+            }),
+    )
 }
