@@ -4,3 +4,4 @@ pub mod Ready
 pub mod Settled
 pub mod Once
 pub mod Every
+pub mod Informing

@@ -40,11 +40,11 @@ short_field told field none tells = told-exchange told (length field) (told-leng
 
 -- ---- packets
 
-none_holds : (short format facilities long : Bool) → short ≡ false → format ≡ false → facilities ≡ false → long ≡ false
+pub none_holds : (short format facilities long : Bool) → short ≡ false → format ≡ false → facilities ≡ false → long ≡ false
     → first_of ((short, Short) ∷ (format, Format) ∷ (facilities, Facilities) ∷ (long, Long) ∷ []) ≡ None
 none_holds short format facilities long a b c d = rw (a, b, c, d) refl
 
-few_facilities : (field : List ℕ) → length field ≤ 107 → ltb 109 (length field) ≡ false
+pub few_facilities : (field : List ℕ) → length field ≤ 107 → ltb 109 (length field) ≡ false
 few_facilities field few = le-ltb 109 (length field) (omega (arith, few))
 
 module _ {A : Type 0} (called calling field user : List ℕ) (few : length field ≤ 107) (most : length user ≤ 128) where
@@ -75,7 +75,7 @@ plain_sent A cause diagnostic = record {
   most = tt;
 }
 
-with_block_sent : (A : Type 0) (cause diagnostic : ℕ) (field user : List ℕ) → length field ≤ 107 → length user ≤ 128
+pub with_block_sent : (A : Type 0) (cause diagnostic : ℕ) (field user : List ℕ) → length field ≤ 107 → length user ≤ 128
     → CanBeSent {A = A} (Clear cause (Some diagnostic) (block_with field user))
 with_block_sent A cause diagnostic [] [] few most = plain_sent A cause diagnostic
 with_block_sent A cause diagnostic [] (octet ∷ user) few most = cleared_sent [] [] [] (octet ∷ user) few most cause diagnostic

@@ -61,19 +61,19 @@ module _ {A : Type 0} where
       let asks = asks_in_range field asked means in
       told_by (told_connected setup modified asked) (connected_in_range setup modified asked terms asks) asks.dte
 
-none_tellable : IsTellable []
+pub none_tellable : IsTellable []
 none_tellable = record { carried = []; is_carried = record { whole = record { each = tt; whole = refl }; unmarked = refl }; few = omega arith }
 
 taken_over_tellable : (A : Type 0) (field dte : List ℕ) → TakesOver A field dte → IsTellable dte
 taken_over_tellable A field dte (carried.read asked means is) = subst IsTellable (sym is) (asks_in_range field asked means).dte
 taken_over_tellable A field dte (carried.faulty fault faulty is) = subst IsTellable (sym is) none_tellable
 
-counted : (segments : Option SegmentCounts) → AreCounts segments → counts_fit segments ≡ true
+pub counted : (segments : Option SegmentCounts) → AreCounts segments → counts_fit segments ≡ true
 unfolding counts_fit
 counted None counts = refl
 counted (Some segments) counts = and_from _ _ (le-leb segments.sent 99_999_999 counts.0) (le-leb segments.received 99_999_999 counts.1)
 
-cleared_in_range : (A : Type 0) (segments : Option SegmentCounts) (dte : List ℕ) → counts_fit segments ≡ true → IsTellable dte
+pub cleared_in_range : (A : Type 0) (segments : Option SegmentCounts) (dte : List ℕ) → counts_fit segments ≡ true → IsTellable dte
     → is_in_range (told_cleared {A = A} segments dte) ≡ true
 unfolding is_in_range index_fits sizes_fit
 cleared_in_range A segments dte counts tellable =

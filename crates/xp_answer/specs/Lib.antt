@@ -6,4 +6,5 @@ pub mod Incoming
 pub mod Answered
 pub mod Examined
 pub mod CarriedOn
+pub mod Information
 pub mod Laws

@@ -69,7 +69,7 @@ fn dte_in<A: Allocator + Copy>(alloc: A, field: &[u8]) -> Result<Octets<A>, Allo
 }
 
 /// The facilities of the clear indication.
-fn tell<A: Allocator>(segments: Option<SegmentCounts>, dte: Octets<A>) -> Told<A>
+pub fn tell<A: Allocator>(segments: Option<SegmentCounts>, dte: Octets<A>) -> Told<A>
     ensures { result ≡ told_cleared segments dte }
 {
     Told {
@@ -87,7 +87,7 @@ fn tell<A: Allocator>(segments: Option<SegmentCounts>, dte: Octets<A>) -> Told<A
 }
 
 /// A block without addresses, where there is something to be carried.
-fn block_with<A: Allocator>(facilities: Octets<A>, user: Octets<A>) -> Option<Block<A>>
+pub fn block_with<A: Allocator>(facilities: Octets<A>, user: Octets<A>) -> Option<Block<A>>
     ensures { result ≡ block_with facilities user }
 {
     if facilities.is_empty() && user.is_empty() {

@@ -1,4 +1,5 @@
 //! Laws of the definitions, each the contract of a function with nothing to do.
+ghost use Rattle.xp_answer.specs.Information.{InformationIsTold};
 ghost use Rattle.xp_answer.specs.Laws.{IncomingCallIsOne, IncomingCallCanBeSent, EveryAnswerHasOne, ConnectionsSettleTerms, ConnectedCanBeSent, EveryClearHasOneIndication, CarriedOnCanBeSent};
 
 use std::alloc::Allocator;
@@ -36,4 +37,9 @@ pub fn every_clear_has_one_indication<A: Allocator>()
 /// The clear indication can be encoded, and its facility field has at most 107 octets.
 pub fn carried_on_can_be_sent<A: Allocator>()
     ensures { CarriedOnCanBeSent A }
+{}
+
+/// Charging information is told as the facility field says, and the packets of the exchange's own that tell it can be encoded.
+pub fn information_is_told<A: Allocator>()
+    ensures { InformationIsTold A }
 {}

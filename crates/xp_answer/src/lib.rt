@@ -9,6 +9,7 @@ mod connection;
 mod fault;
 mod field;
 mod incoming;
+mod information;
 mod laws;
 mod setup;
 mod terms;
@@ -17,10 +18,11 @@ pub use answer::{Answer, examine};
 pub use clear::carry_clear;
 pub use connection::Connection;
 pub use incoming::incoming_call;
+pub use information::{clear_confirmation, clear_indication};
 pub use laws::{
     carried_on_can_be_sent, connected_can_be_sent, connections_settle_terms,
     every_answer_has_one_outcome, every_clear_has_one_indication, incoming_call_can_be_sent,
-    incoming_call_is_one,
+    incoming_call_is_one, information_is_told,
 };
 pub use setup::Setup;
 pub use terms::Terms;

@@ -48,22 +48,22 @@ module _ {A : Type 0} where
       let P : Option (KeptPair A) → Type 0 = λ r. IsShownBy r (directions at.tables at.before call.number agreement) in
       subst P (sym none) (kept_under at call on agreement agreed relays carried)
 
-  module _ (at : Setting A) (what : What A) (plan : Plan A) where
+  module _ (at : Setting A) (what : What A) (plan : Plan A) (carriage : Option (Carriage A)) where
     abbrev by : Option (Carried A)
     by = carried_by at.line (call_on at.world at.line) (packet_in what)
 
-    nothing_carried : by ≡ None → plan.outcome ≡ Plain → plan.carriage ≡ None → IsPlan plan at.world nothing_told [] → PlansCarried at what plan
+    nothing_carried : by ≡ None → plan.outcome ≡ Plain → carriage ≡ None → IsPlan plan at.world nothing_told [] → PlansCarried at what plan carriage
     nothing_carried none plain quiet planned =
-        let R : Option (Carried A) → Type 0 = λ c. Relays at.tables at.before c [] plan.carriage in
+        let R : Option (Carried A) → Type 0 = λ c. Relays at.tables at.before c [] carriage in
         let P : Option (Carried A) → Type 0 = λ c. IsPlan plan at.world (carried_told at.tables at.before at.world c) [] in
         record { plain = plain; relays = subst R (sym none) quiet; planned = subst P (sym none) planned }
 
     -- a line in no call
-    pub in_no_call : None ≡ call_on at.world at.line → plan.outcome ≡ Plain → plan.carriage ≡ None → IsPlan plan at.world nothing_told [] → PlansCarried at what plan
+    pub in_no_call : None ≡ call_on at.world at.line → plan.outcome ≡ Plain → carriage ≡ None → IsPlan plan at.world nothing_told [] → PlansCarried at what plan carriage
     in_no_call is = nothing_carried (ap (λ found. carried_by at.line found (packet_in what)) (sym is))
 
     -- no packet
-    pub of_no_packet : None ≡ packet_in what → plan.outcome ≡ Plain → plan.carriage ≡ None → IsPlan plan at.world nothing_told [] → PlansCarried at what plan
+    pub of_no_packet : None ≡ packet_in what → plan.outcome ≡ Plain → carriage ≡ None → IsPlan plan at.world nothing_told [] → PlansCarried at what plan carriage
     of_no_packet is = nothing_carried (ap (carried_by at.line (call_on at.world at.line)) (sym is) ∙ no_packet at.line (call_on at.world at.line))
 
     module _ (call : LiveCall) (on : Some (entry_of call) ≡ call_on at.world at.line) (packet : Packet A) (is : Some packet ≡ packet_in what) where
@@ -71,7 +71,7 @@ module _ {A : Type 0} where
       by_this = ap (λ found. carried_by at.line found (packet_in what)) (sym on) ∙ ap (carried_by at.line (Some (entry_of call))) (sym is)
 
       -- a call that is not connected
-      pub unconnected : call.agreed ≡ None → plan.outcome ≡ Plain → plan.carriage ≡ None → IsPlan plan at.world nothing_told [] → PlansCarried at what plan
+      pub unconnected : call.agreed ≡ None → plan.outcome ≡ Plain → carriage ≡ None → IsPlan plan at.world nothing_told [] → PlansCarried at what plan carriage
       unconnected none = nothing_carried (by_this ∙ ap (option_map (λ agreement. carried_of at.line (entry_of call) agreement packet)) none)
 
       module _ (agreement : Agreement) (agreed : call.agreed ≡ Some agreement) (relays : List (Option (KeptPair A))) (carried : AreCarried at.tables at.before at.world relays) where
@@ -86,18 +86,18 @@ module _ {A : Type 0} where
 
         pub goes_through : (kept relay : KeptPair A) (moves : List (Move A)) → Some kept ≡ relay_under relays call.caller
             → ((before : Coupled A) → ShowsCall kept before → Follows (end_of (call_of_kept call) at.line) (turn_of (end_of (call_of_kept call) at.line) packet) before relay moves)
-            → plan.outcome ≡ Plain → plan.carriage ≡ Some (record { caller = call.caller; relay = relay })
+            → plan.outcome ≡ Plain → carriage ≡ Some (record { caller = call.caller; relay = relay })
             → plan.outputs.outputs ≡ map (send_on at.world (call_of_kept call)) moves → plan.cancelled ≡ None → plan.change ≡ None → plan.records.items ≡ []
-            → PlansCarried at what plan
-        goes_through kept relay moves under follows plain carriage outputs uncancelled unchanged none =
+            → PlansCarried at what plan carriage
+        goes_through kept relay moves under follows plain carries outputs uncancelled unchanged none =
             let it = follows shown (shows_it kept under) in
             let is_it : by ≡ Some its = by_this ∙ ap (option_map (λ a. carried_of at.line (entry_of call) a packet)) agreed in
-            let R : Option (Carried A) → Type 0 = λ c. Relays at.tables at.before c [] plan.carriage in
+            let R : Option (Carried A) → Type 0 = λ c. Relays at.tables at.before c [] carriage in
             let P : Option (Carried A) → Type 0 = λ c. IsPlan plan at.world (carried_told at.tables at.before at.world c) [] in
             let sent : List (Output A) = map (send_on at.world (call_of_kept call)) (turn_of_carried at.tables at.before its).moves in
             record {
               plain = plain;
-              relays = subst R (sym is_it) (record { relay = relay; kept = carriage; shows = it.shown });
+              relays = subst R (sym is_it) (record { relay = relay; kept = carries; shows = it.shown });
               planned = subst P (sym is_it) (record {
                 outputs = outputs ∙ ap (map (send_on at.world (call_of_kept call))) it.moves ∙ carried_alone sent;
                 records = none;

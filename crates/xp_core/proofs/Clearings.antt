@@ -27,7 +27,6 @@ use Rattle.xp_core.specs.Table.{CallAccepted, ClearRequest}
 use Rattle.xp_core.specs.Told.{Told, nothing_told, send}
 use Rattle.xp_core.specs.World.{Call, World, call_numbered, call_on}
 use Rattle.xp_core.proofs.InCall.{shown_on}
-use Rattle.xp_core.proofs.Quiet.{leaves_quiet}
 
 module _ {A : Type 0} (world : World) (line : ℕ) (clear : ClearRequest A) (plan : Plan A) (far : List (Output A)) where
   abbrev told_clear : Told A
@@ -40,11 +39,11 @@ module _ {A : Type 0} (world : World) (line : ℕ) (clear : ClearRequest A) (pla
   confirms_as None plain told = (plain, ap told_by told)
   confirms_as (Some found) plain told = record { plain = plain; packet = told.0; carried = told.1; told_is = ap told_by told.2 }
 
-  pub confirmed : plan.outcome ≡ Plain → plan.carriage ≡ None → IsToldOn world line clear (call_on world line) far
+  pub confirmed : plan.outcome ≡ Plain → IsToldOn world line clear (call_on world line) far
       → IsPlan plan world told_clear (confirms line (Some clear) (call_on world line)) → PlansClear world line clear plan
-  confirmed plain quiet told planned = record { told = told_clear; acts = confirms_as (call_on world line) plain told; relays = leaves_quiet line _ _ _ (call_on world line) plan.carriage quiet; planned = planned }
+  confirmed plain told planned = record { told = told_clear; acts = confirms_as (call_on world line) plain told; planned = planned }
 
-module _ {A : Type 0} (tables : Tables) (world : World) (line : ℕ) (answer : CallAccepted A) (plan : Plan A) where
+module _ {A : Type 0} (tables : Tables) (world : World) (line : ℕ) (answer : CallAccepted A) (plan : Plan A) (carriage : Option (Carriage A)) where
   abbrev Acts : Told A → Option (ℕ × Call) → Outcome → Type 0
   Acts told found outcome = Answers tables world line (Some answer) found outcome told
 
@@ -53,9 +52,9 @@ module _ {A : Type 0} (tables : Tables) (world : World) (line : ℕ) (answer : C
 
   -- the relay that an answer asks for
   abbrev Settled : Option (ℕ × Call) → Outcome → Type 0
-  Settled found outcome = RelaysFor (answered_by line found outcome) plan.carriage
+  Settled found outcome = RelaysFor (answered_by line found outcome) carriage
 
-  pub not_called : None ≡ call_on world line → plan.outcome ≡ Plain → plan.carriage ≡ None → IsPlan plan world nothing_told [] → PlansAnswer tables world line answer plan
+  pub not_called : None ≡ call_on world line → plan.outcome ≡ Plain → carriage ≡ None → IsPlan plan world nothing_told [] → PlansAnswer tables world line answer plan carriage
   not_called is plain quiet planned = record {
     relays = subst (λ found. Settled found plan.outcome) is quiet;
     told = nothing_told;
@@ -74,9 +73,9 @@ module _ {A : Type 0} (tables : Tables) (world : World) (line : ℕ) (answer : C
         subst IsGiven same (subst P address_is answered)
 
     pub connected : (connection : Connection A) → given ≡ answers.Connected connection → plan.outcome ≡ Connected (agreement_of connection)
-        → IsRelayed (call_of_kept call) (coupled (terms_of (agreement_of connection))) plan.carriage
+        → IsRelayed (call_of_kept call) (coupled (terms_of (agreement_of connection))) carriage
         → IsPlan plan world (told_connected world call.caller connection.packet) (Connects call.number (call_of_kept call) (agreement_of connection) ∷ [])
-        → PlansAnswer tables world line answer plan
+        → PlansAnswer tables world line answer plan carriage
     connected connection same outcome relayed planned =
         let told = told_connected world call.caller connection.packet in
         record {
@@ -91,9 +90,9 @@ module _ {A : Type 0} (tables : Tables) (world : World) (line : ℕ) (answer : C
           planned = subst (λ found. Planned told found plan.outcome) is (subst (Planned told (Some (entry_of call))) (sym outcome) planned);
         }
 
-    pub declined : (diagnostic : ℕ) → given ≡ answers.Refused diagnostic → plan.outcome ≡ Declined diagnostic → plan.carriage ≡ None
+    pub declined : (diagnostic : ℕ) → given ≡ answers.Refused diagnostic → plan.outcome ≡ Declined diagnostic → carriage ≡ None
         → IsPlan plan world (told_of_error world line diagnostic) (leaves line IsCleared REMOTE_PROCEDURE_ERROR diagnostic (call_on world line) ∷ [])
-        → PlansAnswer tables world line answer plan
+        → PlansAnswer tables world line answer plan carriage
     declined diagnostic same outcome quiet planned =
         let told : Told A = told_of_error world line diagnostic in
         let Q : Option (ℕ × Call) → Type 0 = λ found. IsPlan plan world told (leaves line IsCleared REMOTE_PROCEDURE_ERROR diagnostic found ∷ []) in
@@ -117,15 +116,3 @@ pub settled_otherwise : {A : Type 0} (plan : Plan A) (outcome : Outcome) (next :
 settled_otherwise {A} plan outcome next world told changes is planned =
     let P : Plan A → Type 0 = λ p. IsPlan p world told changes in
     subst P (sym is) (record { outputs = planned.planned.outputs; records = planned.planned.records; does = planned.planned.does })
-
--- and it asks for no relay
-pub quiet_otherwise : {A : Type 0} (plan : Plan A) (outcome : Outcome) (next : Plan A) (world : World) (told : Told A) (changes : List Change)
-    → next ≡ record plan { outcome = outcome } → IsPlainPlan plan world told changes → next.carriage ≡ None
-quiet_otherwise plan outcome next world told changes is planned = ap (λ p. p.carriage) is ∙ planned.quiet
-
--- with another relay too
-pub carried_otherwise : {A : Type 0} (plan : Plan A) (carriage : Option (Carriage A)) (next : Plan A) (world : World) (told : Told A) (changes : List Change)
-    → next ≡ record plan { carriage = carriage } → IsPlan plan world told changes → IsPlan next world told changes
-carried_otherwise {A} plan carriage next world told changes is planned =
-    let P : Plan A → Type 0 = λ p. IsPlan p world told changes in
-    subst P (sym is) (record { outputs = planned.outputs; records = planned.records; does = planned.does })

@@ -31,7 +31,7 @@ pub planned : {A : Type 0} (plan : Plan A) (world : World) (cancelled : Cancelle
     → IsCancelled cancelled world ended far
     → plan.outputs.outputs ≡ own ++ option_to_list cancelled.told ++ taken
     → plan.cancelled ≡ cancelled.line → plan.change ≡ Some kept
-    → plan.records.items ≡ option_to_list cancelled.charged ++ records
+    → plan.records.items ≡ cancelled.records.items ++ records
     → ((w : World) → applied kept w ≡ changed change w) → records ≡ recorded (all_changed ended world) change
     → IsPlan plan world (record { carried = []; own = own; far = far; taken = taken }) (ended ++ change ∷ [])
 planned plan world cancelled ended far kept change own taken records ends outputs cancels changes charged does recorded_is = record {
@@ -57,7 +57,7 @@ module _ {A : Type 0} (cancelled : Cancelled A) (world : World) (line : ℕ) whe
       subst P is (none world)
 
   pub call_cancelled : (found : ℕ × Call) → Some found ≡ call_on world line
-      → cancelled.line ≡ Some line → option_to_list cancelled.charged ≡ record_of found.0 found.1 NUMBER_BUSY CALL_COLLISION ∷ []
+      → cancelled.line ≡ Some line → cancelled.records.items ≡ record_of found.0 found.1 NUMBER_BUSY CALL_COLLISION ∷ []
       → option_to_list cancelled.told ≡ cancelled_told world line
       → IsCancelled cancelled world (cancels line (call_on world line)) (cancelled_told world line)
   call_cancelled found is at charged told =

@@ -33,22 +33,21 @@ module _ {A : Type 0} (tables : Tables) (world : World) (line : ℕ) (request : 
   abbrev IsOf : Verdict A → Type 0
   IsOf v = Decided tables (lines_seen world) line request.block v
 
-  pub turned_down : (why : Refusal) → verdict ≡ Refuse why → plan.outcome ≡ Refused why → plan.carriage ≡ None
+  pub turned_down : (why : Refusal) → verdict ≡ Refuse why → plan.outcome ≡ Refused why
       → IsPlan plan world (refused_told world far line request.identifier why) (ended ++ IsRefused line request.identifier request.block.called why ∷ [])
       → PlansRequest tables world line request ended far plan
-  turned_down why is outcome quiet planned = let told = refused_told world far line request.identifier why in record {
+  turned_down why is outcome planned = let told = refused_told world far line request.identifier why in record {
     told = told;
     acts = subst (Acts told) (sym outcome) (record { decided = subst IsOf is decided; told_is = refl });
-    quiet = quiet;
     planned = subst (Planned told) (sym outcome) planned;
   }
 
   pub put_through : (ring : Ring A) (called calling : List ℕ) (packet : Packet A) (setup : Setup) → verdict ≡ Take ring
       → called ≡ address_of tables ring.line → calling ≡ address_of tables line
-      → IsIncomingCall ring called calling request.d request.block packet → setup ≡ setup_of ring → plan.outcome ≡ Put ring.line setup → plan.carriage ≡ None
+      → IsIncomingCall ring called calling request.d request.block packet → setup ≡ setup_of ring → plan.outcome ≡ Put ring.line setup
       → IsPlan plan world (taken_told world far ring.line packet) (ended ++ Begins line request.identifier ring.line request.block.called setup ∷ [])
       → PlansRequest tables world line request ended far plan
-  put_through ring called calling packet setup is called_is calling_is incoming setup_is outcome quiet planned =
+  put_through ring called calling packet setup is called_is calling_is incoming setup_is outcome planned =
       let told = taken_told world far ring.line packet in
       let P : List ℕ → Type 0 = λ address. IsIncomingCall ring address calling request.d request.block packet in
       let Q : List ℕ → Type 0 = λ address. IsIncomingCall ring (address_of tables ring.line) address request.d request.block packet in
@@ -63,6 +62,5 @@ module _ {A : Type 0} (tables : Tables) (world : World) (line : ℕ) (request : 
           incoming = subst Q calling_is (subst P called_is incoming);
           told_is = refl;
         });
-        quiet = quiet;
         planned = subst (Planned told) (sym outcome) planned;
       }

@@ -41,18 +41,18 @@ places_kept (Some carriage) relays later is = ap length is ∙ length-set relays
 
 module _ {A : Type 0} where
   -- what was planned and applied
-  pub works_out : (tables : Tables) (before : List (Entry A)) (old : World) (event : Event A) (plan : Plan A) (work : Work A) (new : World)
-      (relays later : List (Option (KeptPair A))) → Plans (setting tables before old event.line) event.what (action_at old event) plan
+  pub works_out : (tables : Tables) (before : List (Entry A)) (old : World) (event : Event A) (plan : Plan A) (carriage : Option (Carriage A)) (work : Work A) (new : World)
+      (relays later : List (Option (KeptPair A))) → Plans (setting tables before old event.line) event.what (action_at old event) plan carriage
       → work.outcome ≡ plan.outcome → work.outputs ≡ plan.outputs.outputs → work.told ≡ work.outputs → work.records ≡ plan.records
-      → new ≡ applied_by plan old → later ≡ relays_with plan.carriage relays → Works tables before old relays event work new later
-  works_out tables before old event plan work new relays later plans outcome outputs copied records applied relayed =
+      → new ≡ applied_by plan old → later ≡ relays_with carriage relays → Works tables before old relays event work new later
+  works_out tables before old event plan carriage work new relays later plans outcome outputs copied records applied relayed =
       let made : Works tables before old relays event (record work { outcome = plan.outcome }) new later = record {
         told = plans.told;
         acts = plans.acts;
         outputs = outputs ∙ plans.planned.outputs;
         copied = copied;
         records = ap (λ r. r.items) records ∙ plans.planned.records;
-        relays_on = record { carriage = plan.carriage; is = plans.relays; become = relayed };
+        relays_on = record { carriage = carriage; is = plans.relays; become = relayed };
         leads = applied ∙ plans.planned.does;
       } in
       let P : Outcome → Type 0 = λ o. Works tables before old relays event (record work { outcome = o }) new later in

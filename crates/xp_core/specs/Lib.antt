@@ -10,6 +10,7 @@ pub mod Coupling
 pub mod Delivered
 pub mod Determined
 pub mod Does
+pub mod Entered
 pub mod Exchange
 pub mod Existence
 pub mod Few

@@ -14,6 +14,7 @@ use Rattle.xp_core.specs.declared.output.Output.{Output}
 use Rattle.xp_core.specs.declared.plan.Plan.{Plan}
 use Rattle.xp_core.specs.declared.plan.clearing.Withdrawal.{Withdrawal}
 use Rattle.xp_core.specs.declared.plan.request.Cancelled.{Cancelled}
+use Rattle.xp_core.specs.declared.relays.Carriage.{Carriage}
 use Rattle.xp_subs.specs.Tables.{Tables}
 use Rattle.xp_core.specs.Acts.{Acts, Answers, IsConfirmed, IsRequested}
 use Rattle.xp_core.specs.Carried.{carried_as, carried_by}
@@ -68,17 +69,17 @@ abbrev pub freed_if_any : Option ℕ → World → World
 freed_if_any None world = world
 freed_if_any (Some line) world = left line IsFree (call_on world line) world
 
--- a line that leaves its call, and the record of the call, if it is in one
-pub record IsWithdrawal (withdrawal : Withdrawal) (world : World) (change : Change) : Type 0 where
-  pub does : applied withdrawal.change world ≡ changed change world
-  pub records : option_to_list withdrawal.charged ≡ recorded world change
-
 module _ {A : Type 0} where
+  -- a line that leaves its call, and the record of the call, if it is in one
+  pub record IsWithdrawal (withdrawal : Withdrawal A) (world : World) (change : Change) : Type 0 where
+    pub does : applied withdrawal.change world ≡ changed change world
+    pub records : withdrawal.records.items ≡ recorded world change
+
   -- the call that a collision cancels, if there is one, and what its caller is told
   pub record IsCancelled (cancelled : Cancelled A) (world : World) (ended : List Change) (far : List (Output A)) : Type 0 where
     pub does : freed_if_any cancelled.line world ≡ all_changed ended world
     pub next : (all_changed ended world).next ≡ world.next
-    pub records : option_to_list cancelled.charged ≡ recorded_by world ended
+    pub records : cancelled.records.items ≡ recorded_by world ended
     pub told : option_to_list cancelled.told ≡ far
 
   -- the call that is cancelled ends first
@@ -90,10 +91,9 @@ module _ {A : Type 0} where
     pub records : plan.records.items ≡ recorded_by world changes
     pub does : applied_by plan world ≡ all_changed changes world
 
-  -- where nothing is settled, and no relay changes
+  -- where nothing is settled
   pub record IsPlainPlan (plan : Plan A) (world : World) (told : Told A) (changes : List Change) : Type 0 where
     pub plain : plan.outcome ≡ Plain
-    pub quiet : plan.carriage ≡ None
     pub planned : IsPlan plan world told changes
 
   -- what the far end is told of a clear request
@@ -107,33 +107,31 @@ module _ {A : Type 0} where
   pub record PlansClear (world : World) (line : ℕ) (clear : ClearRequest A) (plan : Plan A) : Type 0 where
     pub told : Told A
     pub acts : IsConfirmed world line clear (call_on world line) plan.outcome told
-    pub relays : RelaysFor (confirms line (Some clear) (call_on world line)) plan.carriage
     pub planned : IsPlan plan world told (confirms line (Some clear) (call_on world line))
 
-  -- for an answer
-  pub record PlansAnswer (tables : Tables) (world : World) (line : ℕ) (answer : CallAccepted A) (plan : Plan A) : Type 0 where
+  -- for an answer, with the relay that it asks for
+  pub record PlansAnswer (tables : Tables) (world : World) (line : ℕ) (answer : CallAccepted A) (plan : Plan A) (carriage : Option (Carriage A)) : Type 0 where
     pub told : Told A
     pub acts : Answers tables world line (Some answer) (call_on world line) plan.outcome told
-    pub relays : RelaysFor (answers line (call_on world line) plan.outcome) plan.carriage
+    pub relays : RelaysFor (answers line (call_on world line) plan.outcome) carriage
     pub planned : IsPlan plan world told (answers line (call_on world line) plan.outcome)
 
   -- for a call request, with the end of the call that it cancels and what its caller is told
   pub record PlansRequest (tables : Tables) (world : World) (line : ℕ) (request : CallRequest A) (ended : List Change) (far : List (Output A)) (plan : Plan A) : Type 0 where
     pub told : Told A
     pub acts : IsRequested tables world line far request plan.outcome told
-    pub quiet : plan.carriage ≡ None
     pub planned : IsPlan plan world told (ended ++ requests line (Some request) plan.outcome)
 
-  -- for a packet that may be for a connected call
-  pub record PlansCarried (at : Setting A) (what : What A) (plan : Plan A) : Type 0 where
+  -- for a packet that may be for a connected call, with what its relay becomes
+  pub record PlansCarried (at : Setting A) (what : What A) (plan : Plan A) (carriage : Option (Carriage A)) : Type 0 where
     pub plain : plan.outcome ≡ Plain
-    pub relays : Relays at.tables at.before (carried_by at.line (call_on at.world at.line) (packet_in what)) [] plan.carriage
+    pub relays : Relays at.tables at.before (carried_by at.line (call_on at.world at.line) (packet_in what)) [] carriage
     pub planned : IsPlan plan at.world (carried_told at.tables at.before at.world (carried_by at.line (call_on at.world at.line) (packet_in what))) []
 
-  -- what is planned for an event is what the table of actions has for it
-  pub record Plans (at : Setting A) (what : What A) (action : Action) (plan : Plan A) : Type 0 where
+  -- what is planned for an event, and the relay that its call gets, is what the table of actions has for it
+  pub record Plans (at : Setting A) (what : What A) (action : Action) (plan : Plan A) (carriage : Option (Carriage A)) : Type 0 where
     pub told : Told A
     pub acts : Acts at what action plan.outcome told
     pub relays : Relays at.tables at.before (carried_as action (carried_by at.line (call_on at.world at.line) (packet_in what)))
-        (does at what action plan.outcome) plan.carriage
+        (does at what action plan.outcome) carriage
     pub planned : IsPlan plan at.world told (does at what action plan.outcome)

@@ -17,7 +17,7 @@ use crate::outcome::Outcome;
 use crate::output::Outputs;
 use crate::plan::{Plan, plan_of};
 use crate::records::Records;
-use crate::relays::Relays;
+use crate::relays::{Relays, Turning};
 use crate::stalling::{Spare, give_up};
 use crate::stepped::Stepped;
 use std::alloc::{AllocError, Allocator};
@@ -30,7 +30,7 @@ pub struct Work<A: Allocator> {
     pub outputs: Outputs<A>,
     /// The copy that is told.
     pub told: Outputs<A>,
-    pub records: Records,
+    pub records: Records<A>,
 }
 
 /// Enters one event: makes all growths, and then changes the state, the history and the records. A stall that is prepared
@@ -40,6 +40,7 @@ pub fn advance<A: Allocator + Copy>(
     subs: &Subs,
     machine: &mut Machine<A>,
     relays: &mut Relays<A>,
+    turning: &mut Turning<A>,
     journal: &mut Journal<A>,
     event: Event<A>,
 ) -> Result<Stepped<A>, StepFault<A>>
@@ -58,7 +59,7 @@ pub fn advance<A: Allocator + Copy>(
     ensures history { OnErr result (journal.new.history ≡ journal.old.history) }
     ensures records { OnErr result (journal.new.records ≡ journal.old.records) }
 {
-    match work_out(alloc, subs, machine, relays, journal, &event) {
+    match work_out(alloc, subs, machine, relays, turning, journal, &event) {
         Ok(work) => Ok(journal.enter(event, work)),
         Err(_) => Err(StepFault::Memory(event)),
     }
@@ -70,6 +71,7 @@ fn work_out<A: Allocator + Copy>(
     subs: &Subs,
     machine: &mut Machine<A>,
     relays: &mut Relays<A>,
+    turning: &mut Turning<A>,
     journal: &mut Journal<A>,
     event: &Event<A>,
 ) -> Result<Work<A>, AllocError>
@@ -92,19 +94,27 @@ fn work_out<A: Allocator + Copy>(
     if let Some(spare) = prepared(journal, event) {
         return Ok(give_up(machine, spare, event.line));
     }
+    turning.forget();
     let Plan {
         outcome,
         outputs,
         cancelled,
         change,
         records,
-        carriage,
-    } = plan_of(alloc, subs, machine, relays, journal.history(), event)?;
+    } = plan_of(
+        alloc,
+        subs,
+        machine,
+        relays,
+        journal.history(),
+        event,
+        turning,
+    )?;
     let outputs = outputs.into_outputs();
     let told = outputs.copy()?;
-    journal.reserve()?;
+    journal.reserve(records.len())?;
     machine.apply(cancelled, change)?;
-    relays.put_if_any(carriage);
+    relays.turn(turning);
     Ok(Work {
         outcome,
         outputs,

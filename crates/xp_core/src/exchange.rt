@@ -12,7 +12,7 @@ use crate::event::Event;
 use crate::fault::StepFault;
 use crate::journal::Journal;
 use crate::machine::Machine;
-use crate::relays::Relays;
+use crate::relays::{Relays, Turning};
 use crate::stepped::Stepped;
 use crate::view::LineView;
 use std::alloc::{AllocError, Allocator, Global};
@@ -28,6 +28,7 @@ pub struct Core<A: Allocator = Global> {
     subs: Subs,
     machine: Machine<A>,
     relays: Relays<A>,
+    turning: Turning<A>,
     journal: Journal<A>,
 }
 
@@ -61,6 +62,7 @@ impl<A: Allocator + Copy> Core<A> {
             subs,
             machine,
             relays,
+            turning: Turning::new(),
             journal: Journal::new(alloc),
         })
     }
@@ -92,9 +94,10 @@ impl<A: Allocator + Copy> Core<A> {
             subs,
             machine,
             relays,
+            turning,
             journal,
         } = self;
-        advance(*alloc, subs, machine, relays, journal, event)
+        advance(*alloc, subs, machine, relays, turning, journal, event)
     }
 
     /// Prepares the three stalls that may follow one event: each takes no memory then, whatever other events come before

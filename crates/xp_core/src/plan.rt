@@ -8,21 +8,15 @@ mod event;
 mod request;
 mod send;
 
-ghost use Rattle.std.specs.Prelude.{◌≡◌, ◌+◌, ◌<◌, ◌≤◌, [], ◌∷◌, ◌++◌, None, Some, option_to_list};
-ghost use Rattle.arrayvec.specs.ArrayVec.{array_vec_len};
-ghost use Rattle.xp_core.specs.declared.records.TheConstants.{MOST_RECORDS};
+ghost use Rattle.std.specs.Prelude.{◌≡◌, [], None, Some};
 
-use self::clearing::Withdrawal;
 use crate::change::Change;
 use crate::outcome::Outcome;
 use crate::output::Buffer;
 use crate::records::Records;
-use crate::relays::Carriage;
-use arrayvec::ArrayVec;
 pub use event::plan_of;
 pub use send::{clear_indication, close, send_far};
 use std::alloc::{Allocator, Global};
-use xp_charge::Record;
 use xp_subs::LineNo;
 
 /// What is settled, put out, changed and recorded, in order.
@@ -33,29 +27,24 @@ pub struct Plan<A: Allocator = Global> {
     /// The line whose call a collision cancels, before the change.
     pub cancelled: Option<LineNo>,
     pub change: Option<Change>,
-    pub records: Records,
-    /// The relay that a call has from now on, if another.
-    pub carriage: Option<Carriage<A>>,
+    pub records: Records<A>,
 }
 
 impl<A: Allocator> Plan<A> {
-    /// These outputs alone.
-    pub fn of(outputs: Buffer<A>) -> Plan<A>
+    /// These outputs and records, and no change.
+    pub fn of(outputs: Buffer<A>, records: Records<A>) -> Plan<A>
         ensures outcome { result.outcome ≡ Outcome.Plain }
         ensures outputs { result.outputs ≡ outputs }
         ensures cancelled { result.cancelled ≡ None }
         ensures change { result.change ≡ None }
-        ensures records { result.records.items ≡ [] }
-        ensures no_records { array_vec_len result.records ≡ 0 }
-        ensures carriage { result.carriage ≡ None }
+        ensures records { result.records ≡ records }
     {
         Plan {
             outcome: Outcome::Plain,
             outputs,
             cancelled: None,
             change: None,
-            records: ArrayVec::new(),
-            carriage: None,
+            records,
         }
     }
 
@@ -82,60 +71,17 @@ impl<A: Allocator> Plan<A> {
             ..self
         }
     }
+}
 
-    /// The plan with this relay of a call.
-    pub fn carrying(self, carriage: Carriage<A>) -> Plan<A>
-        ensures { result ≡ record self { carriage = Some carriage } }
+impl<A: Allocator + Copy> Plan<A> {
+    /// Nothing.
+    pub fn nothing(alloc: A) -> Plan<A>
+        ensures outcome { result.outcome ≡ Outcome.Plain }
+        ensures outputs { result.outputs.outputs ≡ [] }
+        ensures cancelled { result.cancelled ≡ None }
+        ensures change { result.change ≡ None }
+        ensures records { result.records.items ≡ [] }
     {
-        Plan {
-            carriage: Some(carriage),
-            ..self
-        }
-    }
-
-    /// The plan with a line that leaves its call.
-    pub fn withdrawing(self, withdrawal: Withdrawal) -> Plan<A>
-        requires { array_vec_len self.records < MOST_RECORDS }
-        ensures outcome { result.outcome ≡ self.outcome }
-        ensures outputs { result.outputs ≡ self.outputs }
-        ensures cancelled { result.cancelled ≡ self.cancelled }
-        ensures change { result.change ≡ Some withdrawal.change }
-        ensures records { result.records.items ≡ self.records.items ++ option_to_list withdrawal.charged }
-        ensures carriage { result.carriage ≡ self.carriage }
-    {
-        let Withdrawal { change, charged } = withdrawal;
-        self.changing(change).with_some_record(charged)
-    }
-
-    /// The plan with this record, if there is one, after the others.
-    pub fn with_some_record(self, charged: Option<Record>) -> Plan<A>
-        requires { array_vec_len self.records < MOST_RECORDS }
-        ensures outcome { result.outcome ≡ self.outcome }
-        ensures outputs { result.outputs ≡ self.outputs }
-        ensures cancelled { result.cancelled ≡ self.cancelled }
-        ensures change { result.change ≡ self.change }
-        ensures records { result.records.items ≡ self.records.items ++ option_to_list charged }
-        ensures carriage { result.carriage ≡ self.carriage }
-        ensures count { array_vec_len result.records ≤ array_vec_len self.records + 1 }
-    {
-        match charged {
-            None => self,
-            Some(charged) => self.with_record(charged),
-        }
-    }
-
-    /// The plan with one more record, after the others.
-    pub fn with_record(mut self, charged: Record) -> Plan<A>
-        requires { array_vec_len self.records < MOST_RECORDS }
-        ensures outcome { result.outcome ≡ self.outcome }
-        ensures outputs { result.outputs ≡ self.outputs }
-        ensures cancelled { result.cancelled ≡ self.cancelled }
-        ensures change { result.change ≡ self.change }
-        ensures records { result.records.items ≡ self.records.items ++ charged ∷ [] }
-        ensures carriage { result.carriage ≡ self.carriage }
-        ensures count { array_vec_len result.records ≡ array_vec_len self.records + 1 }
-    {
-        self.records.push(charged);
-        self
+        Plan::of(Buffer::new(alloc), Records::empty(alloc))
     }
 }

@@ -1,6 +1,6 @@
 //! The relays of the connected calls, each under its caller's line.
 
-ghost use Rattle.std.specs.Prelude.{◌≡◌, ◌<◌, None, IfOk, length, replicate};
+ghost use Rattle.std.specs.Prelude.{◌≡◌, ◌<◌, None, Some, IfOk, length, replicate};
 ghost use Rattle.std.specs.Option.{option_copied};
 ghost use Rattle.xp_core.specs.Relays.{relay_under, relays_with};
 
@@ -54,15 +54,71 @@ impl<A: Allocator> Relays<A> {
         self.by_caller.get(usize::from(line))?.as_ref()
     }
 
-    /// A call has another relay from now on, if there is one.
-    pub fn put_if_any(&mut self, carriage: Option<Carriage<A>>)
-        ensures { self.new ≡ relays_with carriage self.old }
+    /// A call has another relay from now on, if one was worked out. The memory of the one before is kept.
+    pub fn turn(&mut self, turning: &mut Turning<A>)
+        ensures relays { self.new ≡ relays_with turning.old self.old }
     {
-        let Some(Carriage { caller, relay }) = carriage else {
+        let Some(Carriage { caller, relay }) = turning.next.take() else {
             return;
         };
         if let Some(place) = self.by_caller.get_mut(usize::from(caller)) {
-            *place = Some(relay);
+            turning.spare = place.replace(relay);
+        }
+    }
+}
+
+/// The relay that a call has after an event, while the event is worked out.
+#[derive(Debug, Drop)]
+pub struct Turning<A: Allocator> {
+    next: Option<Carriage<A>>,
+    /// A relay that is kept for its memory.
+    spare: Option<Relay<A>>,
+}
+
+impl<A: Allocator> Model for Turning<A> {
+    ghost use Rattle.std.specs.Prelude.{Option};
+    ghost use Rattle.xp_core.specs.declared.relays.Carriage.{Carriage};
+
+    ghost Value = { Option (Carriage A) };
+
+    ghost view = { λ t. t.next };
+}
+
+impl<A: Allocator> Turning<A> {
+    /// None is worked out yet.
+    pub fn new() -> Turning<A>
+        ensures { result ≡ None }
+    {
+        Turning {
+            next: None,
+            spare: None,
+        }
+    }
+
+    /// One that was worked out for an event that was not entered is forgotten.
+    pub fn forget(&mut self)
+        ensures { self.new ≡ None }
+    {
+        self.next = None;
+    }
+
+    /// A call has this relay after the event.
+    pub fn set(&mut self, next: Carriage<A>)
+        ensures { self.new ≡ Some next }
+    {
+        self.next = Some(next);
+    }
+}
+
+impl<A: Allocator + Copy> Turning<A> {
+    /// An equal copy of a relay.
+    pub fn copy_of(&mut self, relay: &Relay<A>) -> Result<Relay<A>, AllocError>
+        ensures copy { IfOk result (λ copied. copied ≡ relay.now) }
+        ensures same { self.new ≡ self.old }
+    {
+        match self.spare.take() {
+            None => relay.copy(),
+            Some(old) => relay.copy_over(old),
         }
     }
 }

@@ -1,7 +1,7 @@
 //! A stall: a line takes its packets too slowly, and is given up. What that needs is found beforehand, so that the stall
 //! itself takes no memory.
 
-ghost use Rattle.std.specs.Prelude.{◌≡◌, ◌≤◌, [], ◌∷◌, length};
+ghost use Rattle.std.specs.Prelude.{◌≡◌, ◌<◌, ◌≤◌, [], ◌∷◌, length, vec_len, vec_capacity};
 ghost use Rattle.xp_causes.specs.declared.clearing_cause.TheConstants.{OUT_OF_ORDER as GONE_OUT};
 ghost use Rattle.xp_causes.specs.declared.diagnostic.TheConstants.{NO_ADDITIONAL_INFORMATION as NO_INFORMATION};
 ghost use Rattle.xp_core.specs.Changes.{GoesOut, recorded_by};
@@ -23,6 +23,7 @@ use std::alloc::{AllocError, Allocator};
 use std::marker::Model;
 use xp_causes::clearing_cause::OUT_OF_ORDER;
 use xp_causes::diagnostic::NO_ADDITIONAL_INFORMATION;
+use xp_charge::Record;
 use xp_subs::LineNo;
 
 /// How much a stall puts out at most: the line's connection is to be closed, and the far end of its call is told.
@@ -33,16 +34,17 @@ const MOST_OUTPUTS: usize = 2;
 pub struct Spare<A: Allocator> {
     outputs: Buffer<A>,
     told: Buffer<A>,
+    records: Vec<Record, A>,
 }
 
 impl<A: Allocator> Model for Spare<A> {
-    ghost use Rattle.std.specs.Prelude.{◌≡◌, []};
+    ghost use Rattle.std.specs.Prelude.{◌≡◌, ◌<◌, [], vec_capacity};
 
     ghost Value = { Unit {0} };
 
     ghost view = { λ _. tt };
 
-    ghost invariant = { λ s. (s.outputs ≡ record { outputs = []; room = 2 }) × (s.told ≡ record { outputs = []; room = 2 }) };
+    ghost invariant = { λ s. (s.outputs ≡ record { outputs = []; room = 2 }) × (s.told ≡ record { outputs = []; room = 2 }) × (s.records.items ≡ []) × (0 < vec_capacity s.records) };
 }
 
 impl<A: Allocator + Copy> Spare<A> {
@@ -50,6 +52,7 @@ impl<A: Allocator + Copy> Spare<A> {
         Ok(Spare {
             outputs: Buffer::with_room(alloc, MOST_OUTPUTS)?,
             told: Buffer::with_room(alloc, MOST_OUTPUTS)?,
+            records: Vec::with_capacity(alloc, 1)?,
         })
     }
 }
@@ -59,18 +62,22 @@ pub fn give_up<A: Allocator>(machine: &mut Machine<A>, spare: Spare<A>, line: Li
     ensures makes { MakesStall machine.old line result machine.new }
     ensures one { length result.records.items ≤ 1 }
 {
-    let Spare { outputs, told } = spare;
+    let Spare {
+        outputs,
+        told,
+        records,
+    } = spare;
     if is_off(machine.line(line).state) {
         return Work {
             outcome: Outcome::Plain,
             outputs: outputs.into_outputs(),
             told: told.into_outputs(),
-            records: Records::new(),
+            records: Records::of(records),
         };
     }
     let outputs = tell(outputs, machine, line);
     let told = tell(told, machine, line);
-    let records = charge(machine, line);
+    let records = charge(records, machine, line);
     machine.go_out(line);
     Work {
         outcome: Outcome::Plain,
@@ -100,13 +107,18 @@ fn tell<A: Allocator>(buffer: Buffer<A>, machine: &Machine<A>, line: LineNo) -> 
 }
 
 /// The record of the call that the line is in, if it is in one.
-fn charge<A: Allocator>(machine: &Machine<A>, line: LineNo) -> Records
+fn charge<A: Allocator>(
+    mut records: Vec<Record, A>,
+    machine: &Machine<A>,
+    line: LineNo,
+) -> Records<A>
+    requires none { records.items ≡ [] }
+    requires room { vec_len records < vec_capacity records }
     ensures records { result.items ≡ recorded_by machine.now (leaves line GoesOut GONE_OUT NO_INFORMATION (call_on machine.now line) ∷ []) }
     ensures one { length result.items ≤ 1 }
 {
-    let mut records = Records::new();
     if let Some(call) = machine.call_on(line) {
-        records.push(call.record(OUT_OF_ORDER, NO_ADDITIONAL_INFORMATION));
+        records.push_reserved(call.record(OUT_OF_ORDER, NO_ADDITIONAL_INFORMATION));
     }
-    records
+    Records::of(records)
 }

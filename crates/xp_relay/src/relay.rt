@@ -20,7 +20,7 @@ use xp_packets::{End, Octets};
 
 mod taking;
 
-/// What a live call carries between its ends. All calls but `new` and `copy` take no memory: the room for what can
+/// What a live call carries between its ends. All calls but `new`, `copy` and `copy_over` take no memory: the room for what can
 /// wait is made by these, and that for the moves comes with the call.
 #[derive(Debug, Drop)]
 pub struct Relay<A: Allocator = Global> {
@@ -55,6 +55,20 @@ impl<A: Allocator + Copy> Relay<A> {
         Ok(Relay {
             from_caller: self.from_caller.copy()?,
             from_called: self.from_called.copy()?,
+        })
+    }
+
+    /// An equal relay, with the same room, in the memory of one that is kept no more.
+    pub fn copy_over(&self, old: Relay<A>) -> Result<Relay<A>, AllocError>
+        ensures { IfOk result (λ copied. copied ≡ self.now) }
+    {
+        let Relay {
+            from_caller,
+            from_called,
+        } = old;
+        Ok(Relay {
+            from_caller: self.from_caller.copy_over(from_caller)?,
+            from_called: self.from_called.copy_over(from_called)?,
         })
     }
 }

@@ -1,4 +1,6 @@
+mod DigitLemmas
 mod HexLemmas
 mod ListLemmas
 mod NameLemmas
+mod SaidLemmas
 mod WordLemmas

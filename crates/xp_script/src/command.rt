@@ -1,12 +1,14 @@
 //! What a line of a script says.
 
-ghost use Rattle.std.specs.Prelude.{◌≡◌, ◌&&◌, IfOk, IsTrue, codes, is_some};
+ghost use Rattle.std.specs.Prelude.{◌≡◌, ◌&&◌, IfOk, IsSome, IsTrue, codes, is_some};
 ghost use Rattle.xp_script.specs.Command.{octets_of, Answers, brings_octets, brings_octets_by, HasLine, is_skipped, LacksMemory, Reads, said_by, said_of, said_with, words};
 ghost use Rattle.xp_subs.specs.Tables.{line_count, same};
 
+use crate::digits::{are_digits, read_digits};
 use crate::fault::LineFault;
 use crate::heard::Heard;
 use crate::line::line_named;
+use crate::words::cut_word;
 use std::alloc::{Allocator, Global};
 use xp_subs::{LineNo, Subs};
 
@@ -66,15 +68,13 @@ fn read_words<A: Allocator>(
     ensures line { IfOk result (HasLine (line_count subs.now)) }
     ensures memory { LacksMemory result → IsTrue (brings_octets_by subs.now (words text.now)) }
 {
-    let mut words = text.split(|octet| *octet == b' ');
-    match (words.next(), words.next(), words.next(), words.next()) {
-        (Some(verb), Some(name), None, None) => {
-            about_line(verb, line_named(subs, name)).ok_or(LineFault::Faulty)
-        }
-        (Some(verb), Some(name), Some(digits), None) => {
-            about_octets(verb, line_named(subs, name), digits, memory)
-        }
-        _ => Err(LineFault::Faulty),
+    let Some((verb, rest)) = cut_word(text) else {
+        return Err(LineFault::Faulty);
+    };
+    match cut_word(rest) {
+        // A further space is no digit.
+        Some((name, digits)) => about_octets(verb, line_named(subs, name), digits, memory),
+        None => about_line(verb, line_named(subs, rest)).ok_or(LineFault::Faulty),
     }
 }
 
@@ -100,6 +100,7 @@ fn about_octets<A: Allocator>(
 ) -> Result<Command<A>, LineFault>
     ensures said { Answers (said_with verb.now line (octets_of digits.now)) result }
     ensures memory { LacksMemory result → IsTrue (same verb.now (codes "in") && is_some line) }
+    ensures digits { LacksMemory result → IsSome (octets_of digits.now) }
 {
     match line {
         Some(line) if matches!(verb, b"in") => Ok(Command::In(line, octets_of(digits, memory)?)),
@@ -109,16 +110,25 @@ fn about_octets<A: Allocator>(
 
 /// The octets that hexadecimal digits stand for, at least one, in this vector, whatever it holds.
 fn octets_of<A: Allocator>(digits: &[u8], memory: Vec<u8, A>) -> Result<Heard<A>, LineFault>
-    ensures { Answers (octets_of digits.now) result }
+    ensures octets { Answers (octets_of digits.now) result }
+    ensures memory { LacksMemory result → IsSome (octets_of digits.now) }
 {
+    if !are_octets(digits) {
+        return Err(LineFault::Faulty);
+    }
     let mut octets = memory;
     octets.clear();
     // As many octets as the digits stand for, and then those.
     octets
         .extend_from_slice(&digits[..digits.len() / 2])
         .map_err(|_| LineFault::Memory)?;
-    match hex::decode_to_slice(digits, &mut octets) {
-        Ok(()) if !octets.is_empty() => Ok(Heard::of(octets)),
-        _ => Err(LineFault::Faulty),
-    }
+    read_digits(digits, &mut octets);
+    Ok(Heard::of(octets))
+}
+
+/// Whether a text is digits alone, for whole octets, at least one.
+fn are_octets(text: &[u8]) -> bool
+    ensures { result ≡ is_some (octets_of text.now) }
+{
+    !text.is_empty() && text.len() % 2 == 0 && are_digits(text)
 }

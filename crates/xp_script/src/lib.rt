@@ -2,12 +2,14 @@
 #![tactic(auto)]
 
 mod command;
+mod digits;
 mod entry;
 mod fault;
 mod heard;
 mod line;
 mod output;
 mod text;
+mod words;
 
 pub use command::{Command, MAX_LINE_OCTETS};
 pub use entry::write_entry;

@@ -4,6 +4,7 @@ ghost use Rattle.std.specs.Prelude.{◌≡◌, ◌++◌, OnOk};
 ghost use Rattle.hex.specs.Hex.{encode_lower};
 ghost use Rattle.xp_charge.specs.Text.{Keeps, field};
 
+use crate::digits::write_digits;
 use std::alloc::{AllocError, Allocator};
 
 /// Adds a space and the octets of a field.
@@ -24,6 +25,6 @@ pub fn push_octets<A: Allocator>(text: &mut Vec<u8, A>, octets: &[u8]) -> Result
     // Twice, since each octet has two digits.
     text.extend_from_slice(octets)?;
     text.extend_from_slice(octets)?;
-    hex::encode_to_slice(octets, &mut text[start..]).unwrap();
+    write_digits(octets, &mut text[start..]);
     Ok(())
 }

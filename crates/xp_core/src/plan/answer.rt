@@ -19,7 +19,8 @@ use crate::change::Change;
 use crate::machine::Machine;
 use crate::outcome::{Agreement, Outcome};
 use crate::output::Buffer;
-use crate::relays::Carriage;
+use crate::records::Records;
+use crate::relays::{Carriage, Turning};
 use std::alloc::{AllocError, Allocator};
 use xp_answer::{Answer, Connection, examine};
 use xp_relay::Relay;
@@ -32,13 +33,15 @@ pub fn answer<A: Allocator + Copy>(
     machine: &Machine<A>,
     line: LineNo,
     answer: &CallAccepted<'_, A>,
+    turning: &mut Turning<A>,
 ) -> Result<Plan<A>, AllocError>
     requires line { line < line_count subs.now }
     requires terms { AllHaveTerms machine.now }
-    ensures { IfOk result (PlansAnswer subs.now machine.now line (answer_of answer.now)) }
+    requires none { turning.old ≡ None }
+    ensures { IfOk result (λ plan. PlansAnswer subs.now machine.now line (answer_of answer.now) plan turning.new) }
 {
     let Some(call) = machine.call_on(line) else {
-        return Ok(Plan::of(Buffer::with_room(alloc, 0)?));
+        return Ok(Plan::nothing(alloc));
     };
     let address = subs.address_of(line);
     match examine(
@@ -53,11 +56,9 @@ pub fn answer<A: Allocator + Copy>(
             let outputs = Buffer::with_room(alloc, 1)?;
             let agreement = agreement_of(&connection);
             let relay = Relay::new(alloc, agreement.relay_terms())?;
-            let plan = connect(machine, line, call, connection, outputs);
-            Ok(plan.carrying(Carriage {
-                caller: call.caller,
-                relay,
-            }))
+            let caller = call.caller;
+            turning.set(Carriage { caller, relay });
+            Ok(connect(alloc, machine, line, call, connection, outputs))
         }
         Answer::Refused(diagnostic) => {
             let plan = clear_both(alloc, machine, line, diagnostic)?;
@@ -77,6 +78,7 @@ fn agreement_of<A: Allocator>(connection: &Connection<A>) -> Agreement
 
 /// The call is connected: both lines are in data transfer.
 fn connect<A: Allocator>(
+    alloc: A,
     machine: &Machine<A>,
     line: LineNo,
     call: &LiveCall,
@@ -86,13 +88,13 @@ fn connect<A: Allocator>(
     requires empty { outputs.outputs ≡ [] }
     requires room { 0 < outputs.room }
     ensures outcome { result.outcome ≡ Outcome.Connected (agreed_by connection) }
-    ensures quiet { result.carriage ≡ None }
     ensures planned { call_on machine.now line ≡ Some (entry_of call.now)
         → IsPlan result machine.now (told_connected machine.now call.now.caller connection.packet) (Connects call.now.number (call_of_kept call.now) (agreed_by connection) ∷ []) }
 {
     let agreement = agreement_of(&connection);
     let change = Change::Connect { line, agreement };
-    Plan::of(outputs.with(send(machine, call.caller, connection.packet)))
+    let outputs = outputs.with(send(machine, call.caller, connection.packet));
+    Plan::of(outputs, Records::empty(alloc))
         .settling(Outcome::Connected(agreement))
         .changing(change)
 }

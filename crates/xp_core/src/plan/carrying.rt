@@ -1,6 +1,6 @@
 //! A packet that a line hands in for its connected call: data, flow control, interrupts and resets.
 
-ghost use Rattle.std.specs.Prelude.{◌≡◌, IfOk, map};
+ghost use Rattle.std.specs.Prelude.{◌≡◌, None, IfOk, map};
 ghost use Rattle.std.specs.Option.{option_copied};
 ghost use Rattle.xp_core.specs.Kept.{call_of_kept};
 ghost use Rattle.xp_core.specs.Plan.{PlansCarried};
@@ -16,7 +16,8 @@ use crate::entry::Entry;
 use crate::event::What;
 use crate::machine::Machine;
 use crate::output::Buffer;
-use crate::relays::{Carriage, Relays};
+use crate::records::Records;
+use crate::relays::{Carriage, Relays, Turning};
 use std::alloc::{AllocError, Allocator};
 use xp_packets::Packet;
 use xp_relay::Moves;
@@ -34,30 +35,31 @@ pub fn carry<A: Allocator + Copy>(
     _before: &[Entry<A>],
     line: LineNo,
     what: &What<A>,
+    turning: &mut Turning<A>,
 ) -> Result<Plan<A>, AllocError>
-    requires { AreCarried _subs.now _before.now machine.now relays.now }
-    ensures { IfOk result (PlansCarried (setting _subs.now _before.now machine.now line) what.now) }
+    requires carried { AreCarried _subs.now _before.now machine.now relays.now }
+    requires none { turning.old ≡ None }
+    ensures { IfOk result (λ plan. PlansCarried (setting _subs.now _before.now machine.now line) what.now plan turning.new) }
 {
     let Some(call) = machine.call_on(line) else {
-        return Ok(Plan::of(Buffer::with_room(alloc, 0)?));
+        return Ok(Plan::nothing(alloc));
     };
     let Some(packet) = packet_in(what) else {
-        return Ok(Plan::of(Buffer::with_room(alloc, 0)?));
+        return Ok(Plan::nothing(alloc));
     };
     if call.agreed.is_none() {
-        return Ok(Plan::of(Buffer::with_room(alloc, 0)?));
+        return Ok(Plan::nothing(alloc));
     }
     let Some(relay) = relays.under(call.caller) else {
-        return Ok(Plan::of(Buffer::with_room(alloc, 0)?));
+        return Ok(Plan::nothing(alloc));
     };
-    let mut relay = relay.copy()?;
+    let mut relay = turning.copy_of(relay)?;
     let room = Moves::with_room(alloc, MOST_MOVES)?;
     let moves = relay.take(call.end_of(line), packet, room)?;
     let outputs = send_all(alloc, machine, call, moves)?;
-    Ok(Plan::of(outputs).carrying(Carriage {
-        caller: call.caller,
-        relay,
-    }))
+    let caller = call.caller;
+    turning.set(Carriage { caller, relay });
+    Ok(Plan::of(outputs, Records::empty(alloc)))
 }
 
 /// The packet in an event.

@@ -20,70 +20,59 @@ use crate::change::{Change, Way};
 use crate::event::What;
 use crate::machine::Machine;
 use crate::output::{Buffer, Output};
+use crate::records::Records;
 use std::alloc::{AllocError, Allocator};
 use xp_answer::carry_clear;
 use xp_causes::clearing_cause::{LOCAL_PROCEDURE_ERROR, OUT_OF_ORDER, REMOTE_PROCEDURE_ERROR};
 use xp_causes::diagnostic::NO_ADDITIONAL_INFORMATION;
 use xp_causes::{cause_told, diagnostic_told};
-use xp_charge::Record;
 use xp_packets::Packet;
 use xp_subs::LineNo;
 
 /// A line that leaves the call that it is in, and the record of that call; or a line in no call.
 #[derive(Drop)]
-pub struct Withdrawal {
+pub struct Withdrawal<A: Allocator> {
     pub change: Change,
-    pub charged: Option<Record>,
+    pub records: Records<A>,
 }
 
 /// A line leaves the call that it is in, if it is in one, and that call ends: its far end is told this cause and
 /// diagnostic.
 pub fn withdraw<A: Allocator>(
+    alloc: A,
     machine: &Machine<A>,
     line: LineNo,
     way: Way,
     cause: u8,
     diagnostic: u8,
-) -> Withdrawal
-    ensures { IsWithdrawal result machine.now (leaves line (way_of way) cause diagnostic (call_on machine.now line)) }
+) -> Result<Withdrawal<A>, AllocError>
+    ensures { IfOk result (λ withdrawal. IsWithdrawal withdrawal machine.now (leaves line (way_of way) cause diagnostic (call_on machine.now line))) }
 {
     let change = Change::Leave { line, way };
-    match machine.call_on(line) {
-        None => Withdrawal {
-            change,
-            charged: None,
-        },
-        Some(call) => Withdrawal {
-            change,
-            charged: Some(call.record(cause, diagnostic)),
-        },
-    }
+    let none = Records::empty(alloc);
+    let records = match machine.call_on(line) {
+        None => none,
+        Some(call) => none.with(call.record(cause, diagnostic))?,
+    };
+    Ok(Withdrawal { change, records })
 }
 
 /// A line comes into service.
-pub fn rise<A: Allocator>(
-    alloc: A,
-    machine: &Machine<A>,
-    line: LineNo,
-) -> Result<Plan<A>, AllocError>
-    ensures { IfOk result (λ plan. IsPlainPlan plan machine.now nothing_told (Rises line ∷ [])) }
+pub fn rise<A: Allocator + Copy>(alloc: A, _machine: &Machine<A>, line: LineNo) -> Plan<A>
+    ensures { IsPlainPlan result _machine.now nothing_told (Rises line ∷ []) }
 {
-    Ok(Plan::of(Buffer::with_room(alloc, 0)?).changing(Change::Rise { line }))
+    Plan::nothing(alloc).changing(Change::Rise { line })
 }
 
 /// A cleared line is free again.
-pub fn free<A: Allocator>(
-    alloc: A,
-    machine: &Machine<A>,
-    line: LineNo,
-) -> Result<Plan<A>, AllocError>
-    ensures { IfOk result (λ plan. IsPlainPlan plan machine.now nothing_told (Leaves line IsFree ∷ [])) }
+pub fn free<A: Allocator + Copy>(alloc: A, _machine: &Machine<A>, line: LineNo) -> Plan<A>
+    ensures { IsPlainPlan result _machine.now nothing_told (Leaves line IsFree ∷ []) }
 {
-    Ok(Plan::of(Buffer::with_room(alloc, 0)?).changing(Change::Free { line }))
+    Plan::nothing(alloc).changing(Change::Free { line })
 }
 
 /// A line goes out of service: its call ends as out of order.
-pub fn fall<A: Allocator>(
+pub fn fall<A: Allocator + Copy>(
     alloc: A,
     machine: &Machine<A>,
     line: LineNo,
@@ -95,8 +84,15 @@ pub fn fall<A: Allocator>(
     let own = closing(machine, line, what);
     let far = send_far(machine, line, clear_indication(cause, diagnostic));
     let outputs = Buffer::with_room(alloc, 2)?.with_some(own).with_some(far);
-    let withdrawal = withdraw(machine, line, Way::GoesOut, cause, diagnostic);
-    Ok(Plan::of(outputs).withdrawing(withdrawal))
+    let Withdrawal { change, records } = withdraw(
+        alloc,
+        machine,
+        line,
+        Way::GoesOut,
+        cause,
+        diagnostic,
+    )?;
+    Ok(Plan::of(outputs, records).changing(change))
 }
 
 /// A line that is given up as too slow has its connection closed.
@@ -110,7 +106,7 @@ fn closing<A: Allocator>(machine: &Machine<A>, line: LineNo, what: &What<A>) -> 
 }
 
 /// A procedure error clears both ends of the line's call, or the line alone (X.25 clause 4.1 and Annex C).
-pub fn clear_both<A: Allocator>(
+pub fn clear_both<A: Allocator + Copy>(
     alloc: A,
     machine: &Machine<A>,
     line: LineNo,
@@ -126,14 +122,15 @@ pub fn clear_both<A: Allocator>(
     let indication = clear_indication(REMOTE_PROCEDURE_ERROR, diagnostic);
     let far = send_far(machine, line, indication);
     let outputs = Buffer::with_room(alloc, 2)?.with(own).with_some(far);
-    let withdrawal = withdraw(
+    let Withdrawal { change, records } = withdraw(
+        alloc,
         machine,
         line,
         Way::IsCleared,
         REMOTE_PROCEDURE_ERROR,
         diagnostic,
-    );
-    Ok(Plan::of(outputs).withdrawing(withdrawal))
+    )?;
+    Ok(Plan::of(outputs, records).changing(change))
 }
 
 /// A clear request is confirmed at once (X.25 clause 4.1.7), and the line's call ends.
@@ -150,8 +147,15 @@ pub fn confirm<A: Allocator + Copy>(
     let outputs = Buffer::with_room(alloc, 2)?.with(own).with_some(far);
     let cause = cause_told(clear.cause);
     let diagnostic = diagnostic_told(clear.diagnostic);
-    let withdrawal = withdraw(machine, line, Way::IsFree, cause, diagnostic);
-    Ok(Plan::of(outputs).withdrawing(withdrawal))
+    let Withdrawal { change, records } = withdraw(
+        alloc,
+        machine,
+        line,
+        Way::IsFree,
+        cause,
+        diagnostic,
+    )?;
+    Ok(Plan::of(outputs, records).changing(change))
 }
 
 /// What the far end of the line's call, if it is in one, is told of a clear request.

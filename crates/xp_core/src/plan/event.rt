@@ -1,6 +1,6 @@
 //! What each event does, by the table of actions.
 
-ghost use Rattle.std.specs.Prelude.{◌≡◌, ◌<◌, [], IfOk};
+ghost use Rattle.std.specs.Prelude.{◌≡◌, ◌<◌, [], None, IfOk};
 ghost use Rattle.xp_channel.specs.Table.{cell};
 ghost use Rattle.xp_core.specs.Agreed.{AllHaveTerms};
 ghost use Rattle.xp_core.specs.Channel.{channel_of};
@@ -21,15 +21,14 @@ use super::request::{Cancelled, request};
 use crate::entry::Entry;
 use crate::event::{Event, What};
 use crate::machine::Machine;
-use crate::output::Buffer;
-use crate::relays::Relays;
+use crate::relays::{Relays, Turning};
 use crate::table::action_of;
 use std::alloc::{AllocError, Allocator};
 use xp_causes::diagnostic::TIMER_EXPIRED_FOR_INCOMING_CALL;
 use xp_channel::Action;
 use xp_subs::{LineNo, Subs};
 
-/// Works out what an event does. It fails only for memory.
+/// Works out what an event does, and the relay that its call has from then on, if another. It fails only for memory.
 pub fn plan_of<A: Allocator + Copy>(
     alloc: A,
     subs: &Subs,
@@ -37,47 +36,48 @@ pub fn plan_of<A: Allocator + Copy>(
     relays: &Relays<A>,
     before: &[Entry<A>],
     event: &Event<A>,
+    turning: &mut Turning<A>,
 ) -> Result<Plan<A>, AllocError>
     requires line { event.now.line < line_count subs.now }
     requires terms { AllHaveTerms machine.now }
     requires carried { AreCarried subs.now before.now machine.now relays.now }
-    ensures { IfOk result (λ plan. Plans (setting subs.now before.now machine.now event.now.line) event.now.what (cell (channel_of (state_at machine.now event.now.line)) (kind_of event.now.what)) plan) }
+    requires none { turning.old ≡ None }
+    ensures { IfOk result (λ plan. Plans (setting subs.now before.now machine.now event.now.line) event.now.what (cell (channel_of (state_at machine.now event.now.line)) (kind_of event.now.what)) plan turning.new) }
 {
     let line = event.line;
     let what = &event.what;
     match action_of(machine.line(line).state, what) {
-        Action::Nothing => nothing(alloc, machine),
-        Action::Relayed => carry(alloc, subs, machine, relays, before, line, what),
-        Action::Rise => rise(alloc, machine, line),
+        Action::Nothing => Ok(nothing(alloc, machine)),
+        Action::Relayed => carry(alloc, subs, machine, relays, before, line, what, turning),
+        Action::Rise => Ok(rise(alloc, machine, line)),
         Action::Fall => fall(alloc, machine, line, what),
-        Action::Free => free(alloc, machine, line),
+        Action::Free => Ok(free(alloc, machine, line)),
         Action::Error(diagnostic) => clear_both(alloc, machine, line, diagnostic),
         Action::Expired => clear_both(alloc, machine, line, TIMER_EXPIRED_FOR_INCOMING_CALL),
         Action::NewCall => match request_in(what) {
-            None => nothing(alloc, machine),
-            Some(call) => request(alloc, subs, machine, line, &call, Cancelled::none()),
+            None => Ok(nothing(alloc, machine)),
+            Some(call) => request(alloc, subs, machine, line, &call, Cancelled::none(alloc)),
         },
         Action::Collision => match request_in(what) {
-            None => nothing(alloc, machine),
+            None => Ok(nothing(alloc, machine)),
             Some(call) => {
-                let cancelled = Cancelled::by(machine, line);
+                let cancelled = Cancelled::by(alloc, machine, line)?;
                 request(alloc, subs, machine, line, &call, cancelled)
             }
         },
         Action::Answer => match accepted_in(what) {
-            None => nothing(alloc, machine),
-            Some(accepted) => answer(alloc, subs, machine, line, &accepted),
+            None => Ok(nothing(alloc, machine)),
+            Some(accepted) => answer(alloc, subs, machine, line, &accepted, turning),
         },
         Action::Confirm => match clear_in(what) {
-            None => nothing(alloc, machine),
+            None => Ok(nothing(alloc, machine)),
             Some(clear) => confirm(alloc, machine, line, &clear),
         },
     }
 }
 
-fn nothing<A: Allocator>(alloc: A, machine: &Machine<A>) -> Result<Plan<A>, AllocError>
-    ensures { IfOk result (λ plan. IsPlainPlan plan machine.now nothing_told []) }
+fn nothing<A: Allocator + Copy>(alloc: A, _machine: &Machine<A>) -> Plan<A>
+    ensures { IsPlainPlan result _machine.now nothing_told [] }
 {
-    let _ = machine;
-    Ok(Plan::of(Buffer::with_room(alloc, 0)?))
+    Plan::nothing(alloc)
 }

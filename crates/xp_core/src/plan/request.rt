@@ -1,6 +1,6 @@
 //! A call request: it is put to a line as an incoming call, or cleared.
 
-ghost use Rattle.std.specs.Prelude.{◌≡◌, ◌<◌, [], ◌∷◌, ◌++◌, List, None, IfOk};
+ghost use Rattle.std.specs.Prelude.{◌≡◌, ◌+◌, ◌<◌, [], ◌∷◌, ◌++◌, List, None, IfOk, length, option_to_list};
 ghost use Rattle.xp_core.specs.Acts.{cancelled_told};
 ghost use Rattle.xp_core.specs.Asked.{request_of};
 ghost use Rattle.xp_core.specs.Changes.{Change as Changing, Begins, IsRefused};
@@ -20,6 +20,7 @@ use crate::channel::LogicalChannel;
 use crate::machine::Machine;
 use crate::outcome::Outcome;
 use crate::output::{Buffer, Output};
+use crate::records::Records;
 use std::alloc::{AllocError, Allocator};
 use xp_answer::{Setup, incoming_call};
 use xp_causes::Refusal;
@@ -35,34 +36,45 @@ use xp_subs::{LineNo, Subs};
 pub struct Cancelled<A: Allocator> {
     /// The line that it was put to.
     pub line: Option<LineNo>,
-    pub charged: Option<Record>,
+    pub records: Records<A>,
     /// What its caller is told.
     pub told: Option<Output<A>>,
 }
 
 impl<A: Allocator> Cancelled<A> {
     /// No call is cancelled.
-    pub fn none() -> Cancelled<A>
+    pub fn none(alloc: A) -> Cancelled<A>
         ensures { (world : World) → IsCancelled result world [] [] }
     {
         Cancelled {
             line: None,
-            charged: None,
+            records: Records::empty(alloc),
             told: None,
         }
     }
 
     /// The call that was put to the line.
-    pub fn by(machine: &Machine<A>, line: LineNo) -> Cancelled<A>
-        ensures { IsCancelled result machine.now (cancels line (call_on machine.now line)) (cancelled_told machine.now line) }
+    pub fn by(alloc: A, machine: &Machine<A>, line: LineNo) -> Result<Cancelled<A>, AllocError>
+        ensures { IfOk result (λ cancelled. IsCancelled cancelled machine.now (cancels line (call_on machine.now line)) (cancelled_told machine.now line)) }
     {
-        match machine.call_on(line) {
-            None => Cancelled::none(),
-            Some(call) => Cancelled {
-                line: Some(line),
-                charged: Some(call.record(NUMBER_BUSY, CALL_COLLISION)),
-                told: send_far(machine, line, clear_indication(NUMBER_BUSY, CALL_COLLISION)),
-            },
+        let Some(call) = machine.call_on(line) else {
+            return Ok(Cancelled::none(alloc));
+        };
+        let record = call.record(NUMBER_BUSY, CALL_COLLISION);
+        Ok(Cancelled {
+            line: Some(line),
+            records: Records::empty(alloc).with(record)?,
+            told: send_far(machine, line, clear_indication(NUMBER_BUSY, CALL_COLLISION)),
+        })
+    }
+
+    /// How many outputs tell of it.
+    fn outputs(&self) -> usize
+        ensures { result ≡ length (option_to_list self.now.told) }
+    {
+        match self.told {
+            None => 0,
+            Some(_) => 1,
         }
     }
 }
@@ -80,9 +92,12 @@ pub fn request<A: Allocator + Copy>(
     ensures { (ended : List Changing) (far : List (Sent A)) → IsCancelled cancelled machine.now ended far
         → IfOk result (PlansRequest subs.now machine.now caller (request_of request.now) ended far) }
 {
-    let outputs = Buffer::with_room(alloc, 2)?;
+    let outputs = Buffer::with_room(alloc, cancelled.outputs() + 1)?;
     match decide(alloc, subs, machine, caller, request.block)? {
-        Verdict::Refuse(why) => Ok(refused(machine, caller, request, why, cancelled, outputs)),
+        Verdict::Refuse(why) => {
+            let plan = refused(machine, caller, request, why, cancelled, outputs)?;
+            Ok(plan)
+        }
         Verdict::Take(ring) => {
             let (called, calling) = (subs.address_of(ring.line), subs.address_of(caller));
             let packet = incoming_call(alloc, &ring, called, calling, request.d, request.block)?;
@@ -107,9 +122,8 @@ fn put<A: Allocator>(
     outputs: Buffer<A>,
 ) -> Plan<A>
     requires empty { outputs.outputs ≡ [] }
-    requires room { 1 < outputs.room }
+    requires room { outputs.room ≡ length (option_to_list cancelled.told) + 1 }
     ensures outcome { result.outcome ≡ Outcome.Put called setup }
-    ensures quiet { result.carriage ≡ None }
     ensures planned { (ended : List Changing) (far : List (Sent A)) → IsCancelled cancelled machine.now ended far
         → IsPlan result machine.now (taken_told machine.now far called packet)
         (ended ++ Begins caller request.now.identifier called request.now.block.now.called setup ∷ []) }
@@ -124,17 +138,16 @@ fn put<A: Allocator>(
     let ring = send_as(machine, called, LogicalChannel::INITIAL_IDENTIFIER, packet);
     let Cancelled {
         line,
-        charged,
+        records,
         told,
     } = cancelled;
-    Plan::of(outputs.with_some(told).with(ring))
+    Plan::of(outputs.with_some(told).with(ring), records)
         .settling(Outcome::Put {
             line: called,
             setup,
         })
         .cancelling(line)
         .changing(begins)
-        .with_some_record(charged)
 }
 
 /// The call is cleared at once.
@@ -145,14 +158,13 @@ fn refused<A: Allocator>(
     why: Refusal,
     cancelled: Cancelled<A>,
     outputs: Buffer<A>,
-) -> Plan<A>
+) -> Result<Plan<A>, AllocError>
     requires empty { outputs.outputs ≡ [] }
-    requires room { 1 < outputs.room }
-    ensures outcome { result.outcome ≡ Outcome.Refused why }
-    ensures quiet { result.carriage ≡ None }
+    requires room { outputs.room ≡ length (option_to_list cancelled.told) + 1 }
+    ensures outcome { IfOk result (λ plan. plan.outcome ≡ Outcome.Refused why) }
     ensures planned { (ended : List Changing) (far : List (Sent A)) → IsCancelled cancelled machine.now ended far
-        → IsPlan result machine.now (refused_told machine.now far caller request.now.identifier why)
-        (ended ++ IsRefused caller request.now.identifier request.now.block.now.called why ∷ []) }
+        → IfOk result (λ plan. IsPlan plan machine.now (refused_told machine.now far caller request.now.identifier why)
+        (ended ++ IsRefused caller request.now.identifier request.now.block.now.called why ∷ [])) }
 {
     let identifier = request.identifier;
     let indication = clear_indication(why.cause, why.diagnostic);
@@ -170,16 +182,17 @@ fn refused<A: Allocator>(
     };
     let Cancelled {
         line,
-        charged,
+        records,
         told,
     } = cancelled;
-    Plan::of(outputs.with(own).with_some(told))
-        .settling(Outcome::Refused(why))
-        .cancelling(line)
-        .changing(Change::Refuse {
-            line: caller,
-            identifier,
-        })
-        .with_some_record(charged)
-        .with_record(record)
+    let records = records.with(record)?;
+    Ok(
+        Plan::of(outputs.with(own).with_some(told), records)
+            .settling(Outcome::Refused(why))
+            .cancelling(line)
+            .changing(Change::Refuse {
+                line: caller,
+                identifier,
+            }),
+    )
 }

@@ -1,6 +1,7 @@
 //! Equal copies.
 
-ghost use Rattle.std.specs.Prelude.{◌≡◌, IfOk};
+ghost use Rattle.std.specs.Prelude.{◌≡◌, ◌≤◌, [], IfOk, length};
+ghost use Rattle.std.specs.VecDeque.{deque_capacity};
 
 use crate::data::{Data, Interruption};
 use crate::lane::Lane;
@@ -12,10 +13,24 @@ impl<A: Allocator + Copy> Lane<A> {
     pub(crate) fn copy(&self) -> Result<Lane<A>, AllocError>
         ensures { IfOk result (λ copied. copied ≡ self.now) }
     {
-        let mut held = VecDeque::with_capacity(
-            *self.held.allocator(),
-            usize::from(self.terms.window),
-        )?;
+        self.copy_into(VecDeque::new(*self.held.allocator()))
+    }
+
+    /// An equal copy in the memory of a lane that is kept no more.
+    pub(crate) fn copy_over(&self, old: Lane<A>) -> Result<Lane<A>, AllocError>
+        ensures { IfOk result (λ copied. copied ≡ self.now) }
+    {
+        let mut memory = old.held;
+        memory.clear();
+        self.copy_into(memory)
+    }
+
+    /// An equal copy, whose packets wait in this queue.
+    fn copy_into(&self, mut held: VecDeque<Data<A>, A>) -> Result<Lane<A>, AllocError>
+        requires { held.items ≡ [] }
+        ensures { IfOk result (λ copied. copied ≡ self.now) }
+    {
+        held.reserve(usize::from(self.terms.window))?;
         for place in 0..self.held.len() {
             held.push_back_reserved(self.held[place].copy()?);
         }

@@ -9,7 +9,7 @@ returns-then-is_off-clause-makes g c =
     let off : is_off (state_at c.args.machine.now c.args.line) ≡ true = sym (ap is_off c.line.ensures.state) ∙ sym c.is_off.ensures ∙ c.if-is_off.true in
     makes_nothing c.args.machine.now c.args.line _ c.args.machine.now refl
     (c.into_outputs-then-is_off.ensures ∙ ap (λ b. b.outputs) c.spare.invariant.1 ∙ sym (c.into_outputs.ensures ∙ ap (λ b. b.outputs) c.spare.invariant.0)) off
-    (c.into_outputs.ensures ∙ ap (λ b. b.outputs) c.spare.invariant.0) c.new.ensures refl
+    (c.into_outputs.ensures ∙ ap (λ b. b.outputs) c.spare.invariant.0) (c.of.ensures ∙ c.spare.invariant.2) refl
 
 pub returns-clause-makes : goal.returns-clause-makes
 returns-clause-makes g c =

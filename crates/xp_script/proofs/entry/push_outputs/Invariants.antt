@@ -1,5 +1,4 @@
 use Rattle.std.proofs.Common.{◌≡◌, ◌++◌, flat_map, take}
-use Rattle.xp_charge.specs.Text.{Keeps}
 use Rattle.xp_script.specs.Text.{output_text}
 use Rattle.xp_script.proofs.entry.push_outputs.Given as goal
 

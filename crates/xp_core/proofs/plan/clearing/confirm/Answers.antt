@@ -5,5 +5,5 @@ use Rattle.xp_core.proofs.plan.clearing.confirm.Goals as goal
 
 pub returns : goal.returns
 returns g c =
-    confirmed c.args.machine.now c.args.line (clear_of c.args.clear.now) c.withdrawing.result (option_to_list c.in_ok-far.far)
-    (search rules) (search rules) c.in_ok-far.ensures (search rules)
+    confirmed c.args.machine.now c.args.line (clear_of c.args.clear.now) c.changing.result (option_to_list c.in_ok-far.far)
+    (search rules) c.in_ok-far.ensures (search rules)

@@ -8,7 +8,7 @@ use Rattle.xp_core.proofs.plan.request.put.Goals as goal
 
 pub returns-clause-planned : goal.returns-clause-planned
 returns-clause-planned g c ended far ends =
-    planned c.with_some_record.result c.args.machine.now c.args.cancelled ended far
+    planned c.changing.result c.args.machine.now c.args.cancelled ended far
     (kept.Begin c.args.caller c.args.request.now.identifier c.args.called c.args.request.now.block.now.called c.args.setup)
     (Begins c.args.caller c.args.request.now.identifier c.args.called c.args.request.now.block.now.called c.args.setup)
     [] (send_as c.args.machine.now c.args.called INITIAL_IDENTIFIER c.args.packet ∷ []) [] ends

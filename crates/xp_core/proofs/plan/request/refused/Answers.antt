@@ -8,7 +8,7 @@ use Rattle.xp_core.proofs.plan.request.refused.Goals as goal
 
 pub returns-clause-planned : goal.returns-clause-planned
 returns-clause-planned g c ended far ends =
-    planned c.with_record.result c.args.machine.now c.args.cancelled ended far
+    planned c.changing.result c.args.machine.now c.args.cancelled ended far
     (kept.Refuse c.args.caller c.args.request.now.identifier)
     (IsRefused c.args.caller c.args.request.now.identifier c.args.request.now.block.now.called c.args.why)
     (send_as c.args.machine.now c.args.caller c.args.request.now.identifier (clear_indication c.args.why.cause c.args.why.diagnostic) ∷ []) []

@@ -1,6 +1,6 @@
 use Rattle.std.proofs.Common.{◌≡◌, ◌≤◌, take}
 use Rattle.std.specs.VecDeque.{deque_capacity, deque_len}
-use Rattle.xp_relay.proofs.lane.Lane.copy.Given as goal
+use Rattle.xp_relay.proofs.lane.Lane.copy_into.Given as goal
 
 abbrev pub invariant-loop-place : goal.invariant-loop-place
 invariant-loop-place g l = record {

@@ -1,0 +1,8 @@
+use Rattle.std.proofs.Common.{◌≡◌, ◌*◌, take, drop}
+use Rattle.hex.specs.Hex.{decode_pairs}
+use Rattle.hex.proofs.Pairs.{prepend}
+use Rattle.xp_script.proofs.digits.read_digits.Given as goal
+
+abbrev pub invariant-octets : goal.invariant-octets
+invariant-octets l =
+    decode_pairs 0 l.digits ≡ prepend (take l.place l.octets) (decode_pairs (2 * l.place) (drop (2 * l.place) l.digits))

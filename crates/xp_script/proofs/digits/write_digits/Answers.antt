@@ -1,0 +1,11 @@
+use Rattle.std.proofs.Common.{arith}
+use Rattle.hex.specs.Hex.{lower_digits}
+use Rattle.hex.proofs.Pairs.{encode_done, encode_step}
+use Rattle.xp_script.proofs.digits.write_digits.Goals as goal
+
+pub octets-preserved : goal.octets-preserved
+octets-preserved c =
+    encode_step lower_digits c.args.octets.now c.octets.digits c.octets.place _ _ (omega arith) (omega arith) c.digit_of.ensures c.digit_of-in-octets.ensures c.octets.invariant
+
+pub returns : goal.returns
+returns c = encode_done _ _ _ c.octets.place (omega arith) (omega arith) c.octets.invariant
