@@ -1,5 +1,5 @@
 -- An event is entered, and the stalls that it forces.
-use Rattle.std.proofs.Common.{◌≡◌, ℕ, ◌+◌, ◌-◌, ◌<◌, ◌≤◌, false, List, [], ◌∷◌, ◌++◌, take, drop, length, sym, refl, ap, ◌∙◌, subst, inl, inr, arith, append_assoc, append-nil}
+use Rattle.std.proofs.Common.{◌≡◌, ℕ, ◌+◌, ◌-◌, ◌<◌, ◌≤◌, false, List, [], ◌∷◌, ◌++◌, take, drop, length, sym, refl, ap, ◌∙◌, subst, inl, inr, arith, append_assoc, append-nil, length-append}
 use Rattle.std.proofs.lemmas.Bool.{cases_lt}
 use Rattle.std.proofs.lemmas.Grind.{flat_map-append}
 use Rattle.xp_outbox.specs.Ends.{Putting}
@@ -23,6 +23,7 @@ use Rattle.xp_core.specs.World.{line_at, state_at}
 use Rattle.xp_lock.specs.declared.done.Done.{Done}
 use Rattle.xp_lock.specs.Boxes.{AreKept, HasRoomFor, IsPut, PLACES_KEPT, box_at}
 use Rattle.xp_lock.specs.Forced.{IsQuiet, Stalls}
+use Rattle.xp_lock.specs.Given.{AreGiven, IsGivenToFew}
 use Rattle.xp_lock.specs.Handed.{is_stall}
 use Rattle.xp_lock.specs.Outgoing.{put_out_to, to_line}
 use Rattle.xp_lock.specs.Stalling.{CanEnter, HasEntered, HasStalled, switch_of}
@@ -102,9 +103,31 @@ module _ {A : Type 0} (old mid : Exchange A) (event : Event A) (told : Stepped A
       lines = put.count ∙ can.kept.count ∙ ap line_count (sym step.subs);
     }
 
+    module _ (new : Exchange A) (after : List (Putting (Outgoing A))) (stalled : HasStalled mid from between new after) where
+      since_new : drop from new.history ≡ step.entry ∷ stalled.stalls
+      since_new =
+          let new_is : new.history ≡ old.history ++ (step.entry ∷ stalled.stalls) =
+          stalled.history ∙ ap (λ xs. xs ++ stalled.stalls) step.history ∙ append_assoc old.history (step.entry ∷ []) stalled.stalls in
+          ap (λ n. drop n new.history) count ∙ ap (drop (length old.history)) new_is ∙ drop_front old.history (step.entry ∷ stalled.stalls)
+
+      since_mid : drop from mid.history ≡ step.entry ∷ []
+      since_mid = ap (λ n. drop n mid.history) count ∙ ap (drop (length old.history)) step.history ∙ drop_front old.history (step.entry ∷ [])
+
+      pub from_within : from ≤ length new.history
+      from_within =
+          let long = ap length stalled.history in
+          let mid_long = ap length step.history in
+          omega (arith, count, long, mid_long, length-append mid.history stalled.stalls, length-append old.history (step.entry ∷ []))
+
+      pub given_few : IsGivenToFew (drop from new.history)
+      given_few = subst (λ xs. IsGivenToFew xs) (ap (λ xs. xs ++ stalled.stalls) since_mid ∙ sym since_new) stalled.given
+
+      pub line_there : event.line < line_count old.subs → event.line < line_count new.subs
+      line_there within = subst (λ t. event.line < line_count t) (sym (stalled.subs ∙ step.subs)) within
+
     module _ (new : Exchange A) (after : List (Putting (Outgoing A))) (stalled : HasStalled mid from between new after) (done : Done)
         (number : done.entry ≡ told.entry) (records : done.records ≡ length (records_of new.history))
-        (connection : done.connection ≡ (line_at (world_of new) event.line).connection) where
+        (connection : done.connection ≡ (line_at (world_of new) event.line).connection) (given : AreGiven (drop from new.history) done.given.items) where
       before_is : take from mid.history ≡ old.history
       before_is = ap (λ n. take n mid.history) count ∙ ap (take (length old.history)) step.history ∙ take_front old.history (step.entry ∷ [])
 
@@ -162,6 +185,7 @@ module _ {A : Type 0} (old mid : Exchange A) (event : Event A) (told : Stepped A
         number = number ∙ step.number;
         records = records;
         connection = connection;
+        given = subst (λ xs. AreGiven xs done.given.items) (since_new new after stalled) given;
       }
 
       -- a line in service has its places

@@ -22,6 +22,7 @@ use Rattle.xp_lock.specs.Outgoing.{put_out_to, to_line}
 use Rattle.xp_lock.specs.Stalling.{HasEntered, HasStalled, IsLowestShort, IsSearched, IsShort}
 use Rattle.xp_lock.proofs.Calls.{AreClosed, closed}
 use Rattle.xp_lock.proofs.Entered.{drop_front, take_front}
+use Rattle.xp_lock.proofs.GivenLines.{is_from}
 use Rattle.xp_lock.proofs.Putting.{box_there}
 use Rattle.xp_lock.proofs.Stalled.{EachLine, closed_next, each_push, each_weaker, few, goes_among, off_after, one_less, one_up, rises, served, stalls_grow, stalls_push, stays_off, up, up_most}
 use Rattle.xp_lock.proofs.Trio.{Among, goes_to, trio, trio_few}
@@ -36,6 +37,7 @@ module _ {A : Type 0} (core : Exchange A) (from : ℕ) (boxes : List (Putting (O
     pub known : ℕ → ℕ
     -- whom the event put something out to
     pub lines : List ℕ
+    pub few_lines : length lines ≤ 3
     pub forced : Stalls core.subs (take from core.history) (world_of core) known since stalls (world_of now)
     pub history : now.history ≡ core.history ++ stalls
     pub subs : now.subs ≡ core.subs
@@ -89,6 +91,7 @@ module _ {A : Type 0} (core : Exchange A) (from : ℕ) (boxes : List (Putting (O
           stalls = [];
           known = λ line. (box_at boxes line).free + length (put_out_to line since);
           lines = three;
+          few_lines = trio_few old_world entered.entry.event.line entered.entry.outcome;
           forced = refl;
           history = sym (append-nil core.history);
           subs = refl;
@@ -123,6 +126,7 @@ module _ {A : Type 0} (core : Exchange A) (from : ℕ) (boxes : List (Putting (O
           stalls = loop.stalls;
           known = known;
           lines = loop.lines;
+          few_lines = loop.few_lines;
           forced = stalls_grow core.subs (take from core.history) (world_of core) loop.known known since loop.stalls (world_of now) grows
               (each_weaker (λ line. is_off (state_at (world_of now) line) ≡ true) (λ line. loop.known line ≡ known line)
               (λ line off. sym (loop.free line) ∙ ap (λ b. b.free + length (put_out_to line (since ++ loop.stalls))) (sym (search.still line off))) loop.stalls loop.gone)
@@ -178,6 +182,7 @@ module _ {A : Type 0} (core : Exchange A) (from : ℕ) (boxes : List (Putting (O
             let some : 0 < (box_at after line).free = omega (arith, enough, most) in
             none line (box_there after line some) (short_is line due);
         few = let most = loop.left in omega (arith, most);
+        given = record { lines = loop.lines; few = loop.few_lines; goes = λ line some. is_from loop.lines line (loop.goes line some) };
         history = loop.history;
         subs = loop.subs;
         stays = loop.stays;
@@ -291,6 +296,7 @@ module _ {A : Type 0} (core : Exchange A) (from : ℕ) (boxes : List (Putting (O
               stalls = loop.stalls ++ advances.entry ∷ [];
               known = loop.known;
               lines = loop.lines;
+              few_lines = loop.few_lines;
               forced = stalls_push core.subs (take from core.history) (world_of core) loop.known since loop.stalls (world_of now) advances.entry (world_of next) loop.forced what
                   (subst (IsLowestDue (world_of now) loop.known (since ++ loop.stalls)) (sym here) due_here) step_core;
               history = advances.history ∙ ap (λ xs. xs ++ advances.entry ∷ []) loop.history ∙ append_assoc core.history loop.stalls (advances.entry ∷ []);

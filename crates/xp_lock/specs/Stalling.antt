@@ -13,6 +13,7 @@ use Rattle.xp_core.specs.Step.{Step}
 use Rattle.xp_core.specs.World.{state_at}
 use Rattle.xp_lock.specs.Boxes.{AreAlike, AreKept, PLACES_KEPT, box_at}
 use Rattle.xp_lock.specs.Forced.{IsQuiet, Stalls}
+use Rattle.xp_lock.specs.Given.{IsGivenToFew}
 use Rattle.xp_lock.specs.Handed.{is_stall}
 use Rattle.xp_lock.specs.Outgoing.{put_out_to}
 use Rattle.xp_lock.specs.Switch.{HasPlaces, Switch, is_up}
@@ -69,6 +70,7 @@ module _ {A : Type 0} where
     pub forced : Stalls core.subs (take from core.history) (world_of core) known (drop from core.history) stalls (world_of new)
     pub quiet : IsQuiet (world_of new) known (drop from core.history ++ stalls)
     pub few : length stalls ≤ 3
+    pub given : IsGivenToFew (drop from core.history ++ stalls)
     pub history : new.history ≡ core.history ++ stalls
     pub subs : new.subs ≡ core.subs
     -- no line comes into service

@@ -46,5 +46,5 @@ pub fn enter<A: Allocator + Copy, R: Wait>(
     };
     put_all(rt, boxes, told.outputs);
     stall_all(rt, core, boxes, from);
-    Ok(Done::new(told.entry, core, line))
+    Ok(Done::new(told.entry, core, line, from))
 }

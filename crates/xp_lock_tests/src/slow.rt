@@ -10,9 +10,9 @@ use std::marker::Brand;
 use std::sync::Wait;
 use std::test::Fail;
 use xp_core::{Event, Outgoing, Put, What};
-use xp_lock::{Blanks, Book, Exchange, LinePass, Name, OfferFault, prepare};
+use xp_lock::{Blanks, Book, Done, Exchange, LinePass, Name, OfferFault, prepare};
 use xp_packets::Packet;
-use xp_subs::Subs;
+use xp_subs::{LineNo, Subs};
 use xp_testing::THREE_STATIONS;
 
 /// How many data packets a1 sends.
@@ -21,6 +21,8 @@ const PACKETS: u8 = 40;
 /// What came of the data packets from a1 to b1.
 #[derive(Debug, Default, Drop, PartialEq)]
 struct Seen {
+    /// The first line that was given something by the call request.
+    rung: Option<LineNo>,
     /// How many outputs b1's outbox kept to the end, and whether the last of them is to close the connection.
     kept: usize,
     closes: bool,
@@ -40,12 +42,12 @@ fn offer<N: Name>(
     exchange: &Exchange<N, Global>,
     pass: &mut LinePass<N, Global>,
     what: What,
-) -> Option<OfferFault>
+) -> Result<Done, OfferFault>
     requires readable { IsReadable what }
     requires kind { is_stall what ≡ false }
 {
     let line = pass.line();
-    exchange.offer(rt, pass, Event { line, what }).err()
+    exchange.offer(rt, pass, Event { line, what })
 }
 
 /// Takes all outputs of the pass's line: how many there were, and the last.
@@ -91,13 +93,15 @@ fn talk<N: Name>(
     at_once: bool,
 ) -> Result<Seen, Fail> {
     let mut seen = Seen::default();
-    offer(rt, exchange, a1, What::Up);
-    offer(rt, exchange, b1, What::Up);
-    offer(rt, exchange, a1, packet(alloc, &CALL)?);
-    offer(rt, exchange, b1, packet(alloc, &ACCEPTED)?);
+    let _up = offer(rt, exchange, a1, What::Up);
+    let _up = offer(rt, exchange, b1, What::Up);
+    if let Ok(done) = offer(rt, exchange, a1, packet(alloc, &CALL)?) {
+        seen.rung = done.given().first().copied();
+    }
+    let _accepted = offer(rt, exchange, b1, packet(alloc, &ACCEPTED)?);
     for number in 0..PACKETS {
-        offer(rt, exchange, a1, packet(alloc, &data(number % 8))?);
-        offer(rt, exchange, b1, packet(alloc, &ready((number + 1) % 8))?);
+        let _data = offer(rt, exchange, a1, packet(alloc, &data(number % 8))?);
+        let _ready = offer(rt, exchange, b1, packet(alloc, &ready((number + 1) % 8))?);
         if at_once {
             take_all(rt, exchange, b1);
         }
@@ -105,7 +109,7 @@ fn talk<N: Name>(
         seen.cleared = cleared(last);
     }
     let up = offer(rt, exchange, b1, What::Up);
-    seen.without_room = matches!(up, Some(OfferFault::NoRoom(_)));
+    seen.without_room = matches!(up, Err(OfferFault::NoRoom(_)));
     let (kept, last) = take_all(rt, exchange, b1);
     seen.kept = kept;
     seen.closes = matches!(
@@ -115,7 +119,7 @@ fn talk<N: Name>(
             ..
         })
     );
-    seen.came_up = offer(rt, exchange, b1, What::Up).is_none();
+    seen.came_up = offer(rt, exchange, b1, What::Up).is_ok();
     Ok(seen)
 }
 
@@ -170,6 +174,7 @@ fn slow_line_is_stalled(rt: HostRuntime) -> Result<(), Fail> {
     assert_eq!(rt;
         plays::<Brand>(&rt, rt.alloc(), blanks, false)?,
         Some(Seen {
+            rung: Some(1),
             kept: 42,
             closes: true,
             cleared: Some((0x09, Some(0))),
@@ -188,6 +193,7 @@ fn line_that_takes_at_once_is_not_stalled(rt: HostRuntime) -> Result<(), Fail> {
     assert_eq!(rt;
         plays::<Brand>(&rt, rt.alloc(), blanks, true)?,
         Some(Seen {
+            rung: Some(1),
             kept: 0,
             closes: false,
             cleared: None,

@@ -1,6 +1,6 @@
 use Rattle.std.proofs.Common.{rules, ap, length, ◌∙◌, sym, subst, ◌<◌, ◌≤◌, arith}
 use Rattle.xp_subs.specs.Tables.{line_count}
-use Rattle.xp_lock.proofs.Entered.{can_still, entered, kept, left_others, room_for, taken, takes_still}
+use Rattle.xp_lock.proofs.Entered.{can_still, entered, from_within, given_few, kept, left_others, room_for, taken, takes_still}
 use Rattle.xp_lock.proofs.entering.enter.Goals as goal
 
 pub step-requires-clause-line : goal.step-requires-clause-line
@@ -30,7 +30,7 @@ returns-clause-ok g c =
     (can_still _ _ c.reserve_stalls.ensures.rest _ _ c.requires.can) c.line-coupled.ensures.coupled c.in-Ok.ensures.ok c.in-Ok.ensures.few c.history-from.ensures.run
     c.put_all.new.boxes.items (length c.history-from.result.now) (ap length c.history-from.ensures.entries) c.put_all.ensures
     c.stall_all.new.core c.stall_all.new.boxes.items c.stall_all.ensures c.new.result
-    c.new.ensures.entry c.new.ensures.records c.new.ensures.connection)
+    c.new.ensures.entry c.new.ensures.records c.new.ensures.connection c.new.ensures.given)
 
 pub returns-clause-kept : goal.returns-clause-kept
 returns-clause-kept g c =
@@ -38,4 +38,16 @@ returns-clause-kept g c =
     (can_still _ _ c.reserve_stalls.ensures.rest _ _ c.requires.can) c.line-coupled.ensures.coupled c.in-Ok.ensures.ok c.in-Ok.ensures.few c.history-from.ensures.run
     c.put_all.new.boxes.items (length c.history-from.result.now) (ap length c.history-from.ensures.entries) c.put_all.ensures
     c.stall_all.new.core c.stall_all.new.boxes.items c.stall_all.ensures c.new.result
-    c.new.ensures.entry c.new.ensures.records c.new.ensures.connection
+    c.new.ensures.entry c.new.ensures.records c.new.ensures.connection c.new.ensures.given
+
+pub new-requires-clause-before : goal.new-requires-clause-before
+new-requires-clause-before g c = from_within c.reserve_stalls.new.self c.step.new.self c.args.event c.in-Ok.told c.args.boxes.now.items
+    (can_still _ _ c.reserve_stalls.ensures.rest _ _ c.requires.can) c.line-coupled.ensures.coupled c.in-Ok.ensures.ok c.in-Ok.ensures.few c.history-from.ensures.run
+    c.put_all.new.boxes.items (length c.history-from.result.now) (ap length c.history-from.ensures.entries) c.put_all.ensures
+    c.stall_all.new.core c.stall_all.new.boxes.items c.stall_all.ensures
+
+pub new-requires-clause-few : goal.new-requires-clause-few
+new-requires-clause-few g c = given_few c.reserve_stalls.new.self c.step.new.self c.args.event c.in-Ok.told c.args.boxes.now.items
+    (can_still _ _ c.reserve_stalls.ensures.rest _ _ c.requires.can) c.line-coupled.ensures.coupled c.in-Ok.ensures.ok c.in-Ok.ensures.few c.history-from.ensures.run
+    c.put_all.new.boxes.items (length c.history-from.result.now) (ap length c.history-from.ensures.entries) c.put_all.ensures
+    c.stall_all.new.core c.stall_all.new.boxes.items c.stall_all.ensures

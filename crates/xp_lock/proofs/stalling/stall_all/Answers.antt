@@ -1,5 +1,5 @@
-use Rattle.std.proofs.Common.{ℕ, ◌<◌, ◌-◌, ap, arith, length, length-append, subst, ◌∷◌, []}
-use Rattle.xp_lock.proofs.Looping.{begins, ends, from_within, goes_on, has_place, is_line, is_prepared, looked, room}
+use Rattle.std.proofs.Common.{ap, arith, length, length-append, ◌∷◌, []}
+use Rattle.xp_lock.proofs.Looping.{begins, ends, goes_on, has_place, is_prepared, looked, room}
 use Rattle.xp_lock.proofs.stalling.stall_all.Goals as goal
 
 pub loop-line-init : goal.loop-line-init

@@ -1,4 +1,4 @@
-use Rattle.std.proofs.Common.{ap, length, subst, sym, ◌∙◌, ◌≡◌}
+use Rattle.std.proofs.Common.{length, subst, ◌≡◌}
 use Rattle.xp_subs.specs.Tables.{line_count}
 use Rattle.xp_lock.specs.Closing.{all_handed, handed_together}
 use Rattle.xp_lock.proofs.Counted.{counted}
