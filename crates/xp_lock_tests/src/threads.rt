@@ -22,9 +22,9 @@ fn offer_all<N: Name, R: Wait>(
     pass: LinePass<N, Global>,
 ) -> (LinePass<N, Global>, bool) {
     let mut pass = pass;
-    let line = pass.line();
     let mut number = 0;
     for place in 0..EVENTS {
+        let line = pass.line();
         let what = if place == 0 { What::Up } else { What::Expire };
         match exchange.offer(rt, &mut pass, Event { line, what }) {
             Ok(done) if done.entry() > number => number = done.entry(),
