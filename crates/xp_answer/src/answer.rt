@@ -12,7 +12,7 @@ use crate::setup::Setup;
 use std::alloc::{AllocError, Allocator, Global};
 use xp_causes::diagnostic;
 use xp_facilities::{Asked, FastSelect, parse};
-use xp_packets::{Block, Digits};
+use xp_packets::{Block, Digits, Shared};
 
 /// What becomes of the answer to an incoming call.
 #[derive(Debug, Drop, PartialEq)]
@@ -34,7 +34,7 @@ pub fn examine<A: Allocator + Copy>(
     address: &Digits,
     dialled: &Digits,
     d: bool,
-    block: &Option<Block<A>>,
+    block: &Option<Shared<Block<A>, A>>,
 ) -> Result<Answer<A>, AllocError>
     requires { AreTerms setup.now.indicated }
     ensures answered { IfOk result (Answered setup.now address.now dialled.now d block.now) }
@@ -63,7 +63,7 @@ pub fn examine<A: Allocator + Copy>(
 fn accept<A: Allocator + Copy>(
     alloc: A,
     setup: &Setup,
-    block: &Option<Block<A>>,
+    block: &Option<Shared<Block<A>, A>>,
 ) -> Result<Asked<A>, AnswerFault>
     ensures { Examines setup.now block.now result }
 {
@@ -81,7 +81,7 @@ fn accept<A: Allocator + Copy>(
 }
 
 /// Whether an answer may carry what user data it has: without fast select it has none.
-fn may_carry<A: Allocator>(fast: FastSelect, block: &Option<Block<A>>) -> bool
+fn may_carry<A: Allocator>(fast: FastSelect, block: &Option<Shared<Block<A>, A>>) -> bool
     ensures may { IsTrue result → MayCarry fast block.now }
     ensures may_not { result ≡ false → MayNotCarry fast block.now }
 {

@@ -4,10 +4,10 @@ ghost use Rattle.std.specs.Prelude.{◌≡◌, ◌≢◌, [], false, IsTrue, IfO
 ghost use Rattle.xp_answer.specs.Blocks.{facilities_in, user_in};
 
 use std::alloc::{AllocError, Allocator};
-use xp_packets::{Block, Octets};
+use xp_packets::{Block, Octets, Shared};
 
 /// Its facility field.
-pub fn facilities_in<A: Allocator>(block: &Option<Block<A>>) -> &[u8]
+pub fn facilities_in<A: Allocator>(block: &Option<Shared<Block<A>, A>>) -> &[u8]
     ensures { result.now ≡ facilities_in block.now }
 {
     match block {
@@ -19,7 +19,7 @@ pub fn facilities_in<A: Allocator>(block: &Option<Block<A>>) -> &[u8]
 /// A copy of its user data.
 pub fn user_in<A: Allocator + Copy>(
     alloc: A,
-    block: &Option<Block<A>>,
+    block: &Option<Shared<Block<A>, A>>,
 ) -> Result<Octets<A>, AllocError>
     ensures { IfOk result (λ user. user ≡ user_in block.now) }
 {
@@ -30,7 +30,7 @@ pub fn user_in<A: Allocator + Copy>(
 }
 
 /// Whether it has user data.
-pub fn has_user_data<A: Allocator>(block: &Option<Block<A>>) -> bool
+pub fn has_user_data<A: Allocator>(block: &Option<Shared<Block<A>, A>>) -> bool
     ensures some { IsTrue result → user_in block.now ≢ [] }
     ensures none { result ≡ false → user_in block.now ≡ [] }
 {

@@ -9,7 +9,7 @@ use crate::field::field_of;
 use std::alloc::{AllocError, Allocator};
 use xp_causes::{cause_told, diagnostic_told};
 use xp_facilities::{FacilityFault, FastSelect, SegmentCounts, Selection, Told, parse};
-use xp_packets::{Block, Digits, Octets, Packet};
+use xp_packets::{Block, Digits, Octets, Packet, Shared};
 
 /// The clear indication by which a clear request with this cause, diagnostic and block reaches the far end of a call. With
 /// fast select of either kind it carries the user data and the facilities between DTEs on; to the line that pays for the
@@ -19,7 +19,7 @@ pub fn carry_clear<A: Allocator + Copy>(
     fast: FastSelect,
     cause: u8,
     diagnostic: Option<u8>,
-    block: &Option<Block<A>>,
+    block: &Option<Shared<Block<A>, A>>,
     segments: Option<SegmentCounts>,
 ) -> Result<Packet<A>, AllocError>
     requires { AreCounts segments }
@@ -33,7 +33,7 @@ pub fn carry_clear<A: Allocator + Copy>(
     Ok(Packet::Clear {
         cause: cause_told(cause),
         diagnostic: Some(diagnostic_told(diagnostic)),
-        block: block_with(facilities, user),
+        block: block_with(alloc, facilities, user)?,
     })
 }
 
@@ -41,7 +41,7 @@ pub fn carry_clear<A: Allocator + Copy>(
 fn carried<A: Allocator + Copy>(
     alloc: A,
     fast: FastSelect,
-    block: &Option<Block<A>>,
+    block: &Option<Shared<Block<A>, A>>,
 ) -> Result<(Octets<A>, Octets<A>), AllocError>
     ensures { IfOk result (λ carried. Carries fast block.now carried.0 carried.1) }
 {
@@ -87,18 +87,23 @@ fn tell<A: Allocator>(segments: Option<SegmentCounts>, dte: Octets<A>) -> Told<A
 }
 
 /// A block without addresses, where there is something to be carried.
-fn block_with<A: Allocator>(facilities: Octets<A>, user: Octets<A>) -> Option<Block<A>>
-    ensures { result ≡ block_with facilities user }
+fn block_with<A: Allocator>(
+    alloc: A,
+    facilities: Octets<A>,
+    user: Octets<A>,
+) -> Result<Option<Shared<Block<A>, A>>, AllocError>
+    ensures { IfOk result (λ block. block ≡ block_with facilities user) }
 {
     if facilities.is_empty() && user.is_empty() {
-        return None;
+        return Ok(None);
     }
-    Some(Block {
+    let block = Block {
         called: Digits::new(),
         calling: Digits::new(),
         facilities,
         user,
-    })
+    };
+    Ok(Some(Shared::new(alloc, block)?))
 }
 
 /// Whether it is fast select of either kind.

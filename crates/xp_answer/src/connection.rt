@@ -8,7 +8,7 @@ use crate::setup::Setup;
 use crate::terms::Terms;
 use std::alloc::{AllocError, Allocator, Global};
 use xp_facilities::{Asked, FastSelect, Reason, Selection, Told};
-use xp_packets::{Block, Digits, Packet};
+use xp_packets::{Block, Digits, Packet, Shared};
 
 /// A call that its called line has accepted.
 #[derive(Debug, Drop, PartialEq)]
@@ -28,7 +28,7 @@ pub fn connect<A: Allocator + Copy>(
     address: &Digits,
     dialled: &Digits,
     d: bool,
-    block: &Option<Block<A>>,
+    block: &Option<Shared<Block<A>, A>>,
     asked: Asked<A>,
 ) -> Result<Connection<A>, AllocError>
     requires terms { AreTerms setup.now.indicated }
@@ -40,15 +40,16 @@ pub fn connect<A: Allocator + Copy>(
     let (called, modified) = names(address, dialled, setup.reason);
     let facilities = field_of(alloc, &tell(setup, modified, asked))?;
     let user = user_in(alloc, block)?;
+    let block = Block {
+        called,
+        calling: Digits::new(),
+        facilities,
+        user,
+    };
     Ok(Connection {
         packet: Packet::Accepted {
             d,
-            block: Some(Block {
-                called,
-                calling: Digits::new(),
-                facilities,
-                user,
-            }),
+            block: Some(Shared::new(alloc, block)?),
         },
         terms,
         charging,

@@ -6,7 +6,7 @@ ghost use Rattle.xp_answer.specs.Incoming.{IsIncomingCall};
 use crate::field::field_of;
 use std::alloc::{AllocError, Allocator};
 use xp_decide::Ring;
-use xp_packets::{Block, Digits, Packet};
+use xp_packets::{Block, Digits, Packet, Shared};
 
 /// The incoming call packet for the line that rings: `called` is that line's address and `calling` the caller's; the D
 /// bit and the block are those of the call request.
@@ -26,13 +26,14 @@ pub fn incoming_call<A: Allocator + Copy>(
 {
     let facilities = field_of(alloc, &ring.told)?;
     let user = block.user.copy()?;
+    let block = Block {
+        called: called.copy(),
+        calling: calling.copy(),
+        facilities,
+        user,
+    };
     Ok(Packet::Call {
         d,
-        block: Block {
-            called: called.copy(),
-            calling: calling.copy(),
-            facilities,
-            user,
-        },
+        block: Shared::new(alloc, block)?,
     })
 }

@@ -2,7 +2,7 @@
 //! the tables.
 
 use std::alloc::{AllocError, Allocator, Global};
-use xp_packets::{Block, Digits, Octets, Packet};
+use xp_packets::{Block, Digits, Octets, Packet, Shared};
 
 /// A block: both addresses as texts, facilities, user data.
 #[derive(Clone, Copy)]
@@ -36,18 +36,19 @@ fn digits(text: &str) -> Digits {
     Digits::from_text(text).unwrap_or_default()
 }
 
-fn block(alloc: Global, plain: &Plain) -> Result<Block, AllocError> {
+fn block(alloc: Global, plain: &Plain) -> Result<Shared<Block>, AllocError> {
     let facilities = Octets::from_slice(alloc, plain.2)?;
     let user = Octets::from_slice(alloc, plain.3)?;
-    Ok(Block {
+    let block = Block {
         called: digits(plain.0),
         calling: digits(plain.1),
         facilities,
         user,
-    })
+    };
+    Ok(Shared::new(alloc, block)?)
 }
 
-fn option(alloc: Global, plain: &Option<Plain>) -> Result<Option<Block>, AllocError> {
+fn option(alloc: Global, plain: &Option<Plain>) -> Result<Option<Shared<Block>>, AllocError> {
     match plain {
         None => Ok(None),
         Some(plain) => Ok(Some(block(alloc, plain)?)),

@@ -10,6 +10,7 @@ use crate::address::{addresses_of, push_addresses};
 use crate::digits::Digits;
 use crate::fault::{PacketFault, Wrong};
 use crate::octets::Octets;
+use crate::shared::Shared;
 use std::alloc::{AllocError, Allocator, Global};
 
 /// Octets of facilities (clause 5.2.2).
@@ -41,7 +42,7 @@ pub(crate) fn block_of<A: Allocator + Copy>(
     alloc: A,
     octets: &[u8],
     most: usize,
-) -> Result<Block<A>, PacketFault>
+) -> Result<Shared<Block<A>, A>, PacketFault>
     ensures { Gives (λ _. true) result (block_at most octets.now) }
 {
     match octets {
@@ -53,12 +54,13 @@ pub(crate) fn block_of<A: Allocator + Copy>(
             let (facilities, user) = fields_of(rest, most)?;
             let facilities = Octets::from_slice(alloc, facilities)?;
             let user = Octets::from_slice(alloc, user)?;
-            Ok(Block {
+            let block = Block {
                 called,
                 calling,
                 facilities,
                 user,
-            })
+            };
+            Ok(Shared::new(alloc, block)?)
         }
     }
 }
@@ -69,7 +71,7 @@ pub(crate) fn optional_block_of<A: Allocator + Copy>(
     alloc: A,
     octets: &[u8],
     most: usize,
-) -> Result<Option<Block<A>>, PacketFault>
+) -> Result<Option<Shared<Block<A>, A>>, PacketFault>
     ensures { Gives is_some result (optional_block_at most octets.now) }
 {
     match octets {
@@ -122,7 +124,7 @@ pub(crate) fn push_block<A: Allocator>(
 /// Writes a block where there is one.
 pub(crate) fn push_option<A: Allocator>(
     out: &mut Vec<u8, A>,
-    block: &Option<Block<A>>,
+    block: &Option<Shared<Block<A>, A>>,
 ) -> Result<(), AllocError>
     requires { has_long_facilities block.now ≡ false }
     ensures written { OnOk result (out.new.items ≡ out.old.items ++ written_option block.now) }

@@ -9,6 +9,7 @@ use crate::fault::Wrong;
 use crate::interrupt::MOST_INTERRUPT;
 use crate::numbers::is_over;
 use crate::packet::Packet;
+use crate::shared::Shared;
 use std::alloc::Allocator;
 
 /// The greatest logical channel identifier (X.25 clauses 5.1.2 and 5.1.3).
@@ -72,7 +73,7 @@ fn carries_long_facilities<A: Allocator>(packet: &Packet<A>) -> bool
     }
 }
 
-fn has_long_facilities<A: Allocator>(block: &Option<Block<A>>) -> bool
+fn has_long_facilities<A: Allocator>(block: &Option<Shared<Block<A>, A>>) -> bool
     ensures { result ≡ has_long_facilities block.now }
 {
     block
@@ -96,7 +97,7 @@ fn is_too_long<A: Allocator>(packet: &Packet<A>) -> bool
     }
 }
 
-fn has_more_user_data<A: Allocator>(most: usize, block: &Option<Block<A>>) -> bool
+fn has_more_user_data<A: Allocator>(most: usize, block: &Option<Shared<Block<A>, A>>) -> bool
     ensures { result ≡ has_more_user_data most block.now }
 {
     block.as_ref().is_some_and(|block| block.user.len() > most)

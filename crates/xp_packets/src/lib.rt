@@ -20,6 +20,7 @@ mod octets;
 mod packet;
 mod reading;
 mod reset;
+mod shared;
 mod writing;
 
 pub use block::Block;
@@ -33,4 +34,5 @@ pub use laws::{
 pub use octets::Octets;
 pub use packet::Packet;
 pub use reading::decode;
+pub use shared::Shared;
 pub use writing::encode;

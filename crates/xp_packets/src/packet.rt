@@ -2,6 +2,7 @@ ghost use Rattle.std.specs.Prelude.{◌≡◌, IfOk};
 
 use crate::block::Block;
 use crate::octets::Octets;
+use crate::shared::Shared;
 use std::alloc::{AllocError, Allocator, Global};
 
 /// A packet between a DTE and the exchange (X.25 clause 5), without its logical channel identifier.
@@ -11,13 +12,13 @@ pub enum Packet<A: Allocator = Global> {
     Call {
         /// The D bit.
         d: bool,
-        block: Block<A>,
+        block: Shared<Block<A>, A>,
     },
     /// Call accepted and call connected (clause 5.2.3).
     Accepted {
         /// The D bit.
         d: bool,
-        block: Option<Block<A>>,
+        block: Option<Shared<Block<A>, A>>,
     },
     /// Clear request and clear indication (clause 5.2.4). A block stands only behind a diagnostic.
     Clear {
@@ -25,11 +26,11 @@ pub enum Packet<A: Allocator = Global> {
         cause: u8,
         /// The diagnostic code (Annex E).
         diagnostic: Option<u8>,
-        block: Option<Block<A>>,
+        block: Option<Shared<Block<A>, A>>,
     },
     /// Clear confirmation (clause 5.2.5), whose block has no user data.
     ClearConfirm {
-        block: Option<Block<A>>,
+        block: Option<Shared<Block<A>, A>>,
     },
     /// Data, with the Q, D and M bits and the numbers P(S) and P(R) (clause 5.3.1).
     DataPacket {

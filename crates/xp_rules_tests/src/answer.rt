@@ -8,7 +8,7 @@ use xp_decide::{Verdict, decide};
 use xp_facilities::FastSelect::{self, No, Restricted, Unrestricted};
 use xp_facilities::{Reason, SegmentCounts};
 use xp_hunt::{LineState, Lines};
-use xp_packets::{Block, Digits, Octets, Packet, encode};
+use xp_packets::{Block, Digits, Octets, Packet, Shared, encode};
 use xp_subs::{LineNo, Subs};
 
 /// Two stations, of which the second accepts every call.
@@ -273,9 +273,9 @@ fn block(alloc: Global, called: &str, carried: Carried) -> Result<Block, Fail> {
     })
 }
 
-fn optional_block(alloc: Global, carried: Option<Carried>) -> Result<Option<Block>, Fail> {
+fn optional_block(alloc: Global, carried: Option<Carried>) -> Result<Option<Shared<Block>>, Fail> {
     match carried {
-        Some(carried) => Ok(Some(block(alloc, "", carried)?)),
+        Some(carried) => Ok(Some(Shared::new(alloc, block(alloc, "", carried)?)?)),
         None => Ok(None),
     }
 }

@@ -6,7 +6,7 @@ ghost use Rattle.xp_core.specs.Table.{accepted_in as answer_in, clear_in as clea
 
 use crate::event::What;
 use std::alloc::Allocator;
-use xp_packets::{Block, Packet};
+use xp_packets::{Block, Packet, Shared};
 
 /// A call request as it came.
 #[derive(Drop)]
@@ -20,7 +20,7 @@ pub struct CallRequest<'a, A: Allocator> {
 #[derive(Drop)]
 pub struct CallAccepted<'a, A: Allocator> {
     pub d: bool,
-    pub block: &'a Option<Block<A>>,
+    pub block: &'a Option<Shared<Block<A>, A>>,
 }
 
 /// A clear request.
@@ -28,7 +28,7 @@ pub struct CallAccepted<'a, A: Allocator> {
 pub struct ClearRequest<'a, A: Allocator> {
     pub cause: u8,
     pub diagnostic: Option<u8>,
-    pub block: &'a Option<Block<A>>,
+    pub block: &'a Option<Shared<Block<A>, A>>,
 }
 
 /// The call request in an event.
