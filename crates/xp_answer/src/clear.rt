@@ -30,10 +30,11 @@ pub fn carry_clear<A: Allocator + Copy>(
 {
     let (user, dte) = carried(alloc, fast, block)?;
     let facilities = field_of(alloc, &tell(segments, dte))?;
+    let block = block_with(alloc, facilities, user)?;
     Ok(Packet::Clear {
         cause: cause_told(cause),
         diagnostic: Some(diagnostic_told(diagnostic)),
-        block: block_with(alloc, facilities, user)?,
+        block,
     })
 }
 

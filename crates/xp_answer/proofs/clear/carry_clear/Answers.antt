@@ -16,7 +16,7 @@ returns-clause-carried g c = record {
   carries = c.in_ok-user.ensures;
   field = c.in_ok-facilities.facilities;
   tells = subst (λ told. Tells told c.in_ok-facilities.facilities) c.tell.ensures c.in_ok-facilities.ensures;
-  whole = cc (c.cause_told.ensures, c.diagnostic_told.ensures, c.block_with.ensures);
+  whole = cc (c.cause_told.ensures, c.diagnostic_told.ensures, c.in_ok-block.ensures);
 }
 
 pub returns-clause-sent : goal.returns-clause-sent
