@@ -35,4 +35,4 @@ pub use octets::Octets;
 pub use packet::Packet;
 pub use reading::decode;
 pub use shared::Shared;
-pub use writing::encode;
+pub use writing::{encode, write_packet};
