@@ -1,59 +1,52 @@
-//! The packets of the exchange's own that end a call, with charging information for the line that pays.
+//! The packets of the exchange's own that end a call, with charging information for the line that pays. They take no memory.
 
-ghost use Rattle.std.specs.Prelude.{◌≡◌, [], IfOk};
+ghost use Rattle.std.specs.Prelude.{◌≡◌, []};
 ghost use Rattle.xp_answer.specs.CarriedOn.{AreCounts, block_with};
 ghost use Rattle.xp_answer.specs.Fields.{CanBeSent};
 ghost use Rattle.xp_answer.specs.Information.{cleared_with, confirmed_with, information_field};
 
-use crate::clear::{block_with, tell};
-use crate::field::field_of;
-use std::alloc::{AllocError, Allocator};
-use xp_facilities::SegmentCounts;
-use xp_packets::{Block, Octets, Packet};
+use std::alloc::Allocator;
+use xp_facilities::{SegmentCounts, segments_field};
+use xp_packets::{Block, Digits, Octets, Packet};
 
 /// A clear indication of the exchange's own (X.25 clause 5.2.4). To the line that pays for the call it may tell its segments.
-pub fn clear_indication<A: Allocator + Copy>(
+pub fn clear_indication<A: Allocator>(
     alloc: A,
     cause: u8,
     diagnostic: u8,
     segments: Option<SegmentCounts>,
-) -> Result<Packet<A>, AllocError>
+) -> Packet<A>
     requires { AreCounts segments }
-    ensures told { IfOk result (λ packet. packet ≡ cleared_with cause diagnostic segments) }
-    ensures sent { IfOk result CanBeSent }
+    ensures told { result ≡ cleared_with cause diagnostic segments }
+    ensures sent { CanBeSent result }
 {
-    Ok(Packet::Clear {
+    Packet::Clear {
         cause,
         diagnostic: Some(diagnostic),
-        block: information(alloc, segments)?,
-    })
+        block: information(alloc, segments),
+    }
 }
 
 /// A clear confirmation (X.25 clause 5.2.5). To the line that pays for the call it may tell its segments.
-pub fn clear_confirmation<A: Allocator + Copy>(
-    alloc: A,
-    segments: Option<SegmentCounts>,
-) -> Result<Packet<A>, AllocError>
+pub fn clear_confirmation<A: Allocator>(alloc: A, segments: Option<SegmentCounts>) -> Packet<A>
     requires { AreCounts segments }
-    ensures told { IfOk result (λ packet. packet ≡ confirmed_with segments) }
-    ensures sent { IfOk result CanBeSent }
+    ensures told { result ≡ confirmed_with segments }
+    ensures sent { CanBeSent result }
 {
-    Ok(Packet::ClearConfirm {
-        block: information(alloc, segments)?,
-    })
+    Packet::ClearConfirm {
+        block: information(alloc, segments),
+    }
 }
 
-/// The block that tells segments, where there are some to be told. Without them it takes no memory.
-fn information<A: Allocator + Copy>(
-    alloc: A,
-    segments: Option<SegmentCounts>,
-) -> Result<Option<Block<A>>, AllocError>
-    requires { AreCounts segments }
-    ensures { IfOk result (λ block. block ≡ block_with (information_field segments) []) }
+/// The block that tells segments, where there are some to be told.
+fn information<A: Allocator>(alloc: A, segments: Option<SegmentCounts>) -> Option<Block<A>>
+    ensures { result ≡ block_with (information_field segments) [] }
 {
-    if segments.is_none() {
-        return Ok(None);
-    }
-    let field = field_of(alloc, &tell(segments, Octets::new(alloc)))?;
-    Ok(block_with(field, Octets::new(alloc)))
+    let segments = segments?;
+    Some(Block {
+        called: Digits::new(),
+        calling: Digits::new(),
+        facilities: Octets::of_ten(segments_field(segments)),
+        user: Octets::new(alloc),
+    })
 }

@@ -37,5 +37,6 @@ pub mod RunLemmas
 pub mod Shapes
 pub mod Showing
 pub mod Sounds
+pub mod Stalls
 pub mod Terms
 pub mod Worlds

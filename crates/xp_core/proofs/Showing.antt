@@ -1,5 +1,5 @@
 -- As an event is entered, what is kept goes on to show where the history leads.
-use Rattle.std.proofs.Common.{◌≡◌, ◌∙◌, ◌+◌, ◌<◌, IfOk, OnErr, Result, Ok, Err, Option, Some, None, List, [], ◌∷◌, ◌++◌, length, length-set, replicate, refl, ap, sym, subst, append-nil}
+use Rattle.std.proofs.Common.{◌≡◌, ◌∙◌, ℕ, ◌+◌, ◌<◌, IfOk, OnErr, Result, Ok, Err, Option, Some, None, List, [], ◌∷◌, ◌++◌, length, length-set, replicate, refl, ap, sym, subst, append-nil}
 use Rattle.std.proofs.lemmas.List.{length-replicate}
 use Rattle.std.proofs.lemmas.List.Concat.{flat_map-append}
 use Rattle.std.proofs.lemmas.List.Elements.{All-nil, All-pop, All-push}
@@ -119,15 +119,15 @@ module _ {A : Type 0} where
     pub shows_next : Shows tables entries new later charged
     shows_next = let P : List (Entry A) → Type 0 = λ h. Shows tables h new later charged in subst P (sym done.grown) entered
 
-    abbrev before : Exchange A
-    before = record { subs = tables; history = history }
+    abbrev before : ℕ → Exchange A
+    before stalls = record { subs = tables; history = history; stalls = stalls }
 
-    abbrev after : Exchange A
-    after = record { subs = tables; history = entries }
+    abbrev after : ℕ → Exchange A
+    after stalls = record { subs = tables; history = entries; stalls = stalls }
 
-    pub advances : Advances before event after told
-    advances =
-        let P : World → Type 0 = λ w. Step tables history w done.entry (world_of after) in
+    pub advances : (stalls left : ℕ) → Advances (before stalls) event (after left) told
+    advances stalls left =
+        let P : World → Type 0 = λ w. Step tables history w done.entry (world_of (after left)) in
         let Q : World → Type 0 = λ w. Step tables history machine done.entry w in
         record {
           entry = done.entry;
@@ -164,17 +164,17 @@ module _ {A : Type 0} where
       let R : List Record → Type 0 = λ r. Shows tables history machine relays r in
       subst P (sym same_world) (subst K (sym same_relays) (subst Q (sym same_history) (subst R (sym same_records) shows)))
 
-  abbrev pub exchange_of : Tables → List (Entry A) → Exchange A
-  exchange_of subs history = record { subs = subs; history = history }
+  abbrev pub exchange_of : Tables → List (Entry A) → ℕ → Exchange A
+  exchange_of subs history stalls = record { subs = subs; history = history; stalls = stalls }
 
   pub outcome_advances : {E : Type 0} (tables : Tables) (history : List (Entry A)) (machine : World) (relays : List (Option (Metered A))) (records : List Record) (event : Event A) (new : World) (later : List (Option (Metered A))) (entries : List (Entry A))
-      (charged : List Record) (outcome : Result (Stepped A) E) (old : Exchange A) → Shows tables history machine relays records → IsReadable event.what
-      → IfOk outcome (λ told. Enters tables machine relays history records event new later entries charged told) → exchange_of tables history ≡ old
-      → IfOk outcome (λ told. Advances old event (exchange_of tables entries) told)
-  outcome_advances tables history machine relays records event new later entries charged (Ok told) old shows readable done is =
-      let P : Exchange A → Type 0 = λ e. Advances e event (exchange_of tables entries) told in
-      subst P is (advances tables history machine relays records shows event readable new later entries charged told done)
-  outcome_advances tables history machine relays records event new later entries charged (Err fault) old shows readable done is = tt
+      (charged : List Record) (outcome : Result (Stepped A) E) (old : Exchange A) (stalls left : ℕ) → Shows tables history machine relays records → IsReadable event.what
+      → IfOk outcome (λ told. Enters tables machine relays history records event new later entries charged told) → exchange_of tables history stalls ≡ old
+      → IfOk outcome (λ told. Advances old event (exchange_of tables entries left) told)
+  outcome_advances tables history machine relays records event new later entries charged (Ok told) old stalls left shows readable done is =
+      let P : Exchange A → Type 0 = λ e. Advances e event (exchange_of tables entries left) told in
+      subst P is (advances tables history machine relays records shows event readable new later entries charged told done stalls left)
+  outcome_advances tables history machine relays records event new later entries charged (Err fault) old stalls left shows readable done is = tt
 
   pub outcome_fits : {E : Type 0} (tables : Tables) (history : List (Entry A)) (machine : World) (relays : List (Option (Metered A))) (records : List Record) (event : Event A) (new : World) (later : List (Option (Metered A))) (entries : List (Entry A))
       (charged : List Record) (outcome : Result (Stepped A) E) → Shows tables history machine relays records → IsReadable event.what
@@ -184,10 +184,10 @@ module _ {A : Type 0} where
   outcome_fits tables history machine relays records event new later entries charged (Err fault) shows readable done = tt
 
   -- a call that hands on a failure has changed nothing
-  pub outcome_keeps : {E : Type 0} (subs : Tables) (history entries : List (Entry A)) (outcome : Result (Stepped A) E) (old : Exchange A)
-      → OnErr outcome (entries ≡ history) → exchange_of subs history ≡ old → OnErr outcome (exchange_of subs entries ≡ old)
-  outcome_keeps subs history entries (Ok told) old same shown = tt
-  outcome_keeps subs history entries (Err fault) old same shown = ap (exchange_of subs) same ∙ shown
+  pub outcome_keeps : {E : Type 0} (subs : Tables) (history entries : List (Entry A)) (outcome : Result (Stepped A) E) (old : Exchange A) (stalls left : ℕ)
+      → OnErr outcome (entries ≡ history) → OnErr outcome (left ≡ stalls) → exchange_of subs history stalls ≡ old → OnErr outcome (exchange_of subs entries left ≡ old)
+  outcome_keeps subs history entries (Ok told) old stalls left same as_many shown = tt
+  outcome_keeps subs history entries (Err fault) old stalls left same as_many shown = ap (λ h. exchange_of subs h left) same ∙ ap (exchange_of subs history) as_many ∙ shown
 
   -- nothing was entered yet
   pub opening_shows : (tables : Tables) (history : List (Entry A)) (machine : World) (relays : List (Option (Metered A))) (records : List Record) → IsSound tables → history ≡ []

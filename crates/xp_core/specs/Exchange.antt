@@ -16,6 +16,8 @@ use Rattle.xp_core.specs.World.{World}
 pub record Exchange (A : Type 0) : Type 0 where
   pub subs : Tables
   pub history : List (Entry A)
+  -- how many stalls are prepared
+  pub stalls : ℕ
 
 module _ {A : Type 0} where
   -- where its history led it

@@ -15,6 +15,7 @@ pub mod Existence
 pub mod Few
 pub mod Found
 pub mod Joined
+pub mod Journal
 pub mod Kept
 pub mod Keyed
 pub mod Lines
@@ -27,6 +28,8 @@ pub mod Segments
 pub mod Setting
 pub mod Shown
 pub mod Sound
+pub mod Stalling
+pub mod Stalls
 pub mod Step
 pub mod Table
 pub mod Told

@@ -1,25 +1,27 @@
 //! Entering one event.
 
-ghost use Rattle.std.specs.Prelude.{◌≡◌, ◌+◌, ◌<◌, ◌≤◌, ◌^◌, ◌++◌, IfOk, IfErr, OnOk, OnErr, length, vec_len, vec_capacity};
+ghost use Rattle.std.specs.Prelude.{◌≡◌, ◌+◌, ◌<◌, ◌≤◌, ◌^◌, true, IfNone, IfSome, IfOk, IfErr, IsOk, OnOk, OnErr, length};
 ghost use Rattle.xp_subs.specs.Sound.{IsSound as IsSubs};
 ghost use Rattle.xp_subs.specs.Tables.{line_count};
 ghost use Rattle.xp_core.specs.Agreed.{AllHaveTerms};
+ghost use Rattle.xp_core.specs.Journal.{IsSpent};
 ghost use Rattle.xp_core.specs.Relays.{AreCarried};
 ghost use Rattle.xp_core.specs.Sound.{IsSound};
+ghost use Rattle.xp_core.specs.Stalls.{is_stall, left_after};
 ghost use Rattle.xp_core.specs.Work.{Enters, Works};
 
-use crate::entry::Entry;
-use crate::event::Event;
+use crate::event::{Event, What};
 use crate::fault::StepFault;
+use crate::journal::Journal;
 use crate::machine::Machine;
 use crate::outcome::Outcome;
 use crate::output::Outputs;
 use crate::plan::{Plan, plan_of};
 use crate::records::Records;
 use crate::relays::Relays;
+use crate::stalling::{Spare, give_up};
 use crate::stepped::Stepped;
 use std::alloc::{AllocError, Allocator};
-use xp_charge::Record;
 use xp_subs::Subs;
 
 /// What is made of an event before it is entered.
@@ -32,51 +34,36 @@ pub struct Work<A: Allocator> {
     pub records: Records,
 }
 
-/// Enters one event: makes all growths, and then changes the state, the history and the records.
+/// Enters one event: makes all growths, and then changes the state, the history and the records. A stall that is prepared
+/// takes no memory.
 pub fn advance<A: Allocator + Copy>(
     alloc: A,
     subs: &Subs,
     machine: &mut Machine<A>,
     relays: &mut Relays<A>,
-    history: &mut Vec<Entry<A>, A>,
-    charged: &mut Vec<Record, A>,
+    journal: &mut Journal<A>,
     event: Event<A>,
 ) -> Result<Stepped<A>, StepFault<A>>
     requires subs { IsSubs subs.now }
     requires line { event.line < line_count subs.now }
-    requires sound { IsSound subs.now (length history.old.items) machine.old }
+    requires sound { IsSound subs.now (length journal.old.history) machine.old }
     requires terms { AllHaveTerms machine.old }
-    requires carried { AreCarried subs.now history.old.items machine.old relays.old }
-    requires few { length history.old.items < 2 ^ 32 }
-    ensures ok { IfOk result (λ told. Enters subs.now machine.old relays.old history.old.items charged.old.items event machine.new relays.new history.new.items charged.new.items told) }
+    requires carried { AreCarried subs.now journal.old.history machine.old relays.old }
+    requires few { length journal.old.history < 2 ^ 32 }
+    ensures ok { IfOk result (λ told. Enters subs.now machine.old relays.old journal.old.history journal.old.records event machine.new relays.new journal.new.history journal.new.records told) }
     ensures memory { IfErr result (λ fault. fault ≡ StepFault.Memory event) }
+    ensures prepared { is_stall event.what ≡ true → 0 < journal.old.stalls → IsOk result }
+    ensures stalls { OnOk result (journal.new.stalls ≡ left_after event.what journal.old.stalls) }
+    ensures as_many { OnErr result (journal.new.stalls ≡ journal.old.stalls) }
     ensures machine { OnErr result (machine.new ≡ machine.old) }
     ensures relays { OnErr result (relays.new ≡ relays.old) }
-    ensures history { OnErr result (history.new.items ≡ history.old.items) }
-    ensures records { OnErr result (charged.new.items ≡ charged.old.items) }
+    ensures history { OnErr result (journal.new.history ≡ journal.old.history) }
+    ensures records { OnErr result (journal.new.records ≡ journal.old.records) }
 {
-    let Ok(work) = work_out(alloc, subs, machine, relays, history, charged, &event) else {
-        return Err(StepFault::Memory(event));
-    };
-    let Work {
-        outcome,
-        outputs,
-        told,
-        records,
-    } = work;
-    add_all(charged, records.as_slice());
-    let number = history.len() as u64 + 1;
-    history.push_reserved(Entry {
-        number,
-        event,
-        outcome,
-        outputs,
-        records,
-    });
-    Ok(Stepped {
-        entry: number,
-        outputs: told,
-    })
+    match work_out(alloc, subs, machine, relays, journal, &event) {
+        Ok(work) => Ok(journal.enter(event, work)),
+        Err(_) => Err(StepFault::Memory(event)),
+    }
 }
 
 /// Makes all that an event needs, and changes the state last.
@@ -85,24 +72,30 @@ fn work_out<A: Allocator + Copy>(
     subs: &Subs,
     machine: &mut Machine<A>,
     relays: &mut Relays<A>,
-    history: &mut Vec<Entry<A>, A>,
-    charged: &mut Vec<Record, A>,
+    journal: &mut Journal<A>,
     event: &Event<A>,
 ) -> Result<Work<A>, AllocError>
     requires subs { IsSubs subs.now }
     requires line { event.now.line < line_count subs.now }
-    requires sound { IsSound subs.now (length history.old.items) machine.old }
+    requires sound { IsSound subs.now (length journal.old.history) machine.old }
     requires terms { AllHaveTerms machine.old }
-    requires carried { AreCarried subs.now history.old.items machine.old relays.old }
-    requires few { length history.old.items < 2 ^ 32 }
-    ensures ok { IfOk result (λ work. Works subs.now history.old.items machine.old relays.old event.now work machine.new relays.new) }
-    ensures room { OnOk result (vec_len history.new < vec_capacity history.new) }
-    ensures places { IfOk result (λ work. vec_len charged.new + length work.records.items ≤ vec_capacity charged.new) }
-    ensures items { history.new.items ≡ history.old.items }
-    ensures records { charged.new.items ≡ charged.old.items }
+    requires carried { AreCarried subs.now journal.old.history machine.old relays.old }
+    requires few { length journal.old.history < 2 ^ 32 }
+    ensures ok { IfOk result (λ work. Works subs.now journal.old.history machine.old relays.old event.now work machine.new relays.new) }
+    ensures prepared { is_stall event.now.what ≡ true → 0 < journal.old.stalls → IsOk result }
+    ensures stalls { OnOk result (journal.new.stalls ≡ left_after event.now.what journal.old.stalls) }
+    ensures as_many { OnErr result (journal.new.stalls ≡ journal.old.stalls) }
+    ensures room { OnOk result (journal.new.stalls < journal.new.entry_room) }
+    ensures places { IfOk result (λ work. journal.new.stalls + length work.records.items ≤ journal.new.record_room) }
+    ensures history { journal.new.history ≡ journal.old.history }
+    ensures records { journal.new.records ≡ journal.old.records }
     ensures machine { OnErr result (machine.new ≡ machine.old) }
     ensures relays { OnErr result (relays.new ≡ relays.old) }
 {
+    if let Some(spare) = prepared(journal, event) {
+        let before = journal.history();
+        return Ok(give_up(alloc, subs, machine, relays, before, spare, event.line));
+    }
     let Plan {
         outcome,
         outputs,
@@ -110,11 +103,10 @@ fn work_out<A: Allocator + Copy>(
         change,
         records,
         carriage,
-    } = plan_of(alloc, subs, machine, relays, history.as_slice(), event)?;
+    } = plan_of(alloc, subs, machine, relays, journal.history(), event)?;
     let outputs = outputs.into_outputs();
     let told = outputs.copy()?;
-    history.reserve(1)?;
-    charged.reserve(records.len())?;
+    journal.reserve()?;
     machine.apply(cancelled, change)?;
     relays.put_if_any(carriage);
     Ok(Work {
@@ -125,12 +117,13 @@ fn work_out<A: Allocator + Copy>(
     })
 }
 
-/// Adds copies of these records.
-fn add_all<A: Allocator>(charged: &mut Vec<Record, A>, more: &[Record])
-    requires { vec_len charged.old + length more.now ≤ vec_capacity charged.old }
-    ensures { charged.new.items ≡ charged.old.items ++ more.now }
+/// The spare of a stall, if the event is one, and one is prepared.
+fn prepared<A: Allocator>(journal: &mut Journal<A>, event: &Event<A>) -> Option<Spare<A>>
+    ensures some { IfSome result (λ _. (is_stall event.now.what ≡ true) × IsSpent journal.old journal.new) }
+    ensures none { IfNone result ((journal.new ≡ journal.old) × (left_after event.now.what journal.old.stalls ≡ journal.old.stalls) × (is_stall event.now.what ≡ true → journal.old.stalls ≡ 0)) }
 {
-    for record in more {
-        charged.push_reserved(record.copy());
+    match &event.what {
+        What::Stall => journal.take_spare(),
+        What::Up | What::Down | What::Frame { .. } | What::WrongFrame(_) | What::Expire => None,
     }
 }

@@ -1,13 +1,15 @@
-ghost use Rattle.std.specs.Prelude.{◌≡◌};
+ghost use Rattle.std.specs.Prelude.{◌≡◌, IfOk};
 ghost use Rattle.xp_packets.specs.Fitness.{CanBeEncoded};
 ghost use Rattle.xp_core.specs.Exchange.{DialsFew, IsReadable};
+ghost use Rattle.xp_core.specs.Stalls.{places_for};
 
-use std::alloc::{Allocator, Global};
+use crate::journal::MOST_STALLS;
+use std::alloc::{AllocError, Allocator, Global};
 use xp_packets::{Packet, Wrong};
 use xp_subs::LineNo;
 
 /// What happened on one line.
-#[derive(Debug, Drop, PartialEq)]
+#[derive(Clone, Debug, Drop, PartialEq)]
 pub struct Event<A: Allocator = Global> {
     /// The line, one of the subscriptions'.
     pub line: LineNo,
@@ -16,7 +18,7 @@ pub struct Event<A: Allocator = Global> {
 }
 
 /// What can happen on a line.
-#[derive(Debug, Drop, PartialEq)]
+#[derive(Clone, Debug, Drop, PartialEq)]
 pub enum What<A: Allocator = Global> {
     /// A connection came.
     Up,
@@ -28,8 +30,18 @@ pub enum What<A: Allocator = Global> {
     WrongFrame(Wrong),
     /// The line did not answer an incoming call in time (T11, X.25 Annex D).
     Expire,
-    /// The line takes its packets too slowly, and is given up: its connection is closed. Nothing raises it yet.
+    /// The line takes its packets too slowly, and is given up: its connection is closed. The exchange under its lock
+    /// raises it, and no line.
     Stall,
+}
+
+impl<A: Allocator + Copy> Event<A> {
+    /// An equal event, by the same allocator.
+    pub fn copy(&self) -> Result<Event<A>, AllocError>
+        ensures { IfOk result (λ copied. copied ≡ self.now) }
+    {
+        self.clone()
+    }
 }
 
 impl<A: Allocator> What<A> {
@@ -41,6 +53,18 @@ impl<A: Allocator> What<A> {
     {
         measure(&packet);
         What::Frame { identifier, packet }
+    }
+
+    /// How many places of the history have to be left for the event: one for its entry, and behind one that is no stall
+    /// three for stalls that may follow it.
+    pub(crate) fn places(&self) -> usize
+        ensures { result ≡ places_for self.now }
+    {
+        match self {
+            What::Stall => 1,
+            What::Up | What::Down | What::Frame { .. } | What::WrongFrame(_) | What::Expire => 1
+                + MOST_STALLS,
+        }
     }
 }
 

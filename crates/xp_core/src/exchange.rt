@@ -1,6 +1,6 @@
 //! The serial exchange: events in, entries of the history out.
 
-ghost use Rattle.std.specs.Prelude.{◌≡◌, ◌+◌, ◌<◌, ◌≤◌, [], All, IfOk, IfErr, OnErr, Err, length};
+ghost use Rattle.std.specs.Prelude.{◌≡◌, ◌+◌, ◌<◌, ◌≤◌, true, [], All, IfOk, IfErr, IsOk, OnErr, OnOk, Err, length};
 ghost use Rattle.xp_subs.specs.Tables.{line_count};
 ghost use Rattle.xp_core.specs.Exchange.{world_of};
 ghost use Rattle.xp_core.specs.View.{flow_at, view_of};
@@ -10,6 +10,7 @@ use crate::advance::advance;
 use crate::entry::Entry;
 use crate::event::Event;
 use crate::fault::StepFault;
+use crate::journal::Journal;
 use crate::machine::Machine;
 use crate::relays::Relays;
 use crate::stepped::Stepped;
@@ -20,10 +21,6 @@ use xp_charge::Record;
 use xp_relay::FlowState;
 use xp_subs::{LineNo, Subs};
 
-/// How many places of the history have to be left for an event: one for its entry, and three for stalls that may
-/// follow it.
-const PLACES_FOR_AN_EVENT: usize = 4;
-
 /// The exchange for one event at a time.
 #[derive(Drop)]
 pub struct Core<A: Allocator = Global> {
@@ -31,8 +28,7 @@ pub struct Core<A: Allocator = Global> {
     subs: Subs,
     machine: Machine<A>,
     relays: Relays<A>,
-    history: Vec<Entry<A>, A>,
-    records: Vec<Record, A>,
+    journal: Journal<A>,
 }
 
 impl<A: Allocator> Model for Core<A> {
@@ -42,19 +38,20 @@ impl<A: Allocator> Model for Core<A> {
 
     ghost use Rattle.xp_core.specs.Shown.{Shows};
 
-    ghost view = { λ c. record { subs = c.subs; history = c.history.items } };
+    ghost view = { λ c. record { subs = c.subs; history = c.journal.history; stalls = c.journal.stalls } };
 
-    ghost invariant = { λ c. Shows c.subs c.history.items c.machine c.relays c.records.items };
+    ghost invariant = { λ c. Shows c.subs c.journal.history c.machine c.relays c.journal.records };
 }
 
 impl<A: Allocator + Copy> Core<A> {
     ghost use Rattle.xp_core.specs.Exchange.{Advances, IsReadable};
     ghost use Rattle.xp_core.specs.Few.{AreFew};
+    ghost use Rattle.xp_core.specs.Stalls.{is_stall, left_after, places_for};
     ghost use Rattle.xp_core.specs.Writable.{AreWritable};
 
-    /// The exchange of these subscriptions: all lines off, no call made yet, an empty history.
+    /// The exchange of these subscriptions: all lines off, no call made yet, an empty history, no stall prepared.
     pub fn new(alloc: A, subs: Subs) -> Result<Core<A>, AllocError>
-        ensures { IfOk result (λ core. core ≡ record { subs = subs; history = [] }) }
+        ensures { IfOk result (λ core. core ≡ record { subs = subs; history = []; stalls = 0 }) }
     {
         let lines = subs.counts().lines;
         let machine = Machine::new(alloc, lines)?;
@@ -64,29 +61,30 @@ impl<A: Allocator + Copy> Core<A> {
             subs,
             machine,
             relays,
-            history: Vec::new(alloc),
-            records: Vec::new(alloc),
+            journal: Journal::new(alloc),
         })
     }
 
     /// Acts on one event: one entry of the history. The line is one of the subscriptions', and a frame's identifier
-    /// is at most 4,095.
+    /// is at most 4,095. A stall that is prepared takes no memory, and is used up.
     ///
     /// # Errors
     ///
-    /// `JournalFull` where fewer than four places of the history are left, and else `Memory` where no memory was
-    /// found. Then the event comes back, and nothing has changed.
+    /// `JournalFull` where fewer than four places of the history are left, for a stall where none is, and else `Memory`
+    /// where no memory was found. Then the event comes back, and nothing has changed.
     pub fn step(&mut self, event: Event<A>) -> Result<Stepped<A>, StepFault<A>>
         requires line { event.line < line_count self.old.subs }
         requires readable { IsReadable event.what }
         ensures ok { IfOk result (λ told. Advances self.old event self.new told) }
         ensures writable { IfOk result (λ told. AreWritable told.outputs) }
         ensures few { IfOk result (λ told. AreFew told.outputs) }
-        ensures full { self.old.subs.journal < length self.old.history + 4 → result ≡ Err (StepFault.JournalFull event) }
-        ensures room { length self.old.history + 4 ≤ self.old.subs.journal → IfErr result (λ fault. fault ≡ StepFault.Memory event) }
+        ensures full { self.old.subs.journal < length self.old.history + places_for event.what → result ≡ Err (StepFault.JournalFull event) }
+        ensures room { length self.old.history + places_for event.what ≤ self.old.subs.journal → IfErr result (λ fault. fault ≡ StepFault.Memory event) }
+        ensures stalls { OnOk result (self.new.stalls ≡ left_after event.what self.old.stalls) }
+        ensures prepared { is_stall event.what ≡ true → 0 < self.old.stalls → length self.old.history < self.old.subs.journal → IsOk result }
         ensures err { OnErr result (self.new ≡ self.old) }
     {
-        if self.history.len() + PLACES_FOR_AN_EVENT > self.subs.journal() as usize {
+        if self.journal.history().len() + event.what.places() > self.subs.journal() as usize {
             return Err(StepFault::JournalFull(event));
         }
         let Core {
@@ -94,10 +92,19 @@ impl<A: Allocator + Copy> Core<A> {
             subs,
             machine,
             relays,
-            history,
-            records,
+            journal,
         } = self;
-        advance(*alloc, subs, machine, relays, history, records, event)
+        advance(*alloc, subs, machine, relays, journal, event)
+    }
+
+    /// Prepares the three stalls that may follow one event: each takes no memory then, whatever other events come before
+    /// it. Where memory is wanting, some of them may be prepared.
+    pub fn reserve_stalls(&mut self) -> Result<(), AllocError>
+        ensures ok { OnOk result (3 ≤ self.new.stalls) }
+        ensures more { self.old.stalls ≤ self.new.stalls }
+        ensures rest { self.new ≡ record self.old { stalls = self.new.stalls } }
+    {
+        self.journal.prepare_stalls(self.alloc)
     }
 }
 
@@ -136,7 +143,7 @@ impl<A: Allocator> Core<A> {
         ensures records { result.now ≡ records_of self.now.history }
         ensures one_each { OneRecordEach self.now.subs self.now.history (world_of self.now) }
     {
-        self.records.as_slice()
+        self.journal.records()
     }
 
     /// All entries, which lead to the present state. Each packet that they put out can be encoded, and each line that
@@ -151,7 +158,7 @@ impl<A: Allocator> Core<A> {
         ensures terms { AllHaveTerms (world_of self.now) }
         ensures delivered { AreDelivered self.now.subs self.now.history (world_of self.now) }
     {
-        self.history.as_slice()
+        self.journal.history()
     }
 
     /// The subscriptions.

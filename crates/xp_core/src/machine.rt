@@ -2,17 +2,18 @@ ghost use Rattle.std.specs.Prelude.{ℕ, ◌≡◌, ◌+◌, ◌<◌, ◌≤◌,
 ghost use Rattle.std.specs.Option.{option_copied};
 ghost use Rattle.xp_core.specs.Acts.{lines_seen};
 ghost use Rattle.xp_core.specs.Kept.{entry_of, line_of, state_of};
-ghost use Rattle.xp_core.specs.Plan.{applied_if_any, freed_if_any};
+ghost use Rattle.xp_core.specs.Changes.{GoesOut};
+ghost use Rattle.xp_core.specs.Plan.{applied_if_any, freed_if_any, left};
 ghost use Rattle.xp_core.specs.World.{state_at, opening, line_at, call_on, call_numbered};
 
 mod calls;
 mod changes;
 mod lines;
 
-use self::changes::{free_if_any, make_if_any, places};
+use self::changes::{free_if_any, leave, make_if_any, places};
 use self::lines::channel;
 use crate::call::LiveCall;
-use crate::change::Change;
+use crate::change::{Change, Way};
 use crate::channel::LogicalChannel;
 use slab::Slab;
 use std::alloc::{AllocError, Allocator, Global};
@@ -106,5 +107,12 @@ impl<A: Allocator> Machine<A> {
         free_if_any(&mut self.lines, &mut self.calls, cancelled);
         make_if_any(&mut self.lines, &mut self.calls, &mut self.next, change);
         Ok(())
+    }
+
+    /// A line goes out of service, and the call that it is in ends. It takes no memory.
+    pub fn go_out(&mut self, line: LineNo)
+        ensures { self.new ≡ left line GoesOut (call_on self.old line) self.old }
+    {
+        leave(&mut self.lines, &mut self.calls, line, Way::GoesOut);
     }
 }

@@ -21,6 +21,8 @@ use crate::records::Records;
 use crate::relays::Carriage;
 use arrayvec::ArrayVec;
 pub use event::plan_of;
+pub use found::{Found, charged_on};
+pub use send::close;
 use std::alloc::{Allocator, Global};
 use xp_charge::Record;
 use xp_subs::LineNo;

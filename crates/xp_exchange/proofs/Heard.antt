@@ -4,9 +4,8 @@ use Rattle.std.proofs.lemmas.List.Elements.{All-append, All-nil, All-cons}
 use Rattle.xp_frames.specs.Held.{Held, Gives, Takes}
 use Rattle.xp_core.specs.declared.event.What.TheVariants.{Down}
 use Rattle.xp_core.specs.declared.event.Event.{Event}
-use Rattle.xp_core.specs.Exchange.{IsReadable}
 use Rattle.xp_exchange.specs.Acting.{emptied, IsBetweenFrames, TakesWhole}
-use Rattle.xp_exchange.specs.Heard.{IsReadAs, AreRead, Hears}
+use Rattle.xp_exchange.specs.Heard.{AreRead, CanCome, Hears, IsReadAs}
 
 -- the waiting packets are those of the frames
 taken_waiting : (old between : Held) (octets : List ℕ) → IsBetweenFrames old → (takes : Takes old octets between) → between.waiting ≡ takes.packets
@@ -22,7 +21,7 @@ module _ {A : Type 0} where
       (read.0, read.1, read_one_more line packets events packet event read.2 here what)
 
   abbrev pub IsFit : ℕ → Event A → Type 0
-  IsFit line event = (event.line ≡ line) × IsReadable event.what
+  IsFit line event = (event.line ≡ line) × CanCome event.what
 
   -- The packets that were asked for so far are these events, and the others wait.
   pub record ReadSoFar (line : ℕ) (first now : Held) (events : List (Event A)) : Type 0 where
@@ -38,7 +37,7 @@ module _ {A : Type 0} where
 
   pub read_next : (line : ℕ) (first before now : Held) (events after : List (Event A)) (packet : List ℕ) (event : Event A)
       → ReadSoFar line first before events → Gives before (Some packet) now → after ≡ events ++ event ∷ []
-      → event.line ≡ line → IsReadAs packet event.what → IsReadable event.what → ReadSoFar line first now after
+      → event.line ≡ line → IsReadAs packet event.what → CanCome event.what → ReadSoFar line first now after
   read_next line first before now events after packet event so_far given pushed here what readable =
       let more : ReadSoFar line first now (events ++ event ∷ []) = record {
         packets = so_far.packets ++ packet ∷ [];
@@ -51,7 +50,7 @@ module _ {A : Type 0} where
       } in
       subst (ReadSoFar line first now) (sym pushed) more
     where
-      one : (line : ℕ) (event : Event A) → event.line ≡ line → IsReadable event.what → All (IsFit line) (event ∷ [])
+      one : (line : ℕ) (event : Event A) → event.line ≡ line → CanCome event.what → All (IsFit line) (event ∷ [])
       one line event here readable = All-cons (IsFit line) event [] (here, readable) (All-nil (IsFit line))
 
   pub fit_more : (line : ℕ) (events after : List (Event A)) (event : Event A) → All (IsFit line) events → IsFit line event → after ≡ events ++ event ∷ [] → All (IsFit line) after

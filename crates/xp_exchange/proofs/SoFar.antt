@@ -4,10 +4,11 @@ use Rattle.std.proofs.lemmas.List.Elements.{All-head, All-tail}
 use Rattle.std.specs.Io.KnownBytes.{Appends}
 use Rattle.xp_subs.specs.Tables.{Tables, line_count}
 use Rattle.xp_core.specs.declared.event.Event.{Event}
-use Rattle.xp_core.specs.Exchange.{Exchange, IsReadable}
+use Rattle.xp_core.specs.Exchange.{Exchange}
 use Rattle.xp_exchange.specs.declared.fault.ReplayFault.{ReplayFault}
 use Rattle.xp_exchange.specs.declared.fault.ReplayFault.TheVariants.{Script, Journal, Memory, Read, Write}
 use Rattle.xp_exchange.specs.Acting.{Acted, Breaks}
+use Rattle.xp_exchange.specs.Heard.{CanCome}
 use Rattle.xp_exchange.specs.Play.{ActsOn}
 use Rattle.xp_exchange.specs.Serial.{IsTold}
 use Rattle.xp_exchange.proofs.Acts.{acts_on_nothing, acts_on_both, first_after}
@@ -17,7 +18,7 @@ use Rattle.xp_exchange.proofs.Tellings.{told_nothing, told_both, told_but_last, 
 module _ {A : Type 0} where
   -- an event that the exchange takes
   abbrev pub Fits : Tables → Event A → Type 0
-  Fits tables event = (event.line < line_count tables) × IsReadable event.what
+  Fits tables event = (event.line < line_count tables) × CanCome event.what
 
   pub record SoFar (first : Exchange A) (events left : List (Event A)) (now : Exchange A) (old new : Option (List ℕ)) : Type 0 where
     pub done : List (Event A)

@@ -1,5 +1,5 @@
 -- The events that octets of a line are: those of its frames, and that it goes down where they are no frames.
-use Rattle.std.specs.Prelude.{◌≡◌, ℕ, List, [], ◌∷◌, ◌++◌}
+use Rattle.std.specs.Prelude.{◌≡◌, ℕ, false, List, [], ◌∷◌, ◌++◌}
 use Rattle.xp_packets.specs.Examination.{IsWrong}
 use Rattle.xp_packets.specs.Spelling.{Spells}
 use Rattle.xp_frames.specs.declared.fault.FrameFault.{FrameFault}
@@ -7,8 +7,14 @@ use Rattle.xp_frames.specs.Frame.{Stream, BadHead, HasNoBadHead}
 use Rattle.xp_core.specs.declared.event.Event.{Event}
 use Rattle.xp_core.specs.declared.event.What.{What}
 use Rattle.xp_core.specs.declared.event.What.TheVariants.{Up, Down, Frame, WrongFrame, Expire, Stall}
+use Rattle.xp_core.specs.Exchange.{IsReadable}
+use Rattle.xp_core.specs.Stalls.{is_stall}
 
 module _ {A : Type 0} where
+  -- what comes from a line: a frame is one that can be read, and no line stalls itself
+  abbrev pub CanCome : What A → Type 0
+  CanCome what = IsReadable what × (is_stall what ≡ false)
+
   -- what a frame's packet is to the exchange
   abbrev pub IsReadAs : List ℕ → What A → Type 0
   IsReadAs packet (Frame identifier read) = Spells packet identifier read

@@ -58,7 +58,7 @@ pub record Standing (A : Type 0) : Type 0 where
 module _ {A : Type 0} where
   -- an exchange to which nothing was done yet
   abbrev pub opened : Tables → Exchange A
-  opened tables = record { subs = tables; history = [] }
+  opened tables = record { subs = tables; history = []; stalls = 0 }
 
   -- a script begins: no frame is unfinished
   abbrev pub start : Exchange A → Standing A

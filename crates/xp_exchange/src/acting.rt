@@ -2,9 +2,9 @@
 
 ghost use Rattle.std.specs.Prelude.{◌≡◌, ◌<◌, ℕ, List, [], ◌∷◌, All};
 ghost use Rattle.std.specs.Io.KnownBytes.{Appends};
-ghost use Rattle.xp_core.specs.Exchange.{IsReadable};
 ghost use Rattle.xp_core.specs.Writable.{AreWritable};
 ghost use Rattle.xp_exchange.specs.Acting.{Acted, Tells, reason};
+ghost use Rattle.xp_exchange.specs.Heard.{CanCome};
 ghost use Rattle.xp_script.specs.Lines.{HasLines};
 ghost use Rattle.xp_script.specs.Text.{entry_text};
 ghost use Rattle.xp_subs.specs.Tables.{line_count};
@@ -27,7 +27,7 @@ pub fn act_on_all<A: Allocator + Copy, W: Write>(
     text: &mut Vec<u8, A>,
     writer: &mut W,
 ) -> Result<(), ReplayFault>
-    requires { All (λ event. (event.line < line_count core.old.subs) × IsReadable event.what) events.old.items }
+    requires { All (λ event. (event.line < line_count core.old.subs) × CanCome event.what) events.old.items }
     ensures acted { (text : List ℕ) × Appends (W.contents writer.old) (W.contents writer.new) text × Acted core.old events.old.items result core.new text }
     ensures subs { core.new.subs ≡ core.old.subs }
 {
@@ -45,7 +45,7 @@ fn act_on<A: Allocator + Copy, W: Write>(
     writer: &mut W,
 ) -> Result<(), ReplayFault>
     requires line { event.line < line_count core.old.subs }
-    requires readable { IsReadable event.what }
+    requires comes { CanCome event.what }
     ensures acted { (text : List ℕ) × Appends (W.contents writer.old) (W.contents writer.new) text × Acted core.old (event ∷ []) result core.new text }
     ensures subs { core.new.subs ≡ core.old.subs }
 {

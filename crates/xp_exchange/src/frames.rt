@@ -1,9 +1,8 @@
 //! The events that the frames of a line are.
 
 ghost use Rattle.std.specs.Prelude.{◌≡◌, [], All, IfOk, OnOk};
-ghost use Rattle.xp_core.specs.Exchange.{IsReadable};
 ghost use Rattle.xp_exchange.specs.Acting.{emptied, IsBetweenFrames, TakesWhole};
-ghost use Rattle.xp_exchange.specs.Heard.{Hears, IsReadAs, AreRead};
+ghost use Rattle.xp_exchange.specs.Heard.{AreRead, CanCome, Hears, IsReadAs};
 
 use std::alloc::{AllocError, Allocator};
 use std::collections::VecDeque;
@@ -24,7 +23,7 @@ pub fn hear<A: Allocator + Copy>(
     requires { IsBetweenFrames stream.old }
     ensures heard { OnOk result (Hears line stream.old.rest octets.now events.new.items stream.new.rest) }
     ensures between { OnOk result (IsBetweenFrames stream.new) }
-    ensures fit { OnOk result (All (λ event. (event.line ≡ line) × IsReadable event.what) events.new.items) }
+    ensures fit { OnOk result (All (λ event. (event.line ≡ line) × CanCome event.what) events.new.items) }
 {
     let fails = fails_with(stream, octets)?;
     read_all(alloc, line, stream, events)?;
@@ -59,7 +58,7 @@ fn read_all<A: Allocator + Copy>(
     events: &mut VecDeque<Event<A>, A>,
 ) -> Result<(), AllocError>
     ensures read { OnOk result (AreRead line stream.old.waiting events.new.items) }
-    ensures fit { OnOk result (All (λ event. (event.line ≡ line) × IsReadable event.what) events.new.items) }
+    ensures fit { OnOk result (All (λ event. (event.line ≡ line) × CanCome event.what) events.new.items) }
     ensures stream { OnOk result (stream.new ≡ emptied stream.old) }
 {
     events.clear();
@@ -79,7 +78,7 @@ fn event_of<A: Allocator + Copy>(
 ) -> Result<Event<A>, AllocError>
     ensures line { IfOk result (λ event. event.line ≡ line) }
     ensures read { IfOk result (λ event. IsReadAs octets.now event.what) }
-    ensures fit { IfOk result (λ event. IsReadable event.what) }
+    ensures fit { IfOk result (λ event. CanCome event.what) }
 {
     let what = match decode(alloc, octets) {
         Ok((identifier, packet)) => What::frame(identifier, packet),

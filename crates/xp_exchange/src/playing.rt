@@ -2,7 +2,8 @@
 
 ghost use Rattle.std.specs.Prelude.{◌≡◌, ◌+◌, ◌<◌, ◌^◌, ℕ, List, [], ◌∷◌, ◌++◌, All, IfErr, IfOk, OnOk, length};
 ghost use Rattle.std.specs.Io.KnownBytes.{Appends};
-ghost use Rattle.xp_core.specs.Exchange.{IsReadable, world_of};
+ghost use Rattle.xp_core.specs.Exchange.{world_of};
+ghost use Rattle.xp_exchange.specs.Heard.{CanCome};
 ghost use Rattle.xp_exchange.specs.Play.{Plays, is_off_at};
 ghost use Rattle.xp_exchange.specs.Playing.{Played};
 ghost use Rattle.xp_script.specs.Command.{HasLine};
@@ -117,7 +118,7 @@ fn hear<A: Allocator + Copy>(
     requires line { HasLine (line_count core.now.subs) command }
     requires lines { length streams.old ≡ line_count core.now.subs }
     ensures plays { OnOk result (Plays (world_of core.now) streams.old command events.new.items streams.new) }
-    ensures fit { OnOk result (All (λ event. (event.line < line_count core.now.subs) × IsReadable event.what) events.new.items) }
+    ensures fit { OnOk result (All (λ event. (event.line < line_count core.now.subs) × CanCome event.what) events.new.items) }
     ensures lines { length streams.new ≡ length streams.old }
 {
     events.clear();

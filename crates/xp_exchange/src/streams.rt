@@ -1,8 +1,7 @@
 //! The octet streams of all lines, each cut into frames by itself.
 
 ghost use Rattle.std.specs.Prelude.{◌≡◌, ◌<◌, [], All, IfOk, OnOk, length, replicate, slice_set};
-ghost use Rattle.xp_core.specs.Exchange.{IsReadable};
-ghost use Rattle.xp_exchange.specs.Heard.{Hears};
+ghost use Rattle.xp_exchange.specs.Heard.{CanCome, Hears};
 ghost use Rattle.xp_exchange.specs.Play.{unfinished_at};
 
 use crate::frames::hear;
@@ -64,7 +63,7 @@ impl<A: Allocator + Copy> Streams<A> {
         ensures heard { OnOk result (Hears line (unfinished_at self.old line) octets.now events.new.items (unfinished_at self.new line)) }
         ensures kept { OnOk result (self.new ≡ slice_set self.old line (unfinished_at self.new line)) }
         ensures lines { length self.new ≡ length self.old }
-        ensures fit { OnOk result (All (λ event. (event.line ≡ line) × IsReadable event.what) events.new.items) }
+        ensures fit { OnOk result (All (λ event. (event.line ≡ line) × CanCome event.what) events.new.items) }
     {
         // Out of its place, since want of memory may leave it with packets that wait.
         let place = &mut self.streams[usize::from(line)];

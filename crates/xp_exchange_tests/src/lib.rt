@@ -6,6 +6,8 @@ mod replays;
 #[cfg(test)]
 mod scripts;
 #[cfg(test)]
+mod stalls;
+#[cfg(test)]
 mod steps;
 #[cfg(test)]
 mod tasks;

@@ -11,9 +11,9 @@ use xp_packets::{PacketFault, decode};
 use xp_subs::{LineNo, Subs};
 use xp_testing::{Refusing, THREE_STATIONS};
 
-const A1: LineNo = 0;
+pub const A1: LineNo = 0;
 
-const B1: LineNo = 1;
+pub const B1: LineNo = 1;
 
 /// A call from a1 to b1 that is accepted and then cleared by a1: on which line what packet comes, or where there are no
 /// octets a connection, and how many packets are put out.
@@ -32,7 +32,7 @@ const CALL: [(LineNo, &[u8], usize); 6] = [
     (B1, &[0x10, 0x01, 0x17], 0),
 ];
 
-fn event_of<A: Allocator + Copy>(
+pub fn event_of<A: Allocator + Copy>(
     alloc: A,
     line: LineNo,
     packet: &[u8],
@@ -51,7 +51,7 @@ fn event_of<A: Allocator + Copy>(
 }
 
 /// Hands an event in.
-fn offer<A: Allocator + Copy>(
+pub fn offer<A: Allocator + Copy>(
     rt: &impl Abort,
     core: &mut Core<A>,
     event: Event<A>,

@@ -25,4 +25,4 @@ pub use redirection::{Reason, Redirected};
 pub use segment_counts::SegmentCounts;
 pub use selection::Selection;
 pub use told::Told;
-pub use writer::write;
+pub use writer::{segments_field, write};

@@ -297,23 +297,40 @@ fn pair(sizes: Option<Pair>) -> Option<[u8; 2]>
 }
 
 /// Eight digits of what was sent to the DTE, and eight of what was received from it.
-#[tactic(auto, unfolding(crate::specs::Told::counts, crate::specs::Told::eight_digits))]
+#[tactic(auto, unfolding(crate::specs::Told::counts))]
 fn counts(segments: Option<SegmentCounts>) -> Option<[u8; 8]>
     ensures { result ≡ counts segments }
 {
     match segments {
-        Some(SegmentCounts { sent, received }) => Some([
-            decimal_octet(sent / 1_000_000 % 100),
-            decimal_octet(sent / 10_000 % 100),
-            decimal_octet(sent / 100 % 100),
-            decimal_octet(sent % 100),
-            decimal_octet(received / 1_000_000 % 100),
-            decimal_octet(received / 10_000 % 100),
-            decimal_octet(received / 100 % 100),
-            decimal_octet(received % 100),
-        ]),
+        Some(SegmentCounts { sent, received }) => {
+            let [a, b, c, d] = eight_digits(sent);
+            let [e, f, g, h] = eight_digits(received);
+            Some([a, b, c, d, e, f, g, h])
+        }
         None => None,
     }
+}
+
+/// The field that tells the segments of a call and nothing else (X.25 clause 7.2). It takes no memory.
+pub fn segments_field(segments: SegmentCounts) -> [u8; 10]
+    ensures { result ≡ 0xc2 ∷ 8 ∷ eight_digits segments.sent ++ eight_digits segments.received }
+{
+    let [a, b, c, d] = eight_digits(segments.sent);
+    let [e, f, g, h] = eight_digits(segments.received);
+    [codes::SEGMENT_COUNT, 8, a, b, c, d, e, f, g, h]
+}
+
+/// Eight decimal digits, in half-octets.
+#[tactic(auto, unfolding(crate::specs::Told::eight_digits))]
+fn eight_digits(number: u32) -> [u8; 4]
+    ensures { result ≡ eight_digits number }
+{
+    [
+        decimal_octet(number / 1_000_000 % 100),
+        decimal_octet(number / 10_000 % 100),
+        decimal_octet(number / 100 % 100),
+        decimal_octet(number % 100),
+    ]
 }
 
 /// Two decimal digits, in half-octets.

@@ -1,11 +1,13 @@
 -- An event is entered, and the stalls that it forces.
-use Rattle.std.proofs.Common.{◌≡◌, ℕ, ◌+◌, ◌-◌, ◌<◌, ◌≤◌, false, List, [], ◌∷◌, ◌++◌, take, drop, length, sym, refl, ap, ◌∙◌, subst, inl, inr, arith, append_assoc, append-nil}
+use Rattle.std.proofs.Common.{◌≡◌, ℕ, ◌+◌, ◌-◌, ◌<◌, ◌≤◌, false, List, [], ◌∷◌, ◌++◌, take, drop, length, sym, refl, ap, ◌∙◌, subst, inl, inr, arith, append_assoc, append-nil, length-append}
 use Rattle.std.proofs.lemmas.Bool.{cases_lt}
 use Rattle.std.proofs.lemmas.Grind.{flat_map-append}
 use Rattle.xp_outbox.specs.Ends.{Putting}
 use Rattle.xp_subs.specs.Tables.{line_count}
 use Rattle.xp_core.specs.declared.entry.Entry.{Entry}
 use Rattle.xp_core.specs.declared.event.Event.{Event}
+use Rattle.xp_core.specs.declared.event.What.{What}
+use Rattle.xp_core.specs.declared.event.What.TheVariants as events
 use Rattle.xp_core.specs.declared.output.Outgoing.{Outgoing}
 use Rattle.xp_core.specs.declared.stepped.Stepped.{Stepped}
 use Rattle.xp_core.specs.Channel.{is_off}
@@ -13,16 +15,19 @@ use Rattle.xp_core.specs.Coupling.{AreCoupled}
 use Rattle.xp_core.specs.Few.{AreFew}
 use Rattle.xp_core.specs.Exchange.{Advances, Exchange, world_of}
 use Rattle.xp_core.specs.Records.{records_of}
+use Rattle.xp_core.specs.Run.{Run}
+use Rattle.xp_core.specs.Stalls.{left_after}
 use Rattle.xp_core.specs.Worlds.{world_after}
 use Rattle.xp_core.specs.Step.{Step}
 use Rattle.xp_core.specs.World.{line_at, state_at}
 use Rattle.xp_lock.specs.declared.done.Done.{Done}
 use Rattle.xp_lock.specs.Boxes.{AreKept, HasRoomFor, IsPut, PLACES_KEPT, box_at}
 use Rattle.xp_lock.specs.Forced.{IsQuiet, Stalls}
+use Rattle.xp_lock.specs.Given.{AreGiven, IsGivenToFew}
 use Rattle.xp_lock.specs.Handed.{is_stall}
 use Rattle.xp_lock.specs.Outgoing.{put_out_to, to_line}
 use Rattle.xp_lock.specs.Stalling.{CanEnter, HasEntered, HasStalled, switch_of}
-use Rattle.xp_lock.specs.Switch.{IsGiven, Takes, is_up}
+use Rattle.xp_lock.specs.Switch.{IsGiven, Switch, Takes, is_up}
 use Rattle.xp_lock.proofs.Touches.{Touches, touches}
 
 pub take_front : {X : Type 0} (xs ys : List X) → take (length xs) (xs ++ ys) ≡ xs
@@ -34,9 +39,28 @@ pub drop_front : {X : Type 0} (xs ys : List X) → drop (length xs) (xs ++ ys) �
 drop_front [] ys = refl
 drop_front (x ∷ xs) ys = drop_front xs ys
 
+-- an event that is no stall uses none up
+pub left_others : {A : Type 0} (what : What A) (stalls : ℕ) → is_stall what ≡ false → left_after what stalls ≡ stalls
+left_others events.Stall stalls kind = absurd (cc)
+left_others events.Up stalls kind = refl
+left_others events.Down stalls kind = refl
+left_others (events.Frame identifier packet) stalls kind = refl
+left_others (events.WrongFrame wrong) stalls kind = refl
+left_others events.Expire stalls kind = refl
+
+-- stalls are prepared
+module _ {A : Type 0} (old new : Exchange A) (same : new ≡ record old { stalls = new.stalls }) (event : Event A) (boxes : List (Putting (Outgoing A))) where
+  pub can_still : CanEnter old event boxes → CanEnter new event boxes
+  can_still can =
+      let P : Exchange A → Type 0 = λ e. CanEnter e event boxes in
+      subst P (sym same) (record { kept = can.kept; places = can.places; kind = can.kind; room = can.room })
+
+  pub takes_still : (done : Done) (last : Switch A) → Takes (switch_of new boxes) event done last → Takes (switch_of old boxes) event done last
+  takes_still done last takes = subst (λ s. Takes s event done last) (ap (λ e. switch_of e boxes) same) takes
+
 module _ {A : Type 0} (old mid : Exchange A) (event : Event A) (told : Stepped A) (boxes : List (Putting (Outgoing A)))
     (can : CanEnter old event boxes) (coupled : AreCoupled old.subs (world_of old)) (step : Advances old event mid told)
-    (small : AreFew told.outputs) where
+    (small : AreFew told.outputs) (run : Run old.subs old.history (world_of old)) where
   touched : Touches (world_of old) step.entry (world_of mid)
   touched = touches old.subs old.history (world_of old) step.entry (world_of mid) coupled step.step
 
@@ -75,11 +99,35 @@ module _ {A : Type 0} (old mid : Exchange A) (event : Event A) (told : Stepped A
       step = subst (λ t. Step t old.history (world_after t old.history) step.entry (world_of mid)) (sym step.subs) step.step;
       journal = subst (λ t. length old.history + 4 ≤ t.journal) (sym step.subs) can.places;
       places = λ line on. let enough = had line on in let left = free_between line in omega (arith, enough, left, few line);
+      run = subst (λ t. Run t old.history (world_after t old.history)) (sym step.subs) run;
+      lines = put.count ∙ can.kept.count ∙ ap line_count (sym step.subs);
     }
+
+    module _ (new : Exchange A) (after : List (Putting (Outgoing A))) (stalled : HasStalled mid from between new after) where
+      since_new : drop from new.history ≡ step.entry ∷ stalled.stalls
+      since_new =
+          let new_is : new.history ≡ old.history ++ (step.entry ∷ stalled.stalls) =
+          stalled.history ∙ ap (λ xs. xs ++ stalled.stalls) step.history ∙ append_assoc old.history (step.entry ∷ []) stalled.stalls in
+          ap (λ n. drop n new.history) count ∙ ap (drop (length old.history)) new_is ∙ drop_front old.history (step.entry ∷ stalled.stalls)
+
+      since_mid : drop from mid.history ≡ step.entry ∷ []
+      since_mid = ap (λ n. drop n mid.history) count ∙ ap (drop (length old.history)) step.history ∙ drop_front old.history (step.entry ∷ [])
+
+      pub from_within : from ≤ length new.history
+      from_within =
+          let long = ap length stalled.history in
+          let mid_long = ap length step.history in
+          omega (arith, count, long, mid_long, length-append mid.history stalled.stalls, length-append old.history (step.entry ∷ []))
+
+      pub given_few : IsGivenToFew (drop from new.history)
+      given_few = subst (λ xs. IsGivenToFew xs) (ap (λ xs. xs ++ stalled.stalls) since_mid ∙ sym since_new) stalled.given
+
+      pub line_there : event.line < line_count old.subs → event.line < line_count new.subs
+      line_there within = subst (λ t. event.line < line_count t) (sym (stalled.subs ∙ step.subs)) within
 
     module _ (new : Exchange A) (after : List (Putting (Outgoing A))) (stalled : HasStalled mid from between new after) (done : Done)
         (number : done.entry ≡ told.entry) (records : done.records ≡ length (records_of new.history))
-        (connection : done.connection ≡ (line_at (world_of new) event.line).connection) where
+        (connection : done.connection ≡ (line_at (world_of new) event.line).connection) (given : AreGiven (drop from new.history) done.given.items) where
       before_is : take from mid.history ≡ old.history
       before_is = ap (λ n. take n mid.history) count ∙ ap (take (length old.history)) step.history ∙ take_front old.history (step.entry ∷ [])
 
@@ -137,6 +185,7 @@ module _ {A : Type 0} (old mid : Exchange A) (event : Event A) (told : Stepped A
         number = number ∙ step.number;
         records = records;
         connection = connection;
+        given = subst (λ xs. AreGiven xs done.given.items) (since_new new after stalled) given;
       }
 
       -- a line in service has its places

@@ -93,4 +93,5 @@ module _ {A : Type 0} where
           records = takes.records ∙ ap (λ xs. length (records_of xs)) (sym seen);
           connection = takes.connection ∙ ap (λ t. (line_at (world_after t new.history) event.line).connection) same
               ∙ ap (λ xs. (line_at (world_after subs xs) event.line).connection) (sym seen);
+          given = takes.given;
         }

@@ -1,10 +1,16 @@
+pub mod Calls
+pub mod Counted
 pub mod Entered
 pub mod Fresh
+pub mod GivenLines
 pub mod Lists
+pub mod Looping
 pub mod Opened
 pub mod Putting
 pub mod Queues
-pub mod Quiet
 pub mod Ready
+pub mod Returned
+pub mod Stalled
 pub mod Steps
 pub mod Touches
+pub mod Trio

@@ -27,11 +27,11 @@ module _ {A : Type 0} where
       let free : box.free - 0 ≡ box.free = omega arith in
       λ i. record { queue = box.queue; capacity = box.capacity; put = append-nil box.put i; free = free i }
 
-  to_line_same : (line : ℕ) (output : Output A) (rest : List (Output A)) → output.line ≡ line → to_line line (output ∷ rest) ≡ output.outgoing ∷ to_line line rest
+  pub to_line_same : (line : ℕ) (output : Output A) (rest : List (Output A)) → output.line ≡ line → to_line line (output ∷ rest) ≡ output.outgoing ∷ to_line line rest
   to_line_same line output rest same =
       ap (λ b. map (λ (o : Output A). o.outgoing) (cond b (output ∷ filter (λ o. eqb o.line line) rest) (filter (λ o. eqb o.line line) rest))) (eq-eqb output.line line same)
 
-  to_line_other : (line : ℕ) (output : Output A) (rest : List (Output A)) → output.line ≢ line → to_line line (output ∷ rest) ≡ to_line line rest
+  pub to_line_other : (line : ℕ) (output : Output A) (rest : List (Output A)) → output.line ≢ line → to_line line (output ∷ rest) ≡ to_line line rest
   to_line_other line output rest other =
       ap (λ b. map (λ (o : Output A). o.outgoing) (cond b (output ∷ filter (λ o. eqb o.line line) rest) (filter (λ o. eqb o.line line) rest))) (ne_eqb output.line line other)
 

@@ -93,4 +93,5 @@ module _ {A : Type 0} where
     number = takes.number;
     records = takes.records;
     connection = takes.connection;
+    given = takes.given;
   }

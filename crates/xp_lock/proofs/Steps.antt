@@ -1,7 +1,7 @@
 -- Each step on the word keeps its rule.
 use Rattle.std.proofs.Common.{◌≡◌, ◌≢◌, ℕ, ◌+◌, ◌<◌, true, false, true≢false, cond, eqb, List, [], ◌∷◌, ◌++◌, length, set, sym, refl, ap, ◌∙◌, subst, ⊎_elim, arith, length-append, length-set, get_or-set_same, eq-eqb}
 use Rattle.std.proofs.lemmas.Bool.{ne_eqb}
-use Rattle.std.specs.Prelude.{slice_index}
+use Rattle.std.specs.Prelude.{◌||◌, slice_index}
 use mathlib.Core.Option.{some, some-ne-none}
 use lib.ListN.{get_elem?}
 use prog.Atomic.{either}
@@ -10,8 +10,9 @@ use Rattle.atomic_table.specs.Table.{Allows, Joins, Splits, keeps}
 use Rattle.xp_core.specs.declared.entry.Entry.{Entry}
 use Rattle.xp_core.specs.Exchange.{Exchange}
 use Rattle.xp_lock.specs.declared.word.View.{View}
+use Rattle.xp_lock.specs.Given.{is_among}
 use Rattle.xp_lock.specs.Handed.{handed}
-use Rattle.xp_lock.specs.Views.{Fits, HasSeenOwn, IsChecked, IsGrown, IsShared, IsShown, StartsWith, claim_of, holding, joined, keeping, next_claim, nobody, one_further, unclaimed}
+use Rattle.xp_lock.specs.Views.{Fits, HasSeenOwn, IsChecked, IsGrown, IsShared, IsShown, StartsWith, claim_of, closing, joined, keeping, next_claim, nobody, one_further, unclaimed}
 use Rattle.xp_lock.proofs.Lists.{Each, each_new, each_set, handed-none, starts_empty, starts_longer, starts_whole}
 
 off : false ≡ true → ⊥
@@ -35,26 +36,28 @@ module _ {A : Type 0} where
     owner = λ _. 0;
     next = 0;
     history = [];
+    returned = [];
     one = omega arith;
     word = refl;
-    each = λ seat view e. each_new (Fits 0 (λ _. 0) 0 []) [] (keeping 0 []) (record { keeps = λ _. (refl, refl, refl); claims = λ c. absurd (off c) })
+    each = λ seat view e. each_new (Fits 0 (λ _. 0) 0 [] []) [] (keeping 0 []) (record { keeps = λ _. (refl, refl, refl, refl); claims = λ c. absurd (off c) })
         (λ j u none. absurd (some-ne-none u (sym none))) seat view e;
   }
 
   module _ (words : List ℕ) (views : List (View A)) (h : IsShared words views) where
     -- the claim of the next line is given out, before there are entries
-    pub starts : (seat : ℕ) (v : View A) → get_elem? views seat ≡ some v → v.keeps ≡ true → v.all ≡ []
+    pub starts : (seat : ℕ) (v : View A) → get_elem? views seat ≡ some v → v.keeps ≡ true → v.all ≡ [] → v.returned ≡ []
         → IsShared words (set views seat (one_further v) ++ next_claim v ∷ [])
-    starts seat v at may none =
+    starts seat v at may none back =
         let mine = (h.each seat v at).keeps may in
         let vs : List (View A) = set views seat (one_further v) in
         let owner : ℕ → ℕ = given_to h.owner v.next (length vs) in
-        let F : ℕ → View A → Type 0 = Fits h.keeper_seat owner (v.next + 1) h.history in
+        let F : ℕ → View A → Type 0 = Fits h.keeper_seat owner (v.next + 1) h.history h.returned in
         record {
           keeper_seat = h.keeper_seat;
           owner = owner;
           next = v.next + 1;
           history = h.history;
+          returned = h.returned;
           one = h.one;
           word = h.word;
           each = each_new F vs (next_claim v)
@@ -63,17 +66,19 @@ module _ {A : Type 0} where
                 claims = λ _. record {
                   owned = given_here h.owner v.next (length vs);
                   given = omega arith;
+                  out = ap (is_among v.next) (sym mine.3 ∙ back);
                   front = starts_empty h.history;
                   own = ap (handed v.next) (sym mine.1 ∙ none);
                 };
               })
               (each_set F views seat (one_further v)
-              (record { keeps = λ _. (mine.0, mine.1, refl); claims = λ c. absurd (off c) })
+              (record { keeps = λ _. (mine.0, mine.1, refl, mine.3); claims = λ c. absurd (off c) })
               (λ j u other e. record {
                 keeps = λ k. absurd (other (((h.each j u e).keeps k).0 ∙ sym mine.0));
                 claims = λ c. let was = (h.each j u e).claims c in record {
                   owned = given_else h.owner v.next (length vs) u.line (λ same. let below : u.line < h.next = was.given in omega (arith, below, same, mine.2)) ∙ was.owned;
                   given = let below : u.line < h.next = was.given in omega (arith, below, mine.2);
+                  out = was.out;
                   front = was.front;
                   own = was.own;
                 };
@@ -87,18 +92,19 @@ module _ {A : Type 0} where
         let mine = (h.each seat v at).claims may in
         let vs : List (View A) = set views seat (unclaimed v) in
         let owner : ℕ → ℕ = given_to h.owner v.line (length vs) in
-        let F : ℕ → View A → Type 0 = Fits h.keeper_seat owner h.next h.history in
+        let F : ℕ → View A → Type 0 = Fits h.keeper_seat owner h.next h.history h.returned in
         record {
           keeper_seat = h.keeper_seat;
           owner = owner;
           next = h.next;
           history = h.history;
+          returned = h.returned;
           one = h.one;
           word = h.word;
           each = each_new F vs (claim_of v)
               (record {
                 keeps = λ k. absurd (off k);
-                claims = λ _. record { owned = given_here h.owner v.line (length vs); given = mine.given; front = mine.front; own = mine.own };
+                claims = λ _. record { owned = given_here h.owner v.line (length vs); given = mine.given; out = mine.out; front = mine.front; own = mine.own };
               })
               (each_set F views seat (unclaimed v)
               (record { keeps = λ k. (h.each seat v at).keeps k; claims = λ c. absurd (off c) })
@@ -107,6 +113,7 @@ module _ {A : Type 0} where
                 claims = λ c. let was = (h.each j u e).claims c in record {
                   owned = given_else h.owner v.line (length vs) u.line (λ same. other (sym was.owned ∙ ap h.owner same ∙ mine.owned)) ∙ was.owned;
                   given = was.given;
+                  out = was.out;
                   front = was.front;
                   own = was.own;
                 };
@@ -121,18 +128,19 @@ module _ {A : Type 0} where
         let was_there : get_elem? views other ≡ some u = ⊎_elim (λ x. absurd (two x.0)) (λ x. x.1) (at_set views seat other (joined v u) u at') in
         let theirs = (h.each other u was_there).claims may in
         let owner : ℕ → ℕ = given_to h.owner u.line seat in
-        let F : ℕ → View A → Type 0 = Fits h.keeper_seat owner h.next h.history in
+        let F : ℕ → View A → Type 0 = Fits h.keeper_seat owner h.next h.history h.returned in
         let G : ℕ → View A → Type 0 = λ j w. j ≢ other → F j w in
         let inner : Each G (set views seat (joined v u)) = each_set G views seat (joined v u)
         (λ _. record {
           keeps = λ k. (h.each seat v at).keeps k;
-          claims = λ _. record { owned = given_here h.owner u.line seat; given = theirs.given; front = theirs.front; own = theirs.own };
+          claims = λ _. record { owned = given_here h.owner u.line seat; given = theirs.given; out = theirs.out; front = theirs.front; own = theirs.own };
         })
         (λ j w _ e apart. record {
           keeps = λ k. (h.each j w e).keeps k;
           claims = λ c. let was = (h.each j w e).claims c in record {
             owned = given_else h.owner u.line seat w.line (λ same. apart (sym was.owned ∙ ap h.owner same ∙ theirs.owned)) ∙ was.owned;
             given = was.given;
+            out = was.out;
             front = was.front;
             own = was.own;
           };
@@ -142,6 +150,7 @@ module _ {A : Type 0} where
           owner = owner;
           next = h.next;
           history = h.history;
+          returned = h.returned;
           one = h.one;
           word = h.word;
           each = each_set F (set views seat (joined v u)) other nobody
@@ -161,25 +170,27 @@ module _ {A : Type 0} where
     -- the keeper adds entries of the line whose claim it holds
     adds_to : (seat : ℕ) (v : View A) (more : List (Entry A)) (n : ℕ) → get_elem? views seat ≡ some v → v.keeps ≡ true → v.claims ≡ true
         → n ≡ length v.all + length more → ((line : ℕ) → line ≢ v.line → handed line more ≡ [])
-        → IsShared (set words 0 n) (set views seat (holding v.next (v.all ++ more) v.line (v.all ++ more)))
+        → IsShared (set words 0 n) (set views seat (record v { all = v.all ++ more; seen = v.all ++ more }))
     adds_to seat v more n at may claims long none =
         let kept = (h.each seat v at).keeps may in
         let claimed = (h.each seat v at).claims claims in
         let now : List (Entry A) = h.history ++ more in
-        let F : ℕ → View A → Type 0 = Fits h.keeper_seat h.owner h.next now in
+        let F : ℕ → View A → Type 0 = Fits h.keeper_seat h.owner h.next now h.returned in
         record {
           keeper_seat = h.keeper_seat;
           owner = h.owner;
           next = h.next;
           history = now;
+          returned = h.returned;
           one = subst (λ k. 0 < k) (sym (length-set words 0 n)) h.one;
           word = get_or-set_same words 0 n 0 h.one ∙ long ∙ ap (λ xs. length xs + length more) kept.1 ∙ sym (length-append h.history more);
-          each = each_set F views seat (holding v.next (v.all ++ more) v.line (v.all ++ more))
+          each = each_set F views seat (record v { all = v.all ++ more; seen = v.all ++ more })
               (record {
-                keeps = λ _. (kept.0, ap (λ xs. xs ++ more) kept.1, kept.2);
+                keeps = λ _. (kept.0, ap (λ xs. xs ++ more) kept.1, kept.2, kept.3);
                 claims = λ _. record {
                   owned = claimed.owned;
                   given = claimed.given;
+                  out = claimed.out;
                   front = starts_whole now (v.all ++ more) (ap (λ xs. xs ++ more) (sym kept.1));
                   own = ap (λ xs. handed v.line (xs ++ more)) (sym kept.1);
                 };
@@ -189,35 +200,51 @@ module _ {A : Type 0} where
                 claims = λ c. let was = (h.each j u e).claims c in record {
                   owned = was.owned;
                   given = was.given;
+                  out = was.out;
                   front = starts_longer h.history u.seen more was.front;
                   own = handed-none u.line h.history more (none u.line (λ same. other (sym was.owned ∙ ap h.owner same ∙ claimed.owned))) ∙ was.own;
                 };
               });
         }
 
-    -- the keeper compares a claim
+    given_back : (seat : ℕ) (v : View A) → get_elem? views seat ≡ some v → v.keeps ≡ true → v.claims ≡ true → is_among v.line v.returned ≡ false
+    given_back seat v at may claims = ap (is_among v.line) ((h.each seat v at).keeps may).3 ∙ ((h.each seat v at).claims claims).out
+
+    -- the keeper compares a claim, and it is given back
     checks_at : (seat : ℕ) (v : View A) → get_elem? views seat ≡ some v → v.keeps ≡ true → v.claims ≡ true
-        → IsShared (set words 0 (slice_index words 0)) (set views seat (keeping v.next v.all))
+        → IsShared (set words 0 (slice_index words 0)) (set views seat (closing v.next v.all (v.line ∷ v.returned)))
     checks_at seat v at may claims =
         let kept = (h.each seat v at).keeps may in
+        let claimed = (h.each seat v at).claims claims in
         let n : ℕ = slice_index words 0 in
-        let F : ℕ → View A → Type 0 = Fits h.keeper_seat h.owner h.next h.history in
+        let returned : List ℕ = v.line ∷ h.returned in
+        let F : ℕ → View A → Type 0 = Fits h.keeper_seat h.owner h.next h.history returned in
         record {
           keeper_seat = h.keeper_seat;
           owner = h.owner;
           next = h.next;
           history = h.history;
+          returned = returned;
           one = subst (λ k. 0 < k) (sym (length-set words 0 n)) h.one;
           word = get_or-set_same words 0 n 0 h.one ∙ h.word;
-          each = each_set F views seat (keeping v.next v.all)
-              (record { keeps = λ _. kept; claims = λ c. absurd (off c) })
-              (λ j u other e. h.each j u e);
+          each = each_set F views seat (closing v.next v.all (v.line ∷ v.returned))
+              (record { keeps = λ _. (kept.0, kept.1, kept.2, ap (λ xs. v.line ∷ xs) kept.3); claims = λ c. absurd (off c) })
+              (λ j u other e. record {
+                keeps = λ k. absurd (other (((h.each j u e).keeps k).0 ∙ sym kept.0));
+                claims = λ c. let was = (h.each j u e).claims c in record {
+                  owned = was.owned;
+                  given = was.given;
+                  out = ap (λ b. b || is_among u.line h.returned) (ne_eqb v.line u.line (λ same. other (sym was.owned ∙ ap h.owner (sym same) ∙ claimed.owned))) ∙ was.out;
+                  front = was.front;
+                  own = was.own;
+                };
+              });
         }
 
   -- the same as steps of a table
-  pub starts_at : {S : Type 0} (seat : ℕ) (v : View A) → v.keeps ≡ true → v.all ≡ []
+  pub starts_at : {S : Type 0} (seat : ℕ) (v : View A) → v.keeps ≡ true → v.all ≡ [] → v.returned ≡ []
       → Splits {S = S} (λ s. IsShared s.words s.views) seat v (one_further v) (next_claim v)
-  starts_at seat v may none s h at = starts s.words s.views h seat v at may none
+  starts_at seat v may none back s h at = starts s.words s.views h seat v at may none back
 
   pub gives_at : {S : Type 0} (seat : ℕ) (v : View A) → v.claims ≡ true
       → Splits {S = S} (λ s. IsShared s.words s.views) seat v (unclaimed v) (claim_of v)
@@ -233,8 +260,8 @@ module _ {A : Type 0} where
   shows slots seat me core before count may claims was now grown s h long at below =
       let v = me.0 in
       let n : ℕ = slice_index s.words 0 in
-      let after : View A = holding v.next core.history v.line core.history in
-      let Shown : ℕ → List (Entry A) → Type 0 = λ word xs. IsShared (set s.words 0 word) (set s.views seat (holding v.next xs v.line xs)) in
+      let after : View A = record v { all = core.history; seen = core.history } in
+      let Shown : ℕ → List (Entry A) → Type 0 = λ word xs. IsShared (set s.words 0 word) (set s.views seat (record v { all = xs; seen = xs })) in
       let found : n ≡ before = h.word ∙ ap length (sym ((h.each seat v at).keeps may).1) ∙ sym was in
       let added = adds_to s.words s.views h seat v grown.more count at may claims (now ∙ ap length grown.grown_is ∙ length-append v.all grown.more) grown.others in (
         after,
@@ -248,4 +275,11 @@ module _ {A : Type 0} where
       → Allows {S = S} (λ s. IsShared s.words s.views) slots seat me 0 (λ n. n) (λ _ m. IsChecked me.0 m.0 × (m.1 ≡ me.1))
   checks slots seat me may claims s h count at below =
       let v = me.0 in
-      (keeping v.next v.all, keeps, tt, checks_at s.words s.views h seat v at may claims, (record { left = refl; seen = seen_own s.words s.views h seat v at may claims }, refl))
+      let seen = seen_own s.words s.views h seat v at may claims in
+      let once = given_back s.words s.views h seat v at may claims in (
+        closing v.next v.all (v.line ∷ v.returned),
+        keeps,
+        tt,
+        checks_at s.words s.views h seat v at may claims,
+        (record { left = refl; once = once; seen = seen }, refl),
+      )

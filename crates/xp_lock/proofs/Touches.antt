@@ -125,7 +125,7 @@ at_line Cleared kind = in_service refl
 
 module _ {A : Type 0} where
   -- outputs to such lines go to no other
-  sent_to : (P : ℕ → Type 0) (outputs : List (Output A)) → All (λ (o : Output A). P o.line) outputs → (l : ℕ) → 0 < length (to_line l outputs) → P l
+  pub sent_to : (P : ℕ → Type 0) (outputs : List (Output A)) → All (λ (o : Output A). P o.line) outputs → (l : ℕ) → 0 < length (to_line l outputs) → P l
   sent_to P [] all l some = absurd (omega (arith, some))
   sent_to P (output ∷ outputs) all l some = elim (cases_eq output.line l) [
     | inl same ↦ subst P same (All-head (λ (o : Output A). P o.line) output outputs all)

@@ -58,10 +58,6 @@ module _ {A : Type 0} where
     pub count : length after ≡ length boxes
     pub each : (line : ℕ) → IsAlike (box_at boxes line) (box_at after line)
 
-  -- each of so many lines has places left
-  abbrev pub HavePlaces : ℕ → List (Putting (Outgoing A)) → Type 0
-  HavePlaces lines boxes = (line : ℕ) → line < lines → PLACES_KEPT ≤ (box_at boxes line).free
-
   -- the free places of one line are looked at
   pub record LooksAt (line : ℕ) (boxes after : List (Putting (Outgoing A))) : Type 0 where
     pub count : length after ≡ length boxes

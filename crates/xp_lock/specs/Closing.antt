@@ -1,9 +1,9 @@
 -- What the passes of a closed exchange tell, and which pass is missing.
-use Rattle.std.specs.Prelude.{◌≡◌, ℕ, ◌<◌, ◌==◌, ◌||◌, Bool, true, false, List, [], ◌∷◌, All}
+use Rattle.std.specs.Prelude.{◌≡◌, ℕ, zero, suc, ◌+◌, ◌<◌, ◌==◌, ◌||◌, not, Bool, true, false, List, [], ◌∷◌, All, filter, length}
 use mathlib.Core.List.{IsPrefix}
 use Rattle.xp_subs.specs.Tables.{Tables}
 use Rattle.xp_core.specs.declared.entry.Entry.{Entry}
-use Rattle.xp_lock.specs.Handed.{handed}
+use Rattle.xp_lock.specs.Handed.{handed, is_stall}
 use Rattle.xp_lock.specs.Outgoing.{put_out_to}
 use Rattle.xp_lock.specs.Passes.{Pass, mine}
 use Rattle.xp_lock.specs.Views.{StartsWith}
@@ -23,6 +23,15 @@ module _ {A : Type 0} where
   abbrev pub AreTold : List (Entry A) → List (Pass A) → Type 0
   AreTold history passes = All (IsTold history) passes
 
+  -- what lines handed in: all but the stalls
+  abbrev pub all_handed : List (Entry A) → List (Entry A)
+  all_handed history = filter (λ entry. not (is_stall entry.event.what)) history
+
+  -- how much so many lines handed in together
+  abbrev pub handed_together : ℕ → List (Entry A) → ℕ
+  handed_together zero history = 0
+  handed_together (suc line) history = length (handed line history) + handed_together line history
+
   abbrev pub has_line : ℕ → List (Pass A) → Bool
   has_line line [] = false
   has_line line (pass ∷ passes) = (pass.line == line) || has_line line passes
@@ -30,6 +39,16 @@ module _ {A : Type 0} where
   -- of so many lines, each has its pass here
   abbrev pub HasAll : ℕ → List (Pass A) → Type 0
   HasAll lines passes = (line : ℕ) → line < lines → has_line line passes ≡ true
+
+  -- no line has two passes here
+  abbrev pub NoneTwice : List (Pass A) → Type 0
+  NoneTwice [] = Unit {0}
+  NoneTwice (pass ∷ passes) = (has_line pass.line passes ≡ false) × NoneTwice passes
+
+  -- how many entries these passes know as their own, together
+  abbrev pub mine_together : List (Pass A) → ℕ
+  mine_together [] = 0
+  mine_together (pass ∷ passes) = length (mine pass) + mine_together passes
 
   -- the lowest line whose pass is not here
   pub record IsMissing (lines : ℕ) (passes : List (Pass A)) (line : ℕ) : Type 0 where

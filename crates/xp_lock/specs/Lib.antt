@@ -2,6 +2,7 @@ pub mod Boxes
 pub mod Closing
 pub mod Faults
 pub mod Forced
+pub mod Given
 pub mod Handed
 pub mod Opening
 pub mod Outgoing

@@ -9,6 +9,7 @@ use Rattle.xp_core.specs.Run.{Run}
 use Rattle.xp_core.specs.Worlds.{world_after}
 use Rattle.xp_core.specs.World.{line_at}
 use Rattle.xp_lock.specs.declared.done.Done.{Done}
+use Rattle.xp_lock.specs.Given.{AreGiven}
 use Rattle.xp_lock.specs.Handed.{handed, is_stall}
 
 -- no subscriptions
@@ -50,3 +51,4 @@ module _ {A : Type 0} where
     pub number : done.entry ≡ entry.number
     pub records : done.records ≡ length (records_of new.seen)
     pub connection : done.connection ≡ (line_at (world_after subs new.seen) event.line).connection
+    pub given : AreGiven (entry ∷ stalls) done.given.items

@@ -1,16 +1,19 @@
 -- How the stalls that an event forces are entered.
-use Rattle.std.specs.Prelude.{◌≡◌, ℕ, ◌+◌, ◌≤◌, true, false, List, [], ◌∷◌, ◌++◌, drop, length, take}
+use Rattle.std.specs.Prelude.{◌≡◌, ℕ, ◌+◌, ◌<◌, ◌≤◌, true, false, List, [], ◌∷◌, ◌++◌, drop, length, take}
 use Rattle.xp_outbox.specs.Ends.{Putting}
+use Rattle.xp_subs.specs.Tables.{line_count}
 use Rattle.xp_core.specs.declared.entry.Entry.{Entry}
 use Rattle.xp_core.specs.declared.event.Event.{Event}
 use Rattle.xp_core.specs.declared.output.Outgoing.{Outgoing}
 use Rattle.xp_core.specs.Channel.{is_off}
 use Rattle.xp_core.specs.Exchange.{Exchange, world_of}
+use Rattle.xp_core.specs.Run.{Run}
 use Rattle.xp_core.specs.Worlds.{world_after}
 use Rattle.xp_core.specs.Step.{Step}
 use Rattle.xp_core.specs.World.{state_at}
-use Rattle.xp_lock.specs.Boxes.{AreKept, PLACES_KEPT, box_at}
+use Rattle.xp_lock.specs.Boxes.{AreAlike, AreKept, PLACES_KEPT, box_at}
 use Rattle.xp_lock.specs.Forced.{IsQuiet, Stalls}
+use Rattle.xp_lock.specs.Given.{IsGivenToFew}
 use Rattle.xp_lock.specs.Handed.{is_stall}
 use Rattle.xp_lock.specs.Outgoing.{put_out_to}
 use Rattle.xp_lock.specs.Switch.{HasPlaces, Switch, is_up}
@@ -40,6 +43,25 @@ module _ {A : Type 0} where
     pub step : Step core.subs before (world_after core.subs before) entry (world_of core)
     pub journal : length before + 4 ≤ core.subs.journal
     pub places : (line : ℕ) → is_off (state_at (world_of core) line) ≡ false → PLACES_LEFT ≤ (box_at boxes line).free
+    -- the history before it is one of a run, and each line has its outbox
+    pub run : Run core.subs before (world_after core.subs before)
+    pub lines : length boxes ≡ line_count core.subs
+
+  -- a line in service was given something since, and too few of its places are known to be free
+  pub record IsShort (core : Exchange A) (from : ℕ) (boxes : List (Putting (Outgoing A))) (line : ℕ) : Type 0 where
+    pub in_service : is_off (state_at (world_of core) line) ≡ false
+    pub given : 0 < length (put_out_to line (drop from core.history))
+    pub short : (box_at boxes line).free < PLACES_KEPT
+
+  pub record IsLowestShort (core : Exchange A) (from : ℕ) (boxes : List (Putting (Outgoing A))) (line : ℕ) : Type 0 where
+    pub there : line < length boxes
+    pub is : IsShort core from boxes line
+    pub lowest : (other : ℕ) → other < line → IsShort core from boxes other → ⊥
+
+  -- the free places of lines in service are looked at
+  pub record IsSearched (core : Exchange A) (boxes after : List (Putting (Outgoing A))) : Type 0 where
+    pub alike : AreAlike boxes after
+    pub still : (line : ℕ) → is_off (state_at (world_of core) line) ≡ true → box_at after line ≡ box_at boxes line
 
   -- the stalls that it forces are entered too
   pub record HasStalled (core : Exchange A) (from : ℕ) (boxes : List (Putting (Outgoing A))) (new : Exchange A) (after : List (Putting (Outgoing A))) : Type 0 where
@@ -48,6 +70,7 @@ module _ {A : Type 0} where
     pub forced : Stalls core.subs (take from core.history) (world_of core) known (drop from core.history) stalls (world_of new)
     pub quiet : IsQuiet (world_of new) known (drop from core.history ++ stalls)
     pub few : length stalls ≤ 3
+    pub given : IsGivenToFew (drop from core.history ++ stalls)
     pub history : new.history ≡ core.history ++ stalls
     pub subs : new.subs ≡ core.subs
     -- no line comes into service

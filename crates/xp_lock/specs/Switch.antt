@@ -15,6 +15,7 @@ use Rattle.xp_lock.specs.declared.fault.OfferFault.{OfferFault}
 use Rattle.xp_lock.specs.declared.fault.OfferFault.TheVariants.{Halted, JournalFull, NoRoom, Memory}
 use Rattle.xp_lock.specs.Boxes.{LooksIf, PLACES_KEPT, box_at}
 use Rattle.xp_lock.specs.Forced.{Forces}
+use Rattle.xp_lock.specs.Given.{AreGiven}
 use Rattle.xp_lock.specs.Outgoing.{put_out_to}
 
 pub record Switch (A : Type 0) : Type 0 where
@@ -67,6 +68,7 @@ module _ {A : Type 0} where
     pub number : done.entry ≡ entry.number
     pub records : done.records ≡ length (records_of new.history)
     pub connection : done.connection ≡ (line_at (world_of new) event.line).connection
+    pub given : AreGiven (entry ∷ stalls) done.given.items
 
   -- an Up has the free places of its line looked at, and nothing else changes
   abbrev pub Looks : Switch A → ℕ → Bool → Switch A → Type 0

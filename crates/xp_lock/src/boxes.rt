@@ -1,7 +1,7 @@
 //! The outboxes of the lines.
 
 ghost use Rattle.std.specs.Prelude.{◌≡◌, ◌<◌, ◌≤◌, true, false, [], ◌∷◌, length, slice_set};
-ghost use Rattle.xp_lock.specs.Boxes.{AreAlike, HasRoomFor, HavePlaces, IsAlike, IsLookedAt, IsPut, LooksIf, PLACES_KEPT, box_at, with_items};
+ghost use Rattle.xp_lock.specs.Boxes.{HasRoomFor, IsLookedAt, IsPut, LooksIf, PLACES_KEPT, box_at, with_items};
 
 use std::alloc::Allocator;
 use std::sync::Wait;
@@ -11,7 +11,7 @@ use xp_outbox::PutEnd;
 use xp_subs::LineNo;
 
 /// How many free places a line in service is to have.
-const LEAST_PLACES: usize = 24;
+pub const LEAST_PLACES: usize = 24;
 
 /// The end of a line's outbox that the exchange puts into.
 pub type Box<A> = PutEnd<Outgoing<A>, A>;
@@ -56,29 +56,6 @@ pub fn has_room<A: Allocator, R: Wait>(
     look(rt, boxes, line) >= LEAST_PLACES
 }
 
-/// Whether each line has places left; those of a line that has too few are looked at.
-pub fn have_places<A: Allocator, R: Wait>(rt: &R, boxes: &mut Vec<Box<A>, A>) -> bool
-    ensures alike { AreAlike boxes.old.items boxes.new.items }
-    ensures places { result ≡ true → HavePlaces (length boxes.new.items) boxes.new.items }
-{
-    for line in 0..boxes.len() {
-        if !has_places(rt, boxes, line) {
-            return false;
-        }
-    }
-    true
-}
-
-fn has_places<A: Allocator, R: Wait>(rt: &R, boxes: &mut Vec<Box<A>, A>, line: usize) -> bool
-    requires { line < length boxes.old.items }
-    ensures boxes { boxes.new.items ≡ slice_set boxes.old.items line (box_at boxes.new.items line) }
-    ensures alike { IsAlike (box_at boxes.old.items line) (box_at boxes.new.items line) }
-    ensures places { result ≡ true → PLACES_KEPT ≤ (box_at boxes.new.items line).free }
-{
-    let end = &mut boxes[line];
-    end.free() >= LEAST_PLACES || look_at(rt, end) >= LEAST_PLACES
-}
-
 fn look<A: Allocator, R: Wait>(rt: &R, boxes: &mut Vec<Box<A>, A>, line: LineNo) -> usize
     requires { line < length boxes.old.items }
     ensures boxes { boxes.new.items ≡ slice_set boxes.old.items line (record (box_at boxes.old.items line) { free = result }) }
@@ -89,7 +66,7 @@ fn look<A: Allocator, R: Wait>(rt: &R, boxes: &mut Vec<Box<A>, A>, line: LineNo)
 }
 
 /// Looks at the free places of an outbox. No one but this end fills places, so no look tells fewer than are known.
-fn look_at<A: Allocator, R: Wait>(rt: &R, end: &mut Box<A>) -> usize
+pub fn look_at<A: Allocator, R: Wait>(rt: &R, end: &mut Box<A>) -> usize
     ensures end { end.new ≡ record end.old { free = result } }
     ensures looked { IsLookedAt end.old (record end.old { free = result }) }
 {

@@ -15,7 +15,8 @@ use std::alloc::Allocator;
 use std::sync::Wait;
 use xp_core::{Core, Event, StepFault};
 
-/// Enters an event, puts out what it puts out, and enters the stalls that it forces.
+/// Enters an event, puts out what it puts out, and enters the stalls that it forces. These are prepared first, so that
+/// nothing can fail once the event is entered.
 pub fn enter<A: Allocator + Copy, R: Wait>(
     rt: &R,
     core: &mut Core<A>,
@@ -28,9 +29,12 @@ pub fn enter<A: Allocator + Copy, R: Wait>(
     ensures ok { IfOk result (λ done. Takes (switch_of core.old boxes.old.items) event done (switch_of core.new boxes.new.items)) }
     ensures kept { OnOk result (AreKept core.new.subs core.new.history boxes.new.items) }
     ensures err { IfErr result (λ fault. fault ≡ OfferFault.Memory event) }
-    ensures core { OnErr result (core.new ≡ core.old) }
+    ensures core { OnErr result (core.new ≡ record core.old { stalls = core.new.stalls }) }
     ensures boxes { OnErr result (boxes.new.items ≡ boxes.old.items) }
 {
+    if core.reserve_stalls().is_err() {
+        return Err(OfferFault::Memory(event));
+    }
     let line = event.line;
     let from = core.history().len();
     let _coupled = core.line(line);
@@ -42,5 +46,5 @@ pub fn enter<A: Allocator + Copy, R: Wait>(
     };
     put_all(rt, boxes, told.outputs);
     stall_all(rt, core, boxes, from);
-    Ok(Done::new(told.entry, core, line))
+    Ok(Done::new(told.entry, core, line, from))
 }

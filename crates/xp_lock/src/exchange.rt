@@ -1,10 +1,10 @@
 //! The exchange that threads share.
 
-ghost use Rattle.std.specs.Prelude.{◌≡◌, [], ◌∷◌, ◌++◌, false, IfErr, IfNone, IfOk, IfSome, OnErr};
+ghost use Rattle.std.specs.Prelude.{◌≡◌, [], ◌∷◌, ◌++◌, false, IfErr, IfNone, IfOk, IfSome, OnErr, length};
 ghost use Rattle.xp_outbox.specs.Rule.{HeldAtSomeMoment, taker};
 ghost use Rattle.xp_subs.specs.Tables.{line_count};
 ghost use Rattle.xp_core.specs.Exchange.{IsReadable};
-ghost use Rattle.xp_lock.specs.Closing.{AreTold, HasAll, IsMissing};
+ghost use Rattle.xp_lock.specs.Closing.{AreTold, HasAll, IsMissing, NoneTwice, all_handed, handed_together, mine_together};
 ghost use Rattle.xp_lock.specs.Faults.{event_in};
 ghost use Rattle.xp_lock.specs.Handed.{is_stall};
 ghost use Rattle.xp_lock.specs.Passes.{Freshens, IsLegal};
@@ -94,7 +94,7 @@ impl<N: Name, A: Allocator + Copy> Exchange<N, A> {
         self.lock.lock(rt).is_halted()
     }
 
-    /// Closes the exchange, where all passes are here.
+    /// Closes the exchange, where all passes are here: each line's own entries are those that its one pass knows.
     ///
     /// # Errors
     ///
@@ -105,9 +105,12 @@ impl<N: Name, A: Allocator + Copy> Exchange<N, A> {
         passes: Vec<LinePass<N, A>, A>,
     ) -> Result<Book<A>, CloseFault<N, A>>
         ensures all { IfOk result (λ _. HasAll (line_count N.subs) passes.items) }
+        ensures once { IfOk result (λ _. NoneTwice passes.items) }
         ensures subs { IfOk result (λ book. book.subs ≡ N.subs) }
         ensures legal { IfOk result (λ book. IsLegal book.subs book.history) }
         ensures told { IfOk result (λ book. AreTold book.history passes.items) }
+        ensures counted { IfOk result (λ book. length (all_handed book.history) ≡ handed_together (line_count N.subs) book.history) }
+        ensures together { IfOk result (λ book. length (all_handed book.history) ≡ mine_together passes.items) }
         ensures missing { IfErr result (λ fault. IsMissing (line_count N.subs) passes.items fault.line) }
         ensures passes { IfErr result (λ fault. fault.passes.items ≡ passes.items) }
     {

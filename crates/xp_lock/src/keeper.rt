@@ -1,15 +1,16 @@
 //! What lies under the lock.
 
-ghost use Rattle.std.specs.Prelude.{◌≡◌, ◌<◌, false, true, IfOk, IfErr, OnErr, OnOk, length, map};
+ghost use Rattle.std.specs.Prelude.{◌≡◌, ◌<◌, ◌∷◌, false, true, IfOk, IfErr, OnErr, OnOk, length, map};
 ghost use mathlib.Core.List.{IsPrefix};
 ghost use Rattle.xp_subs.specs.Tables.{line_count};
 ghost use Rattle.xp_core.specs.Exchange.{IsReadable};
 ghost use Rattle.xp_lock.specs.Boxes.{box_at};
-ghost use Rattle.xp_lock.specs.Closing.{AreTold};
+ghost use Rattle.xp_lock.specs.Closing.{AreTold, NoneTwice};
+ghost use Rattle.xp_lock.specs.Given.{is_among};
 ghost use Rattle.xp_lock.specs.Handed.{handed, is_stall};
 ghost use Rattle.xp_lock.specs.Passes.{Freshens, mine};
 ghost use Rattle.xp_lock.specs.Switch.{Refuses, Takes};
-ghost use Rattle.xp_lock.specs.Views.{StartsWith, keeping};
+ghost use Rattle.xp_lock.specs.Views.{StartsWith, closing, keeping};
 
 use crate::book::Book;
 use crate::boxes::Box;
@@ -95,12 +96,13 @@ impl<N: Name, A: Allocator + Copy> Keeper<N, A> {
         Ok(done)
     }
 
-    /// Compares what each pass has seen and taken with the history.
+    /// Compares what each pass has seen and taken with the history. They are of different lines.
     pub fn close<R: Wait>(self, rt: &R, word: &Word<A>, passes: Vec<LinePass<N, A>, A>) -> Book<A>
         requires word { word.now ≡ N.word }
         ensures subs { result.subs ≡ N.subs }
         ensures history { result.history ≡ self.history }
         ensures told { AreTold result.history passes.items }
+        ensures once { NoneTwice passes.items }
     {
         let Keeper {
             switch,
@@ -140,9 +142,10 @@ fn hear<N: Name, A: Allocator, R: Wait>(
     pass: LinePass<N, A>,
 )
     requires word { (word.now ≡ N.word) × (keeper.old.word ≡ N.word) }
-    requires keeper { keeper.old.knows ≡ keeping keeper.old.knows.next keeper.old.knows.all }
+    requires keeper { keeper.old.knows ≡ closing keeper.old.knows.next keeper.old.knows.all keeper.old.knows.returned }
     requires boxes { map (λ b. b.queue) boxes.old.items ≡ N.queues }
-    ensures keeper { keeper.new ≡ keeper.old }
+    ensures keeper { keeper.new ≡ record keeper.old { knows = closing keeper.old.knows.next keeper.old.knows.all (pass.line ∷ keeper.old.knows.returned) } }
+    ensures once { is_among pass.line keeper.old.knows.returned ≡ false }
     ensures boxes { boxes.new.items ≡ boxes.old.items }
     ensures seen { StartsWith keeper.old.knows.all pass.seen }
     ensures own { handed pass.line keeper.old.knows.all ≡ mine pass }

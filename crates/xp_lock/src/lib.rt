@@ -8,6 +8,7 @@ mod done;
 mod entering;
 mod exchange;
 mod fault;
+mod given;
 mod keeper;
 mod missing;
 mod name;

@@ -1,8 +1,9 @@
 //! The word beside the lock: how long the history is. Who steps on it learns what it may rely on.
 
-ghost use Rattle.std.specs.Prelude.{◌≡◌, true, [], length, IfOk};
+ghost use Rattle.std.specs.Prelude.{◌≡◌, true, false, [], ◌∷◌, length, IfOk};
+ghost use Rattle.xp_lock.specs.Given.{is_among};
 ghost use Rattle.xp_lock.specs.Handed.{handed};
-ghost use Rattle.xp_lock.specs.Views.{IsChecked, IsGrown, IsShown, StartsWith, claim_of, claiming, joined, keeping, next_claim, one_further, unclaimed};
+ghost use Rattle.xp_lock.specs.Views.{IsChecked, IsGrown, IsShown, StartsWith, claim_of, claiming, closing, joined, keeping, next_claim, one_further, unclaimed};
 
 use atomic_table::{Join, Play, Seat, Split, Table, TableRule};
 use std::alloc::{AllocError, Allocator};
@@ -10,12 +11,13 @@ use std::collections::LinkedList;
 use std::marker::Model;
 use xp_core::{Core, Entry};
 
-/// What a seat knows: whether it keeps the history and how many claims it has given out, and whether it has the claim of
-/// a line and what that has seen. No value of it is made.
+/// What a seat knows: whether it keeps the history, how many claims it has given out and which were given back, and
+/// whether it has the claim of a line and what that has seen. No value of it is made.
 pub struct View<A: Allocator> {
     pub keeps: bool,
     pub all: LinkedList<Entry<A>>,
     pub next: u64,
+    pub returned: LinkedList<u64>,
     pub claims: bool,
     pub line: u64,
     pub seen: LinkedList<Entry<A>>,
@@ -131,7 +133,7 @@ impl<A: Allocator> Word<A> {
     /// Gives out the claim of the next line.
     pub fn next_claim(&self, keeper: &mut Sight<A>) -> Sight<A>
         requires word { keeper.old.word ≡ self.now }
-        requires first { (keeper.old.knows.keeps ≡ true) × (keeper.old.knows.all ≡ []) }
+        requires first { (keeper.old.knows.keeps ≡ true) × (keeper.old.knows.all ≡ []) × (keeper.old.knows.returned ≡ []) }
         ensures keeper { keeper.new ≡ record keeper.old { knows = one_further keeper.old.knows } }
         ensures claim { result ≡ record { word = self.now; knows = next_claim keeper.old.knows } }
     {
@@ -210,12 +212,13 @@ impl<A: Allocator> Word<A> {
             .compare_exchange_with::<Shows>(&mut keeper.seat, 0, before, count, core);
     }
 
-    /// Compares what a pass has seen with the history.
+    /// Compares what a pass has seen with the history. Its claim is given back, which no other pass of its line did.
     pub(crate) fn compare(&self, keeper: &mut Sight<A>, pass: Sight<A>)
         requires word { (keeper.old.word ≡ self.now) × (pass.word ≡ self.now) }
-        requires keeper { keeper.old.knows ≡ keeping keeper.old.knows.next keeper.old.knows.all }
+        requires keeper { keeper.old.knows ≡ closing keeper.old.knows.next keeper.old.knows.all keeper.old.knows.returned }
         requires pass { pass.knows ≡ claiming pass.knows.line pass.knows.seen }
-        ensures keeper { keeper.new ≡ keeper.old }
+        ensures keeper { keeper.new ≡ record keeper.old { knows = closing keeper.old.knows.next keeper.old.knows.all (pass.knows.line ∷ keeper.old.knows.returned) } }
+        ensures once { is_among pass.knows.line keeper.old.knows.returned ≡ false }
         ensures seen { StartsWith keeper.old.knows.all pass.knows.seen }
         ensures own { handed pass.knows.line keeper.old.knows.all ≡ handed pass.knows.line pass.knows.seen }
     {

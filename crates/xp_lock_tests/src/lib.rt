@@ -2,4 +2,12 @@
 #![tactic(auto)]
 
 #[cfg(test)]
+mod events;
+#[cfg(test)]
 mod offers;
+#[cfg(test)]
+mod refusals;
+#[cfg(test)]
+mod slow;
+#[cfg(test)]
+mod threads;

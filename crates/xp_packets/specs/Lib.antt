@@ -13,3 +13,4 @@ pub mod Decoding
 pub mod Encoding
 pub mod Laws
 pub mod Owning
+pub mod Held

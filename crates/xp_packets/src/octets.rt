@@ -7,19 +7,26 @@ use std::sync::ArcSlice;
 /// Octets that a packet carries unchanged: user data, facilities, interrupt data. Copies share one block of memory.
 #[derive(Debug, Drop)]
 pub struct Octets<A: Allocator = Global> {
-    /// None where there are no octets, which take no memory.
-    block: Option<ArcSlice<u8, A>>,
+    held: Held<A>,
+}
+
+/// Where octets are.
+#[derive(Debug, Drop)]
+enum Held<A: Allocator> {
+    /// There are none.
+    Nothing,
+    /// As many as charging information has (X.25 clause 7.2), in place.
+    Ten([u8; 10]),
+    Block(ArcSlice<u8, A>),
 }
 
 impl<A: Allocator> Model for Octets<A> {
     ghost use Rattle.std.specs.Prelude.{List, ℕ};
-    ghost use Rattle.std.specs.Prelude.{[]};
-    ghost use Rattle.std.specs.Arc.{arc_slice_items};
-    ghost use Rattle.std.specs.Option.{option_map_or};
+    ghost use Rattle.xp_packets.specs.Held.{octets_held};
 
     ghost Value = { List ℕ };
 
-    ghost view = { λ o. option_map_or arc_slice_items o.block [] };
+    ghost view = { λ o. octets_held o.held };
 }
 
 impl<A: Allocator> Octets<A> {
@@ -27,16 +34,28 @@ impl<A: Allocator> Octets<A> {
     pub fn new(_alloc: A) -> Octets<A>
         ensures { result ≡ [] }
     {
-        Octets { block: None }
+        Octets {
+            held: Held::Nothing,
+        }
+    }
+
+    /// Ten octets, which take no memory.
+    pub fn of_ten(octets: [u8; 10]) -> Octets<A>
+        ensures { result ≡ octets }
+    {
+        Octets {
+            held: Held::Ten(octets),
+        }
     }
 
     /// The octets, in order.
     pub fn as_slice(&self) -> &[u8]
         ensures { result.now ≡ self.now }
     {
-        match &self.block {
-            None => &[],
-            Some(block) => block.as_slice(),
+        match &self.held {
+            Held::Nothing => &[],
+            Held::Ten(octets) => octets,
+            Held::Block(block) => block.as_slice(),
         }
     }
 
@@ -58,13 +77,12 @@ impl<A: Allocator> Octets<A> {
     pub fn copy(&self) -> Result<Octets<A>, AllocError>
         ensures { IfOk result (λ copied. copied ≡ self.now) }
     {
-        match &self.block {
-            None => Ok(Octets { block: None }),
-            Some(block) => {
-                let block = block.clone()?;
-                Ok(Octets { block: Some(block) })
-            }
-        }
+        let held = match &self.held {
+            Held::Nothing => Held::Nothing,
+            Held::Ten(octets) => Held::Ten(*octets),
+            Held::Block(block) => Held::Block(block.clone()?),
+        };
+        Ok(Octets { held })
     }
 }
 
@@ -74,10 +92,14 @@ impl<A: Allocator + Copy> Octets<A> {
         ensures { IfOk result (λ held. held ≡ octets.items) }
     {
         if octets.is_empty() {
-            return Ok(Octets { block: None });
+            return Ok(Octets {
+                held: Held::Nothing,
+            });
         }
         let block = ArcSlice::from_vec(octets)?;
-        Ok(Octets { block: Some(block) })
+        Ok(Octets {
+            held: Held::Block(block),
+        })
     }
 
     /// An owned copy of octets; memory is wanted only where there are some.

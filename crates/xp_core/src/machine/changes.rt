@@ -137,7 +137,7 @@ fn free<A: Allocator>(lines: &mut Vec<LogicalChannel, A>, line: LineNo)
 }
 
 /// A line comes to a state of no call, and the call that it is in ends.
-fn leave<A: Allocator>(
+pub fn leave<A: Allocator>(
     lines: &mut Vec<LogicalChannel, A>,
     calls: &mut Slab<LiveCall, A>,
     line: LineNo,

@@ -59,7 +59,7 @@ pub fn fall<A: Allocator + Copy>(
 {
     let (cause, diagnostic) = (OUT_OF_ORDER, NO_ADDITIONAL_INFORMATION);
     let own = closing(found.machine, found.line, what);
-    let far = found.clear_far(alloc, cause, diagnostic)?;
+    let far = found.clear_far(alloc, cause, diagnostic);
     let outputs = Buffer::with_room(alloc, 2)?.with_some(own).with_some(far);
     let withdrawal = found.withdraw(Way::GoesOut, cause, diagnostic);
     Ok(Plan::of(outputs).withdrawing(withdrawal))
@@ -120,8 +120,8 @@ fn clear_both<A: Allocator + Copy>(
     requires { IsShort found.now.charged }
     ensures { (before : List (Entered A)) → IsFound found.now before → IfOk result (λ plan. IsPlainPlan plan (at_found found.now before) (told_both (at_found found.now before) near far diagnostic) (leaves found.now.line IsCleared far diagnostic (call_on found.now.machine.now found.now.line) ∷ [])) }
 {
-    let own = found.clear_own(alloc, near, diagnostic)?;
-    let other = found.clear_far(alloc, far, diagnostic)?;
+    let own = found.clear_own(alloc, near, diagnostic);
+    let other = found.clear_far(alloc, far, diagnostic);
     let outputs = Buffer::with_room(alloc, 2)?.with(own).with_some(other);
     let withdrawal = found.withdraw(Way::IsCleared, far, diagnostic);
     Ok(Plan::of(outputs).withdrawing(withdrawal))
@@ -136,7 +136,7 @@ pub fn confirm<A: Allocator + Copy>(
     requires { IsShort found.now.charged }
     ensures { (before : List (Entered A)) → IsFound found.now before → IfOk result (PlansClear (at_found found.now before) (clear_of clear.now)) }
 {
-    let own = found.confirm_own(alloc)?;
+    let own = found.confirm_own(alloc);
     let far = carry_on(alloc, found, clear)?;
     let outputs = Buffer::with_room(alloc, 2)?.with(own).with_some(far);
     let cause = cause_told(clear.cause);

@@ -1,6 +1,6 @@
 //! The line of an event, with the call that it is in and what was counted of it.
 
-ghost use Rattle.std.specs.Prelude.{◌≡◌, IfOk, List, Some, option_to_list};
+ghost use Rattle.std.specs.Prelude.{◌≡◌, List, Some, option_to_list};
 ghost use Rattle.xp_answer.specs.CarriedOn.{AreCounts};
 ghost use Rattle.xp_core.specs.Does.{leaves};
 ghost use Rattle.xp_core.specs.declared.entry.Entry.{Entry as Entered};
@@ -20,7 +20,7 @@ use crate::entry::Entry;
 use crate::machine::Machine;
 use crate::output::Output;
 use crate::relays::Relays;
-use std::alloc::{AllocError, Allocator};
+use std::alloc::Allocator;
 use xp_answer::{clear_confirmation, clear_indication};
 use xp_charge::{Meter, Record};
 use xp_facilities::SegmentCounts;
@@ -133,34 +133,29 @@ impl<A: Allocator> Found<'_, A> {
 
 impl<A: Allocator + Copy> Found<'_, A> {
     /// The line is cleared.
-    pub fn clear_own(&self, alloc: A, cause: u8, diagnostic: u8) -> Result<Output<A>, AllocError>
+    pub fn clear_own(&self, alloc: A, cause: u8, diagnostic: u8) -> Output<A>
         requires { IsShort self.now.charged }
-        ensures { (before : List (Entered A)) → IsFound self.now before → IfOk result (λ output. output ≡ clear_own (at_found self.now before) (call_on self.now.machine.now self.now.line) cause diagnostic) }
+        ensures { (before : List (Entered A)) → IsFound self.now before → result ≡ clear_own (at_found self.now before) (call_on self.now.machine.now self.now.line) cause diagnostic }
     {
-        let indication = clear_indication(alloc, cause, diagnostic, self.own_information())?;
-        Ok(send(self.machine, self.line, indication))
+        let indication = clear_indication(alloc, cause, diagnostic, self.own_information());
+        send(self.machine, self.line, indication)
     }
 
     /// The far end of its call is, if it is in one.
-    pub fn clear_far(
-        &self,
-        alloc: A,
-        cause: u8,
-        diagnostic: u8,
-    ) -> Result<Option<Output<A>>, AllocError>
+    pub fn clear_far(&self, alloc: A, cause: u8, diagnostic: u8) -> Option<Output<A>>
         requires { IsShort self.now.charged }
-        ensures { (before : List (Entered A)) → IsFound self.now before → IfOk result (λ output. option_to_list output ≡ clear_far (at_found self.now before) (call_on self.now.machine.now self.now.line) cause diagnostic) }
+        ensures { (before : List (Entered A)) → IsFound self.now before → option_to_list result ≡ clear_far (at_found self.now before) (call_on self.now.machine.now self.now.line) cause diagnostic }
     {
-        let indication = clear_indication(alloc, cause, diagnostic, self.far_information())?;
-        Ok(send_far(self.machine, self.line, indication))
+        let indication = clear_indication(alloc, cause, diagnostic, self.far_information());
+        send_far(self.machine, self.line, indication)
     }
 
     /// A clear request of the line is confirmed.
-    pub fn confirm_own(&self, alloc: A) -> Result<Output<A>, AllocError>
+    pub fn confirm_own(&self, alloc: A) -> Output<A>
         requires { IsShort self.now.charged }
-        ensures { (before : List (Entered A)) → IsFound self.now before → IfOk result (λ output. output ≡ confirm_own (at_found self.now before) (call_on self.now.machine.now self.now.line)) }
+        ensures { (before : List (Entered A)) → IsFound self.now before → result ≡ confirm_own (at_found self.now before) (call_on self.now.machine.now self.now.line) }
     {
-        let confirmation = clear_confirmation(alloc, self.own_information())?;
-        Ok(send(self.machine, self.line, confirmation))
+        let confirmation = clear_confirmation(alloc, self.own_information());
+        send(self.machine, self.line, confirmation)
     }
 }

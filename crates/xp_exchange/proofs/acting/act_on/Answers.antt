@@ -1,6 +1,7 @@
 use Rattle.std.proofs.Common.{◌∙◌, ◌-◌, refl, sym, subst, arith, All, length}
 use Rattle.xp_subs.specs.Tables.{line_count}
 use Rattle.xp_core.specs.Writable.{AreWritable}
+use Rattle.xp_core.proofs.Stalls.{places_for_others}
 use Rattle.xp_script.specs.Lines.{HasLines}
 use Rattle.xp_exchange.proofs.Steps.{told_step, found_room, stopped, last_pushed, pushed_length}
 use Rattle.xp_exchange.proofs.acting.act_on.Goals as goal
@@ -28,10 +29,11 @@ tell-requires-clause-lines g c =
 
 pub returns-in-Ok-clause-acted : goal.returns-in-Ok-clause-acted
 returns-in-Ok-clause-acted g c =
-    told_step _ _ _ _ _ _ _ _ _ c.in-Ok.ensures.ok (found_room c.step.result _ _ _ _ c.in-Ok.is c.step.ensures.full) (c.subs.ensures ∙ c.in-Ok.ensures.ok.subs)
+    told_step _ _ _ _ _ _ _ _ _ c.in-Ok.ensures.ok (let room = found_room c.step.result _ _ _ _ c.in-Ok.is c.step.ensures.full in let places = places_for_others c.args.event.what c.requires.comes.1 in omega (arith, room, places)) (c.subs.ensures ∙ c.in-Ok.ensures.ok.subs)
     (c.index-entries-entries.is ∙ last_pushed _ _ _ _ _ (c.history-entries.ensures.entries ∙ c.in-Ok.ensures.ok.history) refl) c.tell.ensures
 
 pub returns-clause-acted : goal.returns-clause-acted
 returns-clause-acted g c =
     stopped c.args.core.now c.step.new.self c.args.event (g.W.Write.contents c.args.writer.now) c.in-Err.fault c.reason_of.result
-    c.reason_of.ensures c.in-Err.ensures.err c.in-Err.ensures.room
+    c.reason_of.ensures c.in-Err.ensures.err
+    (λ enough. c.in-Err.ensures.room (let places = places_for_others c.args.event.what c.requires.comes.1 in omega (arith, enough, places)))

@@ -12,8 +12,8 @@ loop-event-init g c = so_far_none _ _ _ c.requires
 pub act_on-requires-clause-line : goal.act_on-requires-clause-line
 act_on-requires-clause-line g c = (next_fits _ _ _ _ _ _ _ _ c.loop-event.invariant c.in-Some.ensures.items).0
 
-pub act_on-requires-clause-readable : goal.act_on-requires-clause-readable
-act_on-requires-clause-readable g c = (next_fits _ _ _ _ _ _ _ _ c.loop-event.invariant c.in-Some.ensures.items).1
+pub act_on-requires-clause-comes : goal.act_on-requires-clause-comes
+act_on-requires-clause-comes g c = (next_fits _ _ _ _ _ _ _ _ c.loop-event.invariant c.in-Some.ensures.items).1
 
 pub loop-event-preserved : goal.loop-event-preserved
 loop-event-preserved g c = so_far_more _ _ _ _ _ _ _ _ _ _ c.loop-event.invariant c.in-Some.ensures.items c.in_ok-act_on.ensures.acted

@@ -1,23 +1,40 @@
-use Rattle.std.proofs.Common.{◌≡◌, ap, subst, sym, true≢false}
-use Rattle.std.specs.Prelude.{IsSome}
-use Rattle.xp_lock.specs.Stalling.{HasStalled}
-use Rattle.xp_lock.proofs.Quiet.{all_same, all_then, none_stalled}
+use Rattle.std.proofs.Common.{ap, arith, length, length-append, ◌∷◌, []}
+use Rattle.xp_lock.proofs.Looping.{begins, ends, goes_on, has_place, is_prepared, looked, room}
 use Rattle.xp_lock.proofs.stalling.stall_all.Goals as goal
-use Rattle.xp_lock.proofs.stalling.stall_all.Goals.{in-None, in-Some+then-have_places}
 
-pub loop-init : goal.loop-init
-loop-init g c = all_same _
+pub loop-line-init : goal.loop-line-init
+loop-line-init g c = begins _ _ _ c.requires.entered c.requires.prepared
 
-pub loop-preserved : goal.loop-preserved
-loop-preserved g c = all_then _ _ _ c.loop.invariant c.have_places.ensures.alike
+pub stall-told-requires-clause-prepared : goal.stall-told-requires-clause-prepared
+stall-told-requires-clause-prepared g c =
+    let loop = looked _ _ _ c.requires.entered _ _ _ c.loop-line.invariant c.in-Some.ensures.searched in
+    is_prepared _ _ _ c.requires.entered _ _ loop c.in-Some.line c.in-Some.ensures.due
+
+pub stall-told-requires-clause-place : goal.stall-told-requires-clause-place
+stall-told-requires-clause-place g c =
+    let loop = looked _ _ _ c.requires.entered _ _ _ c.loop-line.invariant c.in-Some.ensures.searched in
+    has_place _ _ _ c.requires.entered _ _ loop c.in-Some.line c.in-Some.ensures.due
+
+pub loop-line-smaller : goal.loop-line-smaller
+loop-line-smaller g c =
+    let loop = looked _ _ _ c.requires.entered _ _ _ c.loop-line.invariant c.in-Some.ensures.searched in
+    let place = has_place _ _ _ c.requires.entered _ _ loop c.in-Some.line c.in-Some.ensures.due in
+    let advances = c.stall-told.ensures.advances in
+    let limit = ap (λ t. t.journal) advances.subs in
+    let longer = ap length advances.history in
+    omega (arith, place, limit, longer, length-append c.loop-line.core.history (advances.entry ∷ []))
+
+pub put_all-requires : goal.put_all-requires
+put_all-requires g c =
+    let loop = looked _ _ _ c.requires.entered _ _ _ c.loop-line.invariant c.in-Some.ensures.searched in
+    room _ _ _ c.requires.entered _ _ loop c.in-Some.line c.in-Some.ensures.due _ _ c.stall-told.ensures.advances
+
+pub loop-line-preserved : goal.loop-line-preserved
+loop-line-preserved g c =
+    let loop = looked _ _ _ c.requires.entered _ _ _ c.loop-line.invariant c.in-Some.ensures.searched in
+    goes_on _ _ _ c.requires.entered _ _ loop c.in-Some.line c.in-Some.ensures.due _ _ c.stall-told.ensures.advances _ c.put_all.ensures c.stall-told.ensures.stalls
 
 pub returns : goal.returns
-returns g c = elim c.match-next.branch [
-  | in-None w ↦ absurd (true≢false (sym (subst IsSome w.in-None.is c.next.ensures.steps)))
-  | in-Some+then-have_places w ↦
-      let looked = w.have_places in
-      let items : c.match-next.boxes.items ≡ looked.new.boxes.items = ap (λ v. v.items) w.boxes-is in
-      let alike = all_then c.args.boxes.now.items c.loop.boxes.items looked.new.boxes.items c.loop.invariant looked.ensures.alike in
-      subst (λ bs. HasStalled c.args.core.now c.args.from c.args.boxes.now.items c.args.core.now bs) (sym items)
-      (none_stalled c.args.core.now c.args.from c.args.boxes.now.items looked.new.boxes.items c.requires alike (looked.ensures.places w.if-have_places.true))
-]
+returns g c =
+    let loop = looked _ _ _ c.requires.entered _ _ _ c.loop-line.invariant c.in_default.ensures.searched in
+    ends _ _ _ c.requires.entered _ _ loop c.in_default.ensures.none

@@ -1,5 +1,9 @@
-use Rattle.xp_lock.specs.Boxes.{AreAlike}
+use Rattle.std.proofs.Common.{◌-◌, length}
+use Rattle.xp_lock.proofs.Looping.{Looping}
 use Rattle.xp_lock.proofs.stalling.stall_all.Given as goal
 
-abbrev pub invariant-loop : goal.invariant-loop
-invariant-loop g l = AreAlike l.fn.boxes.items l.boxes.items
+abbrev pub invariant-loop-line : goal.invariant-loop-line
+invariant-loop-line g l = Looping l.fn.core l.from l.fn.boxes.items l.core l.boxes.items
+
+abbrev pub decreases-loop-line : goal.decreases-loop-line
+decreases-loop-line g l = l.core.subs.journal - length l.core.history

@@ -5,5 +5,5 @@ use Rattle.xp_core.proofs.exchange.Core.new.Goals as goal
 
 pub invariant_of-result : goal.invariant_of-result
 invariant_of-result g c =
-    opening_shows c.args.subs c.new-3.result.items c.in_ok-machine.machine c.in_ok-relays.relays c.new-4.result.items c.counts-lines.ensures.sound c.new-3.ensures.items
-    (c.in_ok-machine.ensures ∙ ap opening c.counts-lines.ensures.lines) (c.in_ok-relays.ensures ∙ ap (λ n. replicate n None) c.counts-lines.ensures.lines) c.new-4.ensures.items
+    opening_shows c.args.subs c.new-3.result.history c.in_ok-machine.machine c.in_ok-relays.relays c.new-3.result.records c.counts-lines.ensures.sound c.new-3.ensures.history
+    (c.in_ok-machine.ensures ∙ ap opening c.counts-lines.ensures.lines) (c.in_ok-relays.ensures ∙ ap (λ n. replicate n None) c.counts-lines.ensures.lines) c.new-3.ensures.records

@@ -8,4 +8,4 @@ use Rattle.xp_core.proofs.exchange.Core.records.Goals as goal
 pub returns-clause-one_each : goal.returns-clause-one_each
 returns-clause-one_each g c =
     let P : Exchange _ → Type 0 = λ core. OneRecordEach core.subs core.history (world_of core) in
-    subst P c.self.view_is (one_record_each c.self.inside.subs c.self.inside.history.items (world_after c.self.inside.subs c.self.inside.history.items) c.self.invariant.run)
+    subst P c.self.view_is (one_record_each c.self.inside.subs c.self.inside.journal.history (world_after c.self.inside.subs c.self.inside.journal.history) c.self.invariant.run)

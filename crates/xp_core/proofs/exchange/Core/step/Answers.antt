@@ -4,27 +4,27 @@ use Rattle.xp_core.proofs.Sounds.{right_here}
 use Rattle.xp_core.proofs.exchange.Core.step.Goals as goal
 
 pub advance-requires-clause-sound : goal.advance-requires-clause-sound
-advance-requires-clause-sound g c = right_here c.self.inside.subs c.self.inside.history.items _ c.self.inside.machine c.self.invariant.run c.self.invariant.shown
+advance-requires-clause-sound g c = right_here c.self.inside.subs c.self.inside.journal.history _ c.self.inside.machine c.self.invariant.run c.self.invariant.shown
 
 pub advance-requires-clause-terms : goal.advance-requires-clause-terms
-advance-requires-clause-terms g c = kept_terms c.self.inside.subs c.self.inside.history.items c.self.inside.machine c.self.inside.relays c.self.inside.records.items c.self.invariant
+advance-requires-clause-terms g c = kept_terms c.self.inside.subs c.self.inside.journal.history c.self.inside.machine c.self.inside.relays c.self.inside.journal.records c.self.invariant
 
 pub advance-requires-clause-carried : goal.advance-requires-clause-carried
-advance-requires-clause-carried g c = kept_relays c.self.inside.subs c.self.inside.history.items c.self.inside.machine c.self.inside.relays c.self.inside.records.items c.self.invariant
+advance-requires-clause-carried g c = kept_relays c.self.inside.subs c.self.inside.journal.history c.self.inside.machine c.self.inside.relays c.self.inside.journal.records c.self.invariant
 
 pub invariant_of-self : goal.invariant_of-self
 invariant_of-self g c = outcome_shows _ _ _ _ _ c.args.event _ _ _ _ c.advance.result c.self.invariant c.requires.readable
     c.advance.ensures.ok c.advance.ensures.machine c.advance.ensures.relays c.advance.ensures.history c.advance.ensures.records
 
 pub returns-clause-ok : goal.returns-clause-ok
-returns-clause-ok g c = outcome_advances _ _ _ _ _ c.args.event _ _ _ _ c.advance.result _ c.self.invariant c.requires.readable c.advance.ensures.ok c.self.view_is
+returns-clause-ok g c = outcome_advances _ _ _ _ _ c.args.event _ _ _ _ c.advance.result _ _ _ c.self.invariant c.requires.readable c.advance.ensures.ok c.self.view_is
 
 pub returns-clause-writable : goal.returns-clause-writable
 returns-clause-writable g c = outcome_fits _ _ _ _ _ c.args.event _ _ _ _ c.advance.result c.self.invariant c.requires.readable c.advance.ensures.ok
 
 pub returns-clause-err : goal.returns-clause-err
-returns-clause-err g c = outcome_keeps _ _ _ c.advance.result _ c.advance.ensures.history c.self.view_is
+returns-clause-err g c = outcome_keeps _ _ _ c.advance.result _ _ _ c.advance.ensures.history c.advance.ensures.as_many c.self.view_is
 
 pub returns-clause-few : goal.returns-clause-few
 returns-clause-few g c = outcome_few _ _ _ _ _ c.args.event _ _ _ _ c.advance.result
-    (kept_terms c.self.inside.subs c.self.inside.history.items c.self.inside.machine c.self.inside.relays c.self.inside.records.items c.self.invariant) c.advance.ensures.ok
+    (kept_terms c.self.inside.subs c.self.inside.journal.history c.self.inside.machine c.self.inside.relays c.self.inside.journal.records c.self.invariant) c.advance.ensures.ok

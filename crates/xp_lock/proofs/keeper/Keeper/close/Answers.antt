@@ -7,7 +7,8 @@ use Rattle.xp_lock.specs.Boxes.{box_at}
 use Rattle.xp_lock.specs.Closing.{AreTold, IsTold}
 use Rattle.xp_lock.specs.Handed.{handed}
 use Rattle.xp_lock.specs.Outgoing.{put_out_to}
-use Rattle.xp_lock.specs.Views.{StartsWith, keeping}
+use Rattle.xp_lock.specs.Views.{StartsWith}
+use Rattle.xp_lock.proofs.Returned.{ComeOnce, keeps_all, keeps_first, keeps_on, none_twice}
 use Rattle.xp_lock.proofs.keeper.Keeper.close.Goals as goal
 
 pub hear-requires-clause-word : goal.hear-requires-clause-word
@@ -15,9 +16,7 @@ hear-requires-clause-word g c = (c.requires.word, ap (λ s. s.word) c.loop-pass.
 
 pub hear-requires-clause-keeper : goal.hear-requires-clause-keeper
 hear-requires-clause-keeper g c =
-    let kept = c.self.invariant.1 in
-    subst (λ s. s.knows ≡ keeping s.knows.next s.knows.all) (sym c.loop-pass.invariant.sight)
-    (kept ∙ (λ i. keeping (sym (ap (λ v. v.next) kept) i) (sym (ap (λ v. v.all) kept) i)))
+    keeps_all c.self.inside.sight c.loop-pass.sight c.loop-pass.invariant.sight
 
 pub hear-requires-clause-boxes : goal.hear-requires-clause-boxes
 hear-requires-clause-boxes g c = ap (map (λ b. b.queue)) (c.loop-pass.invariant.boxes ∙ c.into_parts-core.ensures.boxes) ∙ c.self.invariant.3
@@ -29,9 +28,10 @@ loop-pass-init g c =
       can_next = tt;
       is_finite = tt;
       many = ap length gives.0 ∙ sym c.args.passes.ok.0 ∙ sym gives.1;
-      sight = refl;
+      sight = keeps_first c.self.inside.sight _ _ c.self.invariant.1;
       boxes = refl;
       told = λ told. subst (AreTold c.args.self.history) gives.0 told;
+      once = λ come. subst (λ returned. ComeOnce returned c.args.passes.items) (ap (λ v. v.returned) c.self.invariant.1) (subst (ComeOnce c.self.inside.sight.knows.returned) gives.0 come);
     }
 
 pub loop-pass-preserved : goal.loop-pass-preserved
@@ -57,9 +57,10 @@ loop-pass-preserved g c =
       can_next = tt;
       is_finite = tt;
       many = omega (arith, left, fewer, many);
-      sight = c.hear.ensures.keeper ∙ was.sight;
+      sight = keeps_on c.self.inside.sight c.loop-pass.sight c.hear.new.keeper pass.line was.sight c.hear.ensures.keeper;
       boxes = c.hear.ensures.boxes ∙ was.boxes;
       told = λ told. was.told (subst (AreTold history) (sym items) (All-cons (IsTold history) pass rest one told));
+      once = λ come. was.once (subst (ComeOnce c.loop-pass.sight.knows.returned) (sym items) (c.hear.ensures.once, subst (λ returned. ComeOnce returned rest) (ap (λ s. s.knows.returned) c.hear.ensures.keeper) come));
     }
 
 pub returns-clause-told : goal.returns-clause-told
@@ -69,3 +70,9 @@ returns-clause-told g c =
     let none = nil_from_length (into_iter_items c.loop-pass.pass-iterator) (was.many ∙ c.in-None.ensures.steps.0) in
     let book = ap (λ b. b.history) c.new.ensures ∙ c.into_parts-core.ensures.history ∙ ap (λ s. s.history) c.self.view_is in
     subst (λ h. AreTold h c.args.passes.items) (sym book) (was.told (subst (AreTold history) (sym none) (All-nil (IsTold history))))
+
+pub returns-clause-once : goal.returns-clause-once
+returns-clause-once g c =
+    let was = c.loop-pass.invariant in
+    let none = nil_from_length (into_iter_items c.loop-pass.pass-iterator) (was.many ∙ c.in-None.ensures.steps.0) in
+    none_twice c.args.passes.items (was.once (subst (ComeOnce c.loop-pass.sight.knows.returned) (sym none) tt))

@@ -1,6 +1,7 @@
-use Rattle.std.proofs.Common.{◌≡◌, length}
+use Rattle.std.proofs.Common.{◌≡◌, [], length}
 use Rattle.std.specs.Vec.Iter.{into_iter_items, into_iter_len}
 use Rattle.xp_lock.specs.Closing.{AreTold}
+use Rattle.xp_lock.proofs.Returned.{ComeOnce, Keeps}
 use Rattle.xp_lock.proofs.keeper.Keeper.close.Given as goal
 
 abbrev pub invariant-loop-pass : goal.invariant-loop-pass
@@ -8,7 +9,8 @@ invariant-loop-pass g l = record {
   can_next : (goal.iterator-loop-pass g).can_next l.pass-iterator;
   is_finite : (goal.iterator-loop-pass g).is_finite l.pass-iterator;
   many : length (into_iter_items l.pass-iterator) ≡ into_iter_len l.pass-iterator;
-  sight : l.sight ≡ l.initial.sight;
+  sight : Keeps l.initial.sight l.sight;
   boxes : l.boxes.items ≡ l.initial.boxes.items;
   told : AreTold l.fn.self.history (into_iter_items l.pass-iterator) → AreTold l.fn.self.history l.fn.passes.items;
+  once : ComeOnce l.sight.knows.returned (into_iter_items l.pass-iterator) → ComeOnce [] l.fn.passes.items;
 }

@@ -1,0 +1,17 @@
+use Rattle.std.proofs.Common.{◌≡◌, ◌+◌, ◌-◌, ◌≤◌, vec_len, vec_capacity}
+use Rattle.xp_core.specs.declared.journal.TheConstants.{MOST_STALLS}
+use Rattle.xp_core.proofs.journal.Journal.prepare_stalls.Given as goal
+
+-- there is room for all stalls already
+abbrev pub invariant-loop-alloc : goal.invariant-loop-alloc
+invariant-loop-alloc g l = record {
+  history : l.self-inside.history.items ≡ l.fn.self.history;
+  records : l.self-inside.records.items ≡ l.fn.self.records;
+  entry_room : vec_len l.self-inside.history + MOST_STALLS ≤ vec_capacity l.self-inside.history;
+  record_room : vec_len l.self-inside.records + MOST_STALLS ≤ vec_capacity l.self-inside.records;
+  more : l.fn.self.stalls ≤ vec_len l.self-inside.spares;
+  few : vec_len l.self-inside.spares ≤ MOST_STALLS;
+}
+
+abbrev pub decreases-loop-alloc : goal.decreases-loop-alloc
+decreases-loop-alloc g l = MOST_STALLS - vec_len l.self-inside.spares

@@ -1,0 +1,46 @@
+//! What comes on the lines in these tests.
+
+ghost use Rattle.std.specs.Prelude.{◌≡◌, ◌<◌, false, IfOk};
+ghost use Rattle.xp_core.specs.Exchange.{IsReadable};
+ghost use Rattle.xp_core.specs.Stalls.{is_stall};
+
+use std::alloc::Allocator;
+use xp_core::What;
+use xp_packets::{PacketFault, decode};
+
+/// A call request for 2080020, which is b1's.
+pub const CALL: [u8; 13] = [
+    0x10, 0x01, 0x0b, 0x07, 0x20, 0x80, 0x02, 0x00, 0x00, 0x01, 0x00, 0x00, 0x00,
+];
+
+/// A call accepted packet.
+pub const ACCEPTED: [u8; 3] = [0x10, 0x01, 0x0f];
+
+/// A clear request.
+pub const CLEAR: [u8; 5] = [0x10, 0x01, 0x13, 0x00, 0x00];
+
+/// A clear confirmation.
+pub const CLEAR_CONFIRM: [u8; 3] = [0x10, 0x01, 0x17];
+
+/// A data packet of one octet, with this P(S), 0 to 7, and P(R) 0.
+pub fn data(ps: u8) -> [u8; 4]
+    requires { ps < 8 }
+{
+    [0x10, 0x01, ps << 1, 0x41]
+}
+
+/// Receive ready, with this P(R), 0 to 7.
+pub fn ready(pr: u8) -> [u8; 3]
+    requires { pr < 8 }
+{
+    [0x10, 0x01, pr << 5 | 0x01]
+}
+
+/// The packet of these octets comes on a line.
+pub fn packet<A: Allocator + Copy>(alloc: A, octets: &[u8]) -> Result<What<A>, PacketFault>
+    ensures readable { IfOk result (λ what. IsReadable what) }
+    ensures kind { IfOk result (λ what. is_stall what ≡ false) }
+{
+    let (identifier, packet) = decode(alloc, octets)?;
+    Ok(What::frame(identifier, packet))
+}

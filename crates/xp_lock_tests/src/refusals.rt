@@ -1,0 +1,149 @@
+//! Offers of which each request for memory is refused in turn.
+
+ghost use Rattle.std.specs.Prelude.{◌≡◌, false, IfOk};
+ghost use Rattle.xp_core.specs.Exchange.{IsReadable};
+ghost use Rattle.xp_core.specs.Stalls.{is_stall};
+
+use crate::events::{ACCEPTED, CALL, CLEAR, CLEAR_CONFIRM, packet};
+use std::alloc::Allocator;
+use std::marker::Brand;
+use std::sync::Wait;
+use std::test::Fail;
+use xp_core::{Event, What};
+use xp_lock::{Blanks, Exchange, LinePass, Name, OfferFault, prepare};
+use xp_subs::Subs;
+use xp_testing::{Refusing, THREE_STATIONS};
+
+/// Offers what comes on the pass's line, again where memory was wanting: the number of its entry, and whether it was
+/// refused.
+fn offer<N: Name, A: Allocator + Copy>(
+    rt: &impl Wait,
+    exchange: &Exchange<N, A>,
+    pass: &mut LinePass<N, A>,
+    what: What<A>,
+) -> Option<(u64, bool)>
+    requires readable { IsReadable what }
+    requires kind { is_stall what ≡ false }
+{
+    let line = pass.line();
+    match exchange.offer(rt, pass, Event { line, what }) {
+        Ok(done) => Some((done.entry(), false)),
+        Err(OfferFault::Memory(event)) => {
+            let done = exchange.offer(rt, pass, event).ok()?;
+            Some((done.entry(), true))
+        }
+        Err(_) => None,
+    }
+}
+
+/// What comes, decoded again where memory was wanting.
+fn what<A: Allocator + Copy>(alloc: A, octets: &[u8]) -> Result<What<A>, Fail>
+    ensures readable { IfOk result (λ what. IsReadable what) }
+    ensures kind { IfOk result (λ what. is_stall what ≡ false) }
+{
+    if let Ok(what) = packet(alloc, octets) {
+        return Ok(what);
+    }
+    Ok(packet(alloc, octets)?)
+}
+
+/// What came of the offers of a call.
+#[derive(Debug, Default, Drop, PartialEq)]
+struct Told {
+    /// The number of the last entry.
+    last: u64,
+    /// Whether each number was the next one.
+    in_order: bool,
+    /// Whether one of them was refused for memory.
+    refused: bool,
+    /// How many entries the closed book has.
+    entries: usize,
+}
+
+impl Told {
+    fn note(&mut self, came: Option<(u64, bool)>) {
+        let Some((entry, refused)) = came else {
+            self.in_order = false;
+            return;
+        };
+        self.in_order = self.in_order && entry.checked_sub(1) == Some(self.last);
+        self.last = entry;
+        self.refused = self.refused || refused;
+    }
+}
+
+/// a1 calls b1, which accepts; a1 clears the call.
+fn call<N: Name, A: Allocator + Copy>(
+    rt: &impl Wait,
+    alloc: A,
+    exchange: &Exchange<N, A>,
+    a1: &mut LinePass<N, A>,
+    b1: &mut LinePass<N, A>,
+) -> Result<Told, Fail> {
+    let mut told = Told {
+        in_order: true,
+        ..Told::default()
+    };
+    told.note(offer(rt, exchange, a1, What::Up));
+    told.note(offer(rt, exchange, b1, What::Up));
+    told.note(offer(rt, exchange, a1, what(alloc, &CALL)?));
+    told.note(offer(rt, exchange, b1, what(alloc, &ACCEPTED)?));
+    told.note(offer(rt, exchange, a1, what(alloc, &CLEAR)?));
+    told.note(offer(rt, exchange, b1, what(alloc, &CLEAR_CONFIRM)?));
+    Ok(told)
+}
+
+/// Nothing, where memory is wanting at the start.
+fn plays<N: Name, A: Allocator + Copy>(
+    rt: &impl Wait,
+    alloc: A,
+    blanks: Blanks<A>,
+) -> Result<Option<Told>, Fail>
+    requires subs { N.subs ≡ blanks.subs }
+    requires word { N.word ≡ blanks.word }
+    requires queues { N.queues ≡ blanks.queues }
+{
+    let Ok((exchange, passes)) = Exchange::<N, A>::start(alloc, blanks) else {
+        return Ok(None);
+    };
+    let mut rest = passes.into_iter();
+    let (Some(mut a1), Some(mut b1)) = (rest.next(), rest.next()) else {
+        return Ok(None);
+    };
+    let mut told = call(rt, alloc, &exchange, &mut a1, &mut b1)?;
+    let mut all = match Vec::with_capacity(alloc, 5) {
+        Ok(all) => all,
+        Err(_) => Vec::with_capacity(alloc, 5)?,
+    };
+    all.push(a1)?;
+    all.push(b1)?;
+    for pass in rest {
+        all.push(pass)?;
+    }
+    if let Ok(book) = exchange.close(rt, all) {
+        told.entries = book.history().len();
+    }
+    Ok(Some(told))
+}
+
+#[test]
+fn refused_offers_change_nothing(rt: HostRuntime) -> Result<(), Fail> {
+    let mut refused = 0usize;
+    for number in 1..300u64 {
+        let scarce = Refusing::new(rt.alloc(), number);
+        let subs = Subs::read(rt.alloc(), THREE_STATIONS)?;
+        let Ok(blanks) = prepare(&scarce, subs) else {
+            continue;
+        };
+        let Some(told) = plays::<Brand, _>(&rt, &scarce, blanks)? else {
+            continue;
+        };
+        assert_eq!(rt; (told.last, told.in_order, told.entries), (6, true, 6));
+        refused = refused.saturating_add(usize::from(told.refused));
+        if scarce.is_pending() {
+            break;
+        }
+    }
+    assert!(rt; refused > 10, "{refused} offers");
+    Ok(())
+}

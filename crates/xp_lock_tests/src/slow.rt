@@ -1,0 +1,207 @@
+//! A line that takes none of its outputs is stalled.
+
+ghost use Rattle.std.specs.Prelude.{◌≡◌, false};
+ghost use Rattle.xp_core.specs.Exchange.{IsReadable};
+ghost use Rattle.xp_core.specs.Stalls.{is_stall};
+
+use crate::events::{ACCEPTED, CALL, data, packet, ready};
+use std::alloc::Global;
+use std::marker::Brand;
+use std::sync::Wait;
+use std::test::Fail;
+use xp_core::{Event, Outgoing, Put, What};
+use xp_lock::{Blanks, Book, Done, Exchange, LinePass, Name, OfferFault, prepare};
+use xp_packets::Packet;
+use xp_subs::{LineNo, Subs};
+use xp_testing::THREE_STATIONS;
+
+/// How many data packets a1 sends.
+const PACKETS: u8 = 40;
+
+/// What came of the data packets from a1 to b1.
+#[derive(Debug, Default, Drop, PartialEq)]
+struct Seen {
+    /// The first line that was given something by the call request.
+    rung: Option<LineNo>,
+    /// How many outputs b1's outbox kept to the end, and whether the last of them is to close the connection.
+    kept: usize,
+    closes: bool,
+    /// The last clear indication to a1: its cause and its diagnostic.
+    cleared: Option<(u8, Option<u8>)>,
+    /// Whether an Up of b1 was refused for want of room then, and whether it was taken once its outputs were.
+    without_room: bool,
+    came_up: bool,
+    /// The number of the last entry that is a stall, and how many there are.
+    stall: Option<u64>,
+    stalls: usize,
+}
+
+/// Offers what comes on the pass's line.
+fn offer<N: Name>(
+    rt: &impl Wait,
+    exchange: &Exchange<N, Global>,
+    pass: &mut LinePass<N, Global>,
+    what: What,
+) -> Result<Done, OfferFault>
+    requires readable { IsReadable what }
+    requires kind { is_stall what ≡ false }
+{
+    let line = pass.line();
+    exchange.offer(rt, pass, Event { line, what })
+}
+
+/// Takes all outputs of the pass's line: how many there were, and the last.
+fn take_all<N: Name>(
+    rt: &impl Wait,
+    exchange: &Exchange<N, Global>,
+    pass: &mut LinePass<N, Global>,
+) -> (usize, Option<Outgoing>) {
+    let mut count = 0;
+    let mut last = None;
+    for taken in 0..100usize {
+        match exchange.next_out(rt, pass) {
+            Some(item) => last = Some(item),
+            None => break,
+        }
+        count = taken + 1;
+    }
+    (count, last)
+}
+
+/// The cause and the diagnostic of a clear indication.
+fn cleared(item: Option<Outgoing>) -> Option<(u8, Option<u8>)> {
+    match item?.put {
+        Put::Send {
+            identifier: _,
+            packet: Packet::Clear {
+                cause,
+                diagnostic,
+                block: _,
+            },
+        } => Some((cause, diagnostic)),
+        _ => None,
+    }
+}
+
+/// a1 calls b1, and sends it packets that b1 acknowledges; a1 takes its outputs at once, b1 does where that is asked.
+fn talk<N: Name>(
+    rt: &impl Wait,
+    alloc: Global,
+    exchange: &Exchange<N, Global>,
+    a1: &mut LinePass<N, Global>,
+    b1: &mut LinePass<N, Global>,
+    at_once: bool,
+) -> Result<Seen, Fail> {
+    let mut seen = Seen::default();
+    let _up = offer(rt, exchange, a1, What::Up);
+    let _up = offer(rt, exchange, b1, What::Up);
+    if let Ok(done) = offer(rt, exchange, a1, packet(alloc, &CALL)?) {
+        seen.rung = done.given().first().copied();
+    }
+    let _accepted = offer(rt, exchange, b1, packet(alloc, &ACCEPTED)?);
+    for number in 0..PACKETS {
+        let _data = offer(rt, exchange, a1, packet(alloc, &data(number % 8))?);
+        let _ready = offer(rt, exchange, b1, packet(alloc, &ready((number + 1) % 8))?);
+        if at_once {
+            take_all(rt, exchange, b1);
+        }
+        let (_, last) = take_all(rt, exchange, a1);
+        seen.cleared = cleared(last);
+    }
+    let up = offer(rt, exchange, b1, What::Up);
+    seen.without_room = matches!(up, Err(OfferFault::NoRoom(_)));
+    let (kept, last) = take_all(rt, exchange, b1);
+    seen.kept = kept;
+    seen.closes = matches!(
+        last,
+        Some(Outgoing {
+            put: Put::Close,
+            ..
+        })
+    );
+    seen.came_up = offer(rt, exchange, b1, What::Up).is_ok();
+    Ok(seen)
+}
+
+/// The number of the last entry that is a stall, and how many there are.
+fn stalls(book: &Book) -> (Option<u64>, usize) {
+    let mut last = None;
+    let mut count = 0usize;
+    for entry in book.history() {
+        if matches!(entry.event.what, What::Stall) {
+            last = Some(entry.number);
+            count = count.saturating_add(1);
+        }
+    }
+    (last, count)
+}
+
+fn plays<N: Name>(
+    rt: &impl Wait,
+    alloc: Global,
+    blanks: Blanks<Global>,
+    at_once: bool,
+) -> Result<Option<Seen>, Fail>
+    requires subs { N.subs ≡ blanks.subs }
+    requires word { N.word ≡ blanks.word }
+    requires queues { N.queues ≡ blanks.queues }
+{
+    let (exchange, passes) = Exchange::<N, Global>::start(alloc, blanks)?;
+    let mut rest = passes.into_iter();
+    let (Some(mut a1), Some(mut b1)) = (rest.next(), rest.next()) else {
+        return Ok(None);
+    };
+    let mut seen = talk(rt, alloc, &exchange, &mut a1, &mut b1, at_once)?;
+    let mut all = Vec::new(alloc);
+    all.push(a1)?;
+    all.push(b1)?;
+    for pass in rest {
+        all.push(pass)?;
+    }
+    let Ok(book) = exchange.close(rt, all) else {
+        return Ok(None);
+    };
+    let (stall, count) = stalls(&book);
+    seen.stall = stall;
+    seen.stalls = count;
+    Ok(Some(seen))
+}
+
+#[test]
+fn slow_line_is_stalled(rt: HostRuntime) -> Result<(), Fail> {
+    let blanks = prepare(rt.alloc(), Subs::read(rt.alloc(), THREE_STATIONS)?)?;
+    // two connections, the call and its answer, forty packets with thirty-nine acknowledgements between them
+    assert_eq!(rt;
+        plays::<Brand>(&rt, rt.alloc(), blanks, false)?,
+        Some(Seen {
+            rung: Some(1),
+            kept: 42,
+            closes: true,
+            cleared: Some((0x09, Some(0))),
+            without_room: true,
+            came_up: true,
+            stall: Some(84),
+            stalls: 1,
+        })
+    );
+    Ok(())
+}
+
+#[test]
+fn line_that_takes_at_once_is_not_stalled(rt: HostRuntime) -> Result<(), Fail> {
+    let blanks = prepare(rt.alloc(), Subs::read(rt.alloc(), THREE_STATIONS)?)?;
+    assert_eq!(rt;
+        plays::<Brand>(&rt, rt.alloc(), blanks, true)?,
+        Some(Seen {
+            rung: Some(1),
+            kept: 0,
+            closes: false,
+            cleared: None,
+            without_room: false,
+            came_up: true,
+            stall: None,
+            stalls: 0,
+        })
+    );
+    Ok(())
+}
