@@ -1,11 +1,13 @@
-//! What comes on the lines in these tests.
+//! What comes on the lines in these tests, and its offer.
 
 ghost use Rattle.std.specs.Prelude.{◌≡◌, ◌<◌, false, IfOk};
 ghost use Rattle.xp_core.specs.Exchange.{IsReadable};
 ghost use Rattle.xp_core.specs.Stalls.{is_stall};
 
-use std::alloc::Allocator;
-use xp_core::What;
+use std::alloc::{Allocator, Global};
+use std::sync::Wait;
+use xp_core::{Event, What};
+use xp_lock::{Done, Exchange, LinePass, Name, OfferFault};
 use xp_packets::{PacketFault, decode};
 
 /// A call request for 2080020, which is b1's.
@@ -43,4 +45,47 @@ pub fn packet<A: Allocator + Copy>(alloc: A, octets: &[u8]) -> Result<What<A>, P
 {
     let (identifier, packet) = decode(alloc, octets)?;
     Ok(What::frame(identifier, packet))
+}
+
+/// Offers what comes on the pass's line.
+pub fn offer<N: Name>(
+    rt: &impl Wait,
+    exchange: &Exchange<N, Global>,
+    pass: &mut LinePass<N, Global>,
+    what: What,
+) -> Result<Done, OfferFault>
+    requires readable { IsReadable what }
+    requires kind { is_stall what ≡ false }
+{
+    let line = pass.line();
+    exchange.offer(rt, pass, Event { line, what })
+}
+
+/// Offers what comes on the pass's line: the number of its entry, where it was taken.
+pub fn entered<N: Name>(
+    rt: &impl Wait,
+    exchange: &Exchange<N, Global>,
+    pass: &mut LinePass<N, Global>,
+    what: What,
+) -> Option<u64>
+    requires readable { IsReadable what }
+    requires kind { is_stall what ≡ false }
+{
+    if let Ok(done) = offer(rt, exchange, pass, what) {
+        return Some(done.entry());
+    }
+    None
+}
+
+/// Whether an offer of what comes on the pass's line is refused since the exchange is halted.
+pub fn finds_halt<N: Name>(
+    rt: &impl Wait,
+    exchange: &Exchange<N, Global>,
+    pass: &mut LinePass<N, Global>,
+    what: What,
+) -> bool
+    requires readable { IsReadable what }
+    requires kind { is_stall what ≡ false }
+{
+    matches!(offer(rt, exchange, pass, what), Err(OfferFault::Halted(_)))
 }

@@ -2,12 +2,13 @@
 
 ghost use Rattle.std.specs.Prelude.{◌≡◌};
 
+use crate::events::{entered, finds_halt};
 use std::alloc::{AllocError, Global};
 use std::marker::Brand;
 use std::sync::Wait;
 use std::test::Fail;
-use xp_core::{Event, What};
-use xp_lock::{Blanks, Exchange, Name, OfferFault, prepare};
+use xp_core::What;
+use xp_lock::{Blanks, Exchange, Name, prepare};
 use xp_subs::Subs;
 use xp_testing::THREE_STATIONS;
 
@@ -37,30 +38,11 @@ fn halts<N: Name>(
         return Ok(None);
     };
     let mut pass = pass;
-    let line = pass.line();
     let halted_before = exchange.halted(rt);
-    let came_up = match exchange.offer(
-        rt,
-        &mut pass,
-        Event {
-            line,
-            what: What::Up,
-        },
-    ) {
-        Ok(done) => Some(done.entry()),
-        Err(_) => None,
-    };
+    let came_up = entered(rt, &exchange, &mut pass, What::Up);
     exchange.halt(rt);
     let halted = exchange.halted(rt);
-    let down = exchange.offer(
-        rt,
-        &mut pass,
-        Event {
-            line,
-            what: What::Down,
-        },
-    );
-    let refused = matches!(down, Err(OfferFault::Halted(_)));
+    let refused = finds_halt(rt, &exchange, &mut pass, What::Down);
     let (exchange, passes, missing) = match exchange.close(rt, passes) {
         Ok(_) => return Ok(None),
         Err(fault) => (fault.exchange, fault.passes, Some(fault.line)),

@@ -1,16 +1,14 @@
 //! A line that takes none of its outputs is stalled.
 
-ghost use Rattle.std.specs.Prelude.{◌≡◌, false};
-ghost use Rattle.xp_core.specs.Exchange.{IsReadable};
-ghost use Rattle.xp_core.specs.Stalls.{is_stall};
+ghost use Rattle.std.specs.Prelude.{◌≡◌};
 
-use crate::events::{ACCEPTED, CALL, data, packet, ready};
+use crate::events::{ACCEPTED, CALL, data, offer, packet, ready};
 use std::alloc::Global;
 use std::marker::Brand;
 use std::sync::Wait;
 use std::test::Fail;
-use xp_core::{Event, Outgoing, Put, What};
-use xp_lock::{Blanks, Book, Done, Exchange, LinePass, Name, OfferFault, prepare};
+use xp_core::{Outgoing, Put, What};
+use xp_lock::{Blanks, Book, Exchange, LinePass, Name, OfferFault, prepare};
 use xp_packets::Packet;
 use xp_subs::{LineNo, Subs};
 use xp_testing::THREE_STATIONS;
@@ -34,20 +32,6 @@ struct Seen {
     /// The number of the last entry that is a stall, and how many there are.
     stall: Option<u64>,
     stalls: usize,
-}
-
-/// Offers what comes on the pass's line.
-fn offer<N: Name>(
-    rt: &impl Wait,
-    exchange: &Exchange<N, Global>,
-    pass: &mut LinePass<N, Global>,
-    what: What,
-) -> Result<Done, OfferFault>
-    requires readable { IsReadable what }
-    requires kind { is_stall what ≡ false }
-{
-    let line = pass.line();
-    exchange.offer(rt, pass, Event { line, what })
 }
 
 /// Takes all outputs of the pass's line: how many there were, and the last.

@@ -2,12 +2,13 @@
 
 ghost use Rattle.std.specs.Prelude.{◌≡◌};
 
+use crate::events::entered;
 use std::alloc::{AllocError, Global};
 use std::marker::Brand;
 use std::sync::Wait;
 use std::test::Fail;
 use std::thread::{Threads, join};
-use xp_core::{Event, What};
+use xp_core::What;
 use xp_lock::{Blanks, Exchange, LinePass, Name, prepare};
 use xp_subs::Subs;
 use xp_testing::THREE_STATIONS;
@@ -24,10 +25,9 @@ fn offer_all<N: Name, R: Wait>(
     let mut pass = pass;
     let mut number = 0;
     for place in 0..EVENTS {
-        let line = pass.line();
         let what = if place == 0 { What::Up } else { What::Expire };
-        match exchange.offer(rt, &mut pass, Event { line, what }) {
-            Ok(done) if done.entry() > number => number = done.entry(),
+        match entered(rt, exchange, &mut pass, what) {
+            Some(entry) if entry > number => number = entry,
             _ => return (pass, false),
         }
     }
