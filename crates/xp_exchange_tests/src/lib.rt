@@ -2,11 +2,11 @@
 #![tactic(auto)]
 
 #[cfg(test)]
+mod events;
+#[cfg(test)]
 mod replays;
 #[cfg(test)]
 mod scripts;
-#[cfg(test)]
-mod stalls;
 #[cfg(test)]
 mod steps;
 #[cfg(test)]

@@ -51,7 +51,7 @@ pub fn event_of<A: Allocator + Copy>(
 }
 
 /// Hands an event in.
-pub fn offer<A: Allocator + Copy>(
+fn offer<A: Allocator + Copy>(
     rt: &impl Abort,
     core: &mut Core<A>,
     event: Event<A>,
