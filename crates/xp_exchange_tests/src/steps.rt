@@ -15,6 +15,8 @@ pub const A1: LineNo = 0;
 
 pub const B1: LineNo = 1;
 
+const H1: LineNo = 2;
+
 /// A call from a1 to b1 that is accepted and then cleared by a1: on which line what packet comes, or where there are no
 /// octets a connection, and how many packets are put out.
 const CALL: [(LineNo, &[u8], usize); 6] = [
@@ -94,7 +96,7 @@ fn offer_again<A: Allocator + Copy>(
     }
 }
 
-/// Plays the call with scarce memory.
+/// Plays the call with scarce memory, and then stalls.
 fn play<A: Allocator + Copy>(rt: &impl Abort, subs: Subs, ample: A, scarce: A) -> Result<(), Fail> {
     let Ok(mut core) = Core::new(scarce, subs) else {
         return Ok(());
@@ -105,6 +107,30 @@ fn play<A: Allocator + Copy>(rt: &impl Abort, subs: Subs, ample: A, scarce: A) -
         assert_eq!(rt; told.outputs.as_slice().len(), *outputs, "entry {at}");
     }
     assert_eq!(rt; core.records().len(), 1);
+    stall_all(rt, &mut core, ample)
+}
+
+/// A further call, whose two lines are stalled then, and one that is out of service. Each request for memory before the
+/// stalls is made again where it was refused; a prepared stall makes none, so none of them is refused.
+fn stall_all<A: Allocator + Copy>(
+    rt: &impl Abort,
+    core: &mut Core<A>,
+    ample: A,
+) -> Result<(), Fail> {
+    for (line, packet, _) in &CALL[2..4] {
+        offer_again(rt, core, ample, *line, packet)?.ok_or("a second refusal")?;
+    }
+    if core.reserve_stalls().is_err() {
+        core.reserve_stalls()?;
+    }
+    for line in [B1, A1, H1] {
+        let what = What::Stall;
+        assert!(rt;
+            offer(rt, core, Event { line, what }).is_ok(),
+            "line {line}"
+        );
+    }
+    assert_eq!(rt; core.records().len(), 2);
     Ok(())
 }
 
