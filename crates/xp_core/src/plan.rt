@@ -1,4 +1,7 @@
 //! What an event will do, worked out before anything changes.
+//!
+//! The hints on inlining are for speed alone: what a branch keeps in its frame is cleared as its function begins, so the
+//! longer branches stay out of their caller, and the steps by which a plan is made, which move it whole, go into it.
 
 mod answer;
 mod asked;
@@ -42,6 +45,7 @@ pub struct Plan<A: Allocator = Global> {
 
 impl<A: Allocator> Plan<A> {
     /// These outputs alone.
+    #[inline(always)]
     pub fn of(outputs: Buffer<A>) -> Plan<A>
         ensures outcome { result.outcome ≡ Outcome.Plain }
         ensures outputs { result.outputs ≡ outputs }
@@ -62,6 +66,7 @@ impl<A: Allocator> Plan<A> {
     }
 
     /// The plan with this outcome.
+    #[inline(always)]
     pub fn settling(self, outcome: Outcome) -> Plan<A>
         ensures { result ≡ record self { outcome = outcome } }
     {
@@ -69,6 +74,7 @@ impl<A: Allocator> Plan<A> {
     }
 
     /// The plan with a line whose call is cancelled, if there is one.
+    #[inline(always)]
     pub fn cancelling(self, cancelled: Option<LineNo>) -> Plan<A>
         ensures { result ≡ record self { cancelled = cancelled } }
     {
@@ -76,6 +82,7 @@ impl<A: Allocator> Plan<A> {
     }
 
     /// The plan with this change.
+    #[inline(always)]
     pub fn changing(self, change: Change) -> Plan<A>
         ensures { result ≡ record self { change = Some change } }
     {
@@ -86,6 +93,7 @@ impl<A: Allocator> Plan<A> {
     }
 
     /// The plan with this relay of a call.
+    #[inline(always)]
     pub fn carrying(self, carriage: Carriage<A>) -> Plan<A>
         ensures { result ≡ record self { carriage = Some carriage } }
     {
@@ -96,6 +104,7 @@ impl<A: Allocator> Plan<A> {
     }
 
     /// The plan with a line that leaves its call.
+    #[inline(always)]
     pub fn withdrawing(self, withdrawal: Withdrawal) -> Plan<A>
         requires { array_vec_len self.records < MOST_RECORDS }
         ensures outcome { result.outcome ≡ self.outcome }
@@ -110,6 +119,7 @@ impl<A: Allocator> Plan<A> {
     }
 
     /// The plan with this record, if there is one, after the others.
+    #[inline(always)]
     pub fn with_some_record(self, charged: Option<Record>) -> Plan<A>
         requires { array_vec_len self.records < MOST_RECORDS }
         ensures outcome { result.outcome ≡ self.outcome }
@@ -127,6 +137,7 @@ impl<A: Allocator> Plan<A> {
     }
 
     /// The plan with one more record, after the others.
+    #[inline(always)]
     pub fn with_record(mut self, charged: Record) -> Plan<A>
         requires { array_vec_len self.records < MOST_RECORDS }
         ensures outcome { result.outcome ≡ self.outcome }

@@ -87,6 +87,7 @@ impl<A: Allocator> Relays<A> {
     }
 
     /// A call has another relay from now on, if there is one.
+    #[inline(always)]
     pub fn put_if_any(&mut self, carriage: Option<Carriage<A>>)
         ensures { self.new ≡ relays_with carriage self.old }
     {

@@ -65,6 +65,8 @@ impl<A: Allocator + Copy> Spare<A> {
 }
 
 /// Gives a line up. One out of service stays as it is, and nothing is put out.
+#[cold]
+#[inline(never)]
 pub fn give_up<A: Allocator + Copy>(
     alloc: A,
     subs: &Subs,

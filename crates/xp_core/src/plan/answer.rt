@@ -28,6 +28,7 @@ use xp_charge::Meter;
 use xp_relay::Relay;
 
 /// An answer connects the call, and the caller is told so (X.25 clause 4.1.5); a fault of it is a procedure error.
+#[inline(never)]
 pub fn answer<A: Allocator + Copy>(
     alloc: A,
     found: &Found<'_, A>,

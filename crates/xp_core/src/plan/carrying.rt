@@ -28,6 +28,7 @@ const MOST_MOVES: usize = 17;
 
 /// The packet goes through a copy of the call's relay, which the call has from then on (X.25 clauses 4.3 and 4.4). Data that
 /// would go past the segment limit clears the call.
+#[inline(never)]
 pub fn carry<A: Allocator + Copy>(
     alloc: A,
     found: &Found<'_, A>,

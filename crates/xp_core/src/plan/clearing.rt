@@ -49,6 +49,8 @@ pub fn free<A: Allocator>(alloc: A, found: &Found<'_, A>) -> Result<Plan<A>, All
 }
 
 /// A line goes out of service: its call ends as out of order.
+#[cold]
+#[inline(never)]
 pub fn fall<A: Allocator + Copy>(
     alloc: A,
     found: &Found<'_, A>,
@@ -76,6 +78,8 @@ fn closing<A: Allocator>(machine: &Machine<A>, line: LineNo, what: &What<A>) -> 
 }
 
 /// A procedure error clears both ends of the line's call, or the line alone (X.25 clause 4.1 and Annex C).
+#[cold]
+#[inline(never)]
 pub fn fail<A: Allocator + Copy>(
     alloc: A,
     found: &Found<'_, A>,
@@ -94,6 +98,8 @@ pub fn fail<A: Allocator + Copy>(
 }
 
 /// Data that would go past the segment limit clears both ends of its call.
+#[cold]
+#[inline(never)]
 pub fn exceed<A: Allocator + Copy>(alloc: A, found: &Found<'_, A>) -> Result<Plan<A>, AllocError>
     requires { IsShort found.now.charged }
     ensures outcome { IfOk result (λ plan. plan.outcome ≡ Outcome.Exceeded) }
@@ -128,6 +134,7 @@ fn clear_both<A: Allocator + Copy>(
 }
 
 /// A clear request is confirmed at once (X.25 clause 4.1.7), and the line's call ends.
+#[inline(never)]
 pub fn confirm<A: Allocator + Copy>(
     alloc: A,
     found: &Found<'_, A>,
