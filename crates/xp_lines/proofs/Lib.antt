@@ -1,1 +1,4 @@
 mod Octets
+mod Offered
+mod Pulling
+mod Written

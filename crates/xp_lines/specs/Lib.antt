@@ -1,2 +1,9 @@
 pub mod Counts
+pub mod Ended
 pub mod Flow
+pub mod Heard
+pub mod Offering
+pub mod Offers
+pub mod Reads
+pub mod Turns
+pub mod Wire
