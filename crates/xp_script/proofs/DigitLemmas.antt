@@ -1,5 +1,5 @@
 -- The octets that a text stands for, if it is digits alone.
-use Rattle.std.proofs.Common.{◌≡◌, ℕ, ◌/◌, ◌%◌, ◌<◌, List, [], ◌∷◌, Some, None, Ok, Err, Result, Option, is_some, IsErr, true, false, length, refl, sym, ◌∙◌, arith, inl, inr}
+use Rattle.std.proofs.Common.{◌≡◌, ℕ, ◌%◌, ◌<◌, List, [], ◌∷◌, Some, None, Ok, Err, Result, Option, is_some, true, false, length, refl, sym, ◌∙◌, arith, inl, inr}
 use Rattle.std.specs.List.{AllPass, list_all, position}
 use Rattle.std.proofs.lemmas.Bool.{cases_Bool}
 use Rattle.std.proofs.lemmas.List.Quantifiers.{position-Some}
@@ -70,31 +70,3 @@ octets_of-pairs text some even = elim (cases_Bool (list_all is_hex_digit text)) 
   | inl all ↦ all ∙ sym (some_digits text some even all)
   | inr other ↦ other ∙ sym (no_digits text other)
 ]
-
--- ---- texts that are refused
-
--- fewer than two digits are no octet
-pub octets_of-short : (text : List ℕ) → length text / 2 ≡ 0 → octets_of text ≡ None
-octets_of-short [] short = none_of_nothing
-octets_of-short (digit ∷ []) short = refl
-octets_of-short (digit ∷ other ∷ more) short = absurd (omega arith)
-
-refused : (read : Result (List ℕ) FromHexError) → IsErr read → some_octets read ≡ None
-refused (Ok octets) err = absurd (cc)
-refused (Err fault) err = refl
-
--- a text that is refused stands for none
-pub octets_of-refused : (text : List ℕ) → IsErr (decode_of text) → octets_of text ≡ None
-octets_of-refused text err = refused (decode_of text) err
-
-pub refused-odd : (text : List ℕ) → length text % 2 ≡ 1 → IsErr (decode_of text)
-refused-odd text odd = rw (decode_of-odd text odd) refl
-
-unread : (text : List ℕ) (read : Result (List ℕ) FromHexError) → decode_of text ≡ read → list_all is_hex_digit text ≡ false → IsErr read
-unread text (Ok octets) is other =
-    let all = list_all-from_AllPass is_hex_digit text (decode_of-ok text octets is).1 in
-    absurd (cc)
-unread text (Err fault) is other = refl
-
-pub refused-others : (text : List ℕ) → list_all is_hex_digit text ≡ false → IsErr (decode_of text)
-refused-others text other = unread text (decode_of text) refl other

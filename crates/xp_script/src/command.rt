@@ -1,6 +1,6 @@
 //! What a line of a script says.
 
-ghost use Rattle.std.specs.Prelude.{◌≡◌, ◌&&◌, IfOk, IsSome, IsTrue, None, codes, is_some};
+ghost use Rattle.std.specs.Prelude.{◌≡◌, ◌&&◌, IfOk, IsSome, IsTrue, codes, is_some};
 ghost use Rattle.xp_script.specs.Command.{octets_of, Answers, brings_octets, brings_octets_by, HasLine, is_skipped, LacksMemory, Reads, said_by, said_of, said_with, words};
 ghost use Rattle.xp_subs.specs.Tables.{line_count, same};
 
@@ -113,31 +113,17 @@ fn octets_of<A: Allocator>(digits: &[u8], memory: Vec<u8, A>) -> Result<Heard<A>
     ensures octets { Answers (octets_of digits.now) result }
     ensures memory { LacksMemory result → IsSome (octets_of digits.now) }
 {
+    if !are_octets(digits) {
+        return Err(LineFault::Faulty);
+    }
     let mut octets = memory;
     octets.clear();
     // As many octets as the digits stand for, and then those.
-    if octets
+    octets
         .extend_from_slice(&digits[..digits.len() / 2])
-        .is_err()
-    {
-        return Err(lacking(digits));
-    }
-    if octets.is_empty() || !read_digits(digits, &mut octets) {
-        return Err(LineFault::Faulty);
-    }
+        .map_err(|_| LineFault::Memory)?;
+    read_digits(digits, &mut octets);
     Ok(Heard::of(octets))
-}
-
-/// What is wrong with a text for whose octets there is no memory.
-fn lacking(text: &[u8]) -> LineFault
-    ensures memory { result ≡ LineFault.Memory → IsSome (octets_of text.now) }
-    ensures faulty { result ≡ LineFault.Faulty → octets_of text.now ≡ None }
-{
-    if are_octets(text) {
-        LineFault::Memory
-    } else {
-        LineFault::Faulty
-    }
 }
 
 /// Whether a text is digits alone, for whole octets, at least one.

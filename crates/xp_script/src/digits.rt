@@ -1,12 +1,8 @@
-//! Octets as pairs of hexadecimal digits. Where there are many, no loop over them is left early, so that a compiler can
-//! take many at once; for a few the loops of `hex` take fewer steps.
+//! Octets as pairs of hexadecimal digits. No loop is left early, so that a compiler can take many digits at once.
 
-ghost use Rattle.std.specs.Prelude.{◌≡◌, ◌*◌, ◌/◌, ◌<◌, false, length, slice_index, IsErr, IsTrue, Ok, Some};
+ghost use Rattle.std.specs.Prelude.{◌≡◌, ◌*◌, ◌<◌, length, IsTrue, slice_index, Some, Ok};
 ghost use Rattle.std.specs.List.{AllPass, list_all};
 ghost use Rattle.hex.specs.Hex.{decode_of, encode_lower, hex_digit_value, is_hex_digit, lower_digits};
-
-/// From so many octets on they are many.
-const MANY: usize = 24;
 
 /// Whether a text is digits alone, of either case.
 pub fn are_digits(text: &[u8]) -> bool
@@ -19,23 +15,8 @@ pub fn are_digits(text: &[u8]) -> bool
     all
 }
 
-/// Reads a text, two digits for each octet. Whether it is such digits alone; else the octets are of no use.
-pub fn read_digits(text: &[u8], octets: &mut [u8]) -> bool
-    requires { length octets.old ≡ length text.now / 2 }
-    ensures read { IsTrue result → decode_of text.now ≡ Ok octets.new }
-    ensures refused { result ≡ false → IsErr (decode_of text.now) }
-{
-    if octets.len() < MANY {
-        return hex::decode_to_slice(text, octets).is_ok();
-    }
-    if text.len() % 2 == 1 || !are_digits(text) {
-        return false;
-    }
-    read_many(text, octets);
-    true
-}
-
-fn read_many(digits: &[u8], octets: &mut [u8])
+/// Reads digits, two for each octet.
+pub fn read_digits(digits: &[u8], octets: &mut [u8])
     requires pairs { length digits.now ≡ 2 * length octets.old }
     requires digits { AllPass is_hex_digit digits.now }
     ensures { decode_of digits.now ≡ Ok octets.new }
@@ -58,17 +39,6 @@ fn value_of(digit: u8) -> u8
 
 /// Writes octets, two digits in lower case for each.
 pub fn write_digits(octets: &[u8], digits: &mut [u8])
-    requires { length digits.old ≡ 2 * length octets.now }
-    ensures { digits.new ≡ encode_lower octets.now }
-{
-    if octets.len() < MANY {
-        hex::encode_to_slice(octets, digits).unwrap();
-    } else {
-        write_many(octets, digits);
-    }
-}
-
-fn write_many(octets: &[u8], digits: &mut [u8])
     requires { length digits.old ≡ 2 * length octets.now }
     ensures { digits.new ≡ encode_lower octets.now }
 {

@@ -1,17 +1,16 @@
-use Rattle.std.proofs.Common.{◌≡◌, ◌%◌, arith, false, length}
-use Rattle.std.specs.List.{list_all}
-use Rattle.std.proofs.lemmas.Grind.{common_steps}
-use Rattle.hex.specs.Hex.{is_hex_digit}
-use Rattle.xp_script.proofs.DigitLemmas.{refused-odd, refused-others}
+use Rattle.std.proofs.Common.{◌≡◌, ◌*◌, ◌+◌, arith, slice_index, Ok, refl, ◌∙◌}
+use Rattle.hex.specs.Hex.{pair_value}
+use Rattle.hex.proofs.HexLemmas.{decode_of-even}
+use Rattle.hex.proofs.Pairs.{decode_done, decode_step}
 use Rattle.xp_script.proofs.digits.read_digits.Goals as goal
-use Rattle.xp_script.proofs.digits.read_digits.Goals.{then-text-eq1-via-then-text-eq1, then-text-eq1-via-else-text-eq1+then-not-are_digits}
 
-pub returns-then-text-eq1-clause-refused : goal.returns-then-text-eq1-clause-refused
-returns-then-text-eq1-clause-refused c = λ _. elim c.then-text-eq1.branch [
-  | then-text-eq1-via-then-text-eq1 w ↦
-      let odd : length c.args.text.now % 2 ≡ 1 = grind (arith, common_steps) in
-      refused-odd c.args.text.now odd
-  | then-text-eq1-via-else-text-eq1+then-not-are_digits w ↦
-      let others : list_all is_hex_digit c.args.text.now ≡ false = grind (arith, common_steps) in
-      refused-others c.args.text.now others
-]
+pub octets-preserved : goal.octets-preserved
+octets-preserved c =
+    let high = c.value_of-high.ensures.value in
+    let low = c.value_of-low.ensures.value in
+    let read : pair_value (slice_index c.args.digits.now (2 * c.octets.place)) (slice_index c.args.digits.now (2 * c.octets.place + 1)) (2 * c.octets.place) ≡ Ok (c.value_of-high.result * 16 + c.value_of-low.result) = rw (high, low) refl in
+    decode_step _ _ c.octets.place _ (omega arith) (omega arith) read c.octets.invariant
+
+pub returns : goal.returns
+returns c =
+    decode_of-even c.args.digits.now (omega arith) ∙ decode_done _ c.octets.octets c.octets.place (omega arith) (omega arith) c.octets.invariant

@@ -1,7 +1,7 @@
 use Rattle.std.proofs.Common.{◌≡◌, ◌*◌, take, drop}
 use Rattle.hex.specs.Hex.{decode_pairs}
 use Rattle.hex.proofs.Pairs.{prepend}
-use Rattle.xp_script.proofs.digits.read_many.Given as goal
+use Rattle.xp_script.proofs.digits.read_digits.Given as goal
 
 abbrev pub invariant-octets : goal.invariant-octets
 invariant-octets l =

@@ -1,7 +1,7 @@
 use Rattle.std.proofs.Common.{arith}
 use Rattle.hex.specs.Hex.{lower_digits}
 use Rattle.hex.proofs.Pairs.{encode_done, encode_step}
-use Rattle.xp_script.proofs.digits.write_many.Goals as goal
+use Rattle.xp_script.proofs.digits.write_digits.Goals as goal
 
 pub octets-preserved : goal.octets-preserved
 octets-preserved c =
