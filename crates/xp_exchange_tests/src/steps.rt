@@ -34,6 +34,9 @@ const CALL: [(LineNo, &[u8], usize); 6] = [
     (B1, &[0x10, 0x01, 0x17], 0),
 ];
 
+/// A data packet of one octet, the first from a1.
+const DATA: [u8; 4] = [0x10, 0x01, 0x00, 0x41];
+
 pub fn event_of<A: Allocator + Copy>(
     alloc: A,
     line: LineNo,
@@ -110,8 +113,9 @@ fn play<A: Allocator + Copy>(rt: &impl Abort, subs: Subs, ample: A, scarce: A) -
     stall_all(rt, &mut core, ample)
 }
 
-/// A further call, whose two lines are stalled then, and one that is out of service. Each request for memory before the
-/// stalls is made again where it was refused; a prepared stall makes none, so none of them is refused.
+/// A further call; stalls are prepared, a packet comes, and both lines are stalled, and one that is out of service. Each
+/// request for memory before the stalls is made again where it was refused; a prepared stall makes none, so none of them
+/// is refused.
 fn stall_all<A: Allocator + Copy>(
     rt: &impl Abort,
     core: &mut Core<A>,
@@ -123,6 +127,7 @@ fn stall_all<A: Allocator + Copy>(
     if core.reserve_stalls().is_err() {
         core.reserve_stalls()?;
     }
+    offer_again(rt, core, ample, A1, &DATA)?.ok_or("a second refusal")?;
     for line in [B1, A1, H1] {
         let what = What::Stall;
         assert!(rt;
