@@ -1,4 +1,4 @@
 mod Cutting
-mod Frames
+pub mod Frames
 mod Pieces
 mod Undone
