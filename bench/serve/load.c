@@ -166,7 +166,7 @@ static void take_time(struct player *player, double time) {
     player->times = realloc(player->times, player->room * sizeof *player->times);
     if (!player->times) exit(1);
   }
-  player->times[player->taken++] = time * 1e6;
+  player->times[player->taken++] = time;
 }
 
 static void receive_data(struct player *player, struct line *line, const unsigned char *packet, size_t length, double time) {
@@ -362,9 +362,10 @@ static void tell(const struct player *of, const struct line *lines, size_t pairs
   double sum = 0;
   size_t last = of->taken - 1;
   for (size_t i = 0; i <= last; i++) sum += of->times[i];
-  printf("{\"seconds\": %.6f, \"times\": %zu, \"mean\": %.2f, ", of->done - begun, of->taken, sum / (double)of->taken);
-  printf("\"median\": %.2f, \"p99\": %.2f, ", of->times[of->taken / 2], of->times[last - of->taken / 100]);
-  printf("\"most\": %.2f, \"packets\": [", of->times[last]);
+  printf("{\"seconds\": %.6f, \"times\": %zu, ", of->done - begun, of->taken);
+  printf("\"mean\": %.2f, \"median\": %.2f, ", sum / (double)of->taken * 1e6, of->times[of->taken / 2] * 1e6);
+  printf("\"p99\": %.2f, \"most\": %.2f, ", of->times[last - of->taken / 100] * 1e6, of->times[last] * 1e6);
+  printf("\"packets\": [");
   for (size_t i = 0; i < pairs; i++) printf(i == 0 ? "%lu" : ", %lu", (unsigned long)lines[2 * i].sent);
   printf("]}\n");
 }
