@@ -36,8 +36,8 @@ struct line {
   bool calls;
   enum state state;
   struct line *far;
-  unsigned char in[ROOM], out[ROOM];
-  size_t have, filled;
+  unsigned char in[ROOM];
+  size_t have;
   uint64_t sent, acknowledged, received;  // data packets: the first two of a caller, the last of a called line
   double sent_at[8], next;
 };
@@ -101,27 +101,13 @@ static int connect_to(const struct line *line) {
 
 // Writing =====================================================================================================
 
-// A packet waits here until its line's batch is written.
+// Each packet is written by itself, as by terminals that have nothing to do with each other. What is under way fits
+// into the socket's buffer, so that a write does not wait for the other end.
 static void put(struct line *line, const unsigned char *packet, size_t length) {
-  unsigned char *to = line->out + line->filled;
-  if (line->filled + 4 + length > ROOM) fail(line, "too much to write");
-  to[0] = to[1] = 0;
-  to[2] = (unsigned char)(length >> 8);
-  to[3] = (unsigned char)length;
-  memcpy(to + 4, packet, length);
-  line->filled += 4 + length;
-}
-
-// What is under way fits into the socket's buffer, so that a write does not wait for the other end.
-static void write_out(struct line *line) {
-  size_t written = 0;
-  while (written < line->filled) {
-    ssize_t count = write(line->socket, line->out + written, line->filled - written);
-    if (count <= 0 && !is_clearing(line)) fail(line, "the connection has ended");
-    if (count <= 0) break;
-    written += (size_t)count;
-  }
-  line->filled = 0;
+  unsigned char frame[4 + 3 + DATA] = {0, 0, (unsigned char)(length >> 8), (unsigned char)length};
+  memcpy(frame + 4, packet, length);
+  ssize_t count = write(line->socket, frame, 4 + length);
+  if (count != (ssize_t)(4 + length) && !is_clearing(line)) fail(line, "the connection has ended");
 }
 
 static void put_short(struct line *line, unsigned char type) {
@@ -237,7 +223,6 @@ static void read_in(struct player *player, struct line *line) {
   line->have += (size_t)count;
   receive_all(player, line, time);
   if (line->calls && line->state == CONNECTED && begun > 0) stream(line, time);
-  write_out(line);
 }
 
 // Playing =====================================================================================================
@@ -253,12 +238,12 @@ static bool all_are(const struct player *player, bool (*wanted)(const struct lin
   return true;
 }
 
-// Milliseconds until the next packet is to be sent, where the clock tells that.
+// Milliseconds until the next packet is to be sent, where the clock tells that. Callers stand at the even places.
 static int milliseconds(const struct player *player) {
   double time = now(), next = time + PATIENCE;
-  for (size_t i = 0; i < player->count && gap > 0 && begun > 0; i++) {
+  for (size_t i = 0; i < player->count && gap > 0 && begun > 0; i += 2) {
     const struct line *line = &player->lines[i];
-    bool may = line->calls && line->sent - line->acknowledged < (uint64_t)window;
+    bool may = line->sent - line->acknowledged < (uint64_t)window;
     if (may && line->next < next) next = line->next;
   }
   return next > time ? (int)((next - time) * 1e3) + 1 : 0;
@@ -266,10 +251,7 @@ static int milliseconds(const struct player *player) {
 
 static void send_due(struct player *player) {
   double time = now();
-  for (size_t i = 0; i < player->count; i++) {
-    if (player->lines[i].calls) stream(&player->lines[i], time);
-    write_out(&player->lines[i]);
-  }
+  for (size_t i = 0; i < player->count; i += 2) stream(&player->lines[i], time);
 }
 
 // Reads and answers until all lines are as wanted, which is looked at after each batch of events.
@@ -291,22 +273,17 @@ static void connect_all(struct player *player) {
     line->socket = connect_to(line);
     epoll_ctl(player->epoll, EPOLL_CTL_ADD, line->socket, &event);
     put_clear(line);
-    write_out(line);
   }
 }
 
 static void call_all(struct player *player) {
-  for (size_t i = 0; i < player->count; i += 2) {
-    put_call(&player->lines[i]);
-    write_out(&player->lines[i]);
-  }
+  for (size_t i = 0; i < player->count; i += 2) put_call(&player->lines[i]);
 }
 
 static void clear_all(struct player *player) {
   for (size_t i = 0; i < player->count; i += 2) {
     player->lines[i].state = CLEARING;
     put_clear(&player->lines[i]);
-    write_out(&player->lines[i]);
   }
 }
 

@@ -7,6 +7,7 @@ Both are played the same octets over loopback, in turn, in one run. README.md sa
 import argparse
 import collections
 import json
+import os
 import socket
 import statistics
 import subprocess
@@ -18,6 +19,9 @@ import server
 
 # Pairs of lines, window, and milliseconds between packets (0: as many as the window lets through).
 Load = collections.namedtuple("Load", "pairs window gap")
+
+# Threads of the load and of the relay; an exchange has one for each line.
+THREADS = os.cpu_count()
 
 LOADS = {
     "window-1": Load(1, 1, 0),
@@ -37,8 +41,7 @@ TITLES = ("", "", "packets/s", "mean", "median", "99 %", "most", "processor")
 
 def play(program, served, load, seconds):
     """What the load generator tells of one run, and the processor time of the program that was served, for a packet."""
-    threads = min(2, load.pairs)
-    command = [program, served.base, load.pairs, load.window, seconds, threads, *([load.gap] if load.gap else [])]
+    command = [program, served.base, load.pairs, load.window, seconds, min(THREADS, load.pairs), *([load.gap] if load.gap else [])]
     before = served.processor()
     run = subprocess.run([str(part) for part in command], capture_output=True, text=True)
     if run.returncode != 0:
@@ -60,7 +63,7 @@ def check_records(records, packets):
 
 def measure(programs, load, seconds, folder):
     """One run of a load over the relay, and one over the exchange."""
-    with server.Relay(programs["relay"], folder, load.pairs, programs["threads"]) as relay:
+    with server.Relay(programs["relay"], folder, load.pairs, min(THREADS, load.pairs)) as relay:
         over_relay = play(programs["load"], relay, load, seconds)
     with server.Exchange(programs["xp"], folder, load.pairs, load.pairs) as exchange:
         over_exchange = play(programs["load"], exchange, load, seconds)
@@ -146,12 +149,11 @@ def main():
     parser.add_argument("--seconds", type=float, default=5, help="how long each run sends (default: 5)")
     parser.add_argument("--rounds", type=int, default=3, help="runs of each measurement, of which the median is told (default: 3)")
     parser.add_argument("--only", choices=[*LOADS, IDLE], action="append", help="this measurement only; may be given again")
-    parser.add_argument("--relay-threads", type=int, default=2, help="threads of the relay (default: 2)")
     arguments = parser.parse_args()
 
     with tempfile.TemporaryDirectory() as folder:
         programs = {name: server.compiled(name, folder) for name in ("relay", "load")}
-        programs |= {"xp": arguments.xp, "threads": arguments.relay_threads}
+        programs["xp"] = arguments.xp
         print(f"rounds of {arguments.seconds:g} seconds: {arguments.rounds}; times in microseconds; processor: microseconds a packet")
         row(*TITLES)
         for name in arguments.only or [*LOADS, IDLE]:
