@@ -6,7 +6,6 @@ history alone. README.md says what is checked. The seed fixes what is chosen, no
 """
 
 import argparse
-import collections
 import heapq
 import itertools
 import random
@@ -16,6 +15,7 @@ import sys
 import tempfile
 import time
 
+import calls
 import server
 
 # What a host knows of its line. Rising: connected, and not known to be up yet.
@@ -23,11 +23,8 @@ DOWN, RISING, IDLE, CALLING, TALKING, CLEARING = range(6)
 
 CALL, ACCEPTED, CLEAR, CONFIRMATION, READY = 0x0B, 0x0F, 0x13, 0x17, 0x01
 
-# How a call goes, and of how many in a hundred calls.
-PLANS = {"orderly": 82, "abrupt": 10, "cut": 3, "refused": 5}
-
-# Calls begun in a second, at most; the packets that an end sends, at most; seconds between two of them, on average.
-RATE, PACKETS, GAP = 100, 30, 0.04
+# Calls begun in a second, at most; seconds between two packets of an end, on average.
+RATE, GAP = 100, 0.04
 
 # What a call makes of entries, on average, from above, and how many of those that a history holds are used.
 ENTRIES, BUDGET = 75, 0.9 * server.JOURNAL
@@ -37,26 +34,6 @@ ENTRIES, BUDGET = 75, 0.9 * server.JOURNAL
 OCTETS = 1_000
 
 SAMPLES = 20
-
-
-def segments(data):
-    return max(1, -(-len(data) // 64))
-
-
-class Call:
-    """A call as both of its ends know it. Pairs of counts are for the caller and for the called line."""
-
-    def __init__(self, number, caller, dialled, choose):
-        self.number, self.caller, self.dialled, self.called = number, caller, dialled, None
-        self.plan = choose.choices(list(PLANS), PLANS.values())[0]
-        self.breaks = choose.randrange(2)  # the side that ends it before its time, where that is the plan
-        self.left = [choose.randrange(PACKETS + 1) for _ in range(2)]  # packets still to be sent
-        self.under_way = [collections.deque(), collections.deque()]  # the data sent and not delivered
-        self.sent = [0, 0]  # segments
-        self.least = [0, 0]  # segments that the exchange has accepted for certain
-        self.told = None  # cause and diagnostic of the clear indication
-        self.ends = 1  # lines that are in the call
-        self.talking = 0  # lines that were connected
 
 
 class Line:
@@ -77,8 +54,8 @@ class Line:
 
 
 class Soak:
-    def __init__(self, exchange, pairs, calls, seconds, seed):
-        self.exchange, self.wanted, self.seconds = exchange, calls, seconds
+    def __init__(self, exchange, pairs, wanted, seconds, seed):
+        self.exchange, self.wanted, self.seconds = exchange, wanted, seconds
         self.choose = random.Random(seed)
         self.lines = [
             Line(f"{side}{pair}", f"{address}{pair:04}", exchange.base + 2 * pair + place)
@@ -181,7 +158,7 @@ class Soak:
             dialled = "99"
         elif chance == 1:
             dialled = self.choose.choice([line for line in self.lines if line is not caller]).number
-        call = Call(len(self.calls), caller, dialled, self.choose)
+        call = calls.Call(len(self.calls), caller, dialled, self.choose)
         self.calls.append(call)
         caller.enter(call, 0, CALLING)
         window = self.choose.randrange(8)
@@ -201,7 +178,7 @@ class Soak:
         call.talking += 1
         self.after(self.choose.expovariate(1 / GAP), self.send_data, line, call)
         if call.plan in ("abrupt", "cut") and line.side == call.breaks:
-            self.after(self.choose.uniform(0, GAP * PACKETS / 2), self.end, line, call)
+            self.after(self.choose.uniform(0, GAP * calls.PACKETS / 2), self.end, line, call)
         self.end_if_all_is_delivered(call)
 
     def end_if_all_is_delivered(self, call):
@@ -221,7 +198,7 @@ class Soak:
     def clear(self, line):
         """What the line sent before is accepted before its clear request is."""
         line.state = CLEARING
-        line.call.least[line.side] = line.call.sent[line.side]
+        line.call.before_clear[line.side] = line.call.sent[line.side]
         self.send(line, bytes([0x10, 1, CLEAR, 0, self.choose.randrange(256)]))
 
     def send_data(self, line, call):
@@ -232,7 +209,7 @@ class Soak:
             head = bytes([0x10, 1, line.received % 8 << 5 | line.sent % 8 << 1])
             line.sent += 1
             call.left[line.side] -= 1
-            call.sent[line.side] += segments(data)
+            call.sent[line.side] += calls.segments(data)
             call.under_way[line.side].append(data)
             self.send(line, head + data)
         self.after(self.choose.expovariate(1 / GAP), self.send_data, line, call)
@@ -298,7 +275,7 @@ class Soak:
         is_next = packet[2] >> 1 & 7 == line.received % 8
         if not is_next or not call.under_way[far] or call.under_way[far].popleft() != packet[3:]:
             self.fail(f"{line.name} got other data than was sent to it: {packet.hex()}")
-        call.least[far] += segments(packet[3:])
+        call.delivered[far] += calls.segments(packet[3:])
         line.received += 1
         self.acknowledge(line, packet[2] >> 5)
         if line.state == TALKING:
@@ -313,9 +290,10 @@ class Soak:
     # The whole ------------------------------------------------------------------------------------------------
 
     def sample(self):
-        self.samples.append((time.monotonic() - self.begun, self.events, self.exchange.memory()))
+        passed, memory = time.monotonic() - self.begun, self.exchange.memory()
         live = sum(line.state == TALKING for line in self.lines) // 2
-        print("{:>8.1f} s {:>12,} events {:>9,} calls {:>5} live {:>15,} octets".format(*self.samples[-1][:2], len(self.calls), live, self.samples[-1][2]), flush=True)
+        print(f"{passed:>8.1f} s {self.events:>12,} events {len(self.calls):>9,} calls {live:>5} live {memory:>15,} octets", flush=True)
+        self.samples.append((self.events, memory))
         if not self.all_begun():
             self.after(self.seconds / SAMPLES, self.sample)
 
@@ -329,55 +307,10 @@ class Soak:
         self.run_until(lambda: self.over == self.wanted, self.seconds + 120)
 
 
-def check_records(calls, records):
-    """One record for each call. A line has one call at a time, so that its calls are numbered in their order."""
-    wanted, found = collections.defaultdict(list), collections.defaultdict(list)
-    for call in calls:
-        wanted[call.caller.name].append(call)
-    for record in sorted(records):
-        found[record.caller].append(record)
-    if len({record.number for record in records}) != len(calls) or len(records) != len(calls):
-        sys.exit(f"{len(records)} records of {len(calls)} calls")
-    for name, made in wanted.items():
-        if len(found[name]) != len(made):
-            sys.exit(f"{len(found[name])} records of the {len(made)} calls of {name}")
-        for call, record in zip(made, found[name]):
-            if not fits(call, record):
-                sys.exit(f"{record} is not of the call to {call.dialled} with {call.least} to {call.sent} segments, told {call.told}")
-
-
-def lines_called(call):
-    """The names that the record may give: none where the exchange refused the call."""
-    if call.called:
-        return [call.called.name]
-    name = {"20": "a", "30": "b"}.get(call.dialled[:2])
-    return ["-", f"{name}{int(call.dialled[2:])}"] if name else ["-"]
-
-
-def fits(call, record):
-    """Where the far end broke the call off, what was on its way may or may not have been accepted."""
-    return (
-        record.dialled == call.dialled
-        and record.called in lines_called(call)
-        and record.payer == "caller"
-        and call.least[0] <= record.sent <= call.sent[0]
-        and call.least[1] <= record.received <= call.sent[1]
-        and (record.cause, record.diagnostic) == (call.told or (record.cause, record.diagnostic))
-    )
-
-
-def tell(calls, records):
-    exact = sum(call.least == call.sent for call in calls)
-    joined = sum(call.talking == 2 for call in calls)
-    counted = sum(record.sent + record.received for record in records)
-    print(f"{len(calls):,} calls, {joined:,} of them connected: each has one record")
-    print(f"{counted:,} segments recorded: exactly those sent in {exact:,} calls, between those delivered and those sent in {len(calls) - exact:,}")
-
-
 def check_memory(samples):
     """The octets for an event in each half of the run. What the threads take at first is in the first half."""
     halves = [samples[0], samples[len(samples) // 2], samples[-1]]
-    growth = [(end[2] - begin[2]) / max(1, end[1] - begin[1]) for begin, end in zip(halves, halves[1:])]
+    growth = [(end[1] - begin[1]) / max(1, end[0] - begin[0]) for begin, end in zip(halves, halves[1:])]
     print(f"memory: {growth[0]:,.0f} octets an event in the first half, {growth[1]:,.0f} in the second, at most {OCTETS:,}")
     if growth[1] > OCTETS:
         sys.exit("the memory grows by more than the history")
@@ -392,14 +325,14 @@ def main():
     arguments = parser.parse_args()
 
     seed = random.SystemRandom().randrange(1 << 32) if arguments.seed is None else arguments.seed
-    calls = max(1, int(min(RATE * arguments.seconds, BUDGET / ENTRIES)))
-    print(f"seed {seed}, {2 * arguments.pairs} lines, {calls:,} calls in {arguments.seconds:g} seconds", flush=True)
-    with tempfile.TemporaryDirectory() as folder, server.Exchange(arguments.xp, folder, arguments.pairs, calls) as exchange:
-        soak = Soak(exchange, arguments.pairs, calls, arguments.seconds, seed)
+    wanted = max(1, int(min(RATE * arguments.seconds, BUDGET / ENTRIES)))
+    print(f"seed {seed}, {2 * arguments.pairs} lines, {wanted:,} calls in {arguments.seconds:g} seconds", flush=True)
+    with tempfile.TemporaryDirectory() as folder, server.Exchange(arguments.xp, folder, arguments.pairs, wanted) as exchange:
+        soak = Soak(exchange, arguments.pairs, wanted, arguments.seconds, seed)
         soak.run()
         records = exchange.records()
-    check_records(soak.calls, records)
-    tell(soak.calls, records)
+    calls.check(soak.calls, records)
+    calls.tell(soak.calls, records)
     check_memory(soak.samples)
 
 
