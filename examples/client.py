@@ -3,28 +3,21 @@
 import socket
 import sys
 
-line = socket.create_connection(("127.0.0.1", int(sys.argv[1])))
 
-
-def send(packet):
-    print("sent", packet.hex())
-    line.sendall(bytes([0, 0, 0, len(packet)]) + packet)  # as a frame: version 0 and the packet's length
-
-
-def receive():
+def ask(what, packet):
+    """Sends a packet as a frame, which is version 0, the packet's length, the packet, and shows what comes back."""
+    line.sendall(bytes([0, 0, 0, len(packet)]) + packet)
     head = line.recv(4, socket.MSG_WAITALL)
-    packet = line.recv(int.from_bytes(head[2:], "big"), socket.MSG_WAITALL)
-    print("got ", packet.hex() if packet else "the end of the connection")
-    return packet
+    answer = line.recv(int.from_bytes(head[2:], "big"), socket.MSG_WAITALL)
+    print(f"{what:<14}{packet.hex()}\n  answered by {answer.hex() or 'the end of the connection'}")
+    return answer
 
 
-address = sys.argv[2]
-send(bytes([0x10, 1, 0x0B, len(address)]) + bytes.fromhex(address + len(address) % 2 * "0") + b"\0")  # call request
-if receive()[2:3] == b"\x0f":  # call connected
-    send(b"\x10\x01\x00" + b"Hello over X.25")  # a data packet, P(S) 0
-    receive()  # receive ready: the far end has taken it
-    send(b"\x10\x01\x13\0\0")  # clear request
-    receive()  # clear confirmation
+line, address = socket.create_connection(("127.0.0.1", int(sys.argv[1]))), sys.argv[2]
+digits = bytes.fromhex(address + "0" * (len(address) % 2))
+connected = ask("call request", bytes([0x10, 1, 0x0B, len(address)]) + digits + b"\0")
+if connected[2:3] == b"\x0f":
+    ask("data", b"\x10\x01\x00" + b"Hello over X.25")  # answered once the far end has taken it
+    ask("clear request", b"\x10\x01\x13\0\0")
 else:
-    print("refused, with this cause and diagnostic")
-    send(b"\x10\x01\x17")  # clear confirmation
+    print("refused: the last two octets are the cause and the diagnostic")
