@@ -5,10 +5,15 @@ import collections
 import os
 import pathlib
 import random
+import resource
 import socket
 import subprocess
 import sys
 import time
+
+# An exchange has several files open for each line, which may be more than a process has by default.
+MOST_FILES = resource.getrlimit(resource.RLIMIT_NOFILE)[1]
+resource.setrlimit(resource.RLIMIT_NOFILE, (MOST_FILES, MOST_FILES))
 
 HERE = pathlib.Path(__file__).resolve().parent
 PROGRAM = HERE.parent.parent / "crates/xp/out/xp"
@@ -133,12 +138,13 @@ class Relay(Process):
 class Exchange(Process):
     """`xp serve` over so many pairs of lines, until there are so many records."""
 
-    def __init__(self, program, folder, pairs, records, turns=None):
+    def __init__(self, program, folder, pairs, records):
+        if not pathlib.Path(program).is_file():
+            sys.exit(f"there is no program {program}")
         self.base = free_ports(2 * pairs)
         file = pathlib.Path(folder) / "subscriptions.toml"
         file.write_text(subscriptions(pairs, self.base))
-        more = [] if turns is None else ["--turns", turns]
-        super().__init__([program, "serve", file, "--records", records, *more], folder)
+        super().__init__([program, "serve", file, "--records", records], folder)
 
     def records(self, patience=60):
         """The records that it prints as it ends of itself. It has to end well."""

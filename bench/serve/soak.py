@@ -23,8 +23,8 @@ DOWN, RISING, IDLE, CALLING, TALKING, CLEARING = range(6)
 
 CALL, ACCEPTED, CLEAR, CONFIRMATION, READY = 0x0B, 0x0F, 0x13, 0x17, 0x01
 
-# Calls begun in a second, at most; seconds between two packets of an end, on average.
-RATE, GAP = 100, 0.04
+# Calls begun in a second for each pair of lines, at most; seconds between two packets of an end, on average.
+RATE, GAP = 0.8, 0.04
 
 # What a call makes of entries, on average, from above, and how many of those that a history holds are used.
 ENTRIES, BUDGET = 75, 0.9 * server.JOURNAL
@@ -304,7 +304,7 @@ class Soak:
         self.begun = time.monotonic()
         self.sample()
         self.begin_calls()
-        self.run_until(lambda: self.over == self.wanted, self.seconds + 120)
+        self.run_until(lambda: self.over == self.wanted, 1.5 * self.seconds + 120)
 
 
 def check_memory(samples):
@@ -325,7 +325,7 @@ def main():
     arguments = parser.parse_args()
 
     seed = random.SystemRandom().randrange(1 << 32) if arguments.seed is None else arguments.seed
-    wanted = max(1, int(min(RATE * arguments.seconds, BUDGET / ENTRIES)))
+    wanted = max(1, int(min(RATE * arguments.pairs * arguments.seconds, BUDGET / ENTRIES)))
     print(f"seed {seed}, {2 * arguments.pairs} lines, {wanted:,} calls in {arguments.seconds:g} seconds", flush=True)
     with tempfile.TemporaryDirectory() as folder, server.Exchange(arguments.xp, folder, arguments.pairs, wanted) as exchange:
         soak = Soak(exchange, arguments.pairs, wanted, arguments.seconds, seed)
