@@ -91,14 +91,15 @@ def tell_goal(what, is_reached):
 
 
 def tell_goals(name, relay, exchange):
-    if name == "window-1":
-        times = exchange["mean"] / relay["mean"]
-        tell_goal(f"round trip {times:.2f} times the relay's, at most 2", times <= 2)
-    if name == "calls-16":
-        share = exchange["rate"] / relay["rate"]
-        tell_goal(f"{share:.2f} of the relay's packets, at least 0.5", share >= 0.5)
+    share, times = exchange["rate"] / relay["rate"], exchange["mean"] / relay["mean"]
     if name.startswith("crossing"):
         tell_goal(f"99 % cross in {exchange['p99']:,.0f} microseconds, under 1,000", exchange["p99"] < 1_000)
+    elif name == "window-1":
+        tell_goal(f"round trip {times:.2f} times the relay's, at most 2", times <= 2)
+    elif name == "calls-16":
+        tell_goal(f"{share:.2f} of the relay's packets, at least 0.5", share >= 0.5)
+    else:
+        print(f"{'':<14}{share:.2f} of the relay's packets", flush=True)
 
 
 def compare(programs, name, seconds, rounds, folder):
