@@ -1,0 +1,166 @@
+"""What the measurements and the soak have in common: a subscription file of pairs of lines on free ports, `xp serve`
+started on it and looked at from outside, and the records that it prints."""
+
+import collections
+import os
+import pathlib
+import random
+import resource
+import socket
+import subprocess
+import sys
+import time
+
+# An exchange has several files open for each line, which may be more than a process has by default.
+MOST_FILES = resource.getrlimit(resource.RLIMIT_NOFILE)[1]
+resource.setrlimit(resource.RLIMIT_NOFILE, (MOST_FILES, MOST_FILES))
+
+HERE = pathlib.Path(__file__).resolve().parent
+PROGRAM = HERE.parent.parent / "crates/xp/out/xp"
+
+# A station for each line, of which an exchange has at most 256.
+MOST_PAIRS = 128
+
+# The most entries that a history may have.
+JOURNAL = 10_000_000
+
+Record = collections.namedtuple("Record", "number caller called dialled payer sent received cause diagnostic")
+
+
+def address(pair):
+    """The address by which the called line of a pair is called."""
+    return f"30{pair:04}"
+
+
+def subscriptions(pairs, base):
+    """A subscription file of so many pairs of lines: a0 calls, on the port `base`, b0 is called, on the next one."""
+    stations = [f"journal = {JOURNAL}"]
+    for pair in range(pairs):
+        for name, number, port in ((f"a{pair}", f"20{pair:04}", base + 2 * pair), (f"b{pair}", address(pair), base + 2 * pair + 1)):
+            stations.append(f'[[station]]\naddress = "{number}"\nline = [{{ name = "{name}", port = {port} }}]')
+    return "\n".join(stations) + "\n"
+
+
+def is_free(port):
+    with socket.socket() as tried:
+        tried.setsockopt(socket.SOL_SOCKET, socket.SO_REUSEADDR, 1)
+        try:
+            tried.bind(("127.0.0.1", port))
+        except OSError:
+            return False
+    return True
+
+
+def free_ports(count):
+    """The first of so many free ports in a row, below those that the system gives to connections of its own."""
+    for _ in range(1_000):
+        base = random.SystemRandom().randrange(10_000, 32_000 - count)
+        if all(is_free(port) for port in range(base, base + count)):
+            return base
+    sys.exit("no row of free ports was found")
+
+
+def compiled(name, folder):
+    """A program of this folder, compiled into another one."""
+    made = pathlib.Path(folder) / name
+    command = ["cc", "-std=c11", "-O2", "-Wall", "-Wextra", "-pthread", "-o", str(made), str(HERE / f"{name}.c")]
+    subprocess.run(command, check=True)
+    return made
+
+
+def frame(packet):
+    """A packet as a frame (RFC 1613)."""
+    return b"\0\0" + len(packet).to_bytes(2, "big") + packet
+
+
+def call_request(number, facilities=b"", user=b""):
+    """A call request to an address with an even number of digits."""
+    return bytes([0x10, 1, 0x0B, len(number)]) + bytes.fromhex(number) + bytes([len(facilities)]) + facilities + user
+
+
+CLEAR_REQUEST = bytes.fromhex("1001130000")
+CLEAR_CONFIRMATION = bytes.fromhex("100117")
+
+
+class Process:
+    """A program that serves connections, started now and ended with the block at the latest."""
+
+    def __init__(self, command, folder):
+        self.errors = pathlib.Path(folder) / "errors"
+        self.output = pathlib.Path(folder) / "output"
+        with self.errors.open("w") as errors, self.output.open("w") as output:
+            self.process = subprocess.Popen([str(part) for part in command], stdin=subprocess.DEVNULL, stdout=output, stderr=errors)
+
+    def __enter__(self):
+        return self
+
+    def __exit__(self, *_):
+        if self.process.poll() is None:
+            self.process.kill()
+        self.process.wait()
+
+    def connect(self, port):
+        """A connection to one of its ports, which may not be open yet."""
+        for _ in range(500):
+            try:
+                return socket.create_connection(("127.0.0.1", port))
+            except ConnectionRefusedError:
+                if self.process.poll() is not None:
+                    break
+                time.sleep(0.02)
+        sys.exit(f"no connection to port {port}; {self.said()}")
+
+    def said(self):
+        return f"the program that serves said: {self.errors.read_text().strip() or 'nothing'}"
+
+    def processor(self):
+        """The seconds that its threads had a processor, in the program and in the system for it. Told of a program
+        that has ended as well, until that was waited for."""
+        fields = pathlib.Path(f"/proc/{self.process.pid}/stat").read_text().rpartition(")")[2].split()
+        return (int(fields[11]) + int(fields[12])) / os.sysconf("SC_CLK_TCK")
+
+    def memory(self):
+        """The octets of memory that it has in use."""
+        for line in pathlib.Path(f"/proc/{self.process.pid}/status").read_text().splitlines():
+            if line.startswith("VmRSS:"):
+                return int(line.split()[1]) * 1024
+        return 0
+
+
+class Relay(Process):
+    """The bare relay over so many pairs of ports."""
+
+    def __init__(self, program, folder, pairs, threads):
+        self.base = free_ports(2 * pairs)
+        super().__init__([program, self.base, pairs, threads], folder)
+
+
+class Exchange(Process):
+    """`xp serve` over so many pairs of lines, until there are so many records."""
+
+    def __init__(self, program, folder, pairs, records):
+        if not pathlib.Path(program).is_file():
+            sys.exit(f"there is no program {program}")
+        self.base = free_ports(2 * pairs)
+        file = pathlib.Path(folder) / "subscriptions.toml"
+        file.write_text(subscriptions(pairs, self.base))
+        super().__init__([program, "serve", file, "--records", records], folder)
+
+    def records(self, patience=60):
+        """The records that it prints as it ends of itself. It has to end well."""
+        try:
+            status = self.process.wait(patience)
+        except subprocess.TimeoutExpired:
+            sys.exit(f"the exchange has not ended {patience} seconds after its last call; {self.said()}")
+        if status != 0:
+            sys.exit(f"the exchange ended with status {status}; {self.said()}")
+        return [read_record(line) for line in self.output.read_text().splitlines()]
+
+
+def read_record(line):
+    """A line of the text of records (docs/FORMATS.md). What stands behind the diagnostic is not looked at."""
+    word, *fields = line.split(" ")
+    if word != "record" or len(fields) < 9:
+        sys.exit(f"no record: {line}")
+    number, caller, called, dialled, payer, sent, received, cause, diagnostic = fields[:9]
+    return Record(int(number), caller, called, dialled, payer, int(sent), int(received), int(cause, 16), int(diagnostic))
