@@ -1,2 +1,12 @@
 pub mod Counts
+pub mod Ended
 pub mod Flow
+pub mod Heard
+pub mod Offering
+pub mod Offers
+pub mod Reads
+pub mod Ringing
+pub mod Threads
+pub mod Together
+pub mod Turns
+pub mod Wire

@@ -65,7 +65,7 @@ pub enum Arrived<L: Link> {
 
 /// Where a line's links come from.
 pub trait Port: Drop {
-    type Link: Link;
+    type Link: Link + Send;
 
     /// The next link, if one has come. It does not wait.
     fn next(&mut self) -> Arrived<Self::Link>;
@@ -76,8 +76,11 @@ pub trait Clock: Drop {
     /// The time in seconds, from any moment on.
     fn now(&mut self) -> u64;
 
-    /// Lets time pass: the line has nothing to do.
+    /// Lets time pass: the line has nothing to do until octets come for it or another line's thread wakes it.
     fn idle(&mut self);
+
+    /// Something was put out to another line, whose thread may be asleep. A clock that lets no time pass has none to wake.
+    fn wake(&mut self, _line: LineNo) {}
 }
 
 /// Says when the packets of a line may go to the exchange.

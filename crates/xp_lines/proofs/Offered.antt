@@ -1,0 +1,142 @@
+-- What a line offers, one event at a time.
+use Rattle.std.proofs.Common.{◌≡◌, ℕ, List, [], ◌∷◌, ◌++◌, refl, sym, ap, ◌∙◌, append_assoc, append-nil, map, subst, Option, None, Some, Bool, true, false, Result, Ok, Err}
+use Rattle.std.specs.Prelude.{option_to_list}
+use Rattle.std.proofs.lemmas.List.{map-append}
+use Rattle.std.specs.declared.alloc.AllocError.{AllocError}
+use Rattle.xp_frames.specs.Held.{Held}
+use Rattle.xp_core.specs.declared.entry.Entry.{Entry}
+use Rattle.xp_core.specs.declared.event.What.{What}
+use Rattle.xp_lock.specs.Passes.{Pass, mine}
+use Rattle.xp_lines.specs.Heard.{IsReadAs, AreReadAs}
+use Rattle.xp_lock.specs.declared.done.Done.{Done}
+use Rattle.xp_lines.specs.Offering.{IsRefusal, NextIs, Tells}
+use Rattle.xp_lines.specs.Offers.{Gains, Offers, goes_on, on_line}
+use Rattle.xp_lines.specs.declared.offering.Stop.{Stop}
+use Rattle.xp_lines.specs.declared.offering.Stop.TheVariants as stops
+
+module _ {A : Type 0} where
+  pub gains_nothing : (pass : Pass A) → Gains pass [] pass
+  gains_nothing pass = record { line = refl; taken = refl; entries = []; mine_is = sym (append-nil (mine pass)); events = refl }
+
+  pub gains_both : (first second third : Pass A) (whats others : List (What A)) → Gains first whats second → Gains second others third → Gains first (whats ++ others) third
+  gains_both first second third whats others a b = record {
+    line = b.line ∙ a.line;
+    taken = b.taken ∙ a.taken;
+    entries = a.entries ++ b.entries;
+    mine_is = b.mine_is ∙ ap (λ xs. xs ++ b.entries) a.mine_is ∙ append_assoc (mine first) a.entries b.entries;
+    events =
+        map-append (λ (e : Entry A). e.event) a.entries b.entries
+        ∙ ap (λ xs. xs ++ map (λ (e : Entry A). e.event) b.entries) a.events
+        ∙ ap (λ xs. map (on_line first.line) whats ++ xs) (b.events ∙ ap (λ line. map (on_line line) others) a.line)
+        ∙ sym (map-append (on_line first.line) whats others);
+  }
+
+  read_one_more : (packets : List (List ℕ)) (read : List (What A)) (packet : List ℕ) (what : What A) → AreReadAs packets read → IsReadAs packet what → AreReadAs (packets ++ packet ∷ []) (read ++ what ∷ [])
+  read_one_more [] [] packet what so_far is = (is, tt)
+  read_one_more [] (one ∷ read) packet what so_far is = elim so_far [ ]
+  read_one_more (first ∷ packets) [] packet what so_far is = elim so_far [ ]
+  read_one_more (first ∷ packets) (one ∷ read) packet what so_far is = (so_far.0, read_one_more packets read packet what so_far.1 is)
+
+  -- What waited and the packets that were asked for so far are what was offered and what is in hand.
+  pub record OfferedSoFar (held : Option (What A)) (frames : Held) (whats : List (What A)) (hand : List (What A)) (now : Held) : Type 0 where
+    pub packets : List (List ℕ)
+    pub frames_are : frames.waiting ≡ packets ++ now.waiting
+    pub rest : now.rest ≡ frames.rest
+    pub failed : now.failed ≡ frames.failed
+    pub read : List (What A)
+    pub read_as : AreReadAs packets read
+    pub in_order : option_to_list held ++ read ≡ whats ++ hand
+
+  pub offered_nothing : (held : Option (What A)) (frames : Held) → OfferedSoFar held frames [] (option_to_list held) frames
+  offered_nothing held frames = record { packets = []; frames_are = refl; rest = refl; failed = refl; read = []; read_as = tt; in_order = append-nil (option_to_list held) }
+
+  -- something is taken in hand
+  pub taken_in_hand : (held : Option (What A)) (frames : Held) (whats : List (What A)) (waiting : Option (What A)) (before : Held) (what : What A) (left : Option (What A)) (now : Held)
+      → OfferedSoFar held frames whats (option_to_list waiting) before → NextIs waiting before (Ok (Some what)) left now → (left ≡ None) × OfferedSoFar held frames whats (what ∷ []) now
+  taken_in_hand held frames whats (Some first) before what left now so_far next =
+      (next.1, subst (OfferedSoFar held frames whats (what ∷ [])) (sym next.2) (subst (λ w. OfferedSoFar held frames whats (w ∷ []) before) (sym next.0) so_far))
+  taken_in_hand held frames whats None before what left now so_far (packet, waits, is, none, rest, failed) = (
+    none,
+    record {
+      packets = so_far.packets ++ packet ∷ [];
+      frames_are = so_far.frames_are ∙ ap (λ xs. so_far.packets ++ xs) waits ∙ sym (append_assoc so_far.packets (packet ∷ []) now.waiting);
+      rest = rest ∙ so_far.rest;
+      failed = failed ∙ so_far.failed;
+      read = so_far.read ++ what ∷ [];
+      read_as = read_one_more so_far.packets so_far.read packet what so_far.read_as is;
+      in_order =
+          sym (append_assoc (option_to_list held) so_far.read (what ∷ [])) ∙ ap (λ xs. xs ++ what ∷ []) (so_far.in_order ∙ append-nil whats);
+    },
+  )
+
+  -- what is in hand was taken
+  pub hand_offered : (held : Option (What A)) (frames : Held) (whats : List (What A)) (what : What A) (waiting : Option (What A)) (now : Held)
+      → OfferedSoFar held frames whats (what ∷ []) now → waiting ≡ None → OfferedSoFar held frames (whats ++ what ∷ []) (option_to_list waiting) now
+  hand_offered held frames whats what waiting now so_far none = record {
+    packets = so_far.packets;
+    frames_are = so_far.frames_are;
+    rest = so_far.rest;
+    failed = so_far.failed;
+    read = so_far.read;
+    read_as = so_far.read_as;
+    in_order = so_far.in_order ∙ sym (append-nil (whats ++ what ∷ [])) ∙ ap (λ w. (whats ++ what ∷ []) ++ option_to_list w) (sym none);
+  }
+
+  -- what is in hand is put back, or dropped
+  pub hand_kept : (held : Option (What A)) (frames : Held) (whats : List (What A)) (hand : List (What A)) (on : Bool) (left : Option (What A)) (now : Held)
+      → OfferedSoFar held frames whats hand now → (on ≡ true → hand ≡ option_to_list left) → Offers held frames.waiting whats on left now.waiting
+  hand_kept held frames whats hand on left now so_far kept = record {
+    packets = so_far.packets;
+    unread = now.waiting;
+    frames_are = so_far.frames_are;
+    read = so_far.read;
+    read_as = so_far.read_as;
+    unoffered = hand;
+    in_order = so_far.in_order;
+    kept = λ is. (refl, kept is);
+  }
+
+  -- nothing more waits
+  pub all_offered : (held : Option (What A)) (frames : Held) (whats : List (What A)) (waiting : Option (What A)) (before : Held) (left : Option (What A)) (now : Held)
+      → OfferedSoFar held frames whats (option_to_list waiting) before → NextIs waiting before (Ok None) left now
+      → OfferedSoFar held frames whats (option_to_list left) now × (left ≡ None) × (now.waiting ≡ [])
+  all_offered held frames whats (Some first) before left now so_far next = absurd next
+  all_offered held frames whats None before left now so_far next =
+      (subst (λ w. OfferedSoFar held frames whats (option_to_list w) now) (sym next.1) (subst (OfferedSoFar held frames whats []) (sym next.2) so_far), next.1, ap (λ h. h.waiting) next.2 ∙ next.0)
+
+  -- a packet found no memory to be read
+  pub unread_lost : (held : Option (What A)) (frames : Held) (whats : List (What A)) (waiting : Option (What A)) (before : Held) (error : AllocError) (left : Option (What A)) (now : Held) (on : Bool)
+      → OfferedSoFar held frames whats (option_to_list waiting) before → NextIs waiting before (Err error) left now → on ≡ false
+      → Offers held frames.waiting whats on left now.waiting × (now.rest ≡ frames.rest) × (now.failed ≡ frames.failed)
+  unread_lost held frames whats (Some first) before error left now on so_far next stops = absurd next
+  unread_lost held frames whats None before error left now on so_far (packet, waits, none, rest, failed) stops = (
+    record {
+      packets = so_far.packets;
+      unread = packet ∷ now.waiting;
+      frames_are = so_far.frames_are ∙ ap (λ xs. so_far.packets ++ xs) waits;
+      read = so_far.read;
+      read_as = so_far.read_as;
+      unoffered = [];
+      in_order = so_far.in_order;
+      kept = λ is. absurd (let both : false ≡ true = sym stops ∙ is in cc);
+    },
+    rest ∙ so_far.rest,
+    failed ∙ so_far.failed,
+  )
+
+  -- what is in hand was refused, and is dropped
+  pub hand_dropped : (held : Option (What A)) (frames : Held) (whats : List (What A)) (hand : List (What A)) (on : Bool) (left : Option (What A)) (now : Held)
+      → OfferedSoFar held frames whats hand now → on ≡ false → Offers held frames.waiting whats on left now.waiting
+  hand_dropped held frames whats hand on left now so_far stops = hand_kept held frames whats hand on left now so_far (λ is. absurd (let both : false ≡ true = sym stops ∙ is in cc))
+
+  pub refused : (old new : Pass A) (what : What A) (result : Result Done Stop) (stop : Stop) → Tells old what result new → result ≡ Err stop → IsRefusal stop × (new ≡ old)
+  refused old new what result stop tells is = subst (λ r. Tells old what r new) is tells
+
+  pub accepted : (old new : Pass A) (what : What A) (result : Result Done Stop) (done : Done) → Tells old what result new → result ≡ Ok done → Gains old (what ∷ []) new
+  accepted old new what result done tells is = subst (λ r. Tells old what r new) is tells
+
+pub refusal_stops : (stop : Stop) → IsRefusal stop → goes_on (Some stop) ≡ false
+refusal_stops stops.Held never = absurd never
+refusal_stops stops.Memory is = refl
+refusal_stops stops.Halted is = refl
+refusal_stops stops.Journal is = refl

@@ -1,0 +1,49 @@
+-- Events that octets tell, and expiries, which none do.
+use Rattle.std.proofs.Common.{◌≡◌, ℕ, List, [], ◌∷◌, ◌++◌, refl, ap, ◌∙◌, true, cond, inl, inr}
+use Rattle.std.specs.List.{AllByRecursion}
+use Rattle.xp_core.specs.declared.event.What.{What}
+use Rattle.xp_core.specs.declared.event.What.TheVariants.{Up, Down, Frame, WrongFrame, Expire, Stall}
+use Rattle.xp_lines.specs.Heard.{AreReadAs, IsReadAs}
+use Rattle.xp_lines.specs.Together.{but_expiries, is_no_expiry}
+use Rattle.xp_lines.specs.Turns.{IsExpiry}
+
+module _ {A : Type 0} where
+  abbrev pub HasNoExpiry : List (What A) → Type 0
+  HasNoExpiry whats = AllByRecursion (λ (what : What A). is_no_expiry what ≡ true) whats
+
+  one_of_read : (packet : List ℕ) (what : What A) → IsReadAs packet what → is_no_expiry what ≡ true
+  one_of_read packet (Frame identifier read) is = refl
+  one_of_read packet (WrongFrame wrong) is = refl
+  one_of_read packet Up is = refl
+  one_of_read packet Down is = refl
+  one_of_read packet Expire is = absurd is
+  one_of_read packet Stall is = refl
+
+  pub none_of_read : (packets : List (List ℕ)) (read : List (What A)) → AreReadAs packets read → HasNoExpiry read
+  none_of_read [] [] are = tt
+  none_of_read [] (what ∷ read) are = elim are [ ]
+  none_of_read (packet ∷ packets) [] are = elim are [ ]
+  none_of_read (packet ∷ packets) (what ∷ read) are = (one_of_read packet what are.0, none_of_read packets read are.1)
+
+  pub none_both : (whats others : List (What A)) → HasNoExpiry whats → HasNoExpiry others → HasNoExpiry (whats ++ others)
+  none_both [] others none all = all
+  none_both (what ∷ whats) others none all = (none.0, none_both whats others none.1 all)
+
+  pub none_front : (whats others : List (What A)) → HasNoExpiry (whats ++ others) → HasNoExpiry whats
+  none_front [] others none = tt
+  none_front (what ∷ whats) others none = (none.0, none_front whats others none.1)
+
+  pub none_behind : (whats others : List (What A)) → HasNoExpiry (whats ++ others) → HasNoExpiry others
+  none_behind [] others none = none
+  none_behind (what ∷ whats) others none = none_behind whats others none.1
+
+  pub all_without : (whats : List (What A)) → HasNoExpiry whats → but_expiries whats ≡ whats
+  all_without [] none = refl
+  all_without (what ∷ whats) none =
+      ap (λ is. cond is (what ∷ but_expiries whats) (but_expiries whats)) none.0 ∙ ap (λ rest. what ∷ rest) (all_without whats none.1)
+
+  pub none_left : (expired : List (What A)) → IsExpiry expired → but_expiries expired ≡ []
+  none_left expired is = elim is [
+    | inl nothing ↦ ap but_expiries nothing
+    | inr one ↦ ap but_expiries one
+  ]

@@ -1,0 +1,283 @@
+-- That the turns on a link add up, one after the other.
+use Rattle.std.proofs.Common.{◌≡◌, ◌⊎◌, ℕ, List, [], ◌∷◌, ◌++◌, refl, sym, ap, ◌∙◌, append_assoc, append-nil, map, subst, Option, Some, Bool, true, false, inl, inr}
+use Rattle.std.specs.Prelude.{option_to_list}
+use Rattle.std.proofs.lemmas.Grind.{flat_map-append}
+use Rattle.std.proofs.lemmas.List.{map-append}
+use Rattle.std.proofs.lemmas.List.Elements.{filter-append}
+use Rattle.xp_frames.specs.Frame.{frames}
+use Rattle.xp_frames.proofs.Frames.{frames-append, packets-append}
+use Rattle.xp_core.specs.declared.entry.Entry.{Entry}
+use Rattle.xp_core.specs.declared.event.What.{What}
+use Rattle.xp_core.specs.declared.event.What.TheVariants.{Down}
+use Rattle.xp_lock.specs.Handed.{handed}
+use Rattle.xp_lock.specs.Passes.{Pass, mine}
+use Rattle.xp_lines.specs.Offers.{Gains, on_line}
+use Rattle.xp_lines.specs.Reads.{Completes, stays}
+use Rattle.xp_lines.specs.Together.{AreTurns, IsFresh, IsLeftSo, Left, MayFollow, Together, TurnsAddUp, but_expiries, is_linked, is_no_expiry, last_of}
+use Rattle.xp_lines.specs.Turns.{Downs, Follows, IsTurnBy, Seen, Worked, Works, is_owed}
+use Rattle.xp_lines.specs.Wire.{Took, carried, wire}
+use Rattle.xp_lines.specs.declared.reading.Heard.{Heard}
+use Rattle.xp_lines.specs.declared.reading.Heard.TheVariants as heards
+use Rattle.xp_lines.specs.declared.turning.After.{After}
+use Rattle.xp_lines.specs.declared.turning.After.TheVariants.{Linked, Dropped, DownOwed, Halted, Journal}
+use Rattle.xp_lines.proofs.Octets.{appends_both, appends_nothing}
+use Rattle.xp_lines.proofs.Pulling.{completes_nothing, read_both}
+use Rattle.xp_lines.proofs.Sums.{HasNoExpiry, all_without, none_behind, none_both, none_front, none_left, none_of_read}
+
+completes_both : (fed more : List ℕ) (packets others : List (List ℕ)) (rest last : List ℕ) → Completes [] fed packets rest → Completes rest more others last → Completes [] (fed ++ more) (packets ++ others) last
+completes_both fed more packets others rest last a b = record {
+  whole =
+      ap (λ xs. xs ++ more) a.whole ∙ append_assoc (frames packets) rest more ∙ ap (λ xs. frames packets ++ xs) b.whole
+      ∙ sym (append_assoc (frames packets) (frames others) last) ∙ ap (λ xs. xs ++ last) (sym (frames-append packets others));
+  each = packets-append packets others a.each b.each;
+  partial = λ none. b.partial (a.partial none);
+}
+
+module _ {A : Type 0} where
+  took_mine : (old : Pass A) (items : List _) (new : Pass A) → Took old items new → mine new ≡ mine old
+  took_mine old items new took = ap (λ line. handed line new.seen) took.line ∙ ap (λ seen. handed old.line seen) took.seen
+
+  together_fresh : (connection : ℕ) (pass : Pass A) (came : Seen A) → IsFresh came → Together connection pass came true pass came
+  together_fresh connection pass came fresh = record {
+    line = refl;
+    items = [];
+    taken = sym (append-nil pass.taken);
+    pushed = [];
+    pushes = appends_nothing came.pushed;
+    unsent = [];
+    written = sym (append-nil came.unwritten ∙ fresh.unwritten);
+    pulled = [];
+    pulls = appends_nothing came.pulled;
+    fed = [];
+    lost = [];
+    pulled_are = refl;
+    packets = [];
+    rest = [];
+    completes = completes_nothing [];
+    taken_up = [];
+    unread = [];
+    packets_are = refl;
+    read = [];
+    read_as = tt;
+    whats = [];
+    unoffered = [];
+    in_order = refl;
+    closing = [];
+    is_closing = inl refl;
+    entries = [];
+    mine_is = sym (append-nil (mine pass));
+    events = refl;
+    kept = λ _. (refl, refl, sym fresh.rest, sym fresh.waiting, sym (ap option_to_list fresh.held), refl);
+  }
+
+  module _ (connection : ℕ) (old : Pass A) (came : Seen A) where
+    -- the line worked, from where its link stayed
+    worked_on : (pass : Pass A) (seen : Seen A) (heard : Heard) (new_pass : Pass A) (new : Seen A)
+        → Together connection old came true pass seen → Works connection pass seen heard new_pass new
+        → (next : Together connection old came (stays heard) new_pass new) × (next.closing ≡ [])
+    worked_on pass seen heard new_pass new t works =
+        let kept = t.kept refl in
+        let w = works.writes in
+        let h = works.hears in
+        let r = h.reads in
+        let o = r.offers in
+        let held : List (What A) = option_to_list seen.held in
+        let gained : List (What A) = h.whats ++ h.expired in
+        let front : t.read ≡ but_expiries t.whats ++ held = t.in_order ∙ ap (λ xs. but_expiries t.whats ++ xs) kept.4 in
+        let none : HasNoExpiry held = none_behind (but_expiries t.whats) held (subst HasNoExpiry front (none_of_read t.taken_up t.read t.read_as)) in
+        let offered : HasNoExpiry h.whats =
+        none_front h.whats o.unoffered (subst HasNoExpiry o.in_order (none_both held o.read none (none_of_read o.packets o.read o.read_as))) in
+        let told : but_expiries gained ≡ h.whats =
+        filter-append is_no_expiry h.whats h.expired ∙ ap (λ xs. xs ++ but_expiries h.expired) (all_without h.whats offered)
+        ∙ ap (λ xs. h.whats ++ xs) (none_left h.expired h.is_expiry) ∙ append-nil h.whats in
+        let all_told : but_expiries (t.whats ++ gained) ≡ but_expiries t.whats ++ h.whats =
+        filter-append is_no_expiry t.whats gained ∙ ap (λ xs. but_expiries t.whats ++ xs) told in (
+          record {
+            line = h.gains.line ∙ w.took.line ∙ t.line;
+            items = t.items ++ w.items;
+            taken = h.gains.taken ∙ w.took.taken ∙ ap (λ xs. xs ++ w.items) t.taken ∙ append_assoc old.taken t.items w.items;
+            pushed = t.pushed ++ w.pushed;
+            pushes = appends_both came.pushed seen.pushed new.pushed t.pushed w.pushed t.pushes w.grows;
+            unsent = works.unsent;
+            written =
+                flat_map-append (carried connection) t.items w.items
+                ∙ ap (λ xs. xs ++ wire connection w.items) (t.written ∙ ap (λ xs. (t.pushed ++ seen.unwritten) ++ xs) kept.0 ∙ append-nil (t.pushed ++ seen.unwritten))
+                ∙ append_assoc t.pushed seen.unwritten (wire connection w.items) ∙ ap (λ xs. t.pushed ++ xs) w.whole
+                ∙ sym (append_assoc t.pushed (w.pushed ++ new.unwritten) works.unsent)
+                ∙ ap (λ xs. xs ++ works.unsent) (sym (append_assoc t.pushed w.pushed new.unwritten));
+            pulled = t.pulled ++ h.pulled;
+            pulls = appends_both came.pulled seen.pulled new.pulled t.pulled h.pulled t.pulls h.pulls;
+            fed = t.fed ++ r.fed;
+            lost = r.lost;
+            pulled_are =
+                ap (λ xs. xs ++ h.pulled) (t.pulled_are ∙ ap (λ xs. t.fed ++ xs) kept.1 ∙ append-nil t.fed) ∙ ap (λ xs. t.fed ++ xs) r.pulled_are
+                ∙ sym (append_assoc t.fed r.fed r.lost);
+            packets = t.packets ++ r.packets;
+            rest = new.frames.rest;
+            completes =
+                completes_both t.fed r.fed t.packets r.packets seen.frames.rest new.frames.rest
+                (subst (λ rest. Completes [] t.fed t.packets rest) kept.2 t.completes) r.completes;
+            taken_up = t.taken_up ++ o.packets;
+            unread = o.unread;
+            packets_are =
+                ap (λ xs. xs ++ r.packets) (t.packets_are ∙ ap (λ xs. t.taken_up ++ xs) kept.3) ∙ append_assoc t.taken_up seen.frames.waiting r.packets
+                ∙ ap (λ xs. t.taken_up ++ xs) o.frames_are ∙ sym (append_assoc t.taken_up o.packets o.unread);
+            read = t.read ++ o.read;
+            read_as = read_both t.taken_up o.packets t.read o.read t.read_as o.read_as;
+            whats = t.whats ++ gained;
+            unoffered = o.unoffered;
+            in_order =
+                ap (λ xs. xs ++ o.read) front ∙ append_assoc (but_expiries t.whats) held o.read ∙ ap (λ xs. but_expiries t.whats ++ xs) o.in_order
+                ∙ sym (append_assoc (but_expiries t.whats) h.whats o.unoffered) ∙ ap (λ xs. xs ++ o.unoffered) (sym all_told);
+            closing = [];
+            is_closing = inl refl;
+            entries = t.entries ++ h.gains.entries;
+            mine_is =
+                h.gains.mine_is ∙ ap (λ xs. xs ++ h.gains.entries) (took_mine pass w.items works.between w.took ∙ t.mine_is)
+                ∙ append_assoc (mine old) t.entries h.gains.entries;
+            events =
+                map-append (λ (e : Entry A). e.event) t.entries h.gains.entries
+                ∙ ap (λ xs. xs ++ map (λ (e : Entry A). e.event) h.gains.entries)
+                (t.events ∙ ap (λ closing. map (on_line old.line) (t.whats ++ closing)) kept.5 ∙ ap (map (on_line old.line)) (append-nil t.whats))
+                ∙ ap (λ xs. map (on_line old.line) t.whats ++ xs) (h.gains.events ∙ ap (λ line. map (on_line line) gained) (w.took.line ∙ t.line))
+                ∙ sym (map-append (on_line old.line) t.whats gained) ∙ ap (map (on_line old.line)) (sym (append-nil (t.whats ++ gained)));
+            kept = λ is. (works.none_unsent is, r.none_lost is, refl, (o.kept is).0, (o.kept is).1, refl);
+          },
+          refl,
+        )
+
+    -- the link goes, and what waited to be offered on it
+    link_goes : (linked : Bool) (pass : Pass A) (seen : Seen A) (new_pass : Pass A) (left : Option (What A)) (closing : List (What A)) (entries : List (Entry A))
+        → (t : Together connection old came linked pass seen) → new_pass.line ≡ pass.line → new_pass.taken ≡ pass.taken
+        → (closing ≡ []) ⊎ (closing ≡ Down ∷ []) → mine new_pass ≡ mine old ++ entries
+        → map (λ (e : Entry A). e.event) entries ≡ map (on_line old.line) (t.whats ++ closing)
+        → (next : Together connection old came false new_pass (record seen { held = left })) × (next.closing ≡ closing)
+    link_goes linked pass seen new_pass left closing entries t line taken is_closing mine_is events = (
+      record {
+        line = line ∙ t.line;
+        items = t.items;
+        taken = taken ∙ t.taken;
+        pushed = t.pushed;
+        pushes = t.pushes;
+        unsent = t.unsent;
+        written = t.written;
+        pulled = t.pulled;
+        pulls = t.pulls;
+        fed = t.fed;
+        lost = t.lost;
+        pulled_are = t.pulled_are;
+        packets = t.packets;
+        rest = t.rest;
+        completes = t.completes;
+        taken_up = t.taken_up;
+        unread = t.unread;
+        packets_are = t.packets_are;
+        read = t.read;
+        read_as = t.read_as;
+        whats = t.whats;
+        unoffered = t.unoffered;
+        in_order = t.in_order;
+        closing = closing;
+        is_closing = is_closing;
+        entries = entries;
+        mine_is = mine_is;
+        events = events;
+        kept = λ is. absurd (let both : false ≡ true = is in cc);
+      },
+      refl,
+    )
+
+    -- nothing was offered any more
+    nothing_offered : (linked : Bool) (pass : Pass A) (seen : Seen A) (new_pass : Pass A) (left : Option (What A))
+        → (t : Together connection old came linked pass seen) → t.closing ≡ [] → new_pass ≡ pass
+        → (next : Together connection old came false new_pass (record seen { held = left })) × (next.closing ≡ [])
+    nothing_offered linked pass seen new_pass left t opened same =
+        link_goes linked pass seen new_pass left [] t.entries t (ap (λ p. p.line) same) (ap (λ p. p.taken) same) (inl refl)
+        (ap mine same ∙ t.mine_is) (t.events ∙ ap (λ closing. map (on_line old.line) (t.whats ++ closing)) opened)
+
+    -- the Down was taken
+    down_taken : (linked : Bool) (pass : Pass A) (seen : Seen A) (new_pass : Pass A) (left : Option (What A))
+        → (t : Together connection old came linked pass seen) → t.closing ≡ [] → Gains pass (Down ∷ []) new_pass
+        → Together connection old came false new_pass (record seen { held = left })
+    down_taken linked pass seen new_pass left t opened gains =
+        let events : map (λ (e : Entry A). e.event) (t.entries ++ gains.entries) ≡ map (on_line old.line) (t.whats ++ Down ∷ []) =
+        map-append (λ (e : Entry A). e.event) t.entries gains.entries
+        ∙ ap (λ xs. xs ++ map (λ (e : Entry A). e.event) gains.entries)
+        (t.events ∙ ap (λ closing. map (on_line old.line) (t.whats ++ closing)) opened ∙ ap (map (on_line old.line)) (append-nil t.whats))
+        ∙ ap (λ xs. map (on_line old.line) t.whats ++ xs) (gains.events ∙ ap (λ line. map (on_line line) (Down ∷ [])) t.line)
+        ∙ sym (map-append (on_line old.line) t.whats (Down ∷ [])) in
+        let next = link_goes linked pass seen new_pass left (Down ∷ []) (t.entries ++ gains.entries) t gains.line gains.taken (inr refl)
+        (gains.mine_is ∙ ap (λ xs. xs ++ gains.entries) t.mine_is ∙ append_assoc (mine old) t.entries gains.entries) events in
+        next.0
+
+    -- what a turn leaves to the next
+    abbrev Next : After → Pass A → Seen A → Type 0
+    Next Linked pass seen = Together connection old came true pass seen
+    Next Dropped pass seen = Together connection old came false pass seen
+    Next DownOwed pass seen = (t : Together connection old came false pass seen) × (t.closing ≡ []) × (seen.held ≡ Some Down)
+    Next Halted pass seen = Together connection old came false pass seen
+    Next Journal pass seen = Together connection old came false pass seen
+
+    next_by_down : (linked : Bool) (pass : Pass A) (seen : Seen A) (after : After) (new_pass : Pass A) (left : Option (What A))
+        → (t : Together connection old came linked pass seen) → t.closing ≡ [] → Downs pass after new_pass left
+        → Next after new_pass (record seen { held = left })
+    next_by_down linked pass seen Linked new_pass left t opened downs = absurd downs
+    next_by_down linked pass seen Dropped new_pass left t opened downs = down_taken linked pass seen new_pass left t opened downs
+    next_by_down linked pass seen DownOwed new_pass left t opened downs =
+        let next = nothing_offered linked pass seen new_pass left t opened downs.0 in (next.0, next.1, downs.1)
+    next_by_down linked pass seen Halted new_pass left t opened downs = (nothing_offered linked pass seen new_pass left t opened downs).0
+    next_by_down linked pass seen Journal new_pass left t opened downs = (nothing_offered linked pass seen new_pass left t opened downs).0
+
+    next_by_heard : (heard : Heard) (pass : Pass A) (seen : Seen A) (after : After) (new_pass : Pass A) (left : Option (What A))
+        → (t : Together connection old came (stays heard) pass seen) → t.closing ≡ [] → Follows heard pass seen.held after new_pass left
+        → Next after new_pass (record seen { held = left })
+    next_by_heard heards.Open pass seen after new_pass left t opened follows =
+        subst (λ a. Next a new_pass (record seen { held = left })) (sym follows.0)
+        (subst (λ p. Together connection old came true p (record seen { held = left })) (sym follows.1)
+        (subst (λ h. Together connection old came true pass (record seen { held = h })) (sym follows.2) t))
+    next_by_heard heards.Over pass seen after new_pass left t opened follows = next_by_down false pass seen after new_pass left t opened follows
+    next_by_heard heards.Halted pass seen after new_pass left t opened follows =
+        subst (λ a. Next a new_pass (record seen { held = left })) (sym follows.0) (nothing_offered false pass seen new_pass left t opened follows.1).0
+    next_by_heard heards.Journal pass seen after new_pass left t opened follows =
+        subst (λ a. Next a new_pass (record seen { held = left })) (sym follows.0) (nothing_offered false pass seen new_pass left t opened follows.1).0
+
+    next_by_work : (pass : Pass A) (seen : Seen A) (after : After) (new_pass : Pass A) (new : Seen A)
+        → Together connection old came true pass seen → Worked connection pass seen after new_pass new → Next after new_pass new
+    next_by_work pass seen after new_pass new t worked =
+        let next = worked_on pass seen worked.heard worked.worked_pass worked.worked t worked.works in
+        subst (Next after new_pass) (sym worked.rest)
+        (next_by_heard worked.heard worked.worked_pass worked.worked after new_pass new.held next.0 next.1 worked.follows)
+
+    next_linked : (owed : Bool) (pass : Pass A) (seen : Seen A) (after : After) (new_pass : Pass A) (new : Seen A)
+        → Together connection old came true pass seen → IsTurnBy owed connection pass seen after new_pass new → Next after new_pass new
+    next_linked true pass seen after new_pass new t turn =
+        subst (Next after new_pass) (sym turn.1) (next_by_down true pass seen after new_pass new.held t (t.kept refl).5 turn.0)
+    next_linked false pass seen after new_pass new t turn = next_by_work pass seen after new_pass new t turn
+
+    next_owed : (pass : Pass A) (seen : Seen A) (after : After) (new_pass : Pass A) (new : Seen A)
+        → Next DownOwed pass seen → IsTurnBy (is_owed seen.held) connection pass seen after new_pass new → Next after new_pass new
+    next_owed pass seen after new_pass new (t, opened, held) turn =
+        let owed : IsTurnBy true connection pass seen after new_pass new =
+        subst (λ o. IsTurnBy o connection pass seen after new_pass new) (ap is_owed held) turn in
+        subst (Next after new_pass) (sym owed.1) (next_by_down false pass seen after new_pass new.held t opened owed.0)
+
+    together_of : (after : After) (pass : Pass A) (seen : Seen A) → Next after pass seen → Together connection old came (is_linked after) pass seen
+    together_of Linked pass seen next = next
+    together_of Dropped pass seen next = next
+    together_of DownOwed pass seen next = next.0
+    together_of Halted pass seen next = next
+    together_of Journal pass seen next = next
+
+    turns_from : (after : After) (pass : Pass A) (seen : Seen A) (turns : List (Left A)) → Next after pass seen → MayFollow after turns → AreTurns connection pass seen turns
+        → IsLeftSo connection old came (last_of (record { after = after; pass = pass; seen = seen }) turns)
+    turns_from after pass seen [] next may are = together_of after pass seen next
+    turns_from Linked pass seen (left ∷ turns) next may are =
+        turns_from left.after left.pass left.seen turns (next_linked (is_owed seen.held) pass seen left.after left.pass left.seen next are.0) are.1 are.2
+    turns_from DownOwed pass seen (left ∷ turns) next may are =
+        turns_from left.after left.pass left.seen turns (next_owed pass seen left.after left.pass left.seen next are.0) are.1 are.2
+    turns_from Dropped pass seen (left ∷ turns) next may are = absurd (let none : left ∷ turns ≡ [] = may in cc)
+    turns_from Halted pass seen (left ∷ turns) next may are = absurd (let none : left ∷ turns ≡ [] = may in cc)
+    turns_from Journal pass seen (left ∷ turns) next may are = absurd (let none : left ∷ turns ≡ [] = may in cc)
+
+pub add_up : (A : Type 0) → TurnsAddUp A
+add_up A connection pass came turns fresh are = turns_from connection pass came Linked pass came turns (together_fresh connection pass came fresh) tt are

@@ -1,0 +1,30 @@
+use Rattle.std.proofs.Common.{◌++◌, [], subst, sym}
+use Rattle.xp_lines.specs.Offers.{Offers, goes_on}
+use Rattle.xp_lines.specs.Reads.{Reads}
+use Rattle.xp_lines.proofs.Octets.{appends_nothing}
+use Rattle.xp_lines.proofs.Offered.{gains_both}
+use Rattle.xp_lines.proofs.Pulling.{reads_both, reads_stopped}
+use Rattle.xp_lines.proofs.reading.read_in.Goals as goal
+
+pub returns-in-Some-clause-reads : goal.returns-in-Some-clause-reads
+returns-in-Some-clause-reads g c =
+    let first = c.offer_waiting-first in
+    let offers = first.ensures.offers in
+    let at = subst (λ stop. Offers c.args.waiting.now c.args.frames.now.waiting offers.0 (goes_on stop) first.new.waiting first.new.frames.waiting) c.in-Some.is offers.2 in
+    let reads = reads_stopped _ _ _ _ _ _ at first.ensures.rest.0 in
+    ([], appends_nothing _, offers.0, offers.1, subst (λ heard. Reads c.args.waiting.now c.args.frames.now [] offers.0 heard first.new.waiting first.new.frames) (sym c.stopped.ensures) reads)
+
+pub returns-clause-reads : goal.returns-clause-reads
+returns-clause-reads g c =
+    let first = c.offer_waiting-first in
+    let second = c.offer_waiting-second in
+    let all = first.ensures.all c.in_default.is in
+    let at = subst (λ stop. Offers c.args.waiting.now c.args.frames.now.waiting first.ensures.offers.0 (goes_on stop) first.new.waiting first.new.frames.waiting) c.in_default.is first.ensures.offers.2 in
+    let pulls = c.pull_in-pull.ensures.pulls in
+    let reads = reads_both _ _ _ _ _ _ _ _ _ _ _ _ at all.0 all.1 first.ensures.rest.0 pulls.2 second.ensures.offers.2 second.ensures.rest.0 in (
+      pulls.0,
+      pulls.1,
+      first.ensures.offers.0 ++ second.ensures.offers.0,
+      gains_both _ _ _ _ _ first.ensures.offers.1 second.ensures.offers.1,
+      subst (λ heard. Reads c.args.waiting.now c.args.frames.now pulls.0 (first.ensures.offers.0 ++ second.ensures.offers.0) heard second.new.waiting second.new.frames) (sym c.both.ensures) reads,
+    )

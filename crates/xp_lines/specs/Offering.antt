@@ -1,0 +1,36 @@
+-- What the private steps of offering tell one another.
+use Rattle.std.specs.Prelude.{◌≡◌, ℕ, List, [], ◌∷◌, Option, Some, None, Result, Ok, Err}
+use Rattle.std.specs.declared.alloc.AllocError.{AllocError}
+use Rattle.xp_frames.specs.Held.{Held}
+use Rattle.xp_core.specs.declared.event.What.{What}
+use Rattle.xp_lock.specs.declared.done.Done.{Done}
+use Rattle.xp_lock.specs.Passes.{Pass}
+use Rattle.xp_lines.specs.Heard.{IsReadAs}
+use Rattle.xp_lines.specs.Offers.{Gains}
+use Rattle.xp_lines.specs.declared.offering.Stop.{Stop}
+use Rattle.xp_lines.specs.declared.offering.Stop.TheVariants as stops
+
+abbrev pub IsRefusal : Stop → Type 0
+IsRefusal stops.Held = ⊥
+IsRefusal stops.Memory = Unit {0}
+IsRefusal stops.Halted = Unit {0}
+IsRefusal stops.Journal = Unit {0}
+
+module _ {A : Type 0} where
+  -- what is offered is taken, or refused, which changes nothing; a gate is not asked
+  abbrev pub Tells : Pass A → What A → Result Done Stop → Pass A → Type 0
+  Tells old what (Ok done) new = Gains old (what ∷ []) new
+  Tells old what (Err stop) new = IsRefusal stop × (new ≡ old)
+
+  -- what waits, else the first of the packets that wait
+  abbrev pub NextIs : Option (What A) → Held → Result (Option (What A)) AllocError → Option (What A) → Held → Type 0
+  NextIs (Some held) frames (Ok (Some what)) left frames_left = (what ≡ held) × (left ≡ None) × (frames_left ≡ frames)
+  NextIs (Some held) frames (Ok None) left frames_left = ⊥
+  NextIs (Some held) frames (Err wanting) left frames_left = ⊥
+  NextIs None frames (Ok None) left frames_left = (frames.waiting ≡ []) × (left ≡ None) × (frames_left ≡ frames)
+  NextIs None frames (Ok (Some what)) left frames_left =
+      (packet : List ℕ) × (frames.waiting ≡ packet ∷ frames_left.waiting) × IsReadAs packet what × (left ≡ None)
+      × (frames_left.rest ≡ frames.rest) × (frames_left.failed ≡ frames.failed)
+  NextIs None frames (Err wanting) left frames_left =
+      (packet : List ℕ) × (frames.waiting ≡ packet ∷ frames_left.waiting) × (left ≡ None)
+      × (frames_left.rest ≡ frames.rest) × (frames_left.failed ≡ frames.failed)

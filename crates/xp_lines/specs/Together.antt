@@ -1,0 +1,114 @@
+-- What the turns of a line on one link come to together.
+use Rattle.std.specs.Prelude.{◌≡◌, ◌⊎◌, ℕ, Bool, true, false, List, [], ◌∷◌, ◌++◌, filter, map, None, option_to_list}
+use Rattle.std.specs.Io.KnownBytes.{Appends}
+use Rattle.xp_core.specs.declared.entry.Entry.{Entry}
+use Rattle.xp_core.specs.declared.event.What.{What}
+use Rattle.xp_core.specs.declared.event.What.TheVariants.{Up, Down, Frame, WrongFrame, Expire, Stall}
+use Rattle.xp_core.specs.declared.output.Outgoing.{Outgoing}
+use Rattle.xp_lock.specs.Passes.{Pass, mine}
+use Rattle.xp_lines.specs.Heard.{AreReadAs}
+use Rattle.xp_lines.specs.Offers.{on_line}
+use Rattle.xp_lines.specs.Reads.{Completes}
+use Rattle.xp_lines.specs.Turns.{IsTurn, Seen}
+use Rattle.xp_lines.specs.Wire.{wire}
+use Rattle.xp_lines.specs.declared.turning.After.{After}
+use Rattle.xp_lines.specs.declared.turning.After.TheVariants.{Linked, Dropped, DownOwed, Halted, Journal}
+
+-- how a turn left its line
+pub record Left (A : Type 0) : Type 0 where
+  pub after : After
+  pub pass : Pass A
+  pub seen : Seen A
+
+abbrev pub is_linked : After → Bool
+is_linked Linked = true
+is_linked Dropped = false
+is_linked DownOwed = false
+is_linked Halted = false
+is_linked Journal = false
+
+module _ {A : Type 0} where
+  -- the link stays, or its Down has still to be offered: else the turn was the last
+  abbrev pub MayFollow : After → List (Left A) → Type 0
+  MayFollow Linked turns = Unit {0}
+  MayFollow DownOwed turns = Unit {0}
+  MayFollow Dropped turns = turns ≡ []
+  MayFollow Halted turns = turns ≡ []
+  MayFollow Journal turns = turns ≡ []
+
+  -- one turn after the other
+  abbrev pub AreTurns : ℕ → Pass A → Seen A → List (Left A) → Type 0
+  AreTurns connection pass seen [] = Unit {0}
+  AreTurns connection pass seen (left ∷ turns) =
+      IsTurn connection pass seen left.after left.pass left.seen × MayFollow left.after turns × AreTurns connection left.pass left.seen turns
+
+  -- how the last of them left the line, which came so
+  abbrev pub last_of : Left A → List (Left A) → Left A
+  last_of came [] = came
+  last_of came (left ∷ turns) = last_of left turns
+
+  -- a link that has just come: nothing was read, and nothing waits
+  pub record IsFresh (seen : Seen A) : Type 0 where
+    pub held : seen.held ≡ None
+    pub waiting : seen.frames.waiting ≡ []
+    pub rest : seen.frames.rest ≡ []
+    pub unwritten : seen.unwritten ≡ []
+
+  -- anything but that an incoming call was not answered in time, which no octets tell
+  abbrev pub is_no_expiry : What A → Bool
+  is_no_expiry Up = true
+  is_no_expiry Down = true
+  is_no_expiry (Frame identifier packet) = true
+  is_no_expiry (WrongFrame wrong) = true
+  is_no_expiry Expire = false
+  is_no_expiry Stall = true
+
+  abbrev pub but_expiries : List (What A) → List (What A)
+  but_expiries whats = filter is_no_expiry whats
+
+  -- the link's Down, once, or not yet
+  abbrev pub IsClosing : List (What A) → Type 0
+  IsClosing closing = (closing ≡ []) ⊎ (closing ≡ Down ∷ [])
+
+  -- Since its link came the line took these items, and their octets were pushed; these octets were pulled, which are the
+  -- frames of packets, and each packet in order is an event that the line's own entries have; expiries came between them,
+  -- and the Down last. While the link stays nothing of it is lost: what is not yet pushed, read or offered waits.
+  pub record Together (connection : ℕ) (old : Pass A) (came : Seen A) (linked : Bool) (new : Pass A) (now : Seen A) : Type 0 where
+    pub line : new.line ≡ old.line
+    pub items : List (Outgoing A)
+    pub taken : new.taken ≡ old.taken ++ items
+    pub pushed : List ℕ
+    pub pushes : Appends came.pushed now.pushed pushed
+    pub unsent : List ℕ
+    pub written : wire connection items ≡ (pushed ++ now.unwritten) ++ unsent
+    pub pulled : List ℕ
+    pub pulls : Appends came.pulled now.pulled pulled
+    pub fed : List ℕ
+    pub lost : List ℕ
+    pub pulled_are : pulled ≡ fed ++ lost
+    pub packets : List (List ℕ)
+    pub rest : List ℕ
+    pub completes : Completes [] fed packets rest
+    pub taken_up : List (List ℕ)
+    pub unread : List (List ℕ)
+    pub packets_are : packets ≡ taken_up ++ unread
+    pub read : List (What A)
+    pub read_as : AreReadAs taken_up read
+    pub whats : List (What A)
+    pub unoffered : List (What A)
+    pub in_order : read ≡ but_expiries whats ++ unoffered
+    pub closing : List (What A)
+    pub is_closing : IsClosing closing
+    pub entries : List (Entry A)
+    pub mine_is : mine new ≡ mine old ++ entries
+    pub events : map (λ entry. entry.event) entries ≡ map (on_line old.line) (whats ++ closing)
+    pub kept : linked ≡ true → (unsent ≡ []) × (lost ≡ []) × (rest ≡ now.frames.rest) × (unread ≡ now.frames.waiting) × (unoffered ≡ option_to_list now.held) × (closing ≡ [])
+
+  abbrev pub IsLeftSo : ℕ → Pass A → Seen A → Left A → Type 0
+  IsLeftSo connection pass came last = Together connection pass came (is_linked last.after) last.pass last.seen
+
+-- The turns on a link add up, from when it came to how the last of them left it.
+abbrev pub TurnsAddUp : Type 0 → Type 0
+TurnsAddUp A =
+    (connection : ℕ) (pass : Pass A) (came : Seen A) (turns : List (Left A)) → IsFresh came → AreTurns connection pass came turns
+    → IsLeftSo connection pass came (last_of (record { after = Linked; pass = pass; seen = came }) turns)

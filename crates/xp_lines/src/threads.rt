@@ -1,0 +1,186 @@
+//! All lines of an exchange, each on a thread of its own.
+
+ghost use Rattle.std.specs.Prelude.{◌≡◌, IfErr, IfOk, [], ◌++◌, map, vec_len, vec_capacity, ◌+◌, ◌≤◌};
+ghost use Rattle.xp_lines.specs.Threads.{line_begun};
+
+use crate::line::{LineEnd, Why, serve_line};
+use crate::link::{Clock, Gate, Port};
+use std::alloc::Global;
+use std::sync::Wait;
+use std::thread;
+use std::thread::{Promise, PromisedHandle, Scope, Threads};
+use xp_lock::{Exchange, LinePass, Name};
+use xp_subs::LineNo;
+
+/// What the thread of a line is given.
+#[derive(Drop)]
+pub struct Part<N: Name, P: Port, C: Clock, G: Gate> {
+    pub pass: LinePass<N>,
+    pub port: P,
+    pub clock: C,
+    pub gate: G,
+}
+
+/// Why no line was served: want of memory. The parts come back.
+#[derive(Drop)]
+pub struct ServeFault<N: Name, P: Port, C: Clock, G: Gate> {
+    pub parts: Vec<Part<N, P, C, G>>,
+}
+
+/// That a thread gives back the pass of its line.
+#[derive(Clone, Copy)]
+struct OfLine(LineNo);
+
+impl<N: Name> Promise<LineEnd<N>> for OfLine {
+    ghost use Rattle.std.specs.Prelude.{◌≡◌};
+
+    ghost kept_by = { λ promise end. end.pass.line ≡ promise.0 };
+}
+
+/// A line that is served, or whose thread could not be started.
+type Begun<N> = Result<PromisedHandle<LineEnd<N>, OfLine>, LineEnd<N>>;
+
+/// Serves all lines, each on a thread of its own, until all have ended: `serve_line`. A line whose thread can't be started
+/// halts the exchange.
+///
+/// # Errors
+///
+/// Where memory is wanted no line is served, and the parts come back.
+pub fn serve_all<
+    N: Name + Send + Sync,
+    P: Port + Send,
+    C: Clock + Send,
+    G: Gate + Send,
+    R: Threads + Wait + Sync,
+>(
+    rt: &R,
+    alloc: Global,
+    exchange: &Exchange<N>,
+    parts: Vec<Part<N, P, C, G>>,
+    turns: u64,
+    records: u64,
+) -> Result<Vec<LineEnd<N>>, ServeFault<N, P, C, G>>
+    ensures ok { IfOk result (λ ends. map (λ end. end.pass.line) ends.items ≡ map (λ part. part.pass.line) parts.items) }
+    ensures err { IfErr result (λ fault. fault.parts ≡ parts) }
+{
+    let Ok(begun) = Vec::with_capacity(alloc, parts.len()) else {
+        return Err(ServeFault { parts });
+    };
+    let Ok(ends) = Vec::with_capacity(alloc, parts.len()) else {
+        return Err(ServeFault { parts });
+    };
+    Ok(thread::scope(
+        thread::scope_env(),
+        rt,
+        |scope| -> Vec<LineEnd<N>>
+            requires begun { vec_len parts ≤ vec_capacity begun }
+            requires ends { vec_len parts ≤ vec_capacity ends }
+            requires none { (begun.items ≡ []) × (ends.items ≡ []) }
+            ensures { map (λ end. end.pass.line) result.items ≡ map (λ part. part.pass.line) parts.items }
+        {
+            let begun = begin_all(rt, scope, alloc, exchange, parts, begun, turns, records);
+            end_all(rt, begun, ends)
+        },
+    ))
+}
+
+/// Starts the thread of each line.
+fn begin_all<
+    's,
+    E,
+    N: Name + Send + Sync + 's,
+    P: Port + Send + 's,
+    C: Clock + Send + 's,
+    G: Gate + Send + 's,
+    R: Threads + Wait + Sync + 's,
+>(
+    rt: &'s R,
+    scope: &Scope<'s, E>,
+    alloc: Global,
+    exchange: &'s Exchange<N>,
+    parts: Vec<Part<N, P, C, G>>,
+    begun: Vec<Begun<N>>,
+    turns: u64,
+    records: u64,
+) -> Vec<Begun<N>>
+    requires room { vec_len begun + vec_len parts ≤ vec_capacity begun }
+    requires none { begun.items ≡ [] }
+    ensures lines { map line_begun result.items ≡ map (λ part. part.pass.line) parts.items }
+    ensures count { vec_len result ≡ vec_len parts }
+{
+    let mut begun = begun;
+    for part in parts {
+        begun.push_reserved(begin_one(rt, scope, alloc, exchange, part, turns, records));
+    }
+    begun
+}
+
+/// Starts the thread of a line. Where it can't be started the exchange is halted, so that the line ends at once.
+fn begin_one<
+    's,
+    E,
+    N: Name + Send + Sync + 's,
+    P: Port + Send + 's,
+    C: Clock + Send + 's,
+    G: Gate + Send + 's,
+    R: Threads + Wait + Sync + 's,
+>(
+    rt: &'s R,
+    scope: &Scope<'s, E>,
+    alloc: Global,
+    exchange: &'s Exchange<N>,
+    part: Part<N, P, C, G>,
+    turns: u64,
+    records: u64,
+) -> Begun<N>
+    ensures { line_begun result ≡ part.pass.line }
+{
+    let Part {
+        pass,
+        port,
+        clock,
+        gate,
+    } = part;
+    let line = pass.line();
+    let run = move || -> LineEnd<N>
+        ensures { result.pass.line ≡ pass.line }
+    { serve_line(rt, alloc, exchange, pass, port, clock, gate, turns, records) };
+    match scope.spawn_with(OfLine(line), run) {
+        Ok(handle) => Ok(handle),
+        Err(refused) => {
+            exchange.halt(rt);
+            let end = (refused.value)();
+            Err(LineEnd {
+                pass: end.pass,
+                why: Why::NotStarted,
+            })
+        }
+    }
+}
+
+/// Waits for the end of each line.
+fn end_all<N: Name, R: Threads>(
+    rt: &R,
+    begun: Vec<Begun<N>>,
+    ends: Vec<LineEnd<N>>,
+) -> Vec<LineEnd<N>>
+    requires room { vec_len ends + vec_len begun ≤ vec_capacity ends }
+    requires none { ends.items ≡ [] }
+    ensures { map (λ end. end.pass.line) result.items ≡ map line_begun begun.items }
+{
+    let mut ends = ends;
+    for line in begun {
+        ends.push_reserved(end_one(rt, line));
+    }
+    ends
+}
+
+/// Waits for the end of a line.
+fn end_one<N: Name, R: Threads>(rt: &R, begun: Begun<N>) -> LineEnd<N>
+    ensures { result.pass.line ≡ line_begun begun }
+{
+    match begun {
+        Ok(handle) => handle.join(rt),
+        Err(end) => end,
+    }
+}
