@@ -12,5 +12,6 @@ pub mod Ready
 pub mod Returned
 pub mod Stalled
 pub mod Steps
+pub mod Taken
 pub mod Touches
 pub mod Trio

@@ -32,6 +32,9 @@ loop-pass-init g c =
       boxes = refl;
       told = λ told. subst (AreTold c.args.self.history) gives.0 told;
       once = λ come. subst (λ returned. ComeOnce returned c.args.passes.items) (ap (λ v. v.returned) c.self.invariant.1) (subst (ComeOnce c.self.inside.sight.knows.returned) gives.0 come);
+      lines = refl;
+      within = subst (λ counts. AreWithin counts c.args.self.history) (sym c.requires.zeros) (none_within (line_count g.N.Name.subs) c.args.self.history);
+      noted = λ later agree noted. subst (AreNoted later) gives.0 noted;
     }
 
 pub loop-pass-preserved : goal.loop-pass-preserved
@@ -53,6 +56,14 @@ loop-pass-preserved g c =
       own = ap (handed pass.line) (sym all) ∙ c.hear.ensures.own;
       taken = subst (IsPrefix pass.taken) put c.hear.ensures.taken;
     } in
+    let returned = c.loop-pass.sight.knows.returned in
+    let counts = c.loop-pass.taken.items in
+    let on = ap (λ s. s.knows.returned) c.hear.ensures.keeper in
+    let enough = ap length c.requires.zeros ∙ length-replicate (line_count g.N.Name.subs) 0 in
+    let line : pass.line < line_count g.N.Name.subs = ? in
+    let placed : pass.line < length counts = let lines = was.lines in omega (arith, line, lines, enough) in
+    let exact : c.hear.result ≡ length pass.taken = c.hear.ensures.count ? in
+    let put_in : ? ≡ set counts pass.line (length pass.taken) = ? in
     record {
       can_next = tt;
       is_finite = tt;
@@ -60,7 +71,11 @@ loop-pass-preserved g c =
       sight = keeps_on c.self.inside.sight c.loop-pass.sight c.hear.new.keeper pass.line was.sight c.hear.ensures.keeper;
       boxes = c.hear.ensures.boxes ∙ was.boxes;
       told = λ told. was.told (subst (AreTold history) (sym items) (All-cons (IsTold history) pass rest one told));
-      once = λ come. was.once (subst (ComeOnce c.loop-pass.sight.knows.returned) (sym items) (c.hear.ensures.once, subst (λ returned. ComeOnce returned rest) (ap (λ s. s.knows.returned) c.hear.ensures.keeper) come));
+      once = λ come. was.once (subst (ComeOnce c.loop-pass.sight.knows.returned) (sym items) (c.hear.ensures.once, subst (λ returned. ComeOnce returned rest) on come));
+      lines = ?;
+      within = ?;
+      noted = λ later agree noted.
+          ?;
     }
 
 pub returns-clause-told : goal.returns-clause-told
@@ -76,3 +91,6 @@ returns-clause-once g c =
     let was = c.loop-pass.invariant in
     let none = nil_from_length (into_iter_items c.loop-pass.pass-iterator) (was.many ∙ c.in-None.ensures.steps.0) in
     none_twice c.args.passes.items (was.once (subst (ComeOnce c.loop-pass.sight.knows.returned) (sym none) tt))
+
+pub returns-clause-taken : goal.returns-clause-taken
+returns-clause-taken g c = ?
