@@ -1,11 +1,12 @@
 -- What the passes of a closed exchange took, and how it is counted.
-use Rattle.std.proofs.Common.{◌≡◌, ◌≢◌, ℕ, ◌+◌, ◌*◌, ◌^◌, ◌<◌, ◌≤◌, Bool, true, false, true≢false, eqb, List, [], ◌∷◌, ◌++◌, All, length, set, refl, sym, ap, ◌∙◌, subst, inl, inr, arith, eq-eqb, length-append}
+use Rattle.std.proofs.Common.{◌≡◌, ◌≢◌, ℕ, ◌+◌, ◌-◌, ◌*◌, ◌^◌, ◌<◌, ◌≤◌, Bool, true, false, true≢false, eqb, List, [], ◌∷◌, ◌++◌, All, length, set, refl, sym, ap, ◌∙◌, subst, inl, inr, arith, eq-eqb, length-append}
+use Rattle.std.proofs.Math.Nat.{min-eq_left, min-eq_right}
 use Rattle.std.proofs.Math.Seq.{take-append_seam}
 use Rattle.std.proofs.lemmas.Bool.{cases_eq, cases_lt}
 use Rattle.std.proofs.lemmas.Grind.{flat_map-append}
 use Rattle.std.proofs.lemmas.List.{get_or-replicate, get_or-set_other, get_or-set_same, get_or_past, length-replicate}
 use Rattle.std.proofs.lemmas.List.Elements.{All-append, All-cons, All-head, All-nil, All-tail}
-use Rattle.std.specs.Prelude.{◌||◌, replicate, take}
+use Rattle.std.specs.Prelude.{◌||◌, min, replicate, take}
 use mathlib.Core.List.{IsPrefix}
 use Rattle.xp_charge.specs.Lines.{HasLines as NamesLines}
 use Rattle.xp_subs.specs.Tables.{Tables, line_count}
@@ -24,6 +25,19 @@ use Rattle.xp_lock.specs.Closing.{AreCounted, AreTold, AreWithin, Closed, IsCoun
 use Rattle.xp_lock.specs.Given.{is_among}
 use Rattle.xp_lock.specs.Outgoing.{put_out_to, to_line}
 use Rattle.xp_lock.specs.Passes.{Pass}
+
+-- ---- a number that counts as far as it reaches
+
+pub count_more : (items count more : ℕ) → count ≡ min items (2 ^ 64 - 1) → more ≡ min (count + 1) (2 ^ 64 - 1) → more ≡ min (items + 1) (2 ^ 64 - 1)
+count_more items count more was is = elim (cases_lt items (2 ^ 64 - 1)) [
+  | inl below ↦ is ∙ ap (λ n. min (n + 1) (2 ^ 64 - 1)) (was ∙ min-eq_left (omega (arith, below)))
+  | inr past ↦
+      let full : count ≡ 2 ^ 64 - 1 = was ∙ min-eq_right (omega (arith, past)) in
+      is ∙ min-eq_right (omega (arith, full)) ∙ sym (min-eq_right (omega (arith, past)))
+]
+
+pub count_exact : (items count : ℕ) → count ≡ min items (2 ^ 64 - 1) → items < 2 ^ 64 → count ≡ items
+count_exact items count was few = was ∙ min-eq_left (omega (arith, few))
 
 -- ---- how much is put out to a line
 

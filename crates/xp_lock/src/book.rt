@@ -78,7 +78,7 @@ impl<A: Allocator> Book<A> {
         ensures count { result ≡ taken_by self.now.taken line }
         ensures within { result ≤ length (put_out_to line self.now.history) }
     {
-        self.taken.get(usize::from(line)).copied().unwrap_or(0)
+        self.taken.get(line as usize).copied().unwrap_or(0)
     }
 
     /// The subscriptions.

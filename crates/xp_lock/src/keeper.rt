@@ -125,7 +125,7 @@ impl<N: Name, A: Allocator + Copy> Keeper<N, A> {
         let _entries = core.history();
         let _most = core.subs().journal();
         for pass in passes {
-            let at = usize::from(pass.line);
+            let at = pass.line as usize;
             taken[at] = hear(rt, word, &mut sight, &mut boxes, pass);
         }
         Book::new(core, taken)

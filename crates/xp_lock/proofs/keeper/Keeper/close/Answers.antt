@@ -1,14 +1,16 @@
-use Rattle.std.proofs.Common.{◌≡◌, ◌<◌, ap, arith, length, map, refl, subst, sym, ◌∙◌}
-use Rattle.std.proofs.lemmas.List.{nil_from_length}
+use Rattle.std.proofs.Common.{◌≡◌, ◌^◌, ◌<◌, ◌≤◌, ap, arith, length, map, refl, set, subst, sym, ◌∙◌}
+use Rattle.std.proofs.lemmas.List.{length-replicate, length-set, nil_from_length}
 use Rattle.std.proofs.lemmas.List.Elements.{All-cons, All-nil}
 use Rattle.std.specs.Vec.Iter.{into_iter_items}
 use mathlib.Core.List.{IsPrefix}
 use Rattle.xp_lock.specs.Boxes.{box_at}
-use Rattle.xp_lock.specs.Closing.{AreTold, IsTold}
+use Rattle.xp_lock.specs.Closing.{AreTold, AreWithin, IsTold}
 use Rattle.xp_lock.specs.Handed.{handed}
 use Rattle.xp_lock.specs.Outgoing.{put_out_to}
 use Rattle.xp_lock.specs.Views.{StartsWith}
+use Rattle.xp_subs.specs.Tables.{line_count}
 use Rattle.xp_lock.proofs.Returned.{ComeOnce, keeps_all, keeps_first, keeps_on, none_twice}
+use Rattle.xp_lock.proofs.Taken.{Agree, AreNoted, IsNoted, agree_before, can_count, counted_all, few_taken, none_within, noted_here, one_within}
 use Rattle.xp_lock.proofs.keeper.Keeper.close.Goals as goal
 
 pub hear-requires-clause-word : goal.hear-requires-clause-word
@@ -60,10 +62,15 @@ loop-pass-preserved g c =
     let counts = c.loop-pass.taken.items in
     let on = ap (λ s. s.knows.returned) c.hear.ensures.keeper in
     let enough = ap length c.requires.zeros ∙ length-replicate (line_count g.N.Name.subs) 0 in
-    let line : pass.line < line_count g.N.Name.subs = ? in
-    let placed : pass.line < length counts = let lines = was.lines in omega (arith, line, lines, enough) in
-    let exact : c.hear.result ≡ length pass.taken = c.hear.ensures.count ? in
-    let put_in : ? ≡ set counts pass.line (length pass.taken) = ? in
+    let kept = c.into_parts-core.ensures.kept in
+    let placed : pass.line < length counts =
+        let same = was.lines in
+        let boxed = kept.count in
+        let all_lines = ap line_count c.self.invariant.2 in
+        omega (arith, there, same, enough, boxed, all_lines) in
+    let few : length pass.taken < 2 ^ 64 = ? in
+    let exact : c.hear.result ≡ length pass.taken = c.hear.ensures.count few in
+    let put_in : set counts pass.line c.hear.result ≡ set counts pass.line (length pass.taken) = ap (set counts pass.line) exact in
     record {
       can_next = tt;
       is_finite = tt;
@@ -72,10 +79,14 @@ loop-pass-preserved g c =
       boxes = c.hear.ensures.boxes ∙ was.boxes;
       told = λ told. was.told (subst (AreTold history) (sym items) (All-cons (IsTold history) pass rest one told));
       once = λ come. was.once (subst (ComeOnce c.loop-pass.sight.knows.returned) (sym items) (c.hear.ensures.once, subst (λ returned. ComeOnce returned rest) on come));
-      lines = ?;
-      within = ?;
+      lines = length-set counts pass.line c.hear.result ∙ was.lines;
+      within = subst (λ counted. AreWithin counted history) (sym put_in)
+          (one_within counts history pass.line (length pass.taken) was.within placed (few_taken history pass one.taken));
       noted = λ later agree noted.
-          ?;
+          let agrees : Agree (pass.line ∷ returned) (set counts pass.line (length pass.taken)) later =
+          subst (λ counted. Agree (pass.line ∷ returned) counted later) put_in (subst (λ lines. Agree lines (set counts pass.line c.hear.result) later) on agree) in
+          was.noted later (agree_before returned counts later pass.line (length pass.taken) c.hear.ensures.once agrees)
+          (subst (AreNoted later) (sym items) (All-cons (IsNoted later) pass rest (noted_here returned counts later pass.line (length pass.taken) placed agrees) noted));
     }
 
 pub returns-clause-told : goal.returns-clause-told
@@ -94,3 +105,6 @@ returns-clause-once g c =
 
 pub returns-clause-taken : goal.returns-clause-taken
 returns-clause-taken g c = ?
+
+pub index_mut-requires : goal.index_mut-requires
+index_mut-requires g c = ?
