@@ -100,7 +100,7 @@ noted_here lines counts later line n within agree =
 none_taken : (lines line : ℕ) → taken_by (replicate lines 0) line ≡ 0
 none_taken lines line = elim (cases_lt line lines) [
   | inl within ↦ get_or-replicate lines line 0 0 within
-  | inr past ↦ get_or_past (replicate lines 0) line 0 (omega (arith, past, length-replicate lines 0))
+  | inr past ↦ get_or_past (replicate lines 0) line 0 (omega (arith, past, length-replicate {A = ℕ} lines 0))
 ]
 
 module _ {A : Type 0} where

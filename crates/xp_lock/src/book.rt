@@ -60,8 +60,9 @@ impl<A: Allocator> Book<A> {
         ensures one_each { OneRecordEach self.now.subs self.now.history (world_after self.now.subs self.now.history) }
         ensures lines { All (HasLines (line_count self.now.subs)) result.now }
     {
-        let _entries = self.core.history();
-        self.core.records()
+        let core = &self.core;
+        let _entries = core.history();
+        core.records()
     }
 
     /// What could be seen of a line at last.

@@ -1,4 +1,4 @@
-use Rattle.std.proofs.Common.{◌≡◌, ◌^◌, ◌<◌, ◌≤◌, ap, arith, length, map, refl, set, subst, sym, ◌∙◌}
+use Rattle.std.proofs.Common.{◌≡◌, ℕ, ◌^◌, ◌<◌, ◌≤◌, ap, arith, length, map, refl, set, subst, sym, ◌∙◌}
 use Rattle.std.proofs.lemmas.List.{length-replicate, length-set, nil_from_length}
 use Rattle.std.proofs.lemmas.List.Elements.{All-cons, All-nil}
 use Rattle.std.specs.Vec.Iter.{into_iter_items}
@@ -61,7 +61,7 @@ loop-pass-preserved g c =
     let returned = c.loop-pass.sight.knows.returned in
     let counts = c.loop-pass.taken.items in
     let on = ap (λ s. s.knows.returned) c.hear.ensures.keeper in
-    let enough = ap length c.requires.zeros ∙ length-replicate (line_count g.N.Name.subs) 0 in
+    let enough = ap length c.requires.zeros ∙ length-replicate {A = ℕ} (line_count g.N.Name.subs) 0 in
     let kept = c.into_parts-core.ensures.kept in
     let placed : pass.line < length counts =
         let same = was.lines in
