@@ -9,6 +9,7 @@ pub mod Opened
 pub mod Putting
 pub mod Queues
 pub mod Ready
+pub mod Refused
 pub mod Returned
 pub mod Stalled
 pub mod Steps

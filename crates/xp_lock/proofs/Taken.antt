@@ -58,8 +58,8 @@ module _ {A : Type 0} where
       let first = opening (line_count tables) in
       let P : List (Entry A) → World → Type 0 = λ before w. Run tables before w × (length (put_out_to line before) ≤ 17 * length before) in
       let kept : (before : List (Entry A)) (w : World) (entry : Entry A) (next : World) → P before w → Step tables before w entry next → P (before ++ entry ∷ []) next =
-          λ before w entry next h step.
-              (run_push tables [] first before w entry next h.0 step, few_more line before entry (few_of_step tables before w entry next (run_agreed tables before w h.0) step) h.1)
+      λ before w entry next h step.
+      (run_push tables [] first before w entry next h.0 step, few_more line before entry (few_of_step tables before w entry next (run_agreed tables before w h.0) step) h.1)
       in
       (run_keeps P tables kept [] first history world (refl, omega arith) run).1
 

@@ -63,23 +63,23 @@ loop-pass-preserved g c =
     let on = ap (λ s. s.knows.returned) c.hear.ensures.keeper in
     let line : c.pass.inside.line ≡ pass.line = ap (λ p. p.line) c.pass.view_is in
     let placed : pass.line < length counts =
-        let within = c.pass.invariant.2 in
-        let lines = was.lines in
-        let zeros = ap length c.requires.zeros ∙ length-replicate {A = ℕ} (line_count g.N.Name.subs) 0 in
-        omega (arith, line, within, lines, zeros) in
+    let within = c.pass.invariant.2 in
+    let lines = was.lines in
+    let zeros = ap length c.requires.zeros ∙ length-replicate {A = ℕ} (line_count g.N.Name.subs) 0 in
+    omega (arith, line, within, lines, zeros) in
     let core = c.into_parts-core.result.0 in
     let same = c.into_parts-core.ensures.history ∙ ap (λ s. s.history) c.self.view_is in
     let few : length core.history ≤ core.subs.journal =
-        let kept = c.into_parts-core.ensures.kept.few in
-        let long = ap length c.into_parts-core.ensures.history in
-        let limit = ap (λ t. t.journal) c.into_parts-core.ensures.subs in
-        omega (arith, kept, long, limit) in
+    let kept = c.into_parts-core.ensures.kept.few in
+    let long = ap length c.into_parts-core.ensures.history in
+    let limit = ap (λ t. t.journal) c.into_parts-core.ensures.subs in
+    omega (arith, kept, long, limit) in
     let most : core.subs.journal < 2 ^ 32 =
-        let told = c.journal-most.ensures in
-        let of = ap (λ t. t.journal) c.subs.ensures in
-        omega (arith, told, of) in
+    let told = c.journal-most.ensures in
+    let of = ap (λ t. t.journal) c.subs.ensures in
+    omega (arith, told, of) in
     let exact : c.hear.result ≡ length pass.taken = c.hear.ensures.count
-        (can_count core.subs core.history _ pass c.history-entries.ensures.run few most (subst (λ h. IsPrefix pass.taken (put_out_to pass.line h)) (sym same) one.taken)) in
+    (can_count core.subs core.history _ pass c.history-entries.ensures.run few most (subst (λ h. IsPrefix pass.taken (put_out_to pass.line h)) (sym same) one.taken)) in
     let put_in : set counts c.pass.inside.line c.hear.result ≡ set counts pass.line (length pass.taken) = λ i. set counts (line i) (exact i) in
     record {
       can_next = tt;
