@@ -1,5 +1,5 @@
 -- What the passes of a closed exchange took, and how it is counted.
-use Rattle.std.proofs.Common.{◌≡◌, ◌≢◌, ℕ, ◌+◌, ◌-◌, ◌*◌, ◌^◌, ◌<◌, ◌≤◌, Bool, true, false, true≢false, eqb, List, [], ◌∷◌, ◌++◌, All, length, set, refl, sym, ap, ◌∙◌, subst, inl, inr, arith, eq-eqb, length-append}
+use Rattle.std.proofs.Common.{◌≡◌, ℕ, ◌+◌, ◌-◌, ◌*◌, ◌^◌, ◌<◌, ◌≤◌, Bool, true, false, true≢false, eqb, List, [], ◌∷◌, ◌++◌, All, length, set, refl, sym, ap, ◌∙◌, inl, inr, arith, eq-eqb, length-append}
 use Rattle.std.proofs.Math.Nat.{min-eq_left, min-eq_right}
 use Rattle.std.proofs.Math.Seq.{take-append_seam}
 use Rattle.std.proofs.lemmas.Bool.{cases_eq, cases_lt}
@@ -11,7 +11,6 @@ use mathlib.Core.List.{IsPrefix}
 use Rattle.xp_charge.specs.Lines.{HasLines as NamesLines}
 use Rattle.xp_subs.specs.Tables.{Tables, line_count}
 use Rattle.xp_core.specs.declared.entry.Entry.{Entry}
-use Rattle.xp_core.specs.declared.output.Outgoing.{Outgoing}
 use Rattle.xp_core.specs.Few.{AreFew}
 use Rattle.xp_core.specs.Lines.{HasLines}
 use Rattle.xp_core.specs.Records.{records_of}
