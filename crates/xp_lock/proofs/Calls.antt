@@ -1,5 +1,5 @@
 -- Where the live calls after a step come from, and which lines hold them.
-use Rattle.std.proofs.Common.{◌≡◌, ◌≢◌, ◌⊎◌, ℕ, cond, eqb, Option, Some, None, List, [], ◌∷◌, ◌++◌, length, refl, ap, sym, subst, ◌∙◌, inl, inr}
+use Rattle.std.proofs.Common.{◌≡◌, ◌≢◌, ◌⊎◌, ℕ, eqb, Option, Some, None, List, length, refl, ap, sym, subst, ◌∙◌, inl, inr}
 use Rattle.std.specs.Prelude.{option_map, option_to_list}
 use Rattle.std.proofs.lemmas.Bool.{cond_both}
 use Rattle.xp_causes.specs.declared.clearing_cause.TheConstants.{NUMBER_BUSY}
@@ -9,7 +9,6 @@ use Rattle.xp_core.specs.declared.entry.Entry.{Entry}
 use Rattle.xp_core.specs.Changes.{Change, Rises, Leaves, Begins, IsRefused, Connects, Ends, IsFree, Way, all_changed, changed}
 use Rattle.xp_core.specs.Channel.{Ready, call_of}
 use Rattle.xp_core.specs.Coupling.{IsEnd, IsHeld}
-use Rattle.xp_core.specs.Does.{changes_of}
 use Rattle.xp_core.specs.Outcomes.{taken_by}
 use Rattle.xp_core.specs.Setting.{setting}
 use Rattle.xp_core.specs.Step.{Step}

@@ -1,5 +1,5 @@
 -- What lines handed in together.
-use Rattle.std.proofs.Common.{◌≡◌, ◌≢◌, ℕ, suc, zero, ◌+◌, ◌<◌, ◌≤◌, Bool, true, false, true≢false, cond, eqb, not, List, [], ◌∷◌, ◌++◌, length, filter, refl, ap, sym, subst, ◌∙◌, inl, inr, arith, eq-eqb}
+use Rattle.std.proofs.Common.{◌≡◌, ◌≢◌, ℕ, suc, zero, ◌+◌, ◌<◌, ◌≤◌, Bool, true, false, true≢false, cond, not, List, [], ◌∷◌, ◌++◌, length, refl, ap, sym, ◌∙◌, inl, inr, arith, eq-eqb}
 use Rattle.std.specs.Prelude.{◌&&◌, ◌||◌}
 use Rattle.std.proofs.lemmas.Bool.{cases_eq, ne_eqb}
 use Rattle.std.proofs.lemmas.List.Elements.{All-head, All-tail}
@@ -10,7 +10,7 @@ use Rattle.xp_core.specs.World.{World, opening}
 use Rattle.xp_core.proofs.Sounds.{IsRight, run_right, step_right}
 use Rattle.xp_lock.specs.Closing.{AreTold, HasAll, IsTold, NoneTwice, all_handed, handed_together, has_line, mine_together}
 use Rattle.xp_lock.specs.Handed.{handed, is_stall}
-use Rattle.xp_lock.specs.Passes.{Pass, mine}
+use Rattle.xp_lock.specs.Passes.{Pass}
 
 -- one for an entry that is no stall
 abbrev counts : Bool → ℕ

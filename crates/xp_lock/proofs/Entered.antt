@@ -213,4 +213,11 @@ module _ {A : Type 0} (old mid : Exchange A) (event : Event A) (told : Stepped A
             (box_given line).put ∙ ap (λ xs. xs ++ put_out_to line (step.entry ∷ stalled.stalls)) was
             ∙ sym (flat_map-append (λ (e : Entry A). to_line line e.outputs) old.history (step.entry ∷ stalled.stalls)) ∙ ap (put_out_to line) (sym grown);
         places = places_kept;
+        few =
+            let places : length old.history + 4 ≤ old.subs.journal = can.places in
+            let stalls = stalled.few in
+            let long = ap length grown in
+            let all = length-append old.history (step.entry ∷ stalled.stalls) in
+            let same = ap (λ t. t.journal) (stalled.subs ∙ step.subs) in
+            omega (arith, places, stalls, long, all, same);
       }

@@ -9,8 +9,10 @@ pub mod Opened
 pub mod Putting
 pub mod Queues
 pub mod Ready
+pub mod Refused
 pub mod Returned
 pub mod Stalled
 pub mod Steps
+pub mod Taken
 pub mod Touches
 pub mod Trio

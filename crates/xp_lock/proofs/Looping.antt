@@ -1,23 +1,22 @@
 -- As the lines that are due are stalled, one after the other.
-use Rattle.std.proofs.Common.{◌≡◌, ◌≢◌, ℕ, ◌+◌, ◌*◌, ◌-◌, ◌<◌, ◌≤◌, true, false, List, [], ◌∷◌, ◌++◌, take, drop, length, set, sym, refl, ap, ◌∙◌, subst, inl, inr, arith, append_assoc, append-nil, length-append, get_or-set_other}
-use Rattle.std.proofs.lemmas.Bool.{cases_eq, cases_lt}
+use Rattle.std.proofs.Common.{◌≡◌, ℕ, ◌+◌, ◌*◌, ◌-◌, ◌<◌, ◌≤◌, true, false, List, [], ◌∷◌, ◌++◌, take, drop, length, sym, refl, ap, ◌∙◌, subst, inl, inr, arith, append_assoc, append-nil, length-append}
+use Rattle.std.proofs.lemmas.Bool.{cases_lt}
 use Rattle.std.proofs.lemmas.Grind.{flat_map-append}
 use Rattle.xp_outbox.specs.Ends.{Putting}
-use Rattle.xp_subs.specs.Tables.{Tables, line_count}
+use Rattle.xp_subs.specs.Tables.{line_count}
 use Rattle.xp_core.specs.declared.entry.Entry.{Entry}
 use Rattle.xp_core.specs.declared.event.What.TheVariants.{Stall}
 use Rattle.xp_core.specs.declared.output.Outgoing.{Outgoing}
 use Rattle.xp_core.specs.declared.stepped.Stepped.{Stepped}
 use Rattle.xp_core.specs.Channel.{is_off}
 use Rattle.xp_core.specs.Exchange.{Advances, Exchange, world_of}
-use Rattle.xp_core.specs.Run.{Run}
 use Rattle.xp_core.specs.Stalls.{stall_of}
 use Rattle.xp_core.specs.Step.{Step}
 use Rattle.xp_core.specs.Worlds.{world_after}
 use Rattle.xp_core.specs.World.{World, state_at}
 use Rattle.xp_core.proofs.Sounds.{IsRight, run_right, step_right}
-use Rattle.xp_lock.specs.Boxes.{AreAlike, HasRoomFor, IsAlike, IsPut, box_at, no_box}
-use Rattle.xp_lock.specs.Forced.{IsDue, IsLowestDue, IsQuiet, Stalls}
+use Rattle.xp_lock.specs.Boxes.{HasRoomFor, IsPut, box_at}
+use Rattle.xp_lock.specs.Forced.{IsDue, IsLowestDue, Stalls}
 use Rattle.xp_lock.specs.Outgoing.{put_out_to, to_line}
 use Rattle.xp_lock.specs.Stalling.{HasEntered, HasStalled, IsLowestShort, IsSearched, IsShort}
 use Rattle.xp_lock.proofs.Calls.{AreClosed, closed}

@@ -37,6 +37,7 @@ module _ {A : Type 0} where
     count = new.box_count;
     put = λ line within. All-get_or (λ (box : Putting (Outgoing A)). box.put ≡ []) boxes line no_box within new.put;
     places = λ line on. absurd (true≢false (sym (all_off (line_count subs) line) ∙ on));
+    few = omega arith;
   }
 
   pub new_push : (lines : ℕ) (boxes : List (Putting (Outgoing A))) (ends : List (Taking (Outgoing A))) (box : Putting (Outgoing A)) (end : Taking (Outgoing A))

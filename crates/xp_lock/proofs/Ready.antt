@@ -59,6 +59,7 @@ module _ {A : Type 0} where
         count = same ∙ kept.count;
         put = λ other within. (alike up line boxes after looks other).put ∙ kept.put other (omega (arith, within, same));
         places = λ other on. let was : 24 ≤ (box_at boxes other).free = kept.places other on in let more = (alike up line boxes after looks other).free in omega (arith, was, more);
+        few = kept.few;
       }
 
   -- what a take does since the look, it does since before

@@ -1,5 +1,5 @@
 -- What a stall does, and the stalls that an event forces, one more at a time.
-use Rattle.std.proofs.Common.{◌≡◌, ◌≢◌, ◌⊎◌, ℕ, suc, ◌+◌, ◌<◌, ◌≤◌, Bool, true, false, cond, eqb, Option, Some, None, List, [], ◌∷◌, ◌++◌, filter, length, map, set, refl, ap, sym, subst, ◌∙◌, inl, inr, arith, append_assoc, append-nil, length-set}
+use Rattle.std.proofs.Common.{◌≡◌, ◌⊎◌, ℕ, suc, ◌+◌, ◌<◌, ◌≤◌, Bool, true, false, cond, eqb, Option, Some, None, List, [], ◌∷◌, ◌++◌, filter, length, map, set, refl, ap, sym, subst, ◌∙◌, inl, inr, arith, append_assoc, append-nil, length-set}
 use Rattle.std.specs.Prelude.{option_to_list}
 use Rattle.std.proofs.lemmas.Bool.{cond_both}
 use Rattle.std.proofs.lemmas.Grind.{get_or-set_at}
@@ -12,7 +12,6 @@ use Rattle.xp_channel.specs.Table.{cell}
 use Rattle.xp_packets.specs.declared.packet.Packet.{Packet}
 use Rattle.xp_subs.specs.Tables.{Tables}
 use Rattle.xp_core.specs.declared.entry.Entry.{Entry}
-use Rattle.xp_core.specs.declared.event.What.{What}
 use Rattle.xp_core.specs.declared.event.What.TheVariants.{Stall}
 use Rattle.xp_core.specs.declared.output.Output.{Output}
 use Rattle.xp_core.specs.Acts.{Acts, IsPlain, told_of_fall}
@@ -26,10 +25,10 @@ use Rattle.xp_core.specs.Step.{Step}
 use Rattle.xp_core.specs.Table.{action_at, kind_of}
 use Rattle.xp_core.specs.Stalling.{told_of_stall}
 use Rattle.xp_core.specs.Told.{outputs_of, send_far}
-use Rattle.xp_core.specs.World.{Call, Line, World, call_numbered, call_on, far_end, off_line, state_at}
+use Rattle.xp_core.specs.World.{Call, Line, World, call_on, far_end, off_line, state_at}
 use Rattle.xp_core.proofs.InCall.{end_of, shown_on}
 use Rattle.xp_core.proofs.Sounds.{IsRight}
-use Rattle.xp_lock.specs.Forced.{IsDue, IsLowestDue, Stalls}
+use Rattle.xp_lock.specs.Forced.{IsLowestDue, Stalls}
 use Rattle.xp_lock.specs.Outgoing.{to_line}
 use Rattle.xp_lock.specs.Switch.{is_up}
 use Rattle.xp_lock.proofs.Calls.{AreClosed, HasBoth, all_come}

@@ -1,6 +1,6 @@
 -- Whom one event puts something out to: its line, the far end of the call that it is in, and a line that a new call is put
 -- to. After the event each call has both its lines among them, or none.
-use Rattle.std.proofs.Common.{◌≡◌, ◌≢◌, ◌⊎◌, ℕ, suc, ◌+◌, ◌<◌, ◌≤◌, Bool, true, false, cond, eqb, Option, Some, None, List, [], ◌∷◌, ◌++◌, All, filter, length, map, refl, ap, sym, subst, ◌∙◌, inl, inr, arith, length-append}
+use Rattle.std.proofs.Common.{◌≡◌, ◌⊎◌, ℕ, ◌<◌, ◌≤◌, Bool, true, false, eqb, Option, Some, None, List, [], ◌∷◌, ◌++◌, All, length, refl, ap, sym, subst, ◌∙◌, inl, inr, arith, length-append}
 use Rattle.std.specs.Prelude.{option_to_list}
 use Rattle.std.proofs.lemmas.Bool.{cases_eq, cond-false, cond-true, eq-eqb, ne_eqb}
 use Rattle.std.proofs.lemmas.List.Elements.{All-append, All-cons, All-from_recursion, All-map, All-nil, All-weaker}
@@ -21,7 +21,7 @@ use Rattle.xp_core.specs.declared.outcome.Outcome.TheVariants.{Plain, Put, Refus
 use Rattle.xp_core.specs.declared.output.Output.{Output}
 use Rattle.xp_core.specs.Acts.{Acts, Answers, CarriesAs, Confirms, IsAnswered, IsPlain, IsRequested, Requests, cancelled_told, closed, told_both, told_of_error, told_of_fall}
 use Rattle.xp_core.specs.Carried.{Carried, carried_by, line_at_end, turn_of_carried}
-use Rattle.xp_core.specs.Channel.{Ready, call_of}
+use Rattle.xp_core.specs.Channel.{Ready}
 use Rattle.xp_core.specs.Coupling.{AreCoupled}
 use Rattle.xp_core.specs.Outcomes.{taken_by}
 use Rattle.xp_core.specs.Segments.{is_past_limit}

@@ -68,8 +68,10 @@ module _ {A : Type 0} where
   LooksIf true line boxes after = LooksAt line boxes after
   LooksIf false line boxes after = after ≡ boxes
 
-  -- each line's outbox was given all that was put out to the line, and a line in service has places left
+  -- each line's outbox was given all that was put out to the line, and a line in service has places left; the history
+  -- is no longer than the journal may be
   pub record AreKept (subs : Tables) (history : List (Entry A)) (boxes : List (Putting (Outgoing A))) : Type 0 where
     pub count : length boxes ≡ line_count subs
     pub put : (line : ℕ) → line < length boxes → (box_at boxes line).put ≡ put_out_to line history
     pub places : (line : ℕ) → is_off (state_at (world_after subs history) line) ≡ false → PLACES_KEPT ≤ (box_at boxes line).free
+    pub few : length history ≤ subs.journal

@@ -1,5 +1,5 @@
 -- What the passes of a closed exchange tell, and which pass is missing.
-use Rattle.std.specs.Prelude.{◌≡◌, ℕ, zero, suc, ◌+◌, ◌<◌, ◌==◌, ◌||◌, not, Bool, true, false, List, [], ◌∷◌, All, filter, length}
+use Rattle.std.specs.Prelude.{◌≡◌, ℕ, zero, suc, ◌+◌, ◌<◌, ◌≤◌, ◌==◌, ◌||◌, not, Bool, true, false, List, [], ◌∷◌, All, filter, length, slice_index_or, take}
 use mathlib.Core.List.{IsPrefix}
 use Rattle.xp_subs.specs.Tables.{Tables}
 use Rattle.xp_core.specs.declared.entry.Entry.{Entry}
@@ -11,6 +11,12 @@ use Rattle.xp_lock.specs.Views.{StartsWith}
 pub record Closed (A : Type 0) : Type 0 where
   pub subs : Tables
   pub history : List (Entry A)
+  -- by line
+  pub taken : List ℕ
+
+-- how many outputs the pass of a line took: none of a line that there is not
+abbrev pub taken_by : List ℕ → ℕ → ℕ
+taken_by counts line = slice_index_or counts line 0
 
 module _ {A : Type 0} where
   -- what the line saw is a front of the history, its own entries there are those that it knows, and what it took is a
@@ -22,6 +28,18 @@ module _ {A : Type 0} where
 
   abbrev pub AreTold : List (Entry A) → List (Pass A) → Type 0
   AreTold history passes = All (IsTold history) passes
+
+  -- what the pass took is counted: it is the first so many outputs to its line along the history, each once
+  pub record IsCounted (book : Closed A) (pass : Pass A) : Type 0 where
+    pub count : taken_by book.taken pass.line ≡ length pass.taken
+    pub first : pass.taken ≡ take (taken_by book.taken pass.line) (put_out_to pass.line book.history)
+
+  abbrev pub AreCounted : Closed A → List (Pass A) → Type 0
+  AreCounted book passes = All (IsCounted book) passes
+
+  -- no line took more than was put out to it
+  abbrev pub AreWithin : List ℕ → List (Entry A) → Type 0
+  AreWithin counts history = (line : ℕ) → taken_by counts line ≤ length (put_out_to line history)
 
   -- what lines handed in: all but the stalls
   abbrev pub all_handed : List (Entry A) → List (Entry A)

@@ -22,11 +22,12 @@ pub struct Blanks<A: Allocator = Global> {
     pub(crate) sight: Sight<A>,
     pub(crate) boxes: Vec<Box<A>, A>,
     pub(crate) ends: Vec<TakeEnd<Outgoing<A>, A>, A>,
+    pub(crate) taken: Vec<u64, A>,
     pub(crate) lines: usize,
 }
 
 impl<A: Allocator> Model for Blanks<A> {
-    ghost use Rattle.std.specs.Prelude.{◌≡◌, ◌≤◌, [], All, length, map};
+    ghost use Rattle.std.specs.Prelude.{◌≡◌, ◌≤◌, [], All, length, map, replicate};
     ghost use Rattle.xp_subs.specs.Tables.{line_count};
     ghost use Rattle.xp_lock.specs.Opening.{Blank};
 
@@ -37,7 +38,7 @@ impl<A: Allocator> Model for Blanks<A> {
 
     ghost view = { λ b. record { subs = b.core.subs; word = b.word; queues = map (λ box. box.queue) b.boxes.items } };
 
-    ghost invariant = { λ b. (b.core.history ≡ []) × (b.sight ≡ record { word = b.word; knows = keeping 0 [] }) × AreKept b.core.subs [] b.boxes.items × (map (λ end. end.queue) b.ends.items ≡ map (λ box. box.queue) b.boxes.items) × All (λ end. end.taken ≡ []) b.ends.items × (b.lines ≡ line_count b.core.subs) × (line_count b.core.subs ≤ 512) × (length b.ends.items ≡ line_count b.core.subs) };
+    ghost invariant = { λ b. (b.core.history ≡ []) × (b.sight ≡ record { word = b.word; knows = keeping 0 [] }) × AreKept b.core.subs [] b.boxes.items × (map (λ end. end.queue) b.ends.items ≡ map (λ box. box.queue) b.boxes.items) × All (λ end. end.taken ≡ []) b.ends.items × (b.lines ≡ line_count b.core.subs) × (line_count b.core.subs ≤ 512) × (length b.ends.items ≡ line_count b.core.subs) × (b.taken.items ≡ replicate (line_count b.core.subs) 0) };
 }
 
 /// Makes what an exchange of these subscriptions is made of.
@@ -48,12 +49,14 @@ pub fn prepare<A: Allocator + Copy>(alloc: A, subs: Subs) -> Result<Blanks<A>, A
     let core = Core::new(alloc, subs)?;
     let (word, sight) = Word::new(alloc)?;
     let (boxes, ends) = outboxes(alloc, lines)?;
+    let taken = vec![in alloc; 0; lines]?;
     Ok(Blanks {
         core,
         word,
         sight,
         boxes,
         ends,
+        taken,
         lines,
     })
 }

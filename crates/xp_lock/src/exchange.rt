@@ -1,10 +1,10 @@
 //! The exchange that threads share.
 
-ghost use Rattle.std.specs.Prelude.{◌≡◌, [], ◌∷◌, ◌++◌, false, IfErr, IfNone, IfOk, IfSome, OnErr, length};
+ghost use Rattle.std.specs.Prelude.{◌≡◌, [], ◌∷◌, ◌++◌, false, IfErr, IfNone, IfOk, IfSome, OnErr, length, replicate};
 ghost use Rattle.xp_outbox.specs.Rule.{HeldAtSomeMoment, taker};
 ghost use Rattle.xp_subs.specs.Tables.{line_count};
 ghost use Rattle.xp_core.specs.Exchange.{IsReadable};
-ghost use Rattle.xp_lock.specs.Closing.{AreTold, HasAll, IsMissing, NoneTwice, all_handed, handed_together, mine_together};
+ghost use Rattle.xp_lock.specs.Closing.{AreCounted, AreTold, HasAll, IsMissing, NoneTwice, all_handed, handed_together, mine_together};
 ghost use Rattle.xp_lock.specs.Faults.{event_in};
 ghost use Rattle.xp_lock.specs.Handed.{is_stall};
 ghost use Rattle.xp_lock.specs.Passes.{Freshens, IsLegal};
@@ -29,28 +29,37 @@ pub struct Exchange<N: Name, A: Allocator = Global> {
     lock: Mutex<Keeper<N, A>>,
     word: Word<A>,
     lines: LineNo,
+    /// Room to count, at the end, what each line took: closing takes no memory.
+    taken: Vec<u64, A>,
 }
 
 impl<N: Name, A: Allocator> Model for Exchange<N, A> {
-    ghost use Rattle.std.specs.Prelude.{◌≡◌, ℕ};
+    ghost use Rattle.std.specs.Prelude.{◌≡◌, ℕ, replicate};
     ghost use Rattle.xp_subs.specs.Tables.{line_count};
 
     ghost Value = { ℕ };
 
     ghost view = { λ _. 0 };
 
-    ghost invariant = { λ x. (x.word ≡ N.word) × (x.lines ≡ line_count N.subs) };
+    ghost invariant = { λ x. (x.word ≡ N.word) × (x.lines ≡ line_count N.subs) × (x.taken.items ≡ replicate (line_count N.subs) 0) };
 }
 
 impl<N: Name, A: Allocator + Copy> Exchange<N, A> {
-    pub(crate) fn new(keeper: Keeper<N, A>, word: Word<A>, lines: LineNo) -> Exchange<N, A>
+    pub(crate) fn new(
+        keeper: Keeper<N, A>,
+        word: Word<A>,
+        lines: LineNo,
+        taken: Vec<u64, A>,
+    ) -> Exchange<N, A>
         requires word { word ≡ N.word }
         requires lines { lines ≡ line_count N.subs }
+        requires taken { taken.items ≡ replicate (line_count N.subs) 0 }
     {
         Exchange {
             lock: Mutex::new(keeper),
             word,
             lines,
+            taken,
         }
     }
 
@@ -94,7 +103,8 @@ impl<N: Name, A: Allocator + Copy> Exchange<N, A> {
         self.lock.lock(rt).is_halted()
     }
 
-    /// Closes the exchange, where all passes are here: each line's own entries are those that its one pass knows.
+    /// Closes the exchange, where all passes are here: each line's own entries are those that its one pass knows, and
+    /// what the pass took is the first so many outputs to the line as the book tells.
     ///
     /// # Errors
     ///
@@ -109,6 +119,7 @@ impl<N: Name, A: Allocator + Copy> Exchange<N, A> {
         ensures subs { IfOk result (λ book. book.subs ≡ N.subs) }
         ensures legal { IfOk result (λ book. IsLegal book.subs book.history) }
         ensures told { IfOk result (λ book. AreTold book.history passes.items) }
+        ensures taken { IfOk result (λ book. AreCounted book passes.items) }
         ensures counted { IfOk result (λ book. length (all_handed book.history) ≡ handed_together (line_count N.subs) book.history) }
         ensures together { IfOk result (λ book. length (all_handed book.history) ≡ mine_together passes.items) }
         ensures missing { IfErr result (λ fault. IsMissing (line_count N.subs) passes.items fault.line) }
@@ -125,8 +136,9 @@ impl<N: Name, A: Allocator + Copy> Exchange<N, A> {
             lock,
             word,
             lines: _,
+            taken,
         } = self;
-        let book = lock.into_inner().close(rt, &word, passes);
+        let book = lock.into_inner().close(rt, &word, passes, taken);
         let _legal = book.history();
         Ok(book)
     }

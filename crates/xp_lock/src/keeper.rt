@@ -1,11 +1,11 @@
 //! What lies under the lock.
 
-ghost use Rattle.std.specs.Prelude.{◌≡◌, ◌<◌, ◌∷◌, false, true, IfOk, IfErr, OnErr, OnOk, length, map};
+ghost use Rattle.std.specs.Prelude.{◌≡◌, ◌<◌, ◌^◌, ◌∷◌, false, true, IfOk, IfErr, OnErr, OnOk, length, map, replicate};
 ghost use mathlib.Core.List.{IsPrefix};
 ghost use Rattle.xp_subs.specs.Tables.{line_count};
 ghost use Rattle.xp_core.specs.Exchange.{IsReadable};
 ghost use Rattle.xp_lock.specs.Boxes.{box_at};
-ghost use Rattle.xp_lock.specs.Closing.{AreTold, NoneTwice};
+ghost use Rattle.xp_lock.specs.Closing.{AreCounted, AreTold, NoneTwice};
 ghost use Rattle.xp_lock.specs.Given.{is_among};
 ghost use Rattle.xp_lock.specs.Handed.{handed, is_stall};
 ghost use Rattle.xp_lock.specs.Passes.{Freshens, mine};
@@ -96,12 +96,21 @@ impl<N: Name, A: Allocator + Copy> Keeper<N, A> {
         Ok(done)
     }
 
-    /// Compares what each pass has seen and taken with the history. They are of different lines.
-    pub fn close<R: Wait>(self, rt: &R, word: &Word<A>, passes: Vec<LinePass<N, A>, A>) -> Book<A>
+    /// Compares what each pass has seen and taken with the history, and counts what it took. They are of different
+    /// lines. The counts of the lines are given as zeros.
+    pub fn close<R: Wait>(
+        self,
+        rt: &R,
+        word: &Word<A>,
+        passes: Vec<LinePass<N, A>, A>,
+        zeros: Vec<u64, A>,
+    ) -> Book<A>
         requires word { word.now ≡ N.word }
+        requires zeros { zeros.items ≡ replicate (line_count N.subs) 0 }
         ensures subs { result.subs ≡ N.subs }
         ensures history { result.history ≡ self.history }
         ensures told { AreTold result.history passes.items }
+        ensures taken { AreCounted result passes.items }
         ensures once { NoneTwice passes.items }
     {
         let Keeper {
@@ -112,10 +121,14 @@ impl<N: Name, A: Allocator + Copy> Keeper<N, A> {
         let (core, boxes) = switch.into_parts();
         let mut sight = sight;
         let mut boxes = boxes;
+        let mut taken = zeros;
+        let _entries = core.history();
+        let _most = core.subs().journal();
         for pass in passes {
-            hear(rt, word, &mut sight, &mut boxes, pass);
+            let at = pass.line as usize;
+            taken[at] = hear(rt, word, &mut sight, &mut boxes, pass);
         }
-        Book::new(core)
+        Book::new(core, taken)
     }
 
     /// Refuses every later event.
@@ -133,14 +146,15 @@ impl<N: Name, A: Allocator + Copy> Keeper<N, A> {
     }
 }
 
-/// Compares what a pass has seen with the history, and what it has taken with what was put into its outbox.
+/// Compares what a pass has seen with the history, and what it has taken with what was put into its outbox: how many
+/// items it took.
 fn hear<N: Name, A: Allocator, R: Wait>(
     rt: &R,
     word: &Word<A>,
     keeper: &mut Sight<A>,
     boxes: &mut Vec<Box<A>, A>,
     pass: LinePass<N, A>,
-)
+) -> u64
     requires word { (word.now ≡ N.word) × (keeper.old.word ≡ N.word) }
     requires keeper { keeper.old.knows ≡ closing keeper.old.knows.next keeper.old.knows.all keeper.old.knows.returned }
     requires boxes { map (λ b. b.queue) boxes.old.items ≡ N.queues }
@@ -151,15 +165,18 @@ fn hear<N: Name, A: Allocator, R: Wait>(
     ensures own { handed pass.line keeper.old.knows.all ≡ mine pass }
     ensures there { pass.line < length boxes.old.items }
     ensures taken { IsPrefix pass.taken (box_at boxes.old.items pass.line).put }
+    ensures count { length pass.taken < 2 ^ 64 → result ≡ length pass.taken }
 {
     let LinePass {
         line,
         sight,
         outbox,
+        count,
         name: _,
     } = pass;
     word.compare(keeper, sight);
     let at = line as usize;
     let end = &mut boxes[at];
     settle(rt, end, outbox);
+    count
 }

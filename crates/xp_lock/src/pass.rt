@@ -1,7 +1,8 @@
 //! The pass of a line: who has it speaks for the line.
 
-ghost use Rattle.std.specs.Prelude.{◌≡◌, ◌++◌, ◌∷◌, [], IfNone, IfSome};
+ghost use Rattle.std.specs.Prelude.{◌≡◌, ◌<◌, ◌++◌, ◌∷◌, [], IfNone, IfSome};
 ghost use Rattle.xp_outbox.specs.Rule.{HeldAtSomeMoment, taker};
+ghost use Rattle.xp_subs.specs.Tables.{line_count};
 
 use crate::name::Name;
 use crate::word::Sight;
@@ -18,11 +19,13 @@ pub struct LinePass<N: Name, A: Allocator = Global> {
     pub(crate) line: LineNo,
     pub(crate) sight: Sight<A>,
     pub(crate) outbox: TakeEnd<Outgoing<A>, A>,
+    /// How many outputs it took, as far as the number reaches: a journal's outputs to a line are fewer.
+    pub(crate) count: u64,
     pub(crate) name: PhantomData<N>,
 }
 
 impl<N: Name, A: Allocator> Model for LinePass<N, A> {
-    ghost use Rattle.std.specs.Prelude.{◌≡◌, ◌<◌, Some, slice_get};
+    ghost use Rattle.std.specs.Prelude.{◌≡◌, ◌-◌, ◌<◌, ◌^◌, Some, length, min, slice_get};
     ghost use Rattle.xp_subs.specs.Tables.{line_count};
     ghost use Rattle.xp_lock.specs.Passes.{Pass};
 
@@ -32,13 +35,14 @@ impl<N: Name, A: Allocator> Model for LinePass<N, A> {
 
     ghost view = { λ p. record { line = p.line; seen = p.sight.knows.seen; taken = p.outbox.taken } };
 
-    ghost invariant = { λ p. (p.sight.word ≡ N.word) × (p.sight.knows ≡ claiming p.line p.sight.knows.seen) × (p.line < line_count N.subs) × (slice_get N.queues p.line ≡ Some p.outbox.queue) };
+    ghost invariant = { λ p. (p.sight.word ≡ N.word) × (p.sight.knows ≡ claiming p.line p.sight.knows.seen) × (p.line < line_count N.subs) × (slice_get N.queues p.line ≡ Some p.outbox.queue) × (p.count ≡ min (length p.outbox.taken) (2 ^ 64 - 1)) };
 }
 
 impl<N: Name, A: Allocator> LinePass<N, A> {
-    /// The line.
+    /// The line, one of the subscriptions'.
     pub fn line(&self) -> LineNo
-        ensures { result ≡ self.now.line }
+        ensures line { result ≡ self.now.line }
+        ensures within { result < line_count N.subs }
     {
         self.line
     }
@@ -49,6 +53,8 @@ impl<N: Name, A: Allocator> LinePass<N, A> {
         ensures none { IfNone result (self.new ≡ self.old) }
         ensures empty { IfNone result (HeldAtSomeMoment (taker self.old.taken) 0) }
     {
-        self.outbox.take(rt)
+        let item = self.outbox.take(rt)?;
+        self.count = self.count.saturating_add(1);
+        Some(item)
     }
 }

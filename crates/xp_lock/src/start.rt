@@ -35,12 +35,13 @@ impl<N: Name, A: Allocator + Copy> Exchange<N, A> {
             sight,
             boxes,
             ends,
+            taken,
             lines,
         } = blanks;
         let mut sight = sight;
         let passes = first_passes(alloc, &word, &mut sight, ends)?;
         let keeper = Keeper::new(Switch::new(core, boxes), sight);
-        Ok((Exchange::new(keeper, word, lines as LineNo), passes))
+        Ok((Exchange::new(keeper, word, lines as LineNo, taken), passes))
     }
 }
 
@@ -68,6 +69,7 @@ fn first_passes<N: Name, A: Allocator>(
             line,
             sight,
             outbox,
+            count: 0,
             name: PhantomData,
         })?;
     }

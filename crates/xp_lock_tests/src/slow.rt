@@ -32,6 +32,10 @@ struct Seen {
     /// The number of the last entry that is a stall, and how many there are.
     stall: Option<u64>,
     stalls: usize,
+    /// How many outputs the closed book counts as taken by a1 and by b1.
+    taken: (u64, u64),
+    /// The segments of the first record, from the caller and from the called line.
+    segments: Option<(u32, u32)>,
 }
 
 /// Takes all outputs of the pass's line: how many there were, and the last.
@@ -148,13 +152,18 @@ fn plays<N: Name>(
     let (stall, count) = stalls(&book);
     seen.stall = stall;
     seen.stalls = count;
+    seen.taken = (book.taken(0), book.taken(1));
+    if let Some(ended) = book.records().first() {
+        seen.segments = Some((ended.from_caller, ended.from_called));
+    }
     Ok(Some(seen))
 }
 
 #[test]
 fn slow_line_is_stalled(rt: HostRuntime) -> Result<(), Fail> {
     let blanks = prepare(rt.alloc(), Subs::read(rt.alloc(), THREE_STATIONS)?)?;
-    // two connections, the call and its answer, forty packets with thirty-nine acknowledgements between them
+    // two connections, the call and its answer, forty packets with thirty-nine acknowledgements between them; a1 takes the
+    // answer, these acknowledgements and the clear indication, b1 the call, the packets and what closes its connection
     assert_eq!(rt;
         plays::<Brand>(&rt, rt.alloc(), blanks, false)?,
         Some(Seen {
@@ -166,6 +175,8 @@ fn slow_line_is_stalled(rt: HostRuntime) -> Result<(), Fail> {
             came_up: true,
             stall: Some(84),
             stalls: 1,
+            taken: (41, 42),
+            segments: Some((40, 0)),
         })
     );
     Ok(())
@@ -185,6 +196,8 @@ fn line_that_takes_at_once_is_not_stalled(rt: HostRuntime) -> Result<(), Fail> {
             came_up: true,
             stall: None,
             stalls: 0,
+            taken: (41, 41),
+            segments: None,
         })
     );
     Ok(())

@@ -1,4 +1,5 @@
-use Rattle.std.proofs.Common.{ap, subst, sym, ◌∙◌, ◌≤◌}
+use Rattle.std.proofs.Common.{ap, rules, subst, sym, ◌≡◌, ◌∙◌, ◌≤◌}
+use Rattle.std.specs.Prelude.{replicate}
 use Rattle.xp_subs.specs.Tables.{line_count}
 use Rattle.xp_lock.specs.Opening.{AreNew}
 use Rattle.xp_lock.proofs.Opened.{new_kept}
@@ -8,6 +9,7 @@ pub invariant_of-result : goal.invariant_of-result
 invariant_of-result g c =
     let subs = ap (λ e. e.subs) c.in_ok-core.ensures in
     let lines = c.counts-lines.ensures.lines ∙ ap line_count (sym subs) in
+    let zeros : c.in_ok-taken.taken.items ≡ replicate c.counts-lines.result.lines 0 = search rules in
     let boxes = c.in_ok-boxes.boxes.items in
     let ends = c.in_ok-boxes.ends.items in
     let new = subst (λ n. AreNew n boxes ends) lines c.in_ok-boxes.ensures in (
@@ -19,4 +21,5 @@ invariant_of-result g c =
       lines,
       subst (λ t. line_count t ≤ 512) (sym subs) c.counts-lines.ensures.sound.few_lines,
       new.end_count,
+      zeros ∙ ap (λ n. replicate n 0) lines,
     )

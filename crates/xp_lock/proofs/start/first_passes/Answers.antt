@@ -1,6 +1,6 @@
-use Rattle.std.proofs.Common.{◌≡◌, ◌+◌, suc, [], ◌∷◌, ap, arith, drop, length, length-append, map, subst, sym, ◌∙◌}
+use Rattle.std.proofs.Common.{◌≡◌, ◌+◌, ◌-◌, ◌^◌, suc, List, [], ◌∷◌, ap, arith, drop, length, length-append, map, subst, sym, ◌∙◌}
 use Rattle.std.proofs.lemmas.List.Elements.{All-head, All-tail}
-use Rattle.std.specs.Prelude.{All, Some, slice_get}
+use Rattle.std.specs.Prelude.{All, Some, min, slice_get}
 use Rattle.std.specs.Vec.Iter.{into_iter_items}
 use Rattle.xp_outbox.specs.Ends.{Taking}
 use Rattle.xp_core.specs.declared.output.Outgoing.{Outgoing}
@@ -22,11 +22,13 @@ invariant_of-push g c =
     let knows = ap (λ s. s.knows) claim ∙ ap (λ k. next_claim k.knows) was.keeper ∙ ap (λ m. claiming m []) (sym same) in
     let left = ap length items in
     let all = was.count in
-    let queues = g.N.Name.queues in (
+    let queues = g.N.Name.queues in
+    let Empty : Taking (Outgoing _) → Type 0 = λ end. end.taken ≡ [] in (
       ap (λ s. s.word) claim ∙ c.requires.word,
       knows ∙ ap (claiming line) (sym (ap (λ v. v.seen) knows)),
       omega (arith, left, all, same),
       subst (λ m. slice_get queues m ≡ Some c.in-Some.outbox.queue) (sym same) (at_front queues n c.in-Some.outbox.queue _ (sym was.queues ∙ ap (map (λ end. end.queue)) items)),
+      sym (ap (λ (taken : List (Outgoing _)). min (length taken) (2 ^ 64 - 1)) (All-head Empty c.in-Some.outbox _ (subst (All Empty) items was.taken))),
     )
 
 pub loop-outbox-preserved : goal.loop-outbox-preserved

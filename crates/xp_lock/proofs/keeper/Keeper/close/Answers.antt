@@ -1,14 +1,16 @@
-use Rattle.std.proofs.Common.{◌≡◌, ◌<◌, ap, arith, length, map, refl, subst, sym, ◌∙◌}
-use Rattle.std.proofs.lemmas.List.{nil_from_length}
+use Rattle.std.proofs.Common.{◌≡◌, ℕ, ◌∷◌, ◌^◌, ◌<◌, ◌≤◌, ap, arith, length, map, refl, set, subst, sym, ◌∙◌}
+use Rattle.std.proofs.lemmas.List.{length-replicate, length-set, nil_from_length}
 use Rattle.std.proofs.lemmas.List.Elements.{All-cons, All-nil}
 use Rattle.std.specs.Vec.Iter.{into_iter_items}
 use mathlib.Core.List.{IsPrefix}
 use Rattle.xp_lock.specs.Boxes.{box_at}
-use Rattle.xp_lock.specs.Closing.{AreTold, IsTold}
+use Rattle.xp_lock.specs.Closing.{AreTold, AreWithin, IsTold}
 use Rattle.xp_lock.specs.Handed.{handed}
 use Rattle.xp_lock.specs.Outgoing.{put_out_to}
 use Rattle.xp_lock.specs.Views.{StartsWith}
+use Rattle.xp_subs.specs.Tables.{line_count}
 use Rattle.xp_lock.proofs.Returned.{ComeOnce, keeps_all, keeps_first, keeps_on, none_twice}
+use Rattle.xp_lock.proofs.Taken.{Agree, AreNoted, IsNoted, agree_before, can_count, counted_all, few_taken, none_within, noted_here, one_within}
 use Rattle.xp_lock.proofs.keeper.Keeper.close.Goals as goal
 
 pub hear-requires-clause-word : goal.hear-requires-clause-word
@@ -32,6 +34,9 @@ loop-pass-init g c =
       boxes = refl;
       told = λ told. subst (AreTold c.args.self.history) gives.0 told;
       once = λ come. subst (λ returned. ComeOnce returned c.args.passes.items) (ap (λ v. v.returned) c.self.invariant.1) (subst (ComeOnce c.self.inside.sight.knows.returned) gives.0 come);
+      lines = refl;
+      within = subst (λ counts. AreWithin counts c.args.self.history) (sym c.requires.zeros) (none_within (line_count g.N.Name.subs) c.args.self.history);
+      noted = λ later agree noted. subst (AreNoted later) gives.0 noted;
     }
 
 pub loop-pass-preserved : goal.loop-pass-preserved
@@ -53,6 +58,29 @@ loop-pass-preserved g c =
       own = ap (handed pass.line) (sym all) ∙ c.hear.ensures.own;
       taken = subst (IsPrefix pass.taken) put c.hear.ensures.taken;
     } in
+    let returned = c.loop-pass.sight.knows.returned in
+    let counts = c.loop-pass.taken.items in
+    let on = ap (λ s. s.knows.returned) c.hear.ensures.keeper in
+    let line : c.pass.inside.line ≡ pass.line = ap (λ p. p.line) c.pass.view_is in
+    let placed : pass.line < length counts =
+    let within = c.pass.invariant.2 in
+    let lines = was.lines in
+    let zeros = ap length c.requires.zeros ∙ length-replicate {A = ℕ} (line_count g.N.Name.subs) 0 in
+    omega (arith, line, within, lines, zeros) in
+    let core = c.into_parts-core.result.0 in
+    let same = c.into_parts-core.ensures.history ∙ ap (λ s. s.history) c.self.view_is in
+    let few : length core.history ≤ core.subs.journal =
+    let kept = c.into_parts-core.ensures.kept.few in
+    let long = ap length c.into_parts-core.ensures.history in
+    let limit = ap (λ t. t.journal) c.into_parts-core.ensures.subs in
+    omega (arith, kept, long, limit) in
+    let most : core.subs.journal < 2 ^ 32 =
+    let told = c.journal-most.ensures in
+    let of = ap (λ t. t.journal) c.subs.ensures in
+    omega (arith, told, of) in
+    let exact : c.hear.result ≡ length pass.taken = c.hear.ensures.count
+    (can_count core.subs core.history _ pass c.history-entries.ensures.run few most (subst (λ h. IsPrefix pass.taken (put_out_to pass.line h)) (sym same) one.taken)) in
+    let put_in : set counts c.pass.inside.line c.hear.result ≡ set counts pass.line (length pass.taken) = λ i. set counts (line i) (exact i) in
     record {
       can_next = tt;
       is_finite = tt;
@@ -60,7 +88,15 @@ loop-pass-preserved g c =
       sight = keeps_on c.self.inside.sight c.loop-pass.sight c.hear.new.keeper pass.line was.sight c.hear.ensures.keeper;
       boxes = c.hear.ensures.boxes ∙ was.boxes;
       told = λ told. was.told (subst (AreTold history) (sym items) (All-cons (IsTold history) pass rest one told));
-      once = λ come. was.once (subst (ComeOnce c.loop-pass.sight.knows.returned) (sym items) (c.hear.ensures.once, subst (λ returned. ComeOnce returned rest) (ap (λ s. s.knows.returned) c.hear.ensures.keeper) come));
+      once = λ come. was.once (subst (ComeOnce c.loop-pass.sight.knows.returned) (sym items) (c.hear.ensures.once, subst (λ returned. ComeOnce returned rest) on come));
+      lines = length-set counts c.pass.inside.line c.hear.result ∙ was.lines;
+      within = subst (λ counted. AreWithin counted history) (sym put_in)
+          (one_within counts history pass.line (length pass.taken) was.within placed (few_taken history pass one.taken));
+      noted = λ later agree noted.
+          let agrees : Agree (pass.line ∷ returned) (set counts pass.line (length pass.taken)) later =
+          subst (λ counted. Agree (pass.line ∷ returned) counted later) put_in (subst (λ lines. Agree lines (set counts c.pass.inside.line c.hear.result) later) on agree) in
+          was.noted later (agree_before returned counts later pass.line (length pass.taken) c.hear.ensures.once agrees)
+          (subst (AreNoted later) (sym items) (All-cons (IsNoted later) pass rest (noted_here returned counts later pass.line (length pass.taken) placed agrees) noted));
     }
 
 pub returns-clause-told : goal.returns-clause-told
@@ -76,3 +112,26 @@ returns-clause-once g c =
     let was = c.loop-pass.invariant in
     let none = nil_from_length (into_iter_items c.loop-pass.pass-iterator) (was.many ∙ c.in-None.ensures.steps.0) in
     none_twice c.args.passes.items (was.once (subst (ComeOnce c.loop-pass.sight.knows.returned) (sym none) tt))
+
+pub index_mut-requires : goal.index_mut-requires
+index_mut-requires g c =
+    let within = c.pass.invariant.2 in
+    let lines = c.loop-pass.invariant.lines in
+    let zeros = ap length c.requires.zeros ∙ length-replicate {A = ℕ} (line_count g.N.Name.subs) 0 in
+    omega (arith, within, lines, zeros, c.loop-pass.taken.ok.0)
+
+pub new-requires : goal.new-requires
+new-requires g c =
+    subst (AreWithin c.loop-pass.taken.items) (sym (c.into_parts-core.ensures.history ∙ ap (λ s. s.history) c.self.view_is)) c.loop-pass.invariant.within
+
+pub returns-clause-taken : goal.returns-clause-taken
+returns-clause-taken g c =
+    let was = c.loop-pass.invariant in
+    let history = c.args.self.history in
+    let passes = c.args.passes.items in
+    let counts = c.loop-pass.taken.items in
+    let none = nil_from_length (into_iter_items c.loop-pass.pass-iterator) (was.many ∙ c.in-None.ensures.steps.0) in
+    let book = ap (λ b. b.history) c.new.ensures ∙ c.into_parts-core.ensures.history ∙ ap (λ s. s.history) c.self.view_is in
+    let told = subst (λ h. AreTold h passes) (sym book) (was.told (subst (AreTold history) (sym none) (All-nil (IsTold history)))) in
+    let noted = was.noted counts (λ line there. refl) (subst (AreNoted counts) (sym none) (All-nil (IsNoted counts))) in
+    counted_all c.new.result passes told (subst (λ counted. AreNoted counted passes) (sym (ap (λ b. b.taken) c.new.ensures)) noted)

@@ -1,7 +1,8 @@
-use Rattle.std.proofs.Common.{◌≡◌, [], length}
+use Rattle.std.proofs.Common.{◌≡◌, [], List, ℕ, length}
 use Rattle.std.specs.Vec.Iter.{into_iter_items, into_iter_len}
-use Rattle.xp_lock.specs.Closing.{AreTold}
+use Rattle.xp_lock.specs.Closing.{AreTold, AreWithin}
 use Rattle.xp_lock.proofs.Returned.{ComeOnce, Keeps}
+use Rattle.xp_lock.proofs.Taken.{Agree, AreNoted}
 use Rattle.xp_lock.proofs.keeper.Keeper.close.Given as goal
 
 abbrev pub invariant-loop-pass : goal.invariant-loop-pass
@@ -13,4 +14,7 @@ invariant-loop-pass g l = record {
   boxes : l.boxes.items ≡ l.initial.boxes.items;
   told : AreTold l.fn.self.history (into_iter_items l.pass-iterator) → AreTold l.fn.self.history l.fn.passes.items;
   once : ComeOnce l.sight.knows.returned (into_iter_items l.pass-iterator) → ComeOnce [] l.fn.passes.items;
+  lines : length l.taken.items ≡ length l.initial.taken.items;
+  within : AreWithin l.taken.items l.fn.self.history;
+  noted : (later : List ℕ) → Agree l.sight.knows.returned l.taken.items later → AreNoted later (into_iter_items l.pass-iterator) → AreNoted later l.fn.passes.items;
 }

@@ -1,0 +1,150 @@
+-- What the passes of a closed exchange took, and how it is counted.
+use Rattle.std.proofs.Common.{◌≡◌, ℕ, ◌+◌, ◌-◌, ◌*◌, ◌^◌, ◌<◌, ◌≤◌, Bool, true, false, true≢false, eqb, List, [], ◌∷◌, ◌++◌, All, length, set, refl, sym, ap, ◌∙◌, inl, inr, arith, eq-eqb, length-append}
+use Rattle.std.proofs.Math.Nat.{min-eq_left, min-eq_right}
+use Rattle.std.proofs.Math.Seq.{take-append_seam}
+use Rattle.std.proofs.lemmas.Bool.{cases_eq, cases_lt}
+use Rattle.std.proofs.lemmas.Grind.{flat_map-append}
+use Rattle.std.proofs.lemmas.List.{get_or-replicate, get_or-set_other, get_or-set_same, get_or_past, length-replicate}
+use Rattle.std.proofs.lemmas.List.Elements.{All-append, All-cons, All-head, All-nil, All-tail}
+use Rattle.std.specs.Prelude.{◌||◌, min, replicate, take}
+use mathlib.Core.List.{IsPrefix}
+use Rattle.xp_charge.specs.Lines.{HasLines as NamesLines}
+use Rattle.xp_subs.specs.Tables.{Tables, line_count}
+use Rattle.xp_core.specs.declared.entry.Entry.{Entry}
+use Rattle.xp_core.specs.Few.{AreFew}
+use Rattle.xp_core.specs.Lines.{HasLines}
+use Rattle.xp_core.specs.Records.{records_of}
+use Rattle.xp_core.specs.Run.{Run}
+use Rattle.xp_core.specs.Step.{Step}
+use Rattle.xp_core.specs.World.{World, opening}
+use Rattle.xp_core.proofs.Agreed.{run_agreed}
+use Rattle.xp_core.proofs.Few.{few_of_step}
+use Rattle.xp_core.proofs.RunLemmas.{run_keeps, run_push}
+use Rattle.xp_lock.specs.Closing.{AreCounted, AreTold, AreWithin, Closed, IsCounted, IsTold, taken_by}
+use Rattle.xp_lock.specs.Given.{is_among}
+use Rattle.xp_lock.specs.Outgoing.{put_out_to, to_line}
+use Rattle.xp_lock.specs.Passes.{Pass}
+
+-- ---- a number that counts as far as it reaches
+
+pub count_more : (items count more : ℕ) → count ≡ min items (2 ^ 64 - 1) → more ≡ min (count + 1) (2 ^ 64 - 1) → more ≡ min (items + 1) (2 ^ 64 - 1)
+count_more items count more was is = elim (cases_lt items (2 ^ 64 - 1)) [
+  | inl below ↦ is ∙ ap (λ n. min (n + 1) (2 ^ 64 - 1)) (was ∙ min-eq_left (omega (arith, below)))
+  | inr past ↦
+      let full : count ≡ 2 ^ 64 - 1 = was ∙ min-eq_right (omega (arith, past)) in
+      is ∙ min-eq_right (omega (arith, full)) ∙ sym (min-eq_right (omega (arith, past)))
+]
+
+pub count_exact : (items count : ℕ) → count ≡ min items (2 ^ 64 - 1) → items < 2 ^ 64 → count ≡ items
+count_exact items count was few = was ∙ min-eq_left (omega (arith, few))
+
+-- ---- how much is put out to a line
+
+module _ {A : Type 0} where
+  few_more : (line : ℕ) (history : List (Entry A)) (entry : Entry A) → AreFew entry.outputs
+      → length (put_out_to line history) ≤ 17 * length history → length (put_out_to line (history ++ entry ∷ [])) ≤ 17 * length (history ++ entry ∷ [])
+  few_more line history entry few was =
+      let items = to_line line entry.outputs in
+      let grown = ap length (flat_map-append (λ (e : Entry A). to_line line e.outputs) history (entry ∷ [])) in
+      let all = length-append (put_out_to line history) (items ++ []) in
+      let last = length-append items [] in
+      let one : length items ≤ 17 = few line in
+      let longer = length-append history (entry ∷ []) in
+      omega (arith, was, grown, all, last, one, longer)
+
+  pub few_put : (tables : Tables) (history : List (Entry A)) (world : World) → Run tables history world → (line : ℕ) → length (put_out_to line history) ≤ 17 * length history
+  few_put tables history world run line =
+      let first = opening (line_count tables) in
+      let P : List (Entry A) → World → Type 0 = λ before w. Run tables before w × (length (put_out_to line before) ≤ 17 * length before) in
+      let kept : (before : List (Entry A)) (w : World) (entry : Entry A) (next : World) → P before w → Step tables before w entry next → P (before ++ entry ∷ []) next =
+      λ before w entry next h step.
+      (run_push tables [] first before w entry next h.0 step, few_more line before entry (few_of_step tables before w entry next (run_agreed tables before w h.0) step) h.1)
+      in
+      (run_keeps P tables kept [] first history world (refl, omega arith) run).1
+
+  -- what a pass took is no more than was put out to its line
+  pub few_taken : (history : List (Entry A)) (pass : Pass A) → IsPrefix pass.taken (put_out_to pass.line history) → length pass.taken ≤ length (put_out_to pass.line history)
+  few_taken history pass front =
+      let all = ap length front.1 in
+      let joined = length-append pass.taken front.0 in
+      omega (arith, all, joined)
+
+  -- so a number holds the count
+  pub can_count : (tables : Tables) (history : List (Entry A)) (world : World) (pass : Pass A) → Run tables history world → length history ≤ tables.journal → tables.journal < 2 ^ 32
+      → IsPrefix pass.taken (put_out_to pass.line history) → length pass.taken < 2 ^ 64
+  can_count tables history world pass run few most front =
+      let taken = few_taken history pass front in
+      let put = few_put tables history world run pass.line in
+      omega (arith, taken, put, few, most)
+
+-- ---- the counts by line
+
+or_right : (b : Bool) → (b || true) ≡ true
+or_right true = refl
+or_right false = refl
+
+-- these later counts are the same for these lines
+abbrev pub Agree : List ℕ → List ℕ → List ℕ → Type 0
+Agree lines counts later = (line : ℕ) → is_among line lines ≡ true → taken_by later line ≡ taken_by counts line
+
+pub agree_before : (lines counts later : List ℕ) (line n : ℕ) → is_among line lines ≡ false → Agree (line ∷ lines) (set counts line n) later → Agree lines counts later
+agree_before lines counts later line n out agree other there =
+    agree other (ap (λ b. eqb line other || b) there ∙ or_right (eqb line other))
+    ∙ get_or-set_other counts line other n 0 (λ same. true≢false (sym there ∙ ap (λ l. is_among l lines) same ∙ out))
+
+pub noted_here : (lines counts later : List ℕ) (line n : ℕ) → line < length counts → Agree (line ∷ lines) (set counts line n) later → taken_by later line ≡ n
+noted_here lines counts later line n within agree =
+    agree line (ap (λ b. b || is_among line lines) (eq-eqb line line refl)) ∙ get_or-set_same counts line n 0 within
+
+none_taken : (lines line : ℕ) → taken_by (replicate lines 0) line ≡ 0
+none_taken lines line = elim (cases_lt line lines) [
+  | inl within ↦ get_or-replicate lines line 0 0 within
+  | inr past ↦ get_or_past (replicate lines 0) line 0 (omega (arith, past, length-replicate {A = ℕ} lines 0))
+]
+
+module _ {A : Type 0} where
+  pub none_within : (lines : ℕ) (history : List (Entry A)) → AreWithin (replicate lines 0) history
+  none_within lines history line = let none = none_taken lines line in omega (arith, none)
+
+  pub one_within : (counts : List ℕ) (history : List (Entry A)) (line n : ℕ) → AreWithin counts history → line < length counts → n ≤ length (put_out_to line history)
+      → AreWithin (set counts line n) history
+  one_within counts history line n was there few other = elim (cases_eq other line) [
+    | inl same ↦
+        let here = ap (taken_by (set counts line n)) same ∙ get_or-set_same counts line n 0 there in
+        let put = ap (λ l. length (put_out_to l history)) same in
+        omega (arith, here, put, few)
+    | inr apart ↦
+        let here = get_or-set_other counts line other n 0 apart in
+        let before = was other in
+        omega (arith, here, before)
+  ]
+
+  -- ---- what the passes took
+
+  abbrev pub IsNoted : List ℕ → Pass A → Type 0
+  IsNoted counts pass = taken_by counts pass.line ≡ length pass.taken
+
+  abbrev pub AreNoted : List ℕ → List (Pass A) → Type 0
+  AreNoted counts passes = All (IsNoted counts) passes
+
+  counted_one : (book : Closed A) (pass : Pass A) → IsTold book.history pass → IsNoted book.taken pass → IsCounted book pass
+  counted_one book pass told count = record {
+    count = count;
+    first = sym (take-append_seam pass.taken told.taken.0) ∙ ap (λ n. take n (pass.taken ++ told.taken.0)) (sym count)
+        ∙ ap (λ xs. take (taken_by book.taken pass.line) xs) told.taken.1;
+  }
+
+  pub counted_all : (book : Closed A) (passes : List (Pass A)) → AreTold book.history passes → AreNoted book.taken passes → AreCounted book passes
+  counted_all book [] told noted = All-nil (IsCounted book)
+  counted_all book (pass ∷ passes) told noted =
+      All-cons (IsCounted book) pass passes
+      (counted_one book pass (All-head (IsTold book.history) pass passes told) (All-head (IsNoted book.taken) pass passes noted))
+      (counted_all book passes (All-tail (IsTold book.history) pass passes told) (All-tail (IsNoted book.taken) pass passes noted))
+
+  -- ---- the lines that records name
+
+  pub records_named : (lines : ℕ) (history : List (Entry A)) → All (HasLines lines) history → All (NamesLines lines) (records_of history)
+  records_named lines [] named = All-nil (NamesLines lines)
+  records_named lines (entry ∷ entries) named =
+      All-append (NamesLines lines) entry.records.items (records_of entries) (All-head (HasLines lines) entry entries named).records
+      (records_named lines entries (All-tail (HasLines lines) entry entries named))
