@@ -1,0 +1,18 @@
+//! A gate for lines that need none.
+
+ghost use Rattle.std.specs.Prelude.{◌≡◌, true};
+
+use xp_lines::Gate;
+use xp_subs::LineNo;
+
+/// Lets every packet go.
+#[derive(Clone, Copy, Debug)]
+pub struct OpenGate;
+
+impl Gate for OpenGate {
+    fn may_go(&mut self, _line: LineNo) -> bool
+        ensures { result ≡ true }
+    {
+        true
+    }
+}

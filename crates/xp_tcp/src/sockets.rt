@@ -1,0 +1,151 @@
+//! The listening sockets of an exchange's lines.
+
+ghost use Rattle.std.specs.Prelude.{◌≡◌, ◌+◌, ◌<◌, ◌↔◌, IfOk, IsSome, OnErr, OnOk, vec_len};
+ghost use Rattle.xp_tcp.specs.declared.sockets.ListenFault.TheVariants.{Memory as OutOfMemory, Port as NoPort};
+
+use crate::clock::TcpClock;
+use crate::port::TcpPort;
+use crate::wakers::Bell;
+use mio::net::TcpListener;
+use mio::{Events, Interest, Poll, Token, Waker};
+use std::alloc::{AllocError, Global};
+use std::io;
+use std::marker::Model;
+use std::net::{IpAddr, Net, SocketAddr};
+use std::sync::Arc;
+use thiserror::Error;
+use xp_subs::LineNo;
+
+/// Names a line's listening socket among what its thread waits for.
+const LISTENER: Token = Token(0);
+
+/// Names the wakes of other lines.
+const WAKER: Token = Token(1);
+
+/// How many events a wait takes: as many as a line has sockets and wakers.
+const MOST_EVENTS: usize = 3;
+
+/// Why a line's port is not listened on.
+#[derive(Clone, Copy, Debug, Drop, PartialEq, Error)]
+pub enum ListenFault {
+    /// The port can't be had.
+    #[error("the port can't be listened on")]
+    Port,
+    #[error("out of memory")]
+    Memory,
+}
+
+impl From<AllocError> for ListenFault {
+    ghost from_gives = { λ _ fault. fault ≡ OutOfMemory };
+
+    fn from(_refused: AllocError) -> ListenFault {
+        ListenFault::Memory
+    }
+}
+
+impl From<io::Error> for ListenFault {
+    ghost from_gives = { λ _ fault. fault ≡ NoPort };
+
+    fn from(_error: io::Error) -> ListenFault {
+        ListenFault::Port
+    }
+}
+
+/// The listening socket of one line, with what its thread waits on.
+#[derive(Drop)]
+struct Listening {
+    ends: TcpPort,
+    poll: Poll,
+    events: Events,
+    port: u16,
+}
+
+/// The listening sockets of the lines, in line order, with what their threads wait on. Contracts see how many there are.
+#[derive(Drop)]
+pub struct Sockets {
+    lines: Vec<Listening>,
+    bells: Vec<Bell>,
+}
+
+impl Model for Sockets {
+    ghost use Rattle.std.specs.Prelude.{ℕ, vec_len};
+
+    ghost Value = { ℕ };
+
+    ghost view = { λ sockets. vec_len sockets.lines };
+}
+
+impl Sockets {
+    /// No sockets yet, with room for so many.
+    pub fn new(alloc: Global, count: usize) -> Result<Sockets, AllocError>
+        ensures { IfOk result (λ sockets. sockets ≡ 0) }
+    {
+        Ok(Sockets {
+            lines: Vec::with_capacity(alloc, count)?,
+            bells: Vec::with_capacity(alloc, count)?,
+        })
+    }
+
+    /// Listens on a port for the next line, at an address of the machine. At port 0 the system picks one.
+    ///
+    /// # Errors
+    ///
+    /// `Port` where the port can't be had, or the host is no address, `Memory`. No line is added then.
+    pub fn listen<R: Net>(&mut self, rt: &R, host: &str, port: u16) -> Result<(), ListenFault>
+        ensures ok { OnOk result (self.new ≡ self.old + 1) }
+        ensures err { OnErr result (self.new ≡ self.old) }
+    {
+        let alloc = *self.lines.allocator();
+        self.lines.reserve(1)?;
+        let events = Events::with_capacity(alloc, MOST_EVENTS)?;
+        let Ok(host) = host.parse::<IpAddr>() else {
+            return Err(ListenFault::Port);
+        };
+        let (line, waker) = open(rt, SocketAddr::new(host, port), events)?;
+        self.bells.reserve(1)?;
+        self.bells.push_reserved(Bell::new(waker));
+        self.lines.push_reserved(line);
+        Ok(())
+    }
+
+    /// The port on which a line's socket listens.
+    pub fn port(&self, line: LineNo) -> Option<u16>
+        ensures { IsSome result ↔ (line < self.now) }
+    {
+        self.lines.get(line as usize).map(|line| line.port)
+    }
+
+    /// What the threads of the lines are given, in line order.
+    pub fn into_ends(self, alloc: Global) -> Result<Vec<(TcpPort, TcpClock)>, AllocError>
+        ensures { IfOk result (λ ends. vec_len ends ≡ self) }
+    {
+        let Sockets { lines, bells } = self;
+        let bells = Arc::new(alloc, bells)?;
+        let mut ends = Vec::with_capacity(alloc, lines.len())?;
+        for line in lines {
+            let place = ends.len();
+            let theirs = Arc::try_clone(&bells)?;
+            let clock = TcpClock::new(line.poll, line.events, theirs, place);
+            ends.push((line.ends, clock))?;
+        }
+        Ok(ends)
+    }
+}
+
+/// Listens at an address: the socket, and what wakes the thread that waits on it.
+fn open<R: Net>(rt: &R, at: SocketAddr, events: Events) -> io::Result<(Listening, Waker)> {
+    let poll = Poll::new(rt)?;
+    let mut listener = TcpListener::bind(rt, at)?;
+    let port = listener.local_addr()?.port();
+    poll.registry()
+        .register(&mut listener, LISTENER, Interest::READABLE)?;
+    let waker = Waker::new(poll.registry(), WAKER)?;
+    let waits = poll.registry().try_clone()?;
+    let line = Listening {
+        ends: TcpPort::new(listener, waits),
+        poll,
+        events,
+        port,
+    };
+    Ok((line, waker))
+}
