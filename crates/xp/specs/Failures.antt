@@ -3,15 +3,17 @@ use Rattle.std.specs.Prelude.{◌≡◌, ◌≢◌, ℕ}
 use Rattle.clap.specs.declared.error.Error.{Error}
 use Rattle.clap.specs.Words.{kind_of}
 use Rattle.clap.specs.declared.error.kind.ErrorKind.TheVariants.{OutOfMemory}
+use Rattle.xp_serve.specs.Failures.{status_of as status_of_serving}
 use Rattle.xp_tasks.specs.declared.failure.TaskFailure.TheVariants.{Memory}
 use Rattle.xp_tasks.specs.Failures.{status_of as status_of_task}
 use Rattle.xp.specs.declared.failure.Failure.{Failure}
-use Rattle.xp.specs.declared.failure.Failure.TheVariants.{Arguments, Task}
+use Rattle.xp.specs.declared.failure.Failure.TheVariants.{Arguments, Serve, Task}
 
 -- 2 for what was asked
 abbrev pub status_of : Failure → ℕ
 status_of (Arguments told) = 2
 status_of (Task failure) = status_of_task failure
+status_of (Serve failure) = status_of_serving failure
 
 -- arguments that are refused, and what is told of them
 pub record IsOfArguments (told : Error) (failure : Failure) : Type 0 where

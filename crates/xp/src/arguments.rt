@@ -4,9 +4,9 @@ ghost use Rattle.std.specs.Prelude.{◌≡◌, ℕ, List, IfSome, IfNone, IfOk, 
 ghost use Rattle.clap.specs.Words.{app_of, kind_of, rule_of, subcommand_rows_of};
 ghost use Rattle.clap.specs.declared.error.kind.ErrorKind.TheVariants.{OutOfMemory};
 ghost use Rattle.clap.specs.declared.builder.command.Command.TheViews.{out-Command as fields_of};
-ghost use Rattle.xp.specs.Commands.{AreRight, Ask, AsksFor, command_of, file as file_rule, program};
-ghost use Rattle.xp_tasks.specs.declared.task.Task.{Task};
+ghost use Rattle.xp.specs.Commands.{AreRight, Ask, AsksFor, command_of, file as file_rule, number as number_rule, program, serve, tasks};
 
+use crate::errand::{Errand, RECORDS, SERVE, TURNS};
 use clap::error::ErrorKind;
 use clap::{Arg, ArgMatches, Command, Error};
 use std::alloc::{AllocError, Global};
@@ -18,10 +18,11 @@ const PROGRAM_DETAILS: &str = "\
 Examples:
   xp check examples/three-stations.toml
   xp replay examples/three-stations.toml < examples/call.script
+  xp serve examples/three-stations.toml --records 1
 
 The exit status is 0 when all was done, 2 for wrong arguments or a faulty line
 of a script, 3 for a subscription file that cannot be read or is refused, 4 for
-a full journal or want of memory, and 5 for input or output that fails.";
+a full journal or want of memory, and 5 for input, output or a port that fails.";
 
 const CHECK_ABOUT: &str = "Checks a subscription file, and counts what it sets up";
 
@@ -48,12 +49,28 @@ Prints `out NAME DIGITS` for each frame that the exchange puts out, and
 Example:
   xp replay examples/three-stations.toml < examples/call.script";
 
+const SERVE_ABOUT: &str = "Serves the lines over TCP, and prints the charging records at the end";
+
+const SERVE_DETAILS: &str = "\
+Listens on the port of each line of the FILE, for connections that carry X.25
+packets in TCP (RFC 1613). Numbers are from 1 to 1000000000000.
+
+Prints `record ..` for each call that ended, when it ends itself: with as many
+records as are wanted, with a full journal, or when a port fails.
+
+Example:
+  xp serve examples/three-stations.toml --records 1";
+
+const RECORDS_HELP: &str = "Ends with so many charging records";
+
+const TURNS_HELP: &str = "Ends each line after so many turns [default: 1000000000]";
+
 const FILE: &str = "The subscription file (TOML): the stations and their lines";
 
 /// What the words ask for.
 #[derive(Clone, Copy, Debug, PartialEq, Eq)]
 pub struct Arguments<'a> {
-    pub task: Task,
+    pub errand: Errand,
     /// The name of the subscription file.
     pub file: &'a str,
 }
@@ -62,7 +79,7 @@ impl<'a> Arguments<'a> {
     /// Reads the words of a command line, of which the first is the program's own. For right words only memory can be
     /// wanting.
     pub fn read(alloc: Global, words: &'a [String]) -> Result<Arguments<'a>, Error>
-        ensures asked { IfOk result (λ arguments. Ask (map string_bytes words.now) arguments.task arguments.file.now) }
+        ensures asked { IfOk result (λ arguments. Ask (map string_bytes words.now) arguments.errand arguments.file.now) }
         ensures taken { IfErr result (λ error. AreRight (map string_bytes words.now) → kind_of error ≡ OutOfMemory) }
     {
         let matches = command(alloc)?.try_get_matches_from(words)?;
@@ -74,13 +91,13 @@ impl<'a> Arguments<'a> {
 
     /// The command that was found among the words, with its file.
     fn named(matches: &ArgMatches<'a>) -> Option<Arguments<'a>>
-        ensures found { IfSome result (λ arguments. AsksFor (subcommand_rows_of matches.now) arguments.task arguments.file.now) }
-        ensures none { IfNone result ((task : Task) (name : List ℕ) → AsksFor (subcommand_rows_of matches.now) task name → ⊥) }
+        ensures found { IfSome result (λ arguments. AsksFor (subcommand_rows_of matches.now) arguments.errand arguments.file.now) }
+        ensures none { IfNone result ((errand : Errand) (name : List ℕ) → AsksFor (subcommand_rows_of matches.now) errand name → ⊥) }
     {
         let (word, matches) = matches.subcommand()?;
-        let task = Task::named(word)?;
+        let errand = Errand::named(word, matches)?;
         let file = matches.get_str("FILE")?;
-        Some(Arguments { task, file })
+        Some(Arguments { errand, file })
     }
 }
 
@@ -93,20 +110,28 @@ pub fn refused(alloc: Global, reason: &str) -> Result<Error, Error> {
 fn command<'a>(alloc: Global) -> Result<Command<'a>, AllocError>
     ensures { IfOk result (λ command. app_of command ≡ program) }
 {
-    let check = command_for(alloc, Task::Check, CHECK_ABOUT, CHECK_DETAILS)?;
-    let replay = command_for(alloc, Task::Replay, REPLAY_ABOUT, REPLAY_DETAILS)?;
+    let serve = serve_command(alloc)?;
+    with_tasks(alloc)?.subcommand(serve)?.bin_name("xp")
+}
+
+/// The program's command line with the commands that ask for its tasks.
+fn with_tasks<'a>(alloc: Global) -> Result<Command<'a>, AllocError>
+    ensures shape { IfOk result (λ command. app_of command ≡ tasks) }
+    ensures local { IfOk result (λ command. (fields_of command).has_globals ≡ false) }
+{
+    let check = task_command(alloc, Task::Check, CHECK_ABOUT, CHECK_DETAILS)?;
+    let replay = task_command(alloc, Task::Replay, REPLAY_ABOUT, REPLAY_DETAILS)?;
     Command::new(alloc, "xp")
         .about(ABOUT)
         .after_help(PROGRAM_DETAILS)
         .subcommand_required(true)
         .arg_required_else_help(true)
         .subcommand(check)?
-        .subcommand(replay)?
-        .bin_name("xp")
+        .subcommand(replay)
 }
 
 /// The command that asks for a task, with what its help says before the arguments and after them.
-fn command_for<'a>(
+fn task_command<'a>(
     alloc: Global,
     task: Task,
     about: &'a str,
@@ -121,9 +146,30 @@ fn command_for<'a>(
         .arg(file(alloc))
 }
 
+/// The command that asks for the lines to be served.
+fn serve_command<'a>(alloc: Global) -> Result<Command<'a>, AllocError>
+    ensures shape { IfOk result (λ command. app_of command ≡ serve) }
+    ensures local { IfOk result (λ command. (fields_of command).has_globals ≡ false) }
+{
+    Command::new(alloc, SERVE)
+        .about(SERVE_ABOUT)
+        .after_help(SERVE_DETAILS)
+        .arg(file(alloc))?
+        .arg(number(alloc, RECORDS, RECORDS_HELP).required(true))?
+        .arg(number(alloc, TURNS, TURNS_HELP))
+}
+
 fn file<'a>(alloc: Global) -> Arg<'a>
     ensures rule { rule_of result ≡ file_rule }
     ensures local { result.global ≡ false }
 {
     Arg::new(alloc, "FILE").required(true).help(FILE)
+}
+
+/// A number, as `--records N`.
+fn number<'a>(alloc: Global, name: &'a str, help: &'a str) -> Arg<'a>
+    ensures rule { rule_of result ≡ number_rule name.now }
+    ensures local { result.global ≡ false }
+{
+    Arg::new(alloc, name).long(name).value_name("N").help(help)
 }

@@ -2,13 +2,14 @@
 
 ghost use Rattle.std.specs.Prelude.{◌≡◌};
 ghost use Rattle.xp.specs.Failures.{status_of, IsOfArguments};
-ghost use Rattle.xp.specs.declared.failure.Failure.TheVariants.{Task as OfTask};
+ghost use Rattle.xp.specs.declared.failure.Failure.TheVariants.{Serve as OfServing, Task as OfTask};
 ghost use Rattle.xp_tasks.specs.declared.failure.TaskFailure.TheVariants.{Memory as OutOfMemory};
 
 use clap::error::ErrorKind;
 use std::alloc::AllocError;
 use std::io;
 use thiserror::Error;
+use xp_serve::ServeFailure;
 use xp_tasks::TaskFailure;
 
 /// Why the program did not do what it was asked for.
@@ -20,16 +21,20 @@ pub enum Failure {
     /// What they ask for was not done.
     #[error("{0}")]
     Task(TaskFailure),
+    /// The lines were not served to the end.
+    #[error("{0}")]
+    Serve(ServeFailure),
 }
 
 impl Failure {
-    /// The exit status: 2 for what was asked, and else that of the task.
+    /// The exit status: 2 for what was asked, and else that of the task or of serving.
     pub fn status(&self) -> u8
         ensures { result ≡ status_of self.now }
     {
         match self {
             Failure::Arguments(_) => 2,
             Failure::Task(failure) => failure.status(),
+            Failure::Serve(failure) => failure.status(),
         }
     }
 
@@ -39,6 +44,7 @@ impl Failure {
             // It ends its last line by itself.
             Failure::Arguments(told) => rt.eprint(told),
             Failure::Task(failure) => rt.eprintln(failure),
+            Failure::Serve(failure) => rt.eprintln(failure),
         }
     }
 }
@@ -56,6 +62,14 @@ impl From<TaskFailure> for Failure {
 
     fn from(told: TaskFailure) -> Failure {
         Failure::Task(told)
+    }
+}
+
+impl From<ServeFailure> for Failure {
+    ghost from_gives = { λ told failure. failure ≡ OfServing told };
+
+    fn from(told: ServeFailure) -> Failure {
+        Failure::Serve(told)
     }
 }
 

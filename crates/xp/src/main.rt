@@ -1,17 +1,25 @@
-//! The exchange as a program: it checks a subscription file, and replays a script of what its lines hear.
+//! The exchange as a program: it checks a subscription file, replays a script of what its lines hear, and serves lines over
+//! TCP.
 #![tactic(auto)]
 
 mod arguments;
+mod errand;
 mod failure;
 mod laws;
 
 use crate::arguments::Arguments;
+use crate::errand::Errand;
 use crate::failure::Failure;
 use std::io::{BufReader, BufWriter, ErrorKind};
+use std::net::Net;
 use std::process::ExitCode;
 use std::rt::{Env, Files};
+use std::sync::Wait;
+use std::thread::Threads;
 use std::{env, fs, io};
-use xp_tasks::{TaskFailure, perform, subscriptions};
+use xp_serve::{Limits, serve};
+use xp_subs::Subs;
+use xp_tasks::{Task, TaskFailure, perform, subscriptions};
 
 fn main(rt: HostRuntime) -> ExitCode {
     match run(&rt) {
@@ -24,15 +32,38 @@ fn main(rt: HostRuntime) -> ExitCode {
     }
 }
 
-/// Does what the arguments ask for, over the file that they name and the standard streams.
-fn run<R: AllocGlobal + Env + Files + Input + Print>(rt: &R) -> Result<(), Failure> {
+/// Does what the arguments ask for, over the file that they name.
+fn run<R: AllocGlobal + Env + Files + Input + Net + Print + Sync + Threads + Wait>(
+    rt: &R,
+) -> Result<(), Failure> {
     let alloc = rt.alloc();
     let words = words(rt)?;
     let arguments = Arguments::read(alloc, &words)?;
     let subs = subscriptions(alloc, fs::read_to_string(rt, arguments.file))?;
+    match arguments.errand {
+        Errand::Do(task) => do_task(rt, task, subs),
+        Errand::Serve(limits) => serve_lines(rt, limits, subs),
+    }
+}
+
+/// Does a task over the standard streams.
+fn do_task<R: AllocGlobal + Input + Print>(rt: &R, task: Task, subs: Subs) -> Result<(), Failure> {
+    let alloc = rt.alloc();
     let reader = BufReader::new(alloc, rt.reader()).map_err(|_| TaskFailure::Memory)?;
     let mut writer = BufWriter::new(alloc, io::writer(rt)).map_err(|_| TaskFailure::Memory)?;
-    perform(alloc, arguments.task, subs, reader, &mut writer)?;
+    perform(alloc, task, subs, reader, &mut writer)?;
+    Ok(())
+}
+
+/// Serves the lines, and prints their charging records.
+fn serve_lines<R: AllocGlobal + Net + Print + Sync + Threads + Wait>(
+    rt: &R,
+    limits: Limits,
+    subs: Subs,
+) -> Result<(), Failure> {
+    let alloc = rt.alloc();
+    let mut writer = BufWriter::new(alloc, io::writer(rt)).map_err(|_| TaskFailure::Memory)?;
+    serve(rt, alloc, subs, limits, &mut writer)?;
     Ok(())
 }
 

@@ -11,3 +11,4 @@ mod writing;
 
 pub use fault::ReplayFault;
 pub use replaying::{Replayed, replay, replay_on};
+pub use writing::write_out;

@@ -1,7 +1,7 @@
 mod Octets
 mod Offered
 mod Pulling
-mod Served
+pub mod Served
 mod Sums
 mod Together
 mod Worked

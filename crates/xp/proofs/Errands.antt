@@ -1,0 +1,97 @@
+-- What the arguments of a command ask for.
+use Rattle.std.proofs.Common.{◌≡◌, ◌∙◌, [], arith, refl, sym, ap, subst, codes, option_map, Option, Some, None, IfNone, IfSome, List, ℕ, slice_index_or}
+use Rattle.clap.specs.Words.{Row, Text, first_of}
+use Rattle.xp.specs.Commands.{AsksFor, HasLimits, IsErrand}
+use Rattle.xp.specs.declared.errand.Errand.{Errand}
+use Rattle.xp.specs.declared.errand.Errand.TheVariants.{Do, Serve}
+use Rattle.xp_serve.specs.Limits.{AreLimits}
+use Rattle.xp_serve.specs.declared.limits.Limits.{Limits}
+use Rattle.xp_tasks.specs.declared.task.Task.{Task}
+use Rattle.xp_tasks.specs.declared.task.Task.TheVariants.{Check, Replay}
+use Rattle.xp_tasks.specs.Tasks.{word_of}
+
+pub if_none : {X : Type 0} (o : Option X) (P : Type 0) → P → IfNone o P
+if_none None P p = p
+if_none (Some x) P p = tt
+
+pub if_none_then : {X : Type 0} (o : Option X) (P Q : Type 0) → (P → Q) → IfNone o P → IfNone o Q
+if_none_then None P Q f p = f p
+if_none_then (Some x) P Q f p = tt
+
+pub if_some_then : {X : Type 0} (o : Option X) (P Q : X → Type 0) → ((x : X) → P x → Q x) → IfSome o P → IfSome o Q
+if_some_then None P Q f p = tt
+if_some_then (Some x) P Q f p = f x p
+
+pub none_is : {X : Type 0} (o : Option X) (P : Type 0) → o ≡ None → IfNone o P → P
+none_is None P none p = p
+none_is (Some x) P none p = absurd (cc)
+
+some_inj : (x y : List ℕ) → Some x ≡ Some y → x ≡ y
+some_inj x y same = cc
+
+-- no argument says with how many records serving ends
+pub no_records : (rows : List Row) → first_of (codes "records") rows ≡ None → (limits : Limits) → HasLimits rows limits → ⊥
+no_records rows none limits has = let both : None ≡ Some has.wanted = sym none ∙ has.given in absurd (cc)
+
+module _ (rows : List Row) (wanted : List ℕ) (had : Option (List ℕ)) (given : first_of (codes "records") rows ≡ Some wanted) (turns : had ≡ first_of (codes "turns") rows) where
+  pub has_limits : (limits : Limits) → AreLimits wanted had limits → HasLimits rows limits
+  has_limits limits are = record { wanted = wanted; given = given; limits_are = subst (λ had. AreLimits wanted had limits) turns are }
+
+  pub are_limits : (limits : Limits) → HasLimits rows limits → AreLimits wanted had limits
+  are_limits limits has =
+      subst (λ wanted. AreLimits wanted had limits) (some_inj has.wanted wanted (sym has.given ∙ given))
+      (subst (λ had. AreLimits has.wanted had limits) (sym turns) has.limits_are)
+
+abbrev first_letter : List ℕ → ℕ
+first_letter word = slice_index_or word 0 0
+
+unlike_check : ◌≡◌ {A = ℕ} 115 99 → ⊥
+unlike_check same = omega (arith, same)
+
+unlike_replay : ◌≡◌ {A = ℕ} 115 114 → ⊥
+unlike_replay same = omega (arith, same)
+
+no_task : (task : Task) → codes "serve" ≡ word_of task → ⊥
+no_task Check same = unlike_check (ap first_letter same)
+no_task Replay same = unlike_replay (ap first_letter same)
+
+-- a command that asks for the lines to be served, and does not say when this ends
+pub serves_not : (word : Text) (rows : List Row) → word ≡ codes "serve" → ((limits : Limits) → HasLimits rows limits → ⊥) → (errand : Errand) → IsErrand word rows errand → ⊥
+serves_not word rows serve none (Do task) is = no_task task (sym serve ∙ is)
+serves_not word rows serve none (Serve limits) is = none limits is.1
+
+-- a pair of which both parts are known
+pub pair_is : {X Y : Type 0} (o : Option (X × Y)) (x : X) (y : Y) → option_map (λ pair. pair.0) o ≡ Some x → option_map (λ pair. pair.1) o ≡ Some y → o ≡ Some (x, y)
+pair_is None x y first second = absurd (cc)
+pair_is (Some (a, b)) x y first second = cc
+
+abbrev rows_in : Option (Text × List Row) → List Row
+rows_in None = []
+rows_in (Some pair) = pair.1
+
+abbrev word_in : Option (Text × List Row) → Text
+word_in None = []
+word_in (Some pair) = pair.0
+
+module _ (found : Option (Text × List Row)) (word : Text) (rows : List Row) (found_is : found ≡ Some (word, rows)) where
+  both : (errand : Errand) (name : List ℕ) (asks : AsksFor found errand name) → ◌≡◌ {A = Option (Text × List Row)} (Some (asks.word, asks.rows)) (Some (word, rows))
+  both errand name asks = sym asks.found_is ∙ found_is
+
+  word_alike : (errand : Errand) (name : List ℕ) (asks : AsksFor found errand name) → asks.word ≡ word
+  word_alike errand name asks = ap word_in (both errand name asks)
+
+  rows_alike : (errand : Errand) (name : List ℕ) (asks : AsksFor found errand name) → asks.rows ≡ rows
+  rows_alike errand name asks = ap rows_in (both errand name asks)
+
+  -- a command that is no errand
+  pub asks_nothing : ((errand : Errand) → IsErrand word rows errand → ⊥) → (errand : Errand) (name : List ℕ) → AsksFor found errand name → ⊥
+  asks_nothing none errand name asks =
+      none errand
+      (subst (λ rows. IsErrand word rows errand) (rows_alike errand name asks)
+      (subst (λ word. IsErrand word asks.rows errand) (word_alike errand name asks) asks.errand_is))
+
+  -- a command without a file
+  pub asks_no_file : first_of (codes "FILE") rows ≡ None → (errand : Errand) (name : List ℕ) → AsksFor found errand name → ⊥
+  asks_no_file none errand name asks =
+      let file : None ≡ Some name = sym none ∙ ap (first_of (codes "FILE")) (sym (rows_alike errand name asks)) ∙ asks.named in
+      absurd (cc)

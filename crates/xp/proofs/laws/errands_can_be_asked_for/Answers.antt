@@ -1,0 +1,46 @@
+use Rattle.std.proofs.Common.{arith, codes, refl}
+use Rattle.xp_serve.specs.Limits.{IsNumber}
+use Rattle.clap.proofs.OnLiterals.{clap_on_literals}
+use Rattle.xp.proofs.laws.errands_can_be_asked_for.Goals as goal
+
+pub returns-clause-check : goal.returns-clause-check
+unfolding clap_on_literals
+returns-clause-check c = record { faultless = refl; asked = record { word = _; rows = _; found_is = refl; errand_is = refl; named = refl } }
+
+pub returns-clause-replay : goal.returns-clause-replay
+unfolding clap_on_literals
+returns-clause-replay c = record { faultless = refl; asked = record { word = _; rows = _; found_is = refl; errand_is = refl; named = refl } }
+
+twelve : IsNumber (codes "12") 12
+twelve = record { numeral = (omega arith, (omega arith, (omega arith, tt))); value = refl; least = omega arith; most = omega arith }
+
+three : IsNumber (codes "3") 3
+three = record { numeral = (omega arith, (omega arith, tt)); value = refl; least = omega arith; most = omega arith }
+
+pub returns-clause-serve : goal.returns-clause-serve
+unfolding clap_on_literals
+returns-clause-serve c =
+    record {
+      faultless = refl;
+      asked = record {
+        word = _;
+        rows = _;
+        found_is = refl;
+        errand_is = (refl, record { wanted = codes "12"; given = refl; limits_are = record { wanted_are = twelve; had_are = refl } });
+        named = refl;
+      };
+    }
+
+pub returns-clause-turns : goal.returns-clause-turns
+unfolding clap_on_literals
+returns-clause-turns c =
+    record {
+      faultless = refl;
+      asked = record {
+        word = _;
+        rows = _;
+        found_is = refl;
+        errand_is = (refl, record { wanted = codes "12"; given = refl; limits_are = record { wanted_are = twelve; had_are = three } });
+        named = refl;
+      };
+    }

@@ -1,0 +1,46 @@
+//! Listening on the port of each line.
+
+ghost use Rattle.std.specs.Prelude.{◌≡◌, ◌+◌, ◌<◌, IfErr, IfOk, OnOk};
+ghost use Rattle.xp_serve.specs.Failures.{IsWanting};
+ghost use Rattle.xp_subs.specs.Tables.{line_count};
+
+use crate::failure::ServeFailure;
+use std::alloc::Global;
+use std::net::Net;
+use xp_subs::{LineNo, Subs};
+use xp_tcp::{ListenFault, Sockets};
+
+/// Listens on the port of each line, in order.
+///
+/// # Errors
+///
+/// `Port` with the first line whose port can't be had, `Memory`.
+pub fn listen_all<R: Net>(rt: &R, alloc: Global, subs: &Subs) -> Result<Sockets, ServeFailure>
+    ensures all { IfOk result (λ sockets. sockets ≡ line_count subs.now) }
+    ensures wanting { IfErr result (IsWanting subs.now) }
+{
+    let lines = subs.counts().lines;
+    let mut sockets = Sockets::new(alloc, lines)?;
+    for line in 0..lines {
+        listen(rt, subs, line as LineNo, &mut sockets)?;
+    }
+    Ok(sockets)
+}
+
+/// Listens on the port of a line, the next one.
+fn listen<R: Net>(
+    rt: &R,
+    subs: &Subs,
+    line: LineNo,
+    sockets: &mut Sockets,
+) -> Result<(), ServeFailure>
+    requires { line < line_count subs.now }
+    ensures one { OnOk result (sockets.new ≡ sockets.old + 1) }
+    ensures wanting { IfErr result (IsWanting subs.now) }
+{
+    match sockets.listen(rt, subs.host(), subs.port_of(line)) {
+        Ok(()) => Ok(()),
+        Err(ListenFault::Port) => Err(ServeFailure::port(subs, line)),
+        Err(ListenFault::Memory) => Err(ServeFailure::Memory),
+    }
+}

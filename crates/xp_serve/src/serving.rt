@@ -1,0 +1,105 @@
+//! The exchange that is served: its lines' ports, threads and records.
+
+ghost use Rattle.std.specs.Prelude.{◌≡◌, IfOk, map, vec_len};
+ghost use Rattle.std.specs.declared.alloc.Global.{Global as Alloc};
+ghost use Rattle.xp_serve.specs.Serving.{Serves};
+ghost use Rattle.xp_subs.specs.Tables.{line_count};
+
+use crate::ends::{first_to_fall, passes_of};
+use crate::failure::ServeFailure;
+use crate::limits::Limits;
+use crate::listening::listen_all;
+use crate::printing::print_records;
+use std::alloc::{AllocError, Global};
+use std::io::Write;
+use std::marker::Brand;
+use std::net::Net;
+use std::sync::Wait;
+use std::thread::Threads;
+use xp_lines::{Part, serve_all};
+use xp_lock::{Blanks, Exchange, LinePass, Name, prepare};
+use xp_subs::Subs;
+use xp_tcp::{OpenGate, Sockets, TcpClock, TcpPort};
+
+/// Listens on the port of each line, serves all lines, each on a thread of its own, until they have ended, and then writes
+/// the charging records in the order in which their calls ended.
+///
+/// # Errors
+///
+/// Before any line is served: `Port` with the lowest line whose port can't be had, `Memory`. After the records are written:
+/// what the lowest line told that ended before its time, as `Port`, `Journal` or `Thread`. `Memory` and `Output` where not
+/// all records could be written.
+pub fn serve<R: Net + Threads + Wait + Sync, W: Write>(
+    rt: &R,
+    alloc: Global,
+    subs: Subs,
+    limits: Limits,
+    writer: &mut W,
+) -> Result<(), ServeFailure>
+    ensures { Serves Alloc subs (W.contents writer.old) (W.contents writer.new) result }
+{
+    let sockets = listen_all(rt, alloc, &subs)?;
+    let blanks = prepare(alloc, subs)?;
+    serve_named::<Brand, R, W>(rt, alloc, blanks, sockets, limits, writer)
+}
+
+/// Serves the lines of the exchange that N names.
+fn serve_named<N: Name + Send + Sync, R: Threads + Wait + Sync, W: Write>(
+    rt: &R,
+    alloc: Global,
+    blanks: Blanks,
+    sockets: Sockets,
+    limits: Limits,
+    writer: &mut W,
+) -> Result<(), ServeFailure>
+    requires subs { N.subs ≡ blanks.subs }
+    requires word { N.word ≡ blanks.word }
+    requires queues { N.queues ≡ blanks.queues }
+    requires sockets { sockets ≡ line_count blanks.subs }
+    ensures { Serves Alloc blanks.subs (W.contents writer.old) (W.contents writer.new) result }
+{
+    let (exchange, passes) = Exchange::<N>::start(alloc, blanks)?;
+    let room = Vec::with_capacity(alloc, passes.len())?;
+    let parts = parts_of(alloc, passes, sockets)?;
+    let Ok(ends) = serve_all(rt, alloc, &exchange, parts, limits.turns, limits.records) else {
+        return Err(ServeFailure::Memory);
+    };
+    let fall = first_to_fall(&ends);
+    let Ok(book) = exchange.close(rt, passes_of(ends, room)) else {
+        unreachable!()
+    };
+    let _history = book.history();
+    print_records(alloc, book.subs(), book.records(), writer)?;
+    match fall {
+        Some(fall) => Err(fall.failure(book.subs())),
+        None => Ok(()),
+    }
+}
+
+/// What the thread of a line is given.
+type TcpPart<N> = Part<N, TcpPort, TcpClock, OpenGate>;
+
+/// What the threads of the lines are given.
+fn parts_of<N: Name>(
+    alloc: Global,
+    passes: Vec<LinePass<N>>,
+    sockets: Sockets,
+) -> Result<Vec<TcpPart<N>>, AllocError>
+    requires { sockets ≡ vec_len passes }
+    ensures { IfOk result (λ parts. map (λ part. part.pass.line) parts.items ≡ map (λ pass. pass.line) passes.items) }
+{
+    let mut parts = Vec::with_capacity(alloc, passes.len())?;
+    let mut ends = sockets.into_ends(alloc)?.into_iter();
+    for pass in passes {
+        let Some((port, clock)) = ends.next() else {
+            unreachable!()
+        };
+        parts.push(Part {
+            pass,
+            port,
+            clock,
+            gate: OpenGate,
+        })?;
+    }
+    Ok(parts)
+}
