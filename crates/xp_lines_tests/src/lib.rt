@@ -1,0 +1,27 @@
+//! Tests of the threads of lines, over links in memory.
+#![tactic(auto)]
+
+#[cfg(test)]
+mod account;
+#[cfg(test)]
+mod board;
+#[cfg(test)]
+mod counts;
+#[cfg(test)]
+mod faults;
+#[cfg(test)]
+mod frames;
+#[cfg(test)]
+mod pace;
+#[cfg(test)]
+mod plan;
+#[cfg(test)]
+mod served;
+#[cfg(test)]
+mod serving;
+#[cfg(test)]
+mod slow;
+#[cfg(test)]
+mod turning;
+#[cfg(test)]
+mod wire;

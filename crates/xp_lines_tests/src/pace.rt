@@ -1,0 +1,91 @@
+//! Clocks and gates of the lines.
+
+use crate::board::Board;
+use crate::plan::Leave;
+use std::sync::Arc;
+use std::sync::atomic::{AtomicBool, Ordering};
+use std::thread;
+use xp_lines::{Clock, Gate};
+use xp_subs::LineNo;
+
+/// How often a gate looks whether another one was asked.
+const MOST_LOOKS: u32 = 5_000_000;
+
+/// A clock that begins at 0, and goes on by so many seconds where its line has nothing to do.
+#[derive(Drop)]
+pub struct Ticking {
+    pub board: Arc<Board>,
+    pub line: LineNo,
+    pub now: u64,
+    pub step: u64,
+}
+
+impl Clock for Ticking {
+    fn now(&mut self) -> u64 {
+        self.now
+    }
+
+    fn idle(&mut self) {
+        self.now = self.now.saturating_add(self.step);
+        self.board
+            .of(self.line)
+            .idles
+            .fetch_add(1, Ordering::SeqCst);
+        thread::yield_now();
+    }
+
+    fn wake(&mut self, line: LineNo) {
+        self.board.of(line).wakes.fetch_add(1, Ordering::SeqCst);
+    }
+}
+
+/// A gate that lets packets go as it was told.
+#[derive(Drop)]
+pub struct Told {
+    pub board: Arc<Board>,
+    pub leave: Leave,
+    pub met: bool,
+}
+
+impl Gate for Told {
+    fn may_go(&mut self, line: LineNo) -> bool {
+        self.board.of(line).entered.store(true, Ordering::SeqCst);
+        if !self.met {
+            self.met = true;
+            meet(&self.board, self.leave.meets);
+        }
+        let (line, octets) = self.leave.given;
+        are_pulled(&self.board, self.leave.pulled)
+            && self.board.of(line).got.load(Ordering::SeqCst) >= octets
+    }
+}
+
+/// Waits until the gates of all these lines were asked.
+fn meet(board: &Board, lines: &[LineNo]) {
+    for line in lines {
+        if !comes(&board.of(*line).entered) {
+            board.late.store(true, Ordering::SeqCst);
+        }
+    }
+}
+
+/// Whether it comes to pass before the looks are used up.
+fn comes(word: &AtomicBool) -> bool {
+    for _look in 0..MOST_LOOKS {
+        if word.load(Ordering::SeqCst) {
+            return true;
+        }
+        thread::yield_now();
+    }
+    false
+}
+
+/// Whether all these lines were pulled from.
+fn are_pulled(board: &Board, lines: &[LineNo]) -> bool {
+    for line in lines {
+        if board.of(*line).pulls.load(Ordering::SeqCst) == 0 {
+            return false;
+        }
+    }
+    true
+}
