@@ -139,7 +139,7 @@ fn connect<N: Name, P: Port, C: Clock, A: Allocator + Copy, R: Wait>(
 ) -> Step<P::Link, A>
     ensures line { pass.new.line ≡ pass.old.line }
 {
-    if exchange.halted(rt) {
+    if exchange.halted() {
         return unlinked(Some(Why::Halted));
     }
     match port.next() {

@@ -172,7 +172,7 @@ fn work<N: Name, L: Link, C: Clock, G: Gate, A: Allocator + Copy, R: Wait>(
 ) -> Taken
     ensures { Works connection pass.old (record { held = waiting.old; frames = frames.old; unwritten = unwritten.old.items; pushed = L.pushed link.old; pulled = L.pulled link.old }) result.heard pass.new (record { held = waiting.new; frames = frames.new; unwritten = unwritten.new.items; pushed = L.pushed link.new; pulled = L.pulled link.new }) }
 {
-    let halted = exchange.halted(rt);
+    let halted = exchange.halted();
     let written = write_out(rt, exchange, pass, connection, link, unwritten, bell);
     if halted {
         return nothing_read(Heard::Halted);

@@ -19,6 +19,8 @@ use crate::pass::LinePass;
 use crate::word::Word;
 use std::alloc::{Allocator, Global};
 use std::marker::Model;
+use std::sync::atomic::AtomicBool;
+use std::sync::atomic::Ordering::SeqCst;
 use std::sync::{Mutex, Wait};
 use xp_core::{Event, Outgoing};
 use xp_subs::LineNo;
@@ -27,6 +29,8 @@ use xp_subs::LineNo;
 #[derive(Drop)]
 pub struct Exchange<N: Name, A: Allocator = Global> {
     lock: Mutex<Keeper<N, A>>,
+    /// That the keeper refuses every event, told beside the lock: each line asks for it in each of its turns.
+    halted: AtomicBool,
     word: Word<A>,
     lines: LineNo,
     /// Room to count, at the end, what each line took: closing takes no memory.
@@ -57,6 +61,7 @@ impl<N: Name, A: Allocator + Copy> Exchange<N, A> {
     {
         Exchange {
             lock: Mutex::new(keeper),
+            halted: AtomicBool::new(false),
             word,
             lines,
             taken,
@@ -96,11 +101,12 @@ impl<N: Name, A: Allocator + Copy> Exchange<N, A> {
     /// Refuses every later offer.
     pub fn halt<R: Wait>(&self, rt: &R) {
         self.lock.lock(rt).halt();
+        self.halted.store(true, SeqCst);
     }
 
-    /// Whether every offer is refused.
-    pub fn halted<R: Wait>(&self, rt: &R) -> bool {
-        self.lock.lock(rt).is_halted()
+    /// Whether every offer is refused: so from the end of a `halt` on. It takes no lock.
+    pub fn halted(&self) -> bool {
+        self.halted.load(SeqCst)
     }
 
     /// Closes the exchange, where all passes are here: each line's own entries are those that its one pass knows, and
@@ -134,6 +140,7 @@ impl<N: Name, A: Allocator + Copy> Exchange<N, A> {
         }
         let Exchange {
             lock,
+            halted: _,
             word,
             lines: _,
             taken,

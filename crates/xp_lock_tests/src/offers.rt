@@ -38,10 +38,10 @@ fn halts<N: Name>(
         return Ok(None);
     };
     let mut pass = pass;
-    let halted_before = exchange.halted(rt);
+    let halted_before = exchange.halted();
     let came_up = entered(rt, &exchange, &mut pass, What::Up);
     exchange.halt(rt);
-    let halted = exchange.halted(rt);
+    let halted = exchange.halted();
     let refused = finds_halt(rt, &exchange, &mut pass, What::Down);
     let (exchange, passes, missing) = match exchange.close(rt, passes) {
         Ok(_) => return Ok(None),
