@@ -2,10 +2,11 @@
 
 ghost use Rattle.std.specs.Prelude.{◌≡◌, ◌≤◌};
 
-use crate::wakers::Bell;
+use crate::wakers::{Bell, rouse};
 use mio::{Events, Poll};
 use std::marker::Model;
 use std::sync::Arc;
+use std::thread;
 use std::time::Duration;
 use xp_lines::Clock;
 use xp_subs::LineNo;
@@ -13,17 +14,29 @@ use xp_subs::LineNo;
 /// How long a thread sleeps at most, in milliseconds.
 const LONGEST_SLEEP: u64 = 500;
 
+/// How often a thread that had work lets others run and looks again, before it sleeps: to be woken costs far more. Not 0,
+/// for it must not sleep before a read found nothing.
+const MOST_LOOKS: u32 = 1;
+
 /// The clock of a line's thread. It lets time pass until something comes to the line's sockets or another line wakes it.
 /// Contracts see it as the second that it told last.
-#[derive(Drop)]
 pub struct TcpClock {
     poll: Poll,
-    /// Room for what the thread was woken by. It is not looked at: each turn tries all sockets of the line.
+    /// Room for what the thread was woken by. What it was is not looked at: each turn tries all sockets of the line.
     events: Events,
     bells: Arc<Vec<Bell>>,
     /// The line's own place among the bells.
     line: usize,
     told: u64,
+    /// The line whose bell was rung last, and whose thread may still be asleep. A turn rings for each of its packets, and
+    /// wakes once.
+    rung: Option<LineNo>,
+    /// How often the thread has looked again.
+    looks: u32,
+    /// Whether the last turn had nothing to do.
+    idle: bool,
+    /// Whether the last turn was had only for a bell that was rung.
+    answered: bool,
 }
 
 impl Model for TcpClock {
@@ -32,6 +45,23 @@ impl Model for TcpClock {
     ghost Value = { ℕ };
 
     ghost view = { λ clock. clock.told };
+}
+
+impl Drop for TcpClock {
+    fn drop(self) {
+        let TcpClock {
+            poll: _,
+            events: _,
+            bells,
+            line: _,
+            told: _,
+            rung,
+            looks: _,
+            idle: _,
+            answered: _,
+        } = self;
+        rouse(bells.as_slice(), rung);
+    }
 }
 
 impl TcpClock {
@@ -44,8 +74,32 @@ impl TcpClock {
             bells,
             line,
             told: 0,
+            rung: None,
+            looks: 0,
+            idle: false,
+            answered: false,
         }
     }
+
+    /// Wakes the thread of the line whose bell was rung last.
+    fn rouse_last(&mut self)
+        ensures { self.new ≡ self.old }
+    {
+        rouse(self.bells.as_slice(), self.rung.take());
+    }
+}
+
+/// Sleeps until something comes to the line's sockets or its bell is rung. False where the time was up before that.
+fn sleep(poll: &mut Poll, events: &mut Events, bell: &Bell) -> bool {
+    let mut came = true;
+    if bell.lie_down() {
+        let most = Duration::from_millis(LONGEST_SLEEP);
+        // Where the wait fails, the turn that follows finds nothing, and the thread waits again.
+        let _ = poll.poll(events, Some(most));
+        came = !events.is_empty();
+    }
+    bell.rise();
+    came
 }
 
 impl Clock for TcpClock {
@@ -54,6 +108,11 @@ impl Clock for TcpClock {
         ensures told { self.new ≡ result }
         ensures forward { self.old ≤ result }
     {
+        self.rouse_last();
+        if !self.idle {
+            self.looks = 0;
+        }
+        self.idle = false;
         let mut time = libc::types::timespec {
             tv_sec: 0,
             tv_nsec: 0,
@@ -67,15 +126,28 @@ impl Clock for TcpClock {
     fn idle(&mut self)
         ensures { self.new ≡ self.old }
     {
+        self.rouse_last();
+        self.idle = true;
         let Some(bell) = self.bells.get(self.line) else {
             return;
         };
-        if bell.lie_down() {
-            let most = Duration::from_millis(LONGEST_SLEEP);
-            // Where the wait fails, the turn that follows finds nothing, and the thread waits again.
-            let _ = self.poll.poll(&mut self.events, Some(most));
+        if bell.answer() {
+            self.looks = 0;
+            // Who is rung for again and again reads every other time.
+            if self.answered {
+                bell.refill();
+            }
+            self.answered = !self.answered;
+            return;
         }
-        bell.rise();
+        self.answered = false;
+        if self.looks < MOST_LOOKS {
+            self.looks += 1;
+            thread::yield_now();
+        } else if sleep(&mut self.poll, &mut self.events, bell) {
+            self.looks = 0;
+        }
+        bell.refill();
     }
 
     fn wake(&mut self, line: LineNo)
@@ -83,6 +155,10 @@ impl Clock for TcpClock {
     {
         if let Some(bell) = self.bells.get(line as usize) {
             bell.ring();
+        }
+        if self.rung != Some(line) {
+            self.rouse_last();
+            self.rung = Some(line);
         }
     }
 }

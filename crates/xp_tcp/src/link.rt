@@ -4,10 +4,12 @@ ghost use Rattle.std.specs.Prelude.{◌≡◌, ◌≢◌, ◌≤◌, ◌↔◌, 
 ghost use Rattle.std.specs.IoError.{error_kind};
 ghost use Rattle.xp_lines.specs.Counts.{pulled_count};
 
+use crate::wakers::Bell;
 use mio::net::TcpStream;
 use mio::{Interest, Registry, Token};
 use std::io;
 use std::io::{ErrorKind, Read, Write};
+use std::sync::Arc;
 use xp_lines::{Link, Pulled, Pushed};
 
 /// Names a line's connection among what its thread waits for.
@@ -17,15 +19,30 @@ const STREAM: Token = Token(2);
 #[derive(Drop)]
 pub struct TcpLink {
     stream: TcpStream,
+    bells: Arc<Vec<Bell>>,
+    /// The line's own place among the bells.
+    line: usize,
 }
 
 impl TcpLink {
     /// The link of a connection, for which the line's thread waits from now on.
-    pub(crate) fn new(mut stream: TcpStream, waits: &Registry) -> io::Result<TcpLink> {
+    pub(crate) fn new(
+        mut stream: TcpStream,
+        waits: &Registry,
+        bells: Arc<Vec<Bell>>,
+        line: usize,
+    ) -> io::Result<TcpLink> {
         // A packet is to go at once, however short it is.
         stream.set_nodelay(true)?;
         waits.register(&mut stream, STREAM, Interest::READABLE | Interest::WRITABLE)?;
-        Ok(TcpLink { stream })
+        if let Some(bell) = bells.get(line) {
+            bell.refill();
+        }
+        Ok(TcpLink {
+            stream,
+            bells,
+            line,
+        })
     }
 }
 
@@ -45,9 +62,25 @@ impl Link for TcpLink {
         if into.is_empty() {
             return Pulled::Nothing;
         }
+        let Some(bell) = self.bells.get(self.line) else {
+            return Pulled::Fault;
+        };
+        if bell.is_emptied() {
+            return Pulled::Nothing;
+        }
         match self.stream.read(into) {
             Ok(0) => Pulled::Ended,
-            Ok(count) => Pulled::Octets(count),
+            Ok(count) => {
+                // A read that had room to spare has left no octets.
+                if count < into.len() {
+                    bell.empty();
+                }
+                Pulled::Octets(count)
+            }
+            Err(error) if error.kind() == ErrorKind::WouldBlock => {
+                bell.empty();
+                Pulled::Nothing
+            }
             Err(error) if is_early(&error) => Pulled::Nothing,
             Err(_) => Pulled::Fault,
         }

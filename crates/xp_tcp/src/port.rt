@@ -4,10 +4,12 @@ ghost use Rattle.std.specs.Prelude.{◌≡◌, ◌↔◌, ◌⊎◌, IsNone};
 ghost use Rattle.std.specs.IoError.{error_kind};
 
 use crate::link::TcpLink;
+use crate::wakers::Bell;
 use mio::Registry;
 use mio::net::TcpListener;
 use std::io;
 use std::io::ErrorKind;
+use std::sync::Arc;
 use xp_lines::{Arrived, Port};
 
 /// How many connections are taken at most in one call, where those before failed.
@@ -19,18 +21,32 @@ pub struct TcpPort {
     listener: TcpListener,
     /// What the line's thread waits for.
     waits: Registry,
+    bells: Arc<Vec<Bell>>,
+    /// The line's own place among the bells.
+    line: usize,
 }
 
 impl TcpPort {
-    pub(crate) fn new(listener: TcpListener, waits: Registry) -> TcpPort {
-        TcpPort { listener, waits }
+    pub(crate) fn new(
+        listener: TcpListener,
+        waits: Registry,
+        bells: Arc<Vec<Bell>>,
+        line: usize,
+    ) -> TcpPort {
+        TcpPort {
+            listener,
+            waits,
+            bells,
+            line,
+        }
     }
 
     /// Takes a connection: none where it has failed, so that there may be another behind it.
     fn take_one(&self) -> Option<Arrived<TcpLink>> {
         match self.listener.accept() {
             Ok((stream, _from)) => {
-                let link = TcpLink::new(stream, &self.waits).ok()?;
+                let bells = Arc::try_clone(&self.bells).ok()?;
+                let link = TcpLink::new(stream, &self.waits, bells, self.line).ok()?;
                 Some(Arrived::Came(link))
             }
             Err(error) => without(&error),

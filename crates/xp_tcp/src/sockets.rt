@@ -7,7 +7,7 @@ use crate::clock::TcpClock;
 use crate::port::TcpPort;
 use crate::wakers::Bell;
 use mio::net::TcpListener;
-use mio::{Events, Interest, Poll, Token, Waker};
+use mio::{Events, Interest, Poll, Registry, Token, Waker};
 use std::alloc::{AllocError, Global};
 use std::io;
 use std::marker::Model;
@@ -54,7 +54,8 @@ impl From<io::Error> for ListenFault {
 /// The listening socket of one line, with what its thread waits on.
 #[derive(Drop)]
 struct Listening {
-    ends: TcpPort,
+    listener: TcpListener,
+    waits: Registry,
     poll: Poll,
     events: Events,
     port: u16,
@@ -124,9 +125,9 @@ impl Sockets {
         let mut ends = Vec::with_capacity(alloc, lines.len())?;
         for line in lines {
             let place = ends.len();
-            let theirs = Arc::try_clone(&bells)?;
-            let clock = TcpClock::new(line.poll, line.events, theirs, place);
-            ends.push((line.ends, clock))?;
+            let port = TcpPort::new(line.listener, line.waits, Arc::try_clone(&bells)?, place);
+            let clock = TcpClock::new(line.poll, line.events, Arc::try_clone(&bells)?, place);
+            ends.push((port, clock))?;
         }
         Ok(ends)
     }
@@ -142,7 +143,8 @@ fn open<R: Net>(rt: &R, at: SocketAddr, events: Events) -> io::Result<(Listening
     let waker = Waker::new(poll.registry(), WAKER)?;
     let waits = poll.registry().try_clone()?;
     let line = Listening {
-        ends: TcpPort::new(listener, waits),
+        listener,
+        waits,
         poll,
         events,
         port,

@@ -3,15 +3,19 @@
 use mio::Waker;
 use std::sync::atomic::AtomicBool;
 use std::sync::atomic::Ordering::SeqCst;
+use xp_subs::LineNo;
 
-/// Wakes the thread of one line. To wake a thread that is not asleep takes no call of the system.
+/// Wakes the thread of one line, and knows whether that has octets to read. To wake a thread that is not asleep, and to know
+/// that there are no octets, takes no call of the system.
 #[derive(Drop)]
 pub(crate) struct Bell {
     waker: Waker,
     /// The line has something to do that its thread may not have seen.
     rung: AtomicBool,
-    /// The thread is asleep, or about to be.
+    /// The thread is asleep, or about to be, and no one has woken it.
     asleep: AtomicBool,
+    /// All octets that were there are read.
+    emptied: AtomicBool,
 }
 
 impl Bell {
@@ -20,30 +24,65 @@ impl Bell {
             waker,
             rung: AtomicBool::new(false),
             asleep: AtomicBool::new(false),
+            emptied: AtomicBool::new(false),
         }
     }
 
-    /// Wakes the line's thread, or keeps it from the sleep that it is about to begin. Any thread may call it.
+    /// Keeps the line's thread from a sleep that it has not begun. Any thread may call it, and has to call `rouse` after it.
     ///
     /// Each of the two threads writes its own flag before it reads the other's, so that at least one of them sees what the other
     /// has written.
     pub(crate) fn ring(&self) {
         self.rung.store(true, SeqCst);
-        if self.asleep.load(SeqCst) {
+    }
+
+    /// Wakes the line's thread where it sleeps, or is about to.
+    pub(crate) fn rouse(&self) {
+        if self.asleep.swap(false, SeqCst) {
             // It fails only where the thread is woken already.
             let _ = self.waker.wake();
         }
     }
 
+    /// Whether the bell was rung. From now on it is not: the line's thread looks at all that was put out to it before this.
+    pub(crate) fn answer(&self) -> bool {
+        self.rung.swap(false, SeqCst)
+    }
+
     /// Whether the line's thread may go to sleep. From now on until `rise` it is woken.
     pub(crate) fn lie_down(&self) -> bool {
         self.asleep.store(true, SeqCst);
-        !self.rung.swap(false, SeqCst)
+        !self.answer()
     }
 
     /// The line's thread is up, and looks at all that was put out to it before this.
     pub(crate) fn rise(&self) {
         self.asleep.store(false, SeqCst);
         self.rung.store(false, SeqCst);
+    }
+
+    /// Whether the last read left no octets, and no time has passed since.
+    pub(crate) fn is_emptied(&self) -> bool {
+        self.emptied.load(SeqCst)
+    }
+
+    /// A read of the line's thread left no octets.
+    pub(crate) fn empty(&self) {
+        self.emptied.store(true, SeqCst);
+    }
+
+    /// Time has passed, so that octets may have come, or their end.
+    pub(crate) fn refill(&self) {
+        self.emptied.store(false, SeqCst);
+    }
+}
+
+/// Wakes the thread of a line, if there is one.
+pub(crate) fn rouse(bells: &[Bell], line: Option<LineNo>) {
+    let Some(line) = line else {
+        return;
+    };
+    if let Some(bell) = bells.get(line as usize) {
+        bell.rouse();
     }
 }
