@@ -1,0 +1,48 @@
+//! Calls between two clients, over TCP.
+
+use crate::client::Step;
+use crate::frames::{ACCEPTED, CALL, CLEAR, CONFIRMATION, CONNECTED, INCOMING, OUT_OF_ORDER};
+use crate::serving::{Clients, serve};
+use std::test::Fail;
+
+#[test]
+fn call_over_sockets(rt: HostRuntime) -> Result<(), Fail> {
+    let clients = Clients {
+        a1: &[
+            Step::Says(CALL),
+            Step::Hears(CONNECTED),
+            Step::Says(CLEAR),
+            Step::Hears(CONFIRMATION),
+            Step::IsLeft,
+        ],
+        b1: &[
+            Step::Hears(INCOMING),
+            Step::Says(ACCEPTED),
+            Step::Hears(CLEAR),
+            Step::IsLeft,
+        ],
+    };
+    let served = serve(&rt, rt.alloc(), clients)?;
+    assert_eq!(rt; served.steps, (5, 4));
+    assert_eq!(rt;
+        served.text.as_str(),
+        "HHHHH\nrecord 1 a1 b1 2080020 caller 0 0 00 0\n"
+    );
+    Ok(())
+}
+
+/// b1's client hangs up once it has the call.
+#[test]
+fn client_that_hangs_up(rt: HostRuntime) -> Result<(), Fail> {
+    let clients = Clients {
+        a1: &[Step::Says(CALL), Step::Hears(OUT_OF_ORDER), Step::IsLeft],
+        b1: &[Step::Hears(INCOMING)],
+    };
+    let served = serve(&rt, rt.alloc(), clients)?;
+    assert_eq!(rt; served.steps, (3, 1));
+    assert_eq!(rt;
+        served.text.as_str(),
+        "HHHHH\nrecord 1 a1 b1 2080020 caller 0 0 09 0\n"
+    );
+    Ok(())
+}

@@ -1,0 +1,13 @@
+//! Tests of lines that are served over TCP.
+#![tactic(auto)]
+
+#[cfg(test)]
+mod calls;
+#[cfg(test)]
+mod client;
+#[cfg(test)]
+mod frames;
+#[cfg(test)]
+mod ports;
+#[cfg(test)]
+mod serving;
