@@ -1,10 +1,8 @@
-//! Counted turns: when time passes, who is woken, and when the records halt the exchange.
+//! Counted turns: when time passes, and who is woken.
 
 use crate::board::Board;
 use crate::faults::PLANS;
-use crate::frames::{CALL_NOBODY, NOT_OBTAINABLE};
-use crate::plan::{FLAWLESS, Piece, Plan, SILENT};
-use crate::serving::{Serving, USUALLY, serve};
+use crate::plan::FLAWLESS;
 use crate::turning::{Playing, play};
 use std::sync::Arc;
 use std::test::Fail;
@@ -22,47 +20,6 @@ fn turns_with_nothing_to_read_let_time_pass(rt: HostRuntime) -> Result<(), Fail>
     // a1's call and its clear wake b1, and b1's answer wakes a1: its confirmation puts nothing out
     for (line, counts) in [(0, (6, 4, 1)), (1, (6, 4, 2)), (2, (0, 0, 0))] {
         assert_eq!(rt; board.of(line).counts(), counts, "line {line}");
-    }
-    Ok(())
-}
-
-/// a1 calls an address that nobody has, which makes a record at once.
-static REFUSED: [Plan; 1] = [Plan {
-    gives: &[Piece {
-        after: 0,
-        octets: CALL_NOBODY,
-    }],
-    count: 1,
-    wants: NOT_OBTAINABLE,
-    ..SILENT
-}];
-
-/// The wanted count of records, why the line has ended and what happened on it, and how often it was pulled from, time
-/// passed and it was woken.
-static COUNTED: [(u64, &str, (u64, u64, u64)); 2] = [
-    (1, "H\nUC", (1, 0, 0)),
-    (2, "T\nUCD", (9, 8, 0)),
-];
-
-#[test]
-fn wanted_records_halt_the_exchange(rt: HostRuntime) -> Result<(), Fail> {
-    for (records, told, counts) in &COUNTED {
-        let board = Arc::new(rt.alloc(), Board::new())?;
-        let serving = Serving {
-            plans: &REFUSED,
-            turns: 10,
-            records: *records,
-            ..USUALLY
-        };
-        let text = serve(&rt, rt.alloc(), &serving, &board)?;
-        let rest = text.strip_prefix(*told);
-        assert_eq!(rt;
-            rest,
-            Some("\n\n\n\n\nrecord 1 a1 - 2080099 caller 0 0 0d 67\n"),
-            "{records}"
-        );
-        assert_eq!(rt; board.of(0).counts(), *counts, "{records}");
-        assert_eq!(rt; board.as_wanted(&REFUSED), 1, "{records}");
     }
     Ok(())
 }
