@@ -22,15 +22,12 @@ use std::marker::Model;
 use std::sync::atomic::AtomicBool;
 use std::sync::atomic::Ordering::SeqCst;
 use std::sync::{Mutex, MutexGuard, Wait};
-use std::{hint, thread};
+use std::thread;
 use xp_core::{Event, Outgoing};
 use xp_subs::LineNo;
 
 /// How often a thread tries to take the lock, and lets others run in between, before it sleeps until the lock is free.
-const MOST_TRIES: u32 = 8;
-
-/// How often it looks whether the lock is free before it lets others run.
-const MOST_SPINS: u32 = 10;
+const MOST_TRIES: u32 = 100;
 
 /// The exchange that threads share.
 #[derive(Drop)]
@@ -96,27 +93,16 @@ impl<N: Name, A: Allocator + Copy> Exchange<N, A> {
         self.locked(rt).take(rt, &self.word, pass, event)
     }
 
-    /// Takes the lock, which is held for some microseconds. A thread that sleeps on it costs more than a few tries, between
-    /// which whoever holds it may run.
+    /// Takes the lock, which is held for some microseconds. A thread that sleeps on it costs more than many tries, between
+    /// which others run: whoever holds it, or the ends that packets come from.
     fn locked<R: Wait>(&self, rt: &R) -> MutexGuard<'_, Keeper<N, A>> {
         for _try in 0..MOST_TRIES {
-            if let Some(guard) = self.try_locked() {
+            if let Some(guard) = self.lock.try_lock() {
                 return guard;
             }
             thread::yield_now();
         }
         self.lock.lock(rt)
-    }
-
-    /// Takes the lock if it comes free in a moment.
-    fn try_locked(&self) -> Option<MutexGuard<'_, Keeper<N, A>>> {
-        for _spin in 0..MOST_SPINS {
-            if let Some(guard) = self.lock.try_lock() {
-                return Some(guard);
-            }
-            hint::spin_loop();
-        }
-        None
     }
 
     /// Takes the oldest output of the pass's line. It takes no lock.
