@@ -1,6 +1,6 @@
 //! What is seen of the lines while their threads run.
 
-use crate::plan::Plan;
+use crate::plan::Act;
 use std::sync::atomic::{AtomicBool, AtomicU64, AtomicUsize, Ordering};
 use xp_subs::LineNo;
 
@@ -98,15 +98,13 @@ impl Board {
         &self.lines[usize::from(line).min(4)]
     }
 
-    /// How many of the lines from the first on got all octets that are wanted on them, and no others.
-    pub fn as_wanted(&self, plans: &[Plan]) -> usize {
-        let mut lines = 0usize;
-        for (seen, plan) in self.lines.iter().zip(plans) {
+    /// Whether each line's link got all octets that are wanted there, and no others.
+    pub fn as_wanted(&self, act: Act) -> bool {
+        for (seen, plan) in self.lines.iter().zip(act.plans()) {
             if seen.front() != Some(plan.wants.len()) {
-                break;
+                return false;
             }
-            lines = lines.saturating_add(1);
         }
-        lines
+        true
     }
 }

@@ -4,7 +4,7 @@ use crate::board::Board;
 use crate::frames::{
     ACCEPTED, CALL_WITH_DATA, CLEAR, CONFIRMATION, CONNECTED_AND_CONFIRMATION, INCOMING_AND_CLEAR,
 };
-use crate::plan::{FLAWLESS, Flaws, Piece, Plan, SILENT};
+use crate::plan::{Act, FLAWLESS, Flaws, Piece, Plan, SILENT};
 use crate::turning::{Playing, play};
 use std::alloc::Global;
 use std::process::Abort;
@@ -14,7 +14,7 @@ use std::test::Fail;
 use xp_subs::LineNo;
 
 /// a1 calls b1, which accepts; a1 clears the call, and b1 confirms it.
-pub static PLANS: [Plan; 2] = [
+pub static FAULTS: [Plan; 5] = [
     Plan {
         gives: &[
             Piece {
@@ -45,6 +45,9 @@ pub static PLANS: [Plan; 2] = [
         wants: INCOMING_AND_CLEAR,
         ..SILENT
     },
+    SILENT,
+    SILENT,
+    SILENT,
 ];
 
 /// The record that belongs to these events: a call ends at the first clear or lost link behind it.
@@ -97,7 +100,7 @@ fn faults(
         let failing = flaws(at_push, number);
         let other = flaws(at_push, u64::MAX);
         let playing = Playing {
-            plans: &PLANS,
+            act: Act::Faults,
             flaws: if line == 0 {
                 [failing, other]
             } else {
@@ -114,7 +117,7 @@ fn faults(
         assert!(rt; board.of(line).front().is_some(), "{number}");
         if !board.of(line).failed.load(Ordering::SeqCst) {
             assert_eq!(rt; played.events.as_str(), "UUCAXY\n");
-            assert_eq!(rt; board.as_wanted(&PLANS), 2);
+            assert!(rt; board.as_wanted(Act::Faults));
             return Ok(number);
         }
     }

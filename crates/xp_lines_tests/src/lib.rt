@@ -1,4 +1,4 @@
-//! Tests of the turns of lines, over links in memory.
+//! Tests of the threads of lines, over links in memory.
 #![tactic(auto)]
 
 #[cfg(test)]
@@ -15,6 +15,10 @@ mod frames;
 mod pace;
 #[cfg(test)]
 mod plan;
+#[cfg(test)]
+mod served;
+#[cfg(test)]
+mod serving;
 #[cfg(test)]
 mod slow;
 #[cfg(test)]

@@ -1,7 +1,8 @@
 //! Clocks and gates of the lines.
 
 use crate::board::Board;
-use crate::plan::Leave;
+use crate::plan::Act;
+use std::alloc::AllocError;
 use std::sync::Arc;
 use std::sync::atomic::{AtomicBool, Ordering};
 use std::thread;
@@ -14,10 +15,21 @@ const MOST_LOOKS: u32 = 5_000_000;
 /// A clock that begins at 0, and goes on by so many seconds where its line has nothing to do.
 #[derive(Drop)]
 pub struct Ticking {
-    pub board: Arc<Board>,
-    pub line: LineNo,
-    pub now: u64,
-    pub step: u64,
+    board: Arc<Board>,
+    line: LineNo,
+    now: u64,
+    step: u64,
+}
+
+impl Ticking {
+    pub fn new(board: &Arc<Board>, line: LineNo, step: u64) -> Result<Ticking, AllocError> {
+        Ok(Ticking {
+            board: Arc::try_clone(board)?,
+            line,
+            now: 0,
+            step,
+        })
+    }
 }
 
 impl Clock for Ticking {
@@ -39,24 +51,35 @@ impl Clock for Ticking {
     }
 }
 
-/// A gate that lets packets go as it was told.
+/// A gate that lets packets go as its line's plan tells.
 #[derive(Drop)]
 pub struct Told {
-    pub board: Arc<Board>,
-    pub leave: Leave,
-    pub met: bool,
+    board: Arc<Board>,
+    act: Act,
+    met: bool,
+}
+
+impl Told {
+    pub fn new(board: &Arc<Board>, act: Act) -> Result<Told, AllocError> {
+        Ok(Told {
+            board: Arc::try_clone(board)?,
+            act,
+            met: false,
+        })
+    }
 }
 
 impl Gate for Told {
     fn may_go(&mut self, line: LineNo) -> bool {
+        let leave = self.act.plan(line).leave;
         self.board.of(line).entered.store(true, Ordering::SeqCst);
         if !self.met {
             self.met = true;
-            meet(&self.board, self.leave.meets);
+            meet(&self.board, leave.meets);
         }
-        let (line, octets) = self.leave.given;
-        are_pulled(&self.board, self.leave.pulled)
-            && self.board.of(line).got.load(Ordering::SeqCst) >= octets
+        let (other, octets) = leave.given;
+        are_pulled(&self.board, leave.pulled)
+            && self.board.of(other).got.load(Ordering::SeqCst) >= octets
     }
 }
 

@@ -1,5 +1,9 @@
 //! What the links of the lines do, told as data.
 
+use crate::counts::REFUSED;
+use crate::faults::FAULTS;
+use crate::served::{BROKEN_PORT, FIVE_AT_ONCE, FULL_JOURNAL, HALTED, NO_ANSWER, TWO_CALLS};
+use crate::slow::SLOW;
 use xp_subs::LineNo;
 
 /// Octets that a link gives once it took so many; no octets are its end.
@@ -10,7 +14,7 @@ pub struct Piece {
 }
 
 /// What comes of a line's port.
-#[derive(Clone, Copy, PartialEq)]
+#[derive(Clone, Copy)]
 pub enum Comes {
     /// One link.
     Link,
@@ -58,6 +62,56 @@ pub const SILENT: Plan = Plan {
     wants: &[],
     leave: FREELY,
 };
+
+/// A port that gives nothing.
+pub const NO_LINK: Plan = Plan {
+    comes: Comes::Nothing,
+    ..SILENT
+};
+
+/// What the links of all lines do. Links, ports and gates have an act and look their plan up in it: they go to threads as
+/// type arguments, where the prover covers no type that holds a borrow.
+#[derive(Clone, Copy)]
+pub enum Act {
+    TwoCalls,
+    FiveAtOnce,
+    NoAnswer,
+    BrokenPort,
+    FullJournal,
+    Halted,
+    Refused,
+    Faults,
+    Slow,
+}
+
+impl Act {
+    /// The plan of each line.
+    pub fn plans(self) -> &'static [Plan; 5] {
+        match self {
+            Act::TwoCalls => &TWO_CALLS,
+            Act::FiveAtOnce => &FIVE_AT_ONCE,
+            Act::NoAnswer => &NO_ANSWER,
+            Act::BrokenPort => &BROKEN_PORT,
+            Act::FullJournal => &FULL_JOURNAL,
+            Act::Halted => &HALTED,
+            Act::Refused => &REFUSED,
+            Act::Faults => &FAULTS,
+            Act::Slow => &SLOW,
+        }
+    }
+
+    pub fn plan(self, line: LineNo) -> &'static Plan {
+        &self.plans()[usize::from(line).min(4)]
+    }
+
+    /// The first lines of the subscriptions' file.
+    pub fn head(self) -> &'static str {
+        match self {
+            Act::FullJournal => "journal = 9\n",
+            _ => "",
+        }
+    }
+}
 
 /// How a link fails.
 #[derive(Clone, Copy)]

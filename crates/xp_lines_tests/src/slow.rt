@@ -2,7 +2,7 @@
 
 use crate::board::Board;
 use crate::frames::{ACCEPTED, CALL_WITH_DATA};
-use crate::plan::{FLAWLESS, Flaws, Piece, Plan, SILENT};
+use crate::plan::{Act, FLAWLESS, Flaws, Piece, Plan, SILENT};
 use crate::turning::{Playing, play};
 use std::sync::Arc;
 use std::sync::atomic::Ordering;
@@ -89,7 +89,7 @@ const READY: [Piece; 9] = [
 ];
 
 /// The call, and forty-one data packets.
-static PLANS: [Plan; 2] = [
+pub static SLOW: [Plan; 5] = [
     Plan {
         gives: &DATA,
         count: 42,
@@ -100,13 +100,16 @@ static PLANS: [Plan; 2] = [
         count: 42,
         ..SILENT
     },
+    SILENT,
+    SILENT,
+    SILENT,
 ];
 
 #[test]
 fn link_that_takes_nothing(rt: HostRuntime) -> Result<(), Fail> {
     let board = Arc::new(rt.alloc(), Board::new())?;
     let playing = Playing {
-        plans: &PLANS,
+        act: Act::Slow,
         flaws: [
             FLAWLESS,
             Flaws {

@@ -5,7 +5,7 @@ ghost use Rattle.std.specs.Prelude.{◌≡◌};
 use crate::account::{subs, tell_all, tell_records};
 use crate::board::Board;
 use crate::pace::{Ticking, Told};
-use crate::plan::{FREELY, Flaws, Plan};
+use crate::plan::{Act, Flaws};
 use crate::wire::Wire;
 use std::alloc::{AllocError, Global};
 use std::marker::Brand;
@@ -19,14 +19,14 @@ use xp_lock::{Blanks, Exchange, LinePass, Name, prepare};
 /// How a1 and b1 have their turns.
 #[derive(Clone, Copy)]
 pub struct Playing {
-    pub plans: &'static [Plan; 2],
+    pub act: Act,
     pub flaws: [Flaws; 2],
     /// How many turns each has.
     pub turns: u64,
 }
 
 /// What came of it.
-#[derive(Debug, Drop, PartialEq)]
+#[derive(Drop)]
 pub struct Played {
     /// All events in order, and the charging records; none where the exchange could not be closed.
     pub events: String,
@@ -46,47 +46,41 @@ struct Seat<N: Name> {
     after: After,
 }
 
-/// The line comes up.
-fn take_seat<N: Name>(
-    rt: &impl Wait,
-    alloc: Global,
-    exchange: &Exchange<N>,
-    pass: LinePass<N>,
-    wire: Wire,
-    board: &Arc<Board>,
-) -> Result<Option<Seat<N>>, AllocError> {
-    let mut pass = pass;
-    let line = pass.line();
+/// The line comes up: the number of its connection, or 0 where that was refused.
+fn come_up<N: Name>(rt: &impl Wait, exchange: &Exchange<N>, pass: &mut LinePass<N>) -> u64 {
     let up = Event {
-        line,
+        line: pass.line(),
         what: What::Up,
     };
-    let Ok(done) = exchange.offer(rt, &mut pass, up) else {
-        return Ok(None);
-    };
-    Ok(Some(Seat {
+    match exchange.offer(rt, pass, up) {
+        Ok(done) => done.connection(),
+        Err(_) => 0,
+    }
+}
+
+fn make_seat<N: Name>(
+    alloc: Global,
+    pass: LinePass<N>,
+    connection: u64,
+    act: Act,
+    flaws: Flaws,
+    board: &Arc<Board>,
+) -> Result<Seat<N>, AllocError> {
+    let line = pass.line();
+    Ok(Seat {
         pass,
         session: Session {
-            link: wire,
-            connection: done.connection(),
+            link: Wire::new(act, line, flaws, board)?,
+            connection,
             frames: Deframer::new(alloc),
             waiting: None,
             unwritten: Vec::new(alloc),
             ringing: None,
         },
-        clock: Ticking {
-            board: Arc::try_clone(board)?,
-            line,
-            now: 0,
-            step: 0,
-        },
-        gate: Told {
-            board: Arc::try_clone(board)?,
-            leave: FREELY,
-            met: true,
-        },
+        clock: Ticking::new(board, line, 0)?,
+        gate: Told::new(board, act)?,
         after: After::Linked,
-    }))
+    })
 }
 
 /// A turn of the line, while it has its link.
@@ -150,18 +144,14 @@ fn plays<N: Name>(
 {
     let (exchange, passes) = Exchange::<N, Global>::start(alloc, blanks)?;
     let mut rest = passes.into_iter();
-    let (Some(a1), Some(b1)) = (rest.next(), rest.next()) else {
+    let (Some(mut a1), Some(mut b1)) = (rest.next(), rest.next()) else {
         return Ok((0, false));
     };
     let [a1_flaws, b1_flaws] = playing.flaws;
-    let a1_wire = Wire::new(&playing.plans[0], a1_flaws, board, 0)?;
-    let b1_wire = Wire::new(&playing.plans[1], b1_flaws, board, 1)?;
-    let (Some(mut a1), Some(mut b1)) = (
-        take_seat(rt, alloc, &exchange, a1, a1_wire, board)?,
-        take_seat(rt, alloc, &exchange, b1, b1_wire, board)?,
-    ) else {
-        return Ok((0, false));
-    };
+    let first = come_up(rt, &exchange, &mut a1);
+    let second = come_up(rt, &exchange, &mut b1);
+    let mut a1 = make_seat(alloc, a1, first, playing.act, a1_flaws, board)?;
+    let mut b1 = make_seat(alloc, b1, second, playing.act, b1_flaws, board)?;
     go_on(rt, &exchange, &mut a1, &mut b1, playing.turns);
     let kept = kept(rt, &exchange, &mut b1.pass);
     let mut all = Vec::new(alloc);
@@ -184,7 +174,7 @@ pub fn play(
     playing: &Playing,
     board: &Arc<Board>,
 ) -> Result<Played, Fail> {
-    let blanks = prepare(alloc, subs(alloc, "")?)?;
+    let blanks = prepare(alloc, subs(alloc, playing.act.head())?)?;
     let mut events = Vec::new(alloc);
     let mut records = Vec::new(alloc);
     let (kept, closes) = plays::<Brand>(

@@ -4,20 +4,20 @@ ghost use Rattle.std.specs.Prelude.{◌≤◌, length};
 ghost use Rattle.xp_lines.specs.Counts.{pulled_count};
 
 use crate::board::{Board, Seen};
-use crate::plan::{Comes, FLAWLESS, Flaws, Piece, Plan};
+use crate::plan::{Act, Comes, FLAWLESS, Flaws, Piece, Plan};
 use std::alloc::AllocError;
 use std::sync::Arc;
 use std::sync::atomic::Ordering;
 use xp_lines::{Arrived, Link, Port, Pulled, Pushed};
 use xp_subs::LineNo;
 
-/// A link that does what a plan tells.
+/// A link that does what its line's plan tells.
 #[derive(Drop)]
 pub struct Wire {
-    plan: Plan,
+    act: Act,
+    line: LineNo,
     flaws: Flaws,
     board: Arc<Board>,
-    line: LineNo,
     /// The place of the next piece, and how many are still to come.
     next: usize,
     left: usize,
@@ -25,19 +25,23 @@ pub struct Wire {
 
 impl Wire {
     pub fn new(
-        plan: &Plan,
+        act: Act,
+        line: LineNo,
         flaws: Flaws,
         board: &Arc<Board>,
-        line: LineNo,
     ) -> Result<Wire, AllocError> {
         Ok(Wire {
-            plan: *plan,
+            act,
+            line,
             flaws,
             board: Arc::try_clone(board)?,
-            line,
             next: 0,
-            left: plan.count,
+            left: act.plan(line).count,
         })
+    }
+
+    fn plan(&self) -> &'static Plan {
+        self.act.plan(self.line)
     }
 
     fn seen(&self) -> &Seen {
@@ -49,13 +53,14 @@ impl Wire {
         if self.left == 0 {
             return None;
         }
-        let piece = *self.plan.gives.get(self.next)?;
+        let gives = self.plan().gives;
+        let piece = *gives.get(self.next)?;
         if self.seen().got.load(Ordering::SeqCst) < piece.after {
             return None;
         }
         self.left -= 1;
         self.next = self.next.saturating_add(1);
-        if self.next >= self.plan.gives.len() {
+        if self.next >= gives.len() {
             self.next = 1;
         }
         Some(piece)
@@ -101,7 +106,7 @@ impl Link for Wire {
         }
         let count = from.len().min(self.flaws.most);
         for octet in &from[..count] {
-            self.seen().take(*octet, self.plan.wants);
+            self.seen().take(*octet, self.plan().wants);
         }
         Pushed::Took(count)
     }
@@ -110,23 +115,23 @@ impl Link for Wire {
 /// A port that gives at most one link.
 #[derive(Drop)]
 pub struct Once {
-    comes: Comes,
+    act: Act,
+    line: LineNo,
     wire: Option<Wire>,
     board: Arc<Board>,
-    line: LineNo,
 }
 
 impl Once {
-    pub fn new(plan: &Plan, board: &Arc<Board>, line: LineNo) -> Result<Once, AllocError> {
-        let wire = match plan.comes {
-            Comes::Link => Some(Wire::new(plan, FLAWLESS, board, line)?),
+    pub fn new(act: Act, line: LineNo, board: &Arc<Board>) -> Result<Once, AllocError> {
+        let wire = match act.plan(line).comes {
+            Comes::Link => Some(Wire::new(act, line, FLAWLESS, board)?),
             Comes::Nothing | Comes::Fault => None,
         };
         Ok(Once {
-            comes: plan.comes,
+            act,
+            line,
             wire,
             board: Arc::try_clone(board)?,
-            line,
         })
     }
 }
@@ -138,11 +143,13 @@ impl Port for Once {
         if let Some(wire) = self.wire.take() {
             return Arrived::Came(wire);
         }
-        if self.comes == Comes::Fault {
-            let seen = self.board.of(self.line);
-            seen.pulls.fetch_add(1, Ordering::SeqCst);
-            return Arrived::Fault;
+        match self.act.plan(self.line).comes {
+            Comes::Fault => {
+                let seen = self.board.of(self.line);
+                seen.pulls.fetch_add(1, Ordering::SeqCst);
+                Arrived::Fault
+            }
+            Comes::Link | Comes::Nothing => Arrived::Nothing,
         }
-        Arrived::Nothing
     }
 }
