@@ -8,6 +8,4 @@ mod frames;
 #[cfg(test)]
 mod packets;
 #[cfg(test)]
-mod plain;
-#[cfg(test)]
 mod testing;

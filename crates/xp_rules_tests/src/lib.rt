@@ -1,19 +1,9 @@
-//! Tests of the crates of rules, a file for each crate: what no contract says, as tables.
+//! Tests of the subscription file and the rules: what no contract says, and no row.
 #![tactic(auto)]
 
 #[cfg(test)]
-mod answer;
+mod calls;
 #[cfg(test)]
-mod charge;
+mod files;
 #[cfg(test)]
-mod decide;
-#[cfg(test)]
-mod file;
-#[cfg(test)]
-mod groups;
-#[cfg(test)]
-mod hunt;
-#[cfg(test)]
-mod subs;
-#[cfg(test)]
-mod text;
+mod records;

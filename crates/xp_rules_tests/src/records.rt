@@ -1,0 +1,46 @@
+//! The line of a charging record, and want of memory.
+
+use std::alloc::{AllocError, Global};
+use std::test::Fail;
+use xp_charge::Record;
+use xp_packets::{Digits, End};
+use xp_subs::Subs;
+use xp_testing::{Refusing, THREE_STATIONS};
+
+const LINE: &[u8] = b"#\nrecord 18446744073709551615 h3 b1 209 called 99999999 17 85 255\n";
+
+/// Adds the line of a record with the greatest numbers.
+fn add_line(subs: &Subs, text: &mut Vec<u8, &Refusing<Global>>) -> Result<(), AllocError> {
+    let record = Record {
+        number: u64::MAX,
+        caller: subs.line_named("h3").ok_or(AllocError)?,
+        called: subs.line_named("b1"),
+        dialled: Digits::from_text("209").unwrap_or_default(),
+        payer: End::Called,
+        from_caller: 99_999_999,
+        from_called: 17,
+        cause: 0x85,
+        diagnostic: 255,
+    };
+    record.write(subs, text)
+}
+
+/// Each request for memory is refused once; the text is then as it was, and the same call again adds the line.
+#[test]
+fn line_of_a_record(rt: HostRuntime) -> Result<(), Fail> {
+    let subs = Subs::read(rt.alloc(), THREE_STATIONS)?;
+    for number in 2..50u64 {
+        let alloc = Refusing::new(rt.alloc(), number);
+        let mut text = Vec::from_slice(&alloc, b"#\n")?;
+        if add_line(&subs, &mut text).is_err() {
+            assert_eq!(rt; text.as_slice(), b"#\n".as_slice());
+            add_line(&subs, &mut text)?;
+        }
+        assert_eq!(rt; text.as_slice(), LINE);
+        if alloc.is_pending() {
+            assert!(rt; number > 3);
+            return Ok(());
+        }
+    }
+    Err("it is refused again and again".into())
+}
