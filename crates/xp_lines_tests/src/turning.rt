@@ -14,7 +14,7 @@ use std::test::Fail;
 use xp_core::{Event, Outgoing, Put, What};
 use xp_frames::Deframer;
 use xp_lines::{After, Session, turn};
-use xp_lock::{Blanks, Exchange, LinePass, Name, prepare};
+use xp_lock::{Blanks, Done, Exchange, LinePass, Name, OfferFault, prepare};
 
 /// How a1 and b1 have their turns.
 #[derive(Clone, Copy)]
@@ -46,16 +46,23 @@ struct Seat<N: Name> {
     after: After,
 }
 
-/// The line comes up: the number of its connection, or 0 where that was refused.
+/// The line comes up.
+fn offer_up<N: Name>(
+    rt: &impl Wait,
+    exchange: &Exchange<N>,
+    pass: &mut LinePass<N>,
+) -> Result<Done, OfferFault> {
+    let line = pass.line();
+    let what = What::Up;
+    exchange.offer(rt, pass, Event { line, what })
+}
+
+/// The number of the line's connection as it comes up, or 0 where that was refused.
 fn come_up<N: Name>(rt: &impl Wait, exchange: &Exchange<N>, pass: &mut LinePass<N>) -> u64 {
-    let up = Event {
-        line: pass.line(),
-        what: What::Up,
-    };
-    match exchange.offer(rt, pass, up) {
-        Ok(done) => done.connection(),
-        Err(_) => 0,
+    if let Ok(done) = offer_up(rt, exchange, pass) {
+        return done.connection();
     }
+    0
 }
 
 fn make_seat<N: Name>(

@@ -77,15 +77,36 @@ pub fn entered<N: Name>(
     None
 }
 
-/// Whether an offer of what comes on the pass's line is refused since the exchange is halted.
-pub fn finds_halt<N: Name>(
+/// Whether an offer of what comes on the pass's line is refused, for a reason that is so.
+pub fn is_refused<N: Name>(
     rt: &impl Wait,
     exchange: &Exchange<N, Global>,
     pass: &mut LinePass<N, Global>,
     what: What,
+    reason: Reason,
 ) -> bool
     requires readable { IsReadable what }
     requires kind { is_stall what ≡ false }
 {
-    matches!(offer(rt, exchange, pass, what), Err(OfferFault::Halted(_)))
+    if let Err(fault) = offer(rt, exchange, pass, what) {
+        return reason.is_of(&fault);
+    }
+    false
+}
+
+/// Why an offer is refused.
+#[derive(Clone, Copy)]
+pub enum Reason {
+    Halted,
+    NoRoom,
+}
+
+impl Reason {
+    /// By reference: of a value that is looked into, the prover takes each kind of packet apart as it is dropped.
+    fn is_of(self, fault: &OfferFault) -> bool {
+        match self {
+            Reason::Halted => matches!(fault, OfferFault::Halted(_)),
+            Reason::NoRoom => matches!(fault, OfferFault::NoRoom(_)),
+        }
+    }
 }

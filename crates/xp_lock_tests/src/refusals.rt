@@ -4,6 +4,7 @@ ghost use Rattle.std.specs.Prelude.{◌≡◌, false, IfOk};
 ghost use Rattle.xp_core.specs.Exchange.{IsReadable};
 ghost use Rattle.xp_core.specs.Stalls.{is_stall};
 
+use crate::closing::entries_at_close;
 use crate::events::{ACCEPTED, CALL, CLEAR, CLEAR_CONFIRM, packet};
 use std::alloc::Allocator;
 use std::marker::Brand;
@@ -77,12 +78,14 @@ fn call<N: Name, A: Allocator + Copy>(
     rt: &impl Wait,
     alloc: A,
     exchange: &Exchange<N, A>,
-    a1: &mut LinePass<N, A>,
-    b1: &mut LinePass<N, A>,
+    passes: &mut [LinePass<N, A>],
 ) -> Result<Told, Fail> {
     let mut told = Told {
         in_order: true,
         ..Told::default()
+    };
+    let [a1, b1, ..] = passes else {
+        return Ok(told);
     };
     told.note(offer(rt, exchange, a1, What::Up));
     told.note(offer(rt, exchange, b1, What::Up));
@@ -103,26 +106,13 @@ fn plays<N: Name, A: Allocator + Copy>(
     requires word { N.word ≡ blanks.word }
     requires queues { N.queues ≡ blanks.queues }
 {
-    let Ok((exchange, passes)) = Exchange::<N, A>::start(alloc, blanks) else {
+    let Ok((exchange, mut passes)) = Exchange::<N, A>::start(alloc, blanks) else {
         return Ok(None);
     };
-    let mut rest = passes.into_iter();
-    let (Some(mut a1), Some(mut b1)) = (rest.next(), rest.next()) else {
-        return Ok(None);
-    };
-    let mut told = call(rt, alloc, &exchange, &mut a1, &mut b1)?;
-    let mut all = match Vec::with_capacity(alloc, 5) {
-        Ok(all) => all,
-        Err(_) => Vec::with_capacity(alloc, 5)?,
-    };
-    all.push(a1)?;
-    all.push(b1)?;
-    for pass in rest {
-        all.push(pass)?;
-    }
-    if let Ok(book) = exchange.close(rt, all) {
-        told.entries = book.history().len();
-    }
+    let told = call(rt, alloc, &exchange, &mut passes);
+    let entries = entries_at_close(rt, exchange, passes);
+    let mut told = told?;
+    told.entries = entries.unwrap_or(0);
     Ok(Some(told))
 }
 

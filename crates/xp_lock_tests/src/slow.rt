@@ -2,13 +2,13 @@
 
 ghost use Rattle.std.specs.Prelude.{◌≡◌};
 
-use crate::events::{ACCEPTED, CALL, data, offer, packet, ready};
+use crate::events::{ACCEPTED, CALL, Reason, data, is_refused, offer, packet, ready};
 use std::alloc::Global;
 use std::marker::Brand;
 use std::sync::Wait;
 use std::test::Fail;
 use xp_core::{Outgoing, Put, What};
-use xp_lock::{Blanks, Book, Exchange, LinePass, Name, OfferFault, prepare};
+use xp_lock::{Blanks, Book, Done, Exchange, LinePass, Name, OfferFault, prepare};
 use xp_packets::Packet;
 use xp_subs::{LineNo, Subs};
 use xp_testing::THREE_STATIONS;
@@ -57,56 +57,81 @@ fn take_all<N: Name>(
 }
 
 /// The cause and the diagnostic of a clear indication.
-fn cleared(item: Option<Outgoing>) -> Option<(u8, Option<u8>)> {
-    match item?.put {
+fn cleared(item: &Option<Outgoing>) -> Option<(u8, Option<u8>)> {
+    match &item.as_ref()?.put {
         Put::Send {
-            identifier: _,
             packet: Packet::Clear {
                 cause,
                 diagnostic,
-                block: _,
+                ..
             },
-        } => Some((cause, diagnostic)),
+            ..
+        } => Some((*cause, *diagnostic)),
         _ => None,
     }
 }
 
-/// a1 calls b1, and sends it packets that b1 acknowledges; a1 takes its outputs at once, b1 does where that is asked.
-fn talk<N: Name>(
+/// Whether an output is to close the connection.
+fn closes(item: &Option<Outgoing>) -> bool {
+    matches!(
+        item,
+        Some(Outgoing {
+            put: Put::Close,
+            ..
+        })
+    )
+}
+
+/// The first line that was given something.
+fn rung(taken: Result<Done, OfferFault>) -> Option<LineNo> {
+    if let Ok(done) = taken {
+        return done.given().first().copied();
+    }
+    None
+}
+
+/// a1 sends b1 packets that b1 acknowledges; a1 takes its outputs at once, b1 does where that is asked. The last output to a1.
+fn send_all<N: Name>(
     rt: &impl Wait,
     alloc: Global,
     exchange: &Exchange<N, Global>,
     a1: &mut LinePass<N, Global>,
     b1: &mut LinePass<N, Global>,
     at_once: bool,
-) -> Result<Seen, Fail> {
-    let mut seen = Seen::default();
-    let _up = offer(rt, exchange, a1, What::Up);
-    let _up = offer(rt, exchange, b1, What::Up);
-    if let Ok(done) = offer(rt, exchange, a1, packet(alloc, &CALL)?) {
-        seen.rung = done.given().first().copied();
-    }
-    let _accepted = offer(rt, exchange, b1, packet(alloc, &ACCEPTED)?);
+) -> Result<Option<Outgoing>, Fail> {
+    let mut last = None;
     for number in 0..PACKETS {
         let _data = offer(rt, exchange, a1, packet(alloc, &data(number % 8))?);
         let _ready = offer(rt, exchange, b1, packet(alloc, &ready((number + 1) % 8))?);
         if at_once {
             take_all(rt, exchange, b1);
         }
-        let (_, last) = take_all(rt, exchange, a1);
-        seen.cleared = cleared(last);
+        last = take_all(rt, exchange, a1).1;
     }
-    let up = offer(rt, exchange, b1, What::Up);
-    seen.without_room = matches!(up, Err(OfferFault::NoRoom(_)));
+    Ok(last)
+}
+
+/// a1 calls b1, and sends it the packets. b1 comes up again, before it takes what was kept for it and after.
+fn talk<N: Name>(
+    rt: &impl Wait,
+    alloc: Global,
+    exchange: &Exchange<N, Global>,
+    passes: &mut [LinePass<N, Global>],
+    at_once: bool,
+) -> Result<Seen, Fail> {
+    let mut seen = Seen::default();
+    let [a1, b1, ..] = passes else {
+        return Ok(seen);
+    };
+    let _up = offer(rt, exchange, a1, What::Up);
+    let _up = offer(rt, exchange, b1, What::Up);
+    seen.rung = rung(offer(rt, exchange, a1, packet(alloc, &CALL)?));
+    let _accepted = offer(rt, exchange, b1, packet(alloc, &ACCEPTED)?);
+    seen.cleared = cleared(&send_all(rt, alloc, exchange, a1, b1, at_once)?);
+    seen.without_room = is_refused(rt, exchange, b1, What::Up, Reason::NoRoom);
     let (kept, last) = take_all(rt, exchange, b1);
     seen.kept = kept;
-    seen.closes = matches!(
-        last,
-        Some(Outgoing {
-            put: Put::Close,
-            ..
-        })
-    );
+    seen.closes = closes(&last);
     seen.came_up = offer(rt, exchange, b1, What::Up).is_ok();
     Ok(seen)
 }
@@ -124,39 +149,35 @@ fn stalls(book: &Book) -> (Option<u64>, usize) {
     (last, count)
 }
 
-fn plays<N: Name>(
-    rt: &impl Wait,
-    alloc: Global,
-    blanks: Blanks<Global>,
-    at_once: bool,
-) -> Result<Option<Seen>, Fail>
-    requires subs { N.subs ≡ blanks.subs }
-    requires word { N.word ≡ blanks.word }
-    requires queues { N.queues ≡ blanks.queues }
-{
-    let (exchange, passes) = Exchange::<N, Global>::start(alloc, blanks)?;
-    let mut rest = passes.into_iter();
-    let (Some(mut a1), Some(mut b1)) = (rest.next(), rest.next()) else {
-        return Ok(None);
-    };
-    let mut seen = talk(rt, alloc, &exchange, &mut a1, &mut b1, at_once)?;
-    let mut all = Vec::new(alloc);
-    all.push(a1)?;
-    all.push(b1)?;
-    for pass in rest {
-        all.push(pass)?;
-    }
-    let Ok(book) = exchange.close(rt, all) else {
-        return Ok(None);
-    };
-    let (stall, count) = stalls(&book);
+/// What the closed book tells.
+fn note_book(seen: &mut Seen, book: &Book) {
+    let (stall, count) = stalls(book);
     seen.stall = stall;
     seen.stalls = count;
     seen.taken = (book.taken(0), book.taken(1));
     if let Some(ended) = book.records().first() {
         seen.segments = Some((ended.from_caller, ended.from_called));
     }
-    Ok(Some(seen))
+}
+
+fn plays<N: Name>(
+    rt: &impl Wait,
+    alloc: Global,
+    blanks: Blanks<Global>,
+    at_once: bool,
+) -> Result<Seen, Fail>
+    requires subs { N.subs ≡ blanks.subs }
+    requires word { N.word ≡ blanks.word }
+    requires queues { N.queues ≡ blanks.queues }
+{
+    let (exchange, mut passes) = Exchange::<N, Global>::start(alloc, blanks)?;
+    let seen = talk(rt, alloc, &exchange, &mut passes, at_once);
+    let book = exchange.close(rt, passes);
+    let mut seen = seen?;
+    if let Ok(book) = book {
+        note_book(&mut seen, &book);
+    }
+    Ok(seen)
 }
 
 #[test]
@@ -166,7 +187,7 @@ fn slow_line_is_stalled(rt: HostRuntime) -> Result<(), Fail> {
     // answer, these acknowledgements and the clear indication, b1 the call, the packets and what closes its connection
     assert_eq!(rt;
         plays::<Brand>(&rt, rt.alloc(), blanks, false)?,
-        Some(Seen {
+        Seen {
             rung: Some(1),
             kept: 42,
             closes: true,
@@ -177,7 +198,7 @@ fn slow_line_is_stalled(rt: HostRuntime) -> Result<(), Fail> {
             stalls: 1,
             taken: (41, 42),
             segments: Some((40, 0)),
-        })
+        }
     );
     Ok(())
 }
@@ -187,7 +208,7 @@ fn line_that_takes_at_once_is_not_stalled(rt: HostRuntime) -> Result<(), Fail> {
     let blanks = prepare(rt.alloc(), Subs::read(rt.alloc(), THREE_STATIONS)?)?;
     assert_eq!(rt;
         plays::<Brand>(&rt, rt.alloc(), blanks, true)?,
-        Some(Seen {
+        Seen {
             rung: Some(1),
             kept: 0,
             closes: false,
@@ -198,7 +219,7 @@ fn line_that_takes_at_once_is_not_stalled(rt: HostRuntime) -> Result<(), Fail> {
             stalls: 0,
             taken: (41, 41),
             segments: None,
-        })
+        }
     );
     Ok(())
 }

@@ -2,6 +2,7 @@
 
 ghost use Rattle.std.specs.Prelude.{◌≡◌};
 
+use crate::closing::entries_at_close;
 use crate::events::entered;
 use std::alloc::{AllocError, Global};
 use std::marker::Brand;
@@ -20,49 +21,47 @@ const EVENTS: usize = 101;
 fn offer_all<N: Name, R: Wait>(
     rt: &R,
     exchange: &Exchange<N, Global>,
-    pass: LinePass<N, Global>,
-) -> (LinePass<N, Global>, bool) {
-    let mut pass = pass;
+    pass: &mut LinePass<N, Global>,
+) -> bool {
     let mut number = 0;
     for place in 0..EVENTS {
         let what = if place == 0 { What::Up } else { What::Expire };
-        match entered(rt, exchange, &mut pass, what) {
+        match entered(rt, exchange, pass, what) {
             Some(entry) if entry > number => number = entry,
-            _ => return (pass, false),
+            _ => return false,
         }
     }
-    (pass, true)
+    true
+}
+
+/// The first two lines do so at the same time.
+fn offer_both<N: Name + Send + Sync>(
+    rt: &(impl Threads + Wait + Sync),
+    exchange: &Exchange<N, Global>,
+    passes: &mut [LinePass<N, Global>],
+) -> (bool, bool) {
+    let [a1, b1, ..] = passes else {
+        return (false, false);
+    };
+    join(
+        rt,
+        || offer_all(rt, exchange, a1),
+        || offer_all(rt, exchange, b1),
+    )
 }
 
 fn both<N: Name + Send + Sync>(
     rt: &(impl Threads + Wait + Sync),
     alloc: Global,
     blanks: Blanks<Global>,
-) -> Result<Option<(bool, bool, usize)>, AllocError>
+) -> Result<((bool, bool), Option<usize>), AllocError>
     requires subs { N.subs ≡ blanks.subs }
     requires word { N.word ≡ blanks.word }
     requires queues { N.queues ≡ blanks.queues }
 {
-    let (exchange, passes) = Exchange::<N, Global>::start(alloc, blanks)?;
-    let mut rest = passes.into_iter();
-    let (Some(a1), Some(b1)) = (rest.next(), rest.next()) else {
-        return Ok(None);
-    };
-    let ((a1, first), (b1, second)) = join(
-        rt,
-        || offer_all(rt, &exchange, a1),
-        || offer_all(rt, &exchange, b1),
-    );
-    let mut all = Vec::new(alloc);
-    all.push(a1)?;
-    all.push(b1)?;
-    for pass in rest {
-        all.push(pass)?;
-    }
-    let Ok(book) = exchange.close(rt, all) else {
-        return Ok(None);
-    };
-    Ok(Some((first, second, book.history().len())))
+    let (exchange, mut passes) = Exchange::<N, Global>::start(alloc, blanks)?;
+    let taken = offer_both(rt, &exchange, &mut passes);
+    Ok((taken, entries_at_close(rt, exchange, passes)))
 }
 
 #[test]
@@ -70,7 +69,7 @@ fn two_threads_history(rt: HostRuntime) -> Result<(), Fail> {
     let blanks = prepare(rt.alloc(), Subs::read(rt.alloc(), THREE_STATIONS)?)?;
     assert_eq!(rt;
         both::<Brand>(&rt, rt.alloc(), blanks)?,
-        Some((true, true, 202))
+        ((true, true), Some(202))
     );
     Ok(())
 }
