@@ -31,7 +31,7 @@ pub struct Work<A: Allocator> {
     pub outputs: Outputs<A>,
     /// The copy that is told.
     pub told: Outputs<A>,
-    pub records: Records,
+    pub records: Records<A>,
 }
 
 /// Enters one event: makes all growths, and then changes the state, the history and the records. A stall that is prepared
@@ -106,7 +106,7 @@ fn work_out<A: Allocator + Copy>(
     } = plan_of(alloc, subs, machine, relays, journal.history(), event)?;
     let outputs = outputs.into_outputs();
     let told = outputs.copy()?;
-    journal.reserve()?;
+    journal.reserve(records.as_slice().len())?;
     machine.apply(cancelled, change)?;
     relays.put_if_any(carriage);
     Ok(Work {

@@ -19,19 +19,48 @@ pub struct Metered<A: Allocator> {
     pub meter: Meter,
 }
 
+/// The same where it is kept: in a place of its own, so that a plan and a line hold no more than where that is.
+#[derive(Debug, Drop)]
+pub struct KeptMetered<A: Allocator> {
+    metered: Box<Metered<A>, A>,
+}
+
+impl<A: Allocator> Model for KeptMetered<A> {
+    ghost use Rattle.xp_core.specs.declared.relays.Metered.{Metered};
+
+    ghost Value = { Metered A };
+
+    ghost view = { λ k. k.metered.value };
+}
+
+impl<A: Allocator> KeptMetered<A> {
+    pub fn new(alloc: A, metered: Metered<A>) -> Result<KeptMetered<A>, AllocError>
+        ensures { IfOk result (λ kept. kept ≡ metered) }
+    {
+        let metered = Box::new(alloc, metered)?;
+        Ok(KeptMetered { metered })
+    }
+
+    pub fn get(&self) -> &Metered<A>
+        ensures { result.now ≡ self.now }
+    {
+        &self.metered
+    }
+}
+
 /// What is kept of a connected call's data.
 #[derive(Debug, Drop)]
 pub struct Carriage<A: Allocator> {
     /// The line that asked for the call.
     pub caller: LineNo,
-    pub metered: Metered<A>,
+    pub metered: KeptMetered<A>,
 }
 
 /// A place for each line: that of a caller has the relay of its call, once the call is connected. A line is in one call
 /// at a time.
 #[derive(Debug, Drop)]
 pub struct Relays<A: Allocator> {
-    by_caller: Vec<Option<Metered<A>>, A>,
+    by_caller: Vec<Option<KeptMetered<A>>, A>,
 }
 
 impl<A: Allocator> Model for Relays<A> {
@@ -83,7 +112,8 @@ impl<A: Allocator> Relays<A> {
     pub fn under(&self, line: LineNo) -> Option<&Metered<A>>
         ensures { option_copied result ≡ relay_under self.now line }
     {
-        self.by_caller.get(usize::from(line))?.as_ref()
+        let kept = self.by_caller.get(usize::from(line))?.as_ref()?;
+        Some(kept.get())
     }
 
     /// A call has another relay from now on, if there is one.

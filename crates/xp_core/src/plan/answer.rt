@@ -21,7 +21,8 @@ use crate::call::LiveCall;
 use crate::change::Change;
 use crate::outcome::{Agreement, Outcome};
 use crate::output::Buffer;
-use crate::relays::{Carriage, Metered};
+use crate::records::Records;
+use crate::relays::{Carriage, KeptMetered, Metered};
 use std::alloc::{AllocError, Allocator};
 use xp_answer::{Answer, Connection, examine};
 use xp_charge::Meter;
@@ -40,7 +41,7 @@ pub fn answer<A: Allocator + Copy>(
     ensures { (before : List (Entered A)) → IsFound found.now before → IfOk result (PlansAnswer (at_found found.now before) (answer_of answer.now)) }
 {
     let Some(call) = found.machine.call_on(found.line) else {
-        return Ok(Plan::of(Buffer::with_room(alloc, 0)?));
+        return Ok(Plan::none(alloc));
     };
     let address = found.subs.address_of(found.line);
     match examine(
@@ -56,11 +57,10 @@ pub fn answer<A: Allocator + Copy>(
             let agreement = agreement_of(&connection);
             let relay = Relay::new(alloc, agreement.relay_terms())?;
             let meter = Meter::new(found.subs.segment_limit());
-            let plan = connect(found, call, connection, outputs);
-            Ok(plan.carrying(Carriage {
-                caller: call.caller,
-                metered: Metered { relay, meter },
-            }))
+            let metered = KeptMetered::new(alloc, Metered { relay, meter })?;
+            let plan = connect(alloc, found, call, connection, outputs);
+            let caller = call.caller;
+            Ok(plan.carrying(Carriage { caller, metered }))
         }
         Answer::Refused(diagnostic) => {
             let plan = fail(alloc, found, diagnostic)?;
@@ -80,6 +80,7 @@ fn agreement_of<A: Allocator>(connection: &Connection<A>) -> Agreement
 
 /// The call is connected: both lines are in data transfer.
 fn connect<A: Allocator>(
+    alloc: A,
     found: &Found<'_, A>,
     call: &LiveCall,
     connection: Connection<A>,
@@ -97,7 +98,8 @@ fn connect<A: Allocator>(
         line: found.line,
         agreement,
     };
-    Plan::of(outputs.with(send(found.machine, call.caller, connection.packet)))
+    let outputs = outputs.with(send(found.machine, call.caller, connection.packet));
+    Plan::of(outputs, Records::none(alloc))
         .settling(Outcome::Connected(agreement))
         .changing(change)
 }

@@ -18,7 +18,8 @@ use crate::call::LiveCall;
 use crate::event::What;
 use crate::machine::Machine;
 use crate::output::Buffer;
-use crate::relays::{Carriage, Metered, Relays};
+use crate::records::Records;
+use crate::relays::{Carriage, KeptMetered, Metered, Relays};
 use std::alloc::{AllocError, Allocator};
 use xp_packets::Packet;
 use xp_relay::Moves;
@@ -39,16 +40,16 @@ pub fn carry<A: Allocator + Copy>(
     ensures { (before : List (Entered A)) → IsFound found.now before → AreCarried found.now.subs.now before found.now.machine.now relays.now → IfOk result (PlansCarried (at_found found.now before) what.now) }
 {
     let Some(Charged { call, meter: _ }) = found.charged else {
-        return Ok(Plan::of(Buffer::with_room(alloc, 0)?));
+        return Ok(Plan::none(alloc));
     };
     let Some(packet) = packet_in(what) else {
-        return Ok(Plan::of(Buffer::with_room(alloc, 0)?));
+        return Ok(Plan::none(alloc));
     };
     if call.agreed.is_none() {
-        return Ok(Plan::of(Buffer::with_room(alloc, 0)?));
+        return Ok(Plan::none(alloc));
     }
     let Some(metered) = relays.under(call.caller) else {
-        return Ok(Plan::of(Buffer::with_room(alloc, 0)?));
+        return Ok(Plan::none(alloc));
     };
     let here = call.end_of(found.line);
     let Ok(meter) = metered.count(here, packet) else {
@@ -58,10 +59,9 @@ pub fn carry<A: Allocator + Copy>(
     let room = Moves::with_room(alloc, MOST_MOVES)?;
     let moves = relay.take(here, packet, room)?;
     let outputs = send_all(alloc, found.machine, call, moves)?;
-    Ok(Plan::of(outputs).carrying(Carriage {
-        caller: call.caller,
-        metered: Metered { relay, meter },
-    }))
+    let metered = KeptMetered::new(alloc, Metered { relay, meter })?;
+    let caller = call.caller;
+    Ok(Plan::of(outputs, Records::none(alloc)).carrying(Carriage { caller, metered }))
 }
 
 /// The packet in an event.

@@ -25,7 +25,6 @@ use super::request::{Cancelled, request};
 use crate::entry::Entry;
 use crate::event::{Event, What};
 use crate::machine::Machine;
-use crate::output::Buffer;
 use crate::relays::Relays;
 use crate::table::action_of;
 use std::alloc::{AllocError, Allocator};
@@ -83,8 +82,8 @@ pub fn plan_of<A: Allocator + Copy>(
     }
 }
 
-fn nothing<A: Allocator>(alloc: A, _found: &Found<'_, A>) -> Result<Plan<A>, AllocError>
+fn nothing<A: Allocator + Copy>(alloc: A, _found: &Found<'_, A>) -> Result<Plan<A>, AllocError>
     ensures { (before : List (Entered A)) → IfOk result (λ plan. IsPlainPlan plan (at_found _found.now before) nothing_told []) }
 {
-    Ok(Plan::of(Buffer::with_room(alloc, 0)?))
+    Ok(Plan::none(alloc))
 }

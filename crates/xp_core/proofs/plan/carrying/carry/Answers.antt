@@ -15,11 +15,11 @@ use Rattle.xp_core.proofs.plan.carrying.carry.Goals as goal
 pub returns-in_default : goal.returns-in_default
 returns-in_default g c before found carried =
     let at = at_found c.args.found.now before in
-    in_no_call at c.args.what.now c.of.result (not_in_call at c.args.found.now.charged found c.in_default.is) (search rules) (search rules) (search rules)
+    in_no_call at c.args.what.now c.none.result (not_in_call at c.args.found.now.charged found c.in_default.is) (search rules) (search rules) (search rules)
 
 pub returns-in_default-packet_in : goal.returns-in_default-packet_in
 returns-in_default-packet_in g c before found carried =
-    of_no_packet (at_found c.args.found.now before) c.args.what.now c.of-in_default-packet_in.result c.in_default-packet_in.ensures (search rules) (search rules) (search rules)
+    of_no_packet (at_found c.args.found.now before) c.args.what.now c.none-in_default-packet_in.result c.in_default-packet_in.ensures (search rules) (search rules) (search rules)
 
 pub returns-then-is_none : goal.returns-then-is_none
 returns-then-is_none g c before found carried =
@@ -28,7 +28,7 @@ returns-then-is_none g c before found carried =
     let same : c.in-Some.field-0.call.now ≡ call = search (rules, c.in-Some.call-is) in
     let on : call_on at.world at.line ≡ Some (entry_of call) = in_call at c.args.found.now.charged found c.in-Some.field-0 c.in-Some.is ∙ ap (λ k. Some (entry_of k)) same in
     let none : is_none call.agreed ≡ true = search rules in
-    unconnected at c.args.what.now c.of-then-is_none.result call on c.in-Some-packet_in.packet.now c.in-Some-packet_in.ensures (none_of call.agreed none) (search rules) (search rules) (search rules)
+    unconnected at c.args.what.now c.none-then-is_none.result call on c.in-Some-packet_in.packet.now c.in-Some-packet_in.ensures (none_of call.agreed none) (search rules) (search rules) (search rules)
 
 pub returns-in_default-under : goal.returns-in_default-under
 returns-in_default-under g c before found carried =
