@@ -46,7 +46,7 @@ fn block<'a>(
     })
 }
 
-/// The facilities of the call with this block that a1 makes.
+/// The incoming call that comes of a call request of a1 with this block.
 fn rung<'a>(
     alloc: &'a Refusing<Global>,
     subs: &Subs,

@@ -7,3 +7,5 @@ mod calls;
 mod files;
 #[cfg(test)]
 mod records;
+#[cfg(test)]
+mod texts;
