@@ -127,7 +127,8 @@ fn talk<N: Name>(
     let _up = offer(rt, exchange, b1, What::Up);
     seen.rung = rung(offer(rt, exchange, a1, packet(alloc, &CALL)?));
     let _accepted = offer(rt, exchange, b1, packet(alloc, &ACCEPTED)?);
-    seen.cleared = cleared(&send_all(rt, alloc, exchange, a1, b1, at_once)?);
+    let last = send_all(rt, alloc, exchange, a1, b1, at_once)?;
+    seen.cleared = cleared(&last);
     seen.without_room = is_refused(rt, exchange, b1, What::Up, Reason::NoRoom);
     let (kept, last) = take_all(rt, exchange, b1);
     seen.kept = kept;
