@@ -90,15 +90,34 @@ fn rung(taken: Result<Done, OfferFault>) -> Option<LineNo> {
     None
 }
 
+/// a1 calls b1: the first line that was given something.
+fn connect<N: Name>(
+    rt: &impl Wait,
+    alloc: Global,
+    exchange: &Exchange<N, Global>,
+    passes: &mut [LinePass<N, Global>],
+) -> Result<Option<LineNo>, Fail> {
+    let [a1, b1, ..] = passes else {
+        return Ok(None);
+    };
+    let _up = offer(rt, exchange, a1, What::Up);
+    let _up = offer(rt, exchange, b1, What::Up);
+    let first = rung(offer(rt, exchange, a1, packet(alloc, &CALL)?));
+    let _accepted = offer(rt, exchange, b1, packet(alloc, &ACCEPTED)?);
+    Ok(first)
+}
+
 /// a1 sends b1 packets that b1 acknowledges; a1 takes its outputs at once, b1 does where that is asked. The last output to a1.
 fn send_all<N: Name>(
     rt: &impl Wait,
     alloc: Global,
     exchange: &Exchange<N, Global>,
-    a1: &mut LinePass<N, Global>,
-    b1: &mut LinePass<N, Global>,
+    passes: &mut [LinePass<N, Global>],
     at_once: bool,
 ) -> Result<Option<Outgoing>, Fail> {
+    let [a1, b1, ..] = passes else {
+        return Ok(None);
+    };
     let mut last = None;
     for number in 0..PACKETS {
         let _data = offer(rt, exchange, a1, packet(alloc, &data(number % 8))?);
@@ -111,7 +130,21 @@ fn send_all<N: Name>(
     Ok(last)
 }
 
-/// a1 calls b1, and sends it the packets. b1 comes up again, before it takes what was kept for it and after.
+/// b1 comes up again, before it takes what was kept for it and after.
+fn come_back<N: Name>(
+    rt: &impl Wait,
+    exchange: &Exchange<N, Global>,
+    b1: &mut LinePass<N, Global>,
+    seen: &mut Seen,
+) {
+    seen.without_room = is_refused(rt, exchange, b1, What::Up, Reason::NoRoom);
+    let (kept, last) = take_all(rt, exchange, b1);
+    seen.kept = kept;
+    seen.closes = closes(&last);
+    seen.came_up = offer(rt, exchange, b1, What::Up).is_ok();
+}
+
+/// a1 calls b1, and sends it the packets; b1 comes back.
 fn talk<N: Name>(
     rt: &impl Wait,
     alloc: Global,
@@ -120,20 +153,12 @@ fn talk<N: Name>(
     at_once: bool,
 ) -> Result<Seen, Fail> {
     let mut seen = Seen::default();
-    let [a1, b1, ..] = passes else {
-        return Ok(seen);
-    };
-    let _up = offer(rt, exchange, a1, What::Up);
-    let _up = offer(rt, exchange, b1, What::Up);
-    seen.rung = rung(offer(rt, exchange, a1, packet(alloc, &CALL)?));
-    let _accepted = offer(rt, exchange, b1, packet(alloc, &ACCEPTED)?);
-    let last = send_all(rt, alloc, exchange, a1, b1, at_once)?;
+    seen.rung = connect(rt, alloc, exchange, passes)?;
+    let last = send_all(rt, alloc, exchange, passes, at_once)?;
     seen.cleared = cleared(&last);
-    seen.without_room = is_refused(rt, exchange, b1, What::Up, Reason::NoRoom);
-    let (kept, last) = take_all(rt, exchange, b1);
-    seen.kept = kept;
-    seen.closes = closes(&last);
-    seen.came_up = offer(rt, exchange, b1, What::Up).is_ok();
+    if let Some(b1) = passes.get_mut(1) {
+        come_back(rt, exchange, b1, &mut seen);
+    }
     Ok(seen)
 }
 
