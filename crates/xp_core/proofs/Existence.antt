@@ -143,8 +143,9 @@ module _ {A : Type 0} where
             event = event;
             outcome = it.outcome;
             outputs = [];
-            records = record { items = [] };
+            records = record { items = []; room = 0 };
           }));
+          room = 0;
         };
       } in
       record {

@@ -156,9 +156,9 @@ module _ {A : Type 0} where
 
   -- a call that hands on its outcome
   pub outcome_few : {E : Type 0} (tables : Tables) (old : World) (relays : List (Option (Metered A))) (history : List (Entry A)) (records : List Record) (event : Event A)
-      (new : World) (later : List (Option (Metered A))) (entries : List (Entry A)) (charged : List Record) (outcome : Result (Stepped A) E) → AllHaveTerms old
-      → IfOk outcome (λ told. Enters tables old relays history records event new later entries charged told) → IfOk outcome (λ told. AreFew told.outputs)
-  outcome_few tables old relays history records event new later entries charged (Ok told) terms done =
+      (new : World) (later : List (Option (Metered A))) (entries : List (Entry A)) (charged : List Record) (tells : Bool) (outcome : Result (Stepped A) E) → AllHaveTerms old
+      → IfOk outcome (λ told. Enters tables old relays history records event new later entries charged tells told) → tells ≡ true → IfOk outcome (λ told. AreFew told.outputs)
+  outcome_few tables old relays history records event new later entries charged tells (Ok told) terms done does =
       let P : List (Output A) → Type 0 = λ outputs. AreFew outputs in
-      subst P (sym done.outputs) (few_of_step tables history old done.entry new terms done.step)
-  outcome_few tables old relays history records event new later entries charged (Err fault) terms done = tt
+      subst P (sym (done.outputs does)) (few_of_step tables history old done.entry new terms done.step)
+  outcome_few tables old relays history records event new later entries charged tells (Err fault) terms done does = tt

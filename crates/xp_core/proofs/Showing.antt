@@ -1,5 +1,5 @@
 -- As an event is entered, what is kept goes on to show where the history leads.
-use Rattle.std.proofs.Common.{◌≡◌, ◌∙◌, ℕ, ◌+◌, ◌<◌, IfOk, OnErr, Result, Ok, Err, Option, Some, None, List, [], ◌∷◌, ◌++◌, length, length-set, replicate, refl, ap, sym, subst, append-nil}
+use Rattle.std.proofs.Common.{◌≡◌, ◌∙◌, ℕ, ◌+◌, ◌<◌, Bool, true, IfOk, OnErr, Result, Ok, Err, Option, Some, None, List, [], ◌∷◌, ◌++◌, length, length-set, replicate, refl, ap, sym, subst, append-nil}
 use Rattle.std.proofs.lemmas.List.{length-replicate}
 use Rattle.std.proofs.lemmas.List.Concat.{flat_map-append}
 use Rattle.std.proofs.lemmas.List.Elements.{All-nil, All-pop, All-push}
@@ -12,12 +12,13 @@ use Rattle.xp_core.specs.declared.advance.Work.{Work}
 use Rattle.xp_core.specs.declared.entry.Entry.{Entry}
 use Rattle.xp_core.specs.declared.event.Event.{Event}
 use Rattle.xp_core.specs.declared.outcome.Outcome.{Outcome}
+use Rattle.xp_core.specs.declared.output.Output.{Output}
 use Rattle.xp_core.specs.declared.plan.Plan.{Plan}
 use Rattle.xp_core.specs.declared.relays.Carriage.{Carriage}
 use Rattle.xp_core.specs.declared.relays.Metered.{Metered}
 use Rattle.xp_core.specs.declared.stepped.Stepped.{Stepped}
 use Rattle.xp_core.specs.Agreed.{AllHaveTerms}
-use Rattle.xp_core.specs.Exchange.{Advances, Exchange, IsReadable, world_of}
+use Rattle.xp_core.specs.Exchange.{Advances, AdvancesUntold, Exchange, IsReadable, world_of}
 use Rattle.xp_core.specs.Plan.{Plans, applied_by}
 use Rattle.xp_core.specs.Records.{records_of}
 use Rattle.xp_core.specs.Relays.{AreCarried, relays_with}
@@ -43,14 +44,13 @@ module _ {A : Type 0} where
   -- what was planned and applied
   pub works_out : (tables : Tables) (before : List (Entry A)) (old : World) (event : Event A) (plan : Plan A) (work : Work A) (new : World)
       (relays later : List (Option (Metered A))) → Plans (setting tables before old event.line) event.what (action_at old event) plan
-      → work.outcome ≡ plan.outcome → work.outputs ≡ plan.outputs.outputs → work.told ≡ work.outputs → work.records ≡ plan.records
+      → work.outcome ≡ plan.outcome → work.outputs ≡ plan.outputs.outputs → work.records ≡ plan.records
       → new ≡ applied_by plan old → later ≡ relays_with plan.carriage relays → Works tables before old relays event work new later
-  works_out tables before old event plan work new relays later plans outcome outputs copied records applied relayed =
+  works_out tables before old event plan work new relays later plans outcome outputs records applied relayed =
       let made : Works tables before old relays event (record work { outcome = plan.outcome }) new later = record {
         told = plans.told;
         acts = plans.acts;
         outputs = outputs ∙ plans.planned.outputs;
-        copied = copied;
         records = ap (λ r. r.items) records ∙ plans.planned.records;
         relays_on = record { carriage = plan.carriage; is = plans.relays; become = relayed };
         leads = applied ∙ plans.planned.does;
@@ -64,9 +64,10 @@ module _ {A : Type 0} where
       → Works tables history old relays event work new later
       → entry ≡ record { number = length history + 1; event = event; outcome = work.outcome; outputs = work.outputs; records = work.records }
       → event.line < length old.lines
-      → entries ≡ history ++ entry ∷ [] → charged ≡ records ++ work.records.items → told.entry ≡ length history + 1 → told.outputs ≡ work.told
-      → Enters tables old relays history records event new later entries charged told
-  enters tables old relays history records event work new later entries charged told entry works is line grown recorded number outputs =
+      → entries ≡ history ++ entry ∷ [] → charged ≡ records ++ work.records.items → told.entry ≡ length history + 1
+      → (tells : Bool) → (tells ≡ true → work.told ≡ work.outputs) → told.outputs ≡ work.told
+      → Enters tables old relays history records event new later entries charged tells told
+  enters tables old relays history records event work new later entries charged told entry works is line grown recorded number tells copied outputs =
       let made : Entry A = record { number = length history + 1; event = event; outcome = work.outcome; outputs = work.outputs; records = work.records } in
       record {
         entry = made;
@@ -84,12 +85,12 @@ module _ {A : Type 0} where
         grown = grown ∙ ap (λ e. history ++ e ∷ []) is;
         recorded = recorded;
         number = number;
-        outputs = outputs ∙ works.copied;
+        outputs = λ does. outputs ∙ copied does;
       }
 
   module _ (tables : Tables) (history : List (Entry A)) (machine : World) (relays : List (Option (Metered A))) (records : List Record) (shows : Shows tables history machine relays records)
-      (event : Event A) (readable : IsReadable event.what) (new : World) (later : List (Option (Metered A))) (entries : List (Entry A)) (charged : List Record) (told : Stepped A)
-      (done : Enters tables machine relays history records event new later entries charged told) where
+      (event : Event A) (readable : IsReadable event.what) (new : World) (later : List (Option (Metered A))) (entries : List (Entry A)) (charged : List Record) (tells : Bool) (told : Stepped A)
+      (done : Enters tables machine relays history records event new later entries charged tells told) where
     led_here : Run tables history machine
     led_here = let P : World → Type 0 = λ w. Run tables history w in subst P (sym shows.shown) shows.run
 
@@ -125,8 +126,10 @@ module _ {A : Type 0} where
     abbrev after : ℕ → Exchange A
     after stalls = record { subs = tables; history = entries; stalls = stalls }
 
-    pub advances : (stalls left : ℕ) → Advances (before stalls) event (after left) told
-    advances stalls left =
+    -- the outputs may be told beside it
+    advances_with : (outputs : List (Output A)) → outputs ≡ done.entry.outputs → (stalls left : ℕ)
+        → Advances (before stalls) event (after left) (record { entry = told.entry; outputs = outputs })
+    advances_with outputs same stalls left =
         let P : World → Type 0 = λ w. Step tables history w done.entry (world_of (after left)) in
         let Q : World → Type 0 = λ w. Step tables history machine done.entry w in
         record {
@@ -136,13 +139,19 @@ module _ {A : Type 0} where
           history = done.grown;
           subs = refl;
           number = done.number;
-          outputs = done.outputs;
+          outputs = same;
         }
 
-    pub told_fits : AreWritable told.outputs
-    told_fits =
+    pub advances : tells ≡ true → (stalls left : ℕ) → Advances (before stalls) event (after left) told
+    advances does stalls left = advances_with told.outputs (done.outputs does) stalls left
+
+    pub advances_untold : (stalls left : ℕ) → AdvancesUntold (before stalls) event (after left) told.entry
+    advances_untold stalls left = (done.entry.outputs, advances_with done.entry.outputs refl stalls left)
+
+    pub told_fits : tells ≡ true → AreWritable told.outputs
+    told_fits does =
         let W : List _ → Type 0 = λ outputs. AreWritable outputs in
-        subst W (sym done.outputs)
+        subst W (sym (done.outputs does))
         (All-pop (λ e. AreWritable e.outputs) entries history (Some done.entry) done.grown (run_fits tables entries _ shows_next.sound shows_next.run shows_next.readable)).1
 
   -- the live calls that are kept have their terms
@@ -152,12 +161,12 @@ module _ {A : Type 0} where
 
   -- a call that hands on its outcome
   pub outcome_shows : {E : Type 0} (tables : Tables) (history : List (Entry A)) (machine : World) (relays : List (Option (Metered A))) (records : List Record) (event : Event A) (new : World) (later : List (Option (Metered A))) (entries : List (Entry A))
-      (charged : List Record) (outcome : Result (Stepped A) E) → Shows tables history machine relays records → IsReadable event.what
-      → IfOk outcome (λ told. Enters tables machine relays history records event new later entries charged told)
+      (charged : List Record) (tells : Bool) (outcome : Result (Stepped A) E) → Shows tables history machine relays records → IsReadable event.what
+      → IfOk outcome (λ told. Enters tables machine relays history records event new later entries charged tells told)
       → OnErr outcome (new ≡ machine) → OnErr outcome (later ≡ relays) → OnErr outcome (entries ≡ history) → OnErr outcome (charged ≡ records) → Shows tables entries new later charged
-  outcome_shows tables history machine relays records event new later entries charged (Ok told) shows readable done same_world same_relays same_history same_records =
-      shows_next tables history machine relays records shows event readable new later entries charged told done
-  outcome_shows tables history machine relays records event new later entries charged (Err fault) shows readable done same_world same_relays same_history same_records =
+  outcome_shows tables history machine relays records event new later entries charged tells (Ok told) shows readable done same_world same_relays same_history same_records =
+      shows_next tables history machine relays records shows event readable new later entries charged tells told done
+  outcome_shows tables history machine relays records event new later entries charged tells (Err fault) shows readable done same_world same_relays same_history same_records =
       let P : World → Type 0 = λ w. Shows tables entries w later charged in
       let K : List (Option (Metered A)) → Type 0 = λ r. Shows tables entries machine r charged in
       let Q : List (Entry A) → Type 0 = λ h. Shows tables h machine relays charged in
@@ -168,20 +177,29 @@ module _ {A : Type 0} where
   exchange_of subs history stalls = record { subs = subs; history = history; stalls = stalls }
 
   pub outcome_advances : {E : Type 0} (tables : Tables) (history : List (Entry A)) (machine : World) (relays : List (Option (Metered A))) (records : List Record) (event : Event A) (new : World) (later : List (Option (Metered A))) (entries : List (Entry A))
-      (charged : List Record) (outcome : Result (Stepped A) E) (old : Exchange A) (stalls left : ℕ) → Shows tables history machine relays records → IsReadable event.what
-      → IfOk outcome (λ told. Enters tables machine relays history records event new later entries charged told) → exchange_of tables history stalls ≡ old
-      → IfOk outcome (λ told. Advances old event (exchange_of tables entries left) told)
-  outcome_advances tables history machine relays records event new later entries charged (Ok told) old stalls left shows readable done is =
+      (charged : List Record) (tells : Bool) (outcome : Result (Stepped A) E) (old : Exchange A) (stalls left : ℕ) → Shows tables history machine relays records → IsReadable event.what
+      → IfOk outcome (λ told. Enters tables machine relays history records event new later entries charged tells told) → exchange_of tables history stalls ≡ old
+      → tells ≡ true → IfOk outcome (λ told. Advances old event (exchange_of tables entries left) told)
+  outcome_advances tables history machine relays records event new later entries charged tells (Ok told) old stalls left shows readable done is does =
       let P : Exchange A → Type 0 = λ e. Advances e event (exchange_of tables entries left) told in
-      subst P is (advances tables history machine relays records shows event readable new later entries charged told done stalls left)
-  outcome_advances tables history machine relays records event new later entries charged (Err fault) old stalls left shows readable done is = tt
+      subst P is (advances tables history machine relays records shows event readable new later entries charged tells told done does stalls left)
+  outcome_advances tables history machine relays records event new later entries charged tells (Err fault) old stalls left shows readable done is does = tt
+
+  pub outcome_advances_untold : {E : Type 0} (tables : Tables) (history : List (Entry A)) (machine : World) (relays : List (Option (Metered A))) (records : List Record) (event : Event A) (new : World) (later : List (Option (Metered A))) (entries : List (Entry A))
+      (charged : List Record) (tells : Bool) (outcome : Result (Stepped A) E) (old : Exchange A) (stalls left : ℕ) → Shows tables history machine relays records → IsReadable event.what
+      → IfOk outcome (λ told. Enters tables machine relays history records event new later entries charged tells told) → exchange_of tables history stalls ≡ old
+      → IfOk outcome (λ told. AdvancesUntold old event (exchange_of tables entries left) told.entry)
+  outcome_advances_untold tables history machine relays records event new later entries charged tells (Ok told) old stalls left shows readable done is =
+      let P : Exchange A → Type 0 = λ e. AdvancesUntold e event (exchange_of tables entries left) told.entry in
+      subst P is (advances_untold tables history machine relays records shows event readable new later entries charged tells told done stalls left)
+  outcome_advances_untold tables history machine relays records event new later entries charged tells (Err fault) old stalls left shows readable done is = tt
 
   pub outcome_fits : {E : Type 0} (tables : Tables) (history : List (Entry A)) (machine : World) (relays : List (Option (Metered A))) (records : List Record) (event : Event A) (new : World) (later : List (Option (Metered A))) (entries : List (Entry A))
-      (charged : List Record) (outcome : Result (Stepped A) E) → Shows tables history machine relays records → IsReadable event.what
-      → IfOk outcome (λ told. Enters tables machine relays history records event new later entries charged told) → IfOk outcome (λ told. AreWritable told.outputs)
-  outcome_fits tables history machine relays records event new later entries charged (Ok told) shows readable done =
-      told_fits tables history machine relays records shows event readable new later entries charged told done
-  outcome_fits tables history machine relays records event new later entries charged (Err fault) shows readable done = tt
+      (charged : List Record) (tells : Bool) (outcome : Result (Stepped A) E) → Shows tables history machine relays records → IsReadable event.what
+      → IfOk outcome (λ told. Enters tables machine relays history records event new later entries charged tells told) → tells ≡ true → IfOk outcome (λ told. AreWritable told.outputs)
+  outcome_fits tables history machine relays records event new later entries charged tells (Ok told) shows readable done does =
+      told_fits tables history machine relays records shows event readable new later entries charged tells told done does
+  outcome_fits tables history machine relays records event new later entries charged tells (Err fault) shows readable done does = tt
 
   -- a call that hands on a failure has changed nothing
   pub outcome_keeps : {E : Type 0} (subs : Tables) (history entries : List (Entry A)) (outcome : Result (Stepped A) E) (old : Exchange A) (stalls left : ℕ)

@@ -49,7 +49,7 @@ when_on (Ringing number) on = refl
 when_on (Talking number) on = refl
 when_on Cleared on = refl
 
-module _ {A : Type 0} (at : Setting A) (work : Work A) (next : World) (plain : work.outcome ≡ Plain) (copied : work.told ≡ work.outputs) where
+module _ {A : Type 0} (at : Setting A) (work : Work A) (next : World) (plain : work.outcome ≡ Plain) where
   -- by what the table of actions has for it
   makes : (action : Action) (told : Told A) → action_at {A = A} at.world (stall_of at.line) ≡ action
       → Acts at Stall action work.outcome told
@@ -67,7 +67,6 @@ module _ {A : Type 0} (at : Setting A) (work : Work A) (next : World) (plain : w
         told = told;
         acts = subst P (sym is) acts;
         outputs = outputs;
-        copied = copied;
         records = subst Q (sym is) records;
         relays_on = record { carriage = None; is = subst R (sym is) relays; become = refl };
         leads = subst W (sym is) leads;

@@ -8,6 +8,7 @@ use Rattle.xp_core.specs.declared.entry.Entry.{Entry}
 use Rattle.xp_core.specs.declared.event.Event.{Event}
 use Rattle.xp_core.specs.declared.event.What.{What}
 use Rattle.xp_core.specs.declared.event.What.TheVariants.{Up, Down, Frame, WrongFrame, Expire, Stall}
+use Rattle.xp_core.specs.declared.output.Output.{Output}
 use Rattle.xp_core.specs.declared.stepped.Stepped.{Stepped}
 use Rattle.xp_core.specs.Worlds.{world_after}
 use Rattle.xp_core.specs.Step.{Step}
@@ -52,3 +53,7 @@ module _ {A : Type 0} where
     pub subs : new.subs ≡ old.subs
     pub number : told.entry ≡ entry.number
     pub outputs : told.outputs ≡ entry.outputs
+
+  -- the same, where only the entry's number is told
+  abbrev pub AdvancesUntold : Exchange A → Event A → Exchange A → ℕ → Type 0
+  AdvancesUntold old event new number = (outputs : List (Output A)) × Advances old event new (record { entry = number; outputs = outputs })

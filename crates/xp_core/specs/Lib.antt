@@ -21,6 +21,7 @@ pub mod Keyed
 pub mod Lines
 pub mod Outcomes
 pub mod Plan
+pub mod Recorded
 pub mod Records
 pub mod Relays
 pub mod Run

@@ -1,5 +1,5 @@
 -- What is made of an event before it is entered.
-use Rattle.std.specs.Prelude.{◌≡◌, Option, List, [], ◌∷◌, ◌++◌}
+use Rattle.std.specs.Prelude.{◌≡◌, Bool, true, Option, List, [], ◌∷◌, ◌++◌}
 use Rattle.xp_charge.specs.declared.record.Record.{Record}
 use Rattle.xp_subs.specs.Tables.{Tables}
 use Rattle.xp_core.specs.declared.advance.Work.{Work}
@@ -34,14 +34,13 @@ module _ {A : Type 0} where
     pub told : Told A
     pub acts : Acts (setting tables before old event.line) event.what (action_at old event) work.outcome told
     pub outputs : work.outputs ≡ outputs_of told
-    pub copied : work.told ≡ work.outputs
     pub records : work.records.items ≡ recorded_by (segments_of tables before) old (does (setting tables before old event.line) event.what (action_at old event) work.outcome)
     pub relays_on : GoOn tables before old event work.outcome relays later
     pub leads : new ≡ all_changed (does (setting tables before old event.line) event.what (action_at old event) work.outcome) old
 
-  -- what is kept of an exchange, before and after an event is entered
+  -- what is kept of an exchange, before and after an event is entered, and whether what it puts out is told
   pub record Enters (tables : Tables) (old : World) (relays : List (Option (Metered A))) (history : List (Entry A)) (records : List Record) (event : Event A)
-      (new : World) (later : List (Option (Metered A))) (entries : List (Entry A)) (charged : List Record) (told : Stepped A) : Type 0 where
+      (new : World) (later : List (Option (Metered A))) (entries : List (Entry A)) (charged : List Record) (tells : Bool) (told : Stepped A) : Type 0 where
     pub entry : Entry A
     pub event_is : entry.event ≡ event
     pub step : Step tables history old entry new
@@ -49,4 +48,4 @@ module _ {A : Type 0} where
     pub grown : entries ≡ history ++ entry ∷ []
     pub recorded : charged ≡ records ++ entry.records.items
     pub number : told.entry ≡ entry.number
-    pub outputs : told.outputs ≡ entry.outputs
+    pub outputs : tells ≡ true → told.outputs ≡ entry.outputs

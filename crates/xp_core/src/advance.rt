@@ -21,6 +21,7 @@ use crate::records::Records;
 use crate::relays::Relays;
 use crate::stalling::{Spare, give_up};
 use crate::stepped::Stepped;
+use crate::workspace::Workspace;
 use std::alloc::{AllocError, Allocator};
 use xp_subs::Subs;
 
@@ -29,20 +30,23 @@ use xp_subs::Subs;
 pub struct Work<A: Allocator> {
     pub outcome: Outcome,
     pub outputs: Outputs<A>,
-    /// The copy that is told.
+    /// The copy that is told, if one is.
     pub told: Outputs<A>,
-    pub records: Records,
+    pub records: Records<A>,
 }
 
 /// Enters one event: makes all growths, and then changes the state, the history and the records. A stall that is prepared
-/// takes no memory.
+/// takes no memory. What is put out is told only where that is asked.
+#[inline(always)]
 pub fn advance<A: Allocator + Copy>(
     alloc: A,
     subs: &Subs,
     machine: &mut Machine<A>,
     relays: &mut Relays<A>,
     journal: &mut Journal<A>,
+    workspace: &mut Workspace<A>,
     event: Event<A>,
+    tells: bool,
 ) -> Result<Stepped<A>, StepFault<A>>
     requires subs { IsSubs subs.now }
     requires line { event.line < line_count subs.now }
@@ -50,7 +54,7 @@ pub fn advance<A: Allocator + Copy>(
     requires terms { AllHaveTerms machine.old }
     requires carried { AreCarried subs.now journal.old.history machine.old relays.old }
     requires few { length journal.old.history < 2 ^ 32 }
-    ensures ok { IfOk result (λ told. Enters subs.now machine.old relays.old journal.old.history journal.old.records event machine.new relays.new journal.new.history journal.new.records told) }
+    ensures ok { IfOk result (λ told. Enters subs.now machine.old relays.old journal.old.history journal.old.records event machine.new relays.new journal.new.history journal.new.records tells told) }
     ensures memory { IfErr result (λ fault. fault ≡ StepFault.Memory event) }
     ensures prepared { is_stall event.what ≡ true → 0 < journal.old.stalls → IsOk result }
     ensures stalls { OnOk result (journal.new.stalls ≡ left_after event.what journal.old.stalls) }
@@ -60,20 +64,25 @@ pub fn advance<A: Allocator + Copy>(
     ensures history { OnErr result (journal.new.history ≡ journal.old.history) }
     ensures records { OnErr result (journal.new.records ≡ journal.old.records) }
 {
-    match work_out(alloc, subs, machine, relays, journal, &event) {
+    match work_out(
+        alloc, subs, machine, relays, journal, workspace, &event, tells,
+    ) {
         Ok(work) => Ok(journal.enter(event, work)),
         Err(_) => Err(StepFault::Memory(event)),
     }
 }
 
 /// Makes all that an event needs, and changes the state last.
+#[inline(always)]
 fn work_out<A: Allocator + Copy>(
     alloc: A,
     subs: &Subs,
     machine: &mut Machine<A>,
     relays: &mut Relays<A>,
     journal: &mut Journal<A>,
+    workspace: &mut Workspace<A>,
     event: &Event<A>,
+    tells: bool,
 ) -> Result<Work<A>, AllocError>
     requires subs { IsSubs subs.now }
     requires line { event.now.line < line_count subs.now }
@@ -82,6 +91,7 @@ fn work_out<A: Allocator + Copy>(
     requires carried { AreCarried subs.now journal.old.history machine.old relays.old }
     requires few { length journal.old.history < 2 ^ 32 }
     ensures ok { IfOk result (λ work. Works subs.now journal.old.history machine.old relays.old event.now work machine.new relays.new) }
+    ensures told { IfOk result (λ work. tells ≡ true → work.told ≡ work.outputs) }
     ensures prepared { is_stall event.now.what ≡ true → 0 < journal.old.stalls → IsOk result }
     ensures stalls { OnOk result (journal.new.stalls ≡ left_after event.now.what journal.old.stalls) }
     ensures as_many { OnErr result (journal.new.stalls ≡ journal.old.stalls) }
@@ -103,12 +113,24 @@ fn work_out<A: Allocator + Copy>(
         change,
         records,
         carriage,
-    } = plan_of(alloc, subs, machine, relays, journal.history(), event)?;
+    } = plan_of(
+        alloc,
+        subs,
+        machine,
+        relays,
+        journal.history(),
+        event,
+        workspace,
+    )?;
     let outputs = outputs.into_outputs();
-    let told = outputs.copy()?;
-    journal.reserve()?;
+    let told = if tells {
+        outputs.copy()?
+    } else {
+        Outputs::new(alloc)
+    };
+    journal.reserve(records.as_slice())?;
     machine.apply(cancelled, change)?;
-    relays.put_if_any(carriage);
+    relays.put_if_any(carriage, workspace);
     Ok(Work {
         outcome,
         outputs,

@@ -16,5 +16,5 @@ pub struct Entry<A: Allocator = Global> {
     /// What is put out, in order.
     pub outputs: Outputs<A>,
     /// The records of the calls that the event ended or refused.
-    pub records: Records,
+    pub records: Records<A>,
 }

@@ -2,9 +2,10 @@
 
 ghost use Rattle.std.specs.Prelude.{◌≡◌, ◌+◌, ◌<◌, ◌≤◌, true, [], All, IfOk, IfErr, IsOk, OnErr, OnOk, Err, length};
 ghost use Rattle.xp_subs.specs.Tables.{line_count};
+ghost use Rattle.xp_core.specs.Channel.{is_off as is_off_in};
 ghost use Rattle.xp_core.specs.Exchange.{world_of};
 ghost use Rattle.xp_core.specs.View.{flow_at, view_of};
-ghost use Rattle.xp_core.specs.World.{line_at};
+ghost use Rattle.xp_core.specs.World.{line_at, state_at};
 
 use crate::advance::advance;
 use crate::entry::Entry;
@@ -13,8 +14,10 @@ use crate::fault::StepFault;
 use crate::journal::Journal;
 use crate::machine::Machine;
 use crate::relays::Relays;
+use crate::stalling::is_off;
 use crate::stepped::Stepped;
 use crate::view::LineView;
+use crate::workspace::Workspace;
 use std::alloc::{AllocError, Allocator, Global};
 use std::marker::Model;
 use xp_charge::Record;
@@ -29,6 +32,7 @@ pub struct Core<A: Allocator = Global> {
     machine: Machine<A>,
     relays: Relays<A>,
     journal: Journal<A>,
+    workspace: Workspace<A>,
 }
 
 impl<A: Allocator> Model for Core<A> {
@@ -44,7 +48,7 @@ impl<A: Allocator> Model for Core<A> {
 }
 
 impl<A: Allocator + Copy> Core<A> {
-    ghost use Rattle.xp_core.specs.Exchange.{Advances, IsReadable};
+    ghost use Rattle.xp_core.specs.Exchange.{Advances, AdvancesUntold, IsReadable};
     ghost use Rattle.xp_core.specs.Few.{AreFew};
     ghost use Rattle.xp_core.specs.Stalls.{is_stall, left_after, places_for};
     ghost use Rattle.xp_core.specs.Writable.{AreWritable};
@@ -62,6 +66,7 @@ impl<A: Allocator + Copy> Core<A> {
             machine,
             relays,
             journal: Journal::new(alloc),
+            workspace: Workspace::new(),
         })
     }
 
@@ -84,6 +89,45 @@ impl<A: Allocator + Copy> Core<A> {
         ensures prepared { is_stall event.what ≡ true → 0 < self.old.stalls → length self.old.history < self.old.subs.journal → IsOk result }
         ensures err { OnErr result (self.new ≡ self.old) }
     {
+        self.act_on(event, true)
+    }
+
+    /// The same for one who reads in the history what is put out: only the new entry's number is told, which takes no copy.
+    ///
+    /// # Errors
+    ///
+    /// As those of `step`.
+    pub fn enter(&mut self, event: Event<A>) -> Result<u64, StepFault<A>>
+        requires line { event.line < line_count self.old.subs }
+        requires readable { IsReadable event.what }
+        ensures ok { IfOk result (λ number. AdvancesUntold self.old event self.new number) }
+        ensures full { self.old.subs.journal < length self.old.history + places_for event.what → result ≡ Err (StepFault.JournalFull event) }
+        ensures room { length self.old.history + places_for event.what ≤ self.old.subs.journal → IfErr result (λ fault. fault ≡ StepFault.Memory event) }
+        ensures stalls { OnOk result (self.new.stalls ≡ left_after event.what self.old.stalls) }
+        ensures prepared { is_stall event.what ≡ true → 0 < self.old.stalls → length self.old.history < self.old.subs.journal → IsOk result }
+        ensures err { OnErr result (self.new ≡ self.old) }
+    {
+        match self.act_on(event, false) {
+            Ok(stepped) => Ok(stepped.entry),
+            Err(fault) => Err(fault),
+        }
+    }
+
+    /// Acts on an event, and tells what is put out only where that is asked.
+    #[inline(always)]
+    fn act_on(&mut self, event: Event<A>, tells: bool) -> Result<Stepped<A>, StepFault<A>>
+        requires line { event.line < line_count self.old.subs }
+        requires readable { IsReadable event.what }
+        ensures untold { IfOk result (λ told. AdvancesUntold self.old event self.new told.entry) }
+        ensures ok { tells ≡ true → IfOk result (λ told. Advances self.old event self.new told) }
+        ensures writable { tells ≡ true → IfOk result (λ told. AreWritable told.outputs) }
+        ensures few { tells ≡ true → IfOk result (λ told. AreFew told.outputs) }
+        ensures full { self.old.subs.journal < length self.old.history + places_for event.what → result ≡ Err (StepFault.JournalFull event) }
+        ensures room { length self.old.history + places_for event.what ≤ self.old.subs.journal → IfErr result (λ fault. fault ≡ StepFault.Memory event) }
+        ensures stalls { OnOk result (self.new.stalls ≡ left_after event.what self.old.stalls) }
+        ensures prepared { is_stall event.what ≡ true → 0 < self.old.stalls → length self.old.history < self.old.subs.journal → IsOk result }
+        ensures err { OnErr result (self.new ≡ self.old) }
+    {
         if self.journal.history().len() + event.what.places() > self.subs.journal() as usize {
             return Err(StepFault::JournalFull(event));
         }
@@ -93,8 +137,11 @@ impl<A: Allocator + Copy> Core<A> {
             machine,
             relays,
             journal,
+            workspace,
         } = self;
-        advance(*alloc, subs, machine, relays, journal, event)
+        advance(
+            *alloc, subs, machine, relays, journal, workspace, event, tells,
+        )
     }
 
     /// Prepares the three stalls that may follow one event: each takes no memory then, whatever other events come before
@@ -126,6 +173,13 @@ impl<A: Allocator> Core<A> {
         ensures coupled { AreCoupled self.now.subs (world_of self.now) }
     {
         self.machine.line(line).view(self.flow(line))
+    }
+
+    /// Whether a line is out of service, as `line` shows it, without what else that shows.
+    pub fn is_out_of_service(&self, line: LineNo) -> bool
+        ensures { result ≡ is_off_in (state_at (world_of self.now) line) }
+    {
+        is_off(self.machine.line(line).state)
     }
 
     /// The state of flow control of a line in data transfer.

@@ -3,12 +3,10 @@
 ghost use Rattle.std.specs.Prelude.{◌≡◌, ◌+◌, ◌<◌, ◌≤◌, ◌^◌, [], ◌∷◌, ◌++◌, IfNone, IfSome, OnOk, length, vec_len, vec_capacity};
 ghost use Rattle.xp_core.specs.Journal.{AreSame, IsSpent, next_entry};
 ghost use Rattle.xp_core.specs.declared.journal.TheConstants.{MOST_STALLS};
-ghost use Rattle.xp_core.specs.declared.records.TheConstants.{MOST_RECORDS};
 
 use crate::advance::Work;
 use crate::entry::Entry;
 use crate::event::Event;
-use crate::records::MOST_RECORDS;
 use crate::stalling::Spare;
 use crate::stepped::Stepped;
 use std::alloc::{AllocError, Allocator};
@@ -80,15 +78,15 @@ impl<A: Allocator> Journal<A> {
         self.records.as_slice()
     }
 
-    /// Makes room for one more entry, beside those of the stalls that are prepared.
-    pub fn reserve(&mut self) -> Result<(), AllocError>
+    /// Makes room for one more entry with these records, beside those of the stalls that are prepared.
+    pub fn reserve(&mut self, records: &[Record]) -> Result<(), AllocError>
         ensures same { AreSame self.old self.new }
         ensures entry { OnOk result (self.new.stalls < self.new.entry_room) }
-        ensures records { OnOk result (self.new.stalls + MOST_RECORDS ≤ self.new.record_room) }
+        ensures records { OnOk result (self.new.stalls + length records.now ≤ self.new.record_room) }
     {
         let stalls = self.spares.len();
         self.history.reserve(stalls + 1)?;
-        self.records.reserve(stalls + MOST_RECORDS)?;
+        self.records.reserve(stalls + records.len())?;
         Ok(())
     }
 

@@ -21,6 +21,7 @@ mod stalling;
 mod stepped;
 mod table;
 mod view;
+mod workspace;
 
 pub use entry::Entry;
 pub use event::{Event, What};

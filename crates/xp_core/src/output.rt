@@ -1,4 +1,4 @@
-ghost use Rattle.std.specs.Prelude.{◌≡◌, ◌+◌, ◌-◌, ◌<◌, ◌≤◌, [], ◌∷◌, ◌++◌, IfOk, option_to_list};
+ghost use Rattle.std.specs.Prelude.{◌≡◌, ◌+◌, ◌-◌, ◌<◌, ◌≤◌, [], ◌∷◌, ◌++◌, IfOk, length, option_to_list};
 
 use std::alloc::{AllocError, Allocator, Global};
 use std::marker::Model;
@@ -115,6 +115,16 @@ impl<A: Allocator> Model for Buffer<A> {
 }
 
 impl<A: Allocator> Buffer<A> {
+    /// No outputs, and no room for any.
+    pub fn none(alloc: A) -> Buffer<A>
+        ensures { result ≡ record { outputs = []; room = 0 } }
+    {
+        Buffer {
+            outputs: Vec::new(alloc),
+            room: 0,
+        }
+    }
+
     /// No outputs, and room for so many.
     pub fn with_room(alloc: A, room: usize) -> Result<Buffer<A>, AllocError>
         ensures { IfOk result (λ buffer. buffer ≡ record { outputs = []; room = room }) }
@@ -135,9 +145,9 @@ impl<A: Allocator> Buffer<A> {
 
     /// The buffer with this output, if there is one.
     pub fn with_some(self, output: Option<Output<A>>) -> Buffer<A>
-        requires { 0 < self.room }
+        requires { length (option_to_list output) ≤ self.room }
         ensures outputs { result.outputs ≡ self.outputs ++ option_to_list output }
-        ensures room { self.room ≤ result.room + 1 }
+        ensures room { self.room ≡ result.room + length (option_to_list output) }
     {
         match output {
             None => self,

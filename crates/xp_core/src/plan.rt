@@ -12,22 +12,17 @@ mod found;
 mod request;
 mod send;
 
-ghost use Rattle.std.specs.Prelude.{◌≡◌, ◌+◌, ◌<◌, ◌≤◌, [], ◌∷◌, ◌++◌, None, Some, option_to_list};
-ghost use Rattle.arrayvec.specs.ArrayVec.{array_vec_len};
-ghost use Rattle.xp_core.specs.declared.records.TheConstants.{MOST_RECORDS};
+ghost use Rattle.std.specs.Prelude.{◌≡◌, [], None, Some};
 
-use self::found::Withdrawal;
 use crate::change::Change;
 use crate::outcome::Outcome;
 use crate::output::Buffer;
 use crate::records::Records;
 use crate::relays::Carriage;
-use arrayvec::ArrayVec;
 pub use event::plan_of;
 pub use found::{Found, charged_on};
 pub use send::close;
 use std::alloc::{Allocator, Global};
-use xp_charge::Record;
 use xp_subs::LineNo;
 
 /// What is settled, put out, changed and recorded, in order.
@@ -38,21 +33,35 @@ pub struct Plan<A: Allocator = Global> {
     /// The line whose call a collision cancels, before the change.
     pub cancelled: Option<LineNo>,
     pub change: Option<Change>,
-    pub records: Records,
+    pub records: Records<A>,
     /// The relay that a call has from now on, if another.
     pub carriage: Option<Carriage<A>>,
 }
 
-impl<A: Allocator> Plan<A> {
-    /// These outputs alone.
+impl<A: Allocator + Copy> Plan<A> {
+    /// Nothing. It takes no memory.
     #[inline(always)]
-    pub fn of(outputs: Buffer<A>) -> Plan<A>
+    pub fn none(alloc: A) -> Plan<A>
+        ensures outcome { result.outcome ≡ Outcome.Plain }
+        ensures outputs { result.outputs.outputs ≡ [] }
+        ensures cancelled { result.cancelled ≡ None }
+        ensures change { result.change ≡ None }
+        ensures records { result.records.items ≡ [] }
+        ensures carriage { result.carriage ≡ None }
+    {
+        Plan::of(Buffer::none(alloc), Records::none(alloc))
+    }
+}
+
+impl<A: Allocator> Plan<A> {
+    /// These outputs and records alone.
+    #[inline(always)]
+    pub fn of(outputs: Buffer<A>, records: Records<A>) -> Plan<A>
         ensures outcome { result.outcome ≡ Outcome.Plain }
         ensures outputs { result.outputs ≡ outputs }
         ensures cancelled { result.cancelled ≡ None }
         ensures change { result.change ≡ None }
-        ensures records { result.records.items ≡ [] }
-        ensures no_records { array_vec_len result.records ≡ 0 }
+        ensures records { result.records ≡ records }
         ensures carriage { result.carriage ≡ None }
     {
         Plan {
@@ -60,7 +69,7 @@ impl<A: Allocator> Plan<A> {
             outputs,
             cancelled: None,
             change: None,
-            records: ArrayVec::new(),
+            records,
             carriage: None,
         }
     }
@@ -101,54 +110,5 @@ impl<A: Allocator> Plan<A> {
             carriage: Some(carriage),
             ..self
         }
-    }
-
-    /// The plan with a line that leaves its call.
-    #[inline(always)]
-    pub fn withdrawing(self, withdrawal: Withdrawal) -> Plan<A>
-        requires { array_vec_len self.records < MOST_RECORDS }
-        ensures outcome { result.outcome ≡ self.outcome }
-        ensures outputs { result.outputs ≡ self.outputs }
-        ensures cancelled { result.cancelled ≡ self.cancelled }
-        ensures change { result.change ≡ Some withdrawal.change }
-        ensures records { result.records.items ≡ self.records.items ++ option_to_list withdrawal.charged }
-        ensures carriage { result.carriage ≡ self.carriage }
-    {
-        let Withdrawal { change, charged } = withdrawal;
-        self.changing(change).with_some_record(charged)
-    }
-
-    /// The plan with this record, if there is one, after the others.
-    #[inline(always)]
-    pub fn with_some_record(self, charged: Option<Record>) -> Plan<A>
-        requires { array_vec_len self.records < MOST_RECORDS }
-        ensures outcome { result.outcome ≡ self.outcome }
-        ensures outputs { result.outputs ≡ self.outputs }
-        ensures cancelled { result.cancelled ≡ self.cancelled }
-        ensures change { result.change ≡ self.change }
-        ensures records { result.records.items ≡ self.records.items ++ option_to_list charged }
-        ensures carriage { result.carriage ≡ self.carriage }
-        ensures count { array_vec_len result.records ≤ array_vec_len self.records + 1 }
-    {
-        match charged {
-            None => self,
-            Some(charged) => self.with_record(charged),
-        }
-    }
-
-    /// The plan with one more record, after the others.
-    #[inline(always)]
-    pub fn with_record(mut self, charged: Record) -> Plan<A>
-        requires { array_vec_len self.records < MOST_RECORDS }
-        ensures outcome { result.outcome ≡ self.outcome }
-        ensures outputs { result.outputs ≡ self.outputs }
-        ensures cancelled { result.cancelled ≡ self.cancelled }
-        ensures change { result.change ≡ self.change }
-        ensures records { result.records.items ≡ self.records.items ++ charged ∷ [] }
-        ensures carriage { result.carriage ≡ self.carriage }
-        ensures count { array_vec_len result.records ≡ array_vec_len self.records + 1 }
-    {
-        self.records.push(charged);
-        self
     }
 }

@@ -1,15 +1,16 @@
 //! The relays and meters of the connected calls, each under its caller's line.
 
-ghost use Rattle.std.specs.Prelude.{◌≡◌, ◌<◌, None, IfOk, length, replicate};
+ghost use Rattle.std.specs.Prelude.{◌≡◌, ◌<◌, ◌≤◌, [], None, IfOk, OnErr, length, replicate};
 ghost use Rattle.std.specs.Option.{option_copied};
 ghost use Rattle.xp_core.specs.Relays.{Counts, relay_under, relays_with};
 ghost use Rattle.xp_core.specs.Segments.{judged};
 
+use crate::workspace::Workspace;
 use std::alloc::{AllocError, Allocator};
 use std::marker::Model;
 use xp_charge::{Meter, OverLimit};
 use xp_packets::{End, Packet};
-use xp_relay::{Judged, Relay};
+use xp_relay::{Judged, Moves, Relay, Terms};
 use xp_subs::LineNo;
 
 /// The relay of a connected call, and the meter of what it carries.
@@ -19,19 +20,96 @@ pub struct Metered<A: Allocator> {
     pub meter: Meter,
 }
 
+/// The same where it is kept: in a place of its own, so that a plan and a line hold no more than where that is.
+#[derive(Debug, Drop)]
+pub struct KeptMetered<A: Allocator> {
+    metered: Box<Metered<A>, A>,
+}
+
+impl<A: Allocator> Model for KeptMetered<A> {
+    ghost use Rattle.xp_core.specs.declared.relays.Metered.{Metered};
+
+    ghost Value = { Metered A };
+
+    ghost view = { λ k. k.metered.value };
+}
+
+impl<A: Allocator> KeptMetered<A> {
+    pub fn new(alloc: A, metered: Metered<A>) -> Result<KeptMetered<A>, AllocError>
+        ensures { IfOk result (λ kept. kept ≡ metered) }
+    {
+        let metered = Box::new(alloc, metered)?;
+        Ok(KeptMetered { metered })
+    }
+
+    pub fn get(&self) -> &Metered<A>
+        ensures { result.now ≡ self.now }
+    {
+        &self.metered
+    }
+
+    /// Another meter for what the relay carries.
+    pub fn set_meter(&mut self, meter: Meter)
+        ensures relay { self.new.relay ≡ self.old.relay }
+        ensures meter { self.new.meter ≡ meter }
+    {
+        self.metered.meter = meter;
+    }
+}
+
+impl<A: Allocator + Copy> KeptMetered<A> {
+    ghost use Rattle.xp_relay.specs.Coupled.{Coupled, Follows, ShowsCall, coupled};
+    ghost use Rattle.xp_relay.specs.Terms.{IsWithinTerms};
+    ghost use Rattle.xp_relay.specs.Turns.{turn_of};
+
+    /// An equal relay and meter in this memory, whatever it holds.
+    pub fn becoming(mut self, metered: &Metered<A>) -> Result<KeptMetered<A>, AllocError>
+        ensures { IfOk result (λ kept. kept ≡ metered.now) }
+    {
+        metered.relay.copy_over(&mut self.metered.relay)?;
+        self.metered.meter = metered.meter;
+        Ok(self)
+    }
+
+    /// The relay of a call that was just set up on these terms, with this meter, in this memory.
+    pub fn renewed(mut self, terms: Terms, meter: Meter) -> Result<KeptMetered<A>, AllocError>
+        requires { IsWithinTerms terms }
+        ensures shows { IfOk result (λ kept. ShowsCall kept.relay (coupled terms)) }
+        ensures meter { IfOk result (λ kept. kept.meter ≡ meter) }
+    {
+        self.metered.relay.renew(terms)?;
+        self.metered.meter = meter;
+        Ok(self)
+    }
+
+    /// The relay takes a packet of this end.
+    pub fn take(
+        &mut self,
+        here: End,
+        packet: &Packet<A>,
+        room: Moves<A>,
+    ) -> Result<Moves<A>, AllocError>
+        requires empty { room.moves ≡ [] }
+        requires space { 17 ≤ room.room }
+        ensures ok { IfOk result (λ made. (call : Coupled A) → ShowsCall self.old.relay call → Follows here (turn_of here packet.now) call self.new.relay made.moves) }
+    {
+        self.metered.relay.take(here, packet, room)
+    }
+}
+
 /// What is kept of a connected call's data.
 #[derive(Debug, Drop)]
 pub struct Carriage<A: Allocator> {
     /// The line that asked for the call.
     pub caller: LineNo,
-    pub metered: Metered<A>,
+    pub metered: KeptMetered<A>,
 }
 
 /// A place for each line: that of a caller has the relay of its call, once the call is connected. A line is in one call
 /// at a time.
 #[derive(Debug, Drop)]
 pub struct Relays<A: Allocator> {
-    by_caller: Vec<Option<Metered<A>>, A>,
+    by_caller: Vec<Option<KeptMetered<A>>, A>,
 }
 
 impl<A: Allocator> Model for Relays<A> {
@@ -83,19 +161,20 @@ impl<A: Allocator> Relays<A> {
     pub fn under(&self, line: LineNo) -> Option<&Metered<A>>
         ensures { option_copied result ≡ relay_under self.now line }
     {
-        self.by_caller.get(usize::from(line))?.as_ref()
+        let kept = self.by_caller.get(usize::from(line))?.as_ref()?;
+        Some(kept.get())
     }
 
-    /// A call has another relay from now on, if there is one.
+    /// A call has another relay from now on, if there is one. The memory of that before is left in the workspace.
     #[inline(always)]
-    pub fn put_if_any(&mut self, carriage: Option<Carriage<A>>)
+    pub fn put_if_any(&mut self, carriage: Option<Carriage<A>>, workspace: &mut Workspace<A>)
         ensures { self.new ≡ relays_with carriage self.old }
     {
         let Some(Carriage { caller, metered }) = carriage else {
             return;
         };
         if let Some(place) = self.by_caller.get_mut(usize::from(caller)) {
-            *place = Some(metered);
+            workspace.keep_metered(place.replace(metered));
         }
     }
 }

@@ -1,7 +1,7 @@
 //! A stall: a line takes its packets too slowly, and is given up. What that needs is found beforehand, so that the stall
 //! itself takes no memory.
 
-ghost use Rattle.std.specs.Prelude.{◌≡◌, ◌≤◌, [], ◌∷◌, List, length, option_to_list};
+ghost use Rattle.std.specs.Prelude.{◌≡◌, ◌<◌, ◌≤◌, [], ◌∷◌, List, length};
 ghost use Rattle.xp_causes.specs.declared.clearing_cause.TheConstants.{OUT_OF_ORDER as GONE_OUT};
 ghost use Rattle.xp_causes.specs.declared.diagnostic.TheConstants.{NO_ADDITIONAL_INFORMATION as NO_INFORMATION};
 ghost use Rattle.xp_core.specs.Changes.{GoesOut};
@@ -32,27 +32,27 @@ use std::alloc::{AllocError, Allocator};
 use std::marker::Model;
 use xp_causes::clearing_cause::OUT_OF_ORDER;
 use xp_causes::diagnostic::NO_ADDITIONAL_INFORMATION;
-use xp_charge::Record;
 use xp_subs::{LineNo, Subs};
 
 /// How much a stall puts out at most: the line's connection is to be closed, and the far end of its call is told.
 const MOST_OUTPUTS: usize = 2;
 
-/// Room for what one stall puts out, and for the copy that is told.
+/// Room for what one stall puts out, for the copy that is told, and for the record of the call that ends.
 #[derive(Debug, Drop)]
 pub struct Spare<A: Allocator> {
     outputs: Buffer<A>,
     told: Buffer<A>,
+    records: Records<A>,
 }
 
 impl<A: Allocator> Model for Spare<A> {
-    ghost use Rattle.std.specs.Prelude.{◌≡◌, []};
+    ghost use Rattle.std.specs.Prelude.{◌≡◌, ◌<◌, []};
 
     ghost Value = { Unit {0} };
 
     ghost view = { λ _. tt };
 
-    ghost invariant = { λ s. (s.outputs ≡ record { outputs = []; room = 2 }) × (s.told ≡ record { outputs = []; room = 2 }) };
+    ghost invariant = { λ s. (s.outputs ≡ record { outputs = []; room = 2 }) × (s.told ≡ record { outputs = []; room = 2 }) × (s.records.items ≡ []) × (0 < s.records.room) };
 }
 
 impl<A: Allocator + Copy> Spare<A> {
@@ -60,6 +60,7 @@ impl<A: Allocator + Copy> Spare<A> {
         Ok(Spare {
             outputs: Buffer::with_room(alloc, MOST_OUTPUTS)?,
             told: Buffer::with_room(alloc, MOST_OUTPUTS)?,
+            records: Records::with_room(alloc, 1)?,
         })
     }
 }
@@ -79,6 +80,7 @@ pub fn give_up<A: Allocator + Copy>(
     requires sound { IsSound subs.now }
     requires carried { AreCarried subs.now before.now machine.old relays.now }
     ensures makes { MakesStall (setting subs.now before.now machine.old line) result machine.new }
+    ensures copied { result.told ≡ result.outputs }
     ensures one { length result.records.items ≤ 1 }
 {
     if is_off(machine.line(line).state) {
@@ -89,7 +91,8 @@ pub fn give_up<A: Allocator + Copy>(
     work
 }
 
-fn is_off(state: ChannelState) -> bool
+/// Whether a line in this state is out of service.
+pub fn is_off(state: ChannelState) -> bool
     ensures { result ≡ is_off_at (state_of state) }
 {
     matches!(state, ChannelState::Off)
@@ -102,12 +105,16 @@ fn unused<A: Allocator>(spare: Spare<A>) -> Work<A>
     ensures told { result.told ≡ [] }
     ensures records { result.records.items ≡ [] }
 {
-    let Spare { outputs, told } = spare;
+    let Spare {
+        outputs,
+        told,
+        records,
+    } = spare;
     Work {
         outcome: Outcome::Plain,
         outputs: outputs.into_outputs(),
         told: told.into_outputs(),
-        records: Records::new(),
+        records,
     }
 }
 
@@ -133,10 +140,14 @@ fn fall<A: Allocator + Copy>(
         line,
         charged,
     };
-    let Spare { outputs, told } = spare;
+    let Spare {
+        outputs,
+        told,
+        records,
+    } = spare;
     let outputs = tell(alloc, outputs, &found);
     let told = tell(alloc, told, &found);
-    let records = charge(&found);
+    let records = charge(records, &found);
     Work {
         outcome: Outcome::Plain,
         outputs,
@@ -159,21 +170,12 @@ fn tell<A: Allocator + Copy>(alloc: A, buffer: Buffer<A>, found: &Found<'_, A>) 
 }
 
 /// The record of the call that the line is in, if it is in one.
-fn charge<A: Allocator>(found: &Found<'_, A>) -> Records
+fn charge<A: Allocator>(room: Records<A>, found: &Found<'_, A>) -> Records<A>
+    requires none { room.items ≡ [] }
+    requires room { 0 < room.room }
     ensures records { (before : List (Entered A)) → IsFound found.now before → result.items ≡ recorded_at (at_found found.now before) (leaves found.now.line GoesOut GONE_OUT NO_INFORMATION (call_on found.now.machine.now found.now.line) ∷ []) }
     ensures one { length result.items ≤ 1 }
 {
     let withdrawal = found.withdraw(Way::GoesOut, OUT_OF_ORDER, NO_ADDITIONAL_INFORMATION);
-    records_of(withdrawal.charged)
-}
-
-fn records_of(charged: Option<Record>) -> Records
-    ensures records { result.items ≡ option_to_list charged }
-    ensures one { length result.items ≤ 1 }
-{
-    let mut records = Records::new();
-    if let Some(charged) = charged {
-        records.push(charged);
-    }
-    records
+    room.with_some(withdrawal.charged)
 }

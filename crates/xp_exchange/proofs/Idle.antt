@@ -1,6 +1,6 @@
 -- Streams between frames.
 use Rattle.std.proofs.Common.{◌≡◌, ℕ, ◌+◌, ◌<◌, List, [], ◌∷◌, ◌++◌, length, map, replicate, get_or, set, refl, sym, ap, subst, ◌∙◌, All}
-use Rattle.std.proofs.lemmas.List.{map_push, map-set, replicate_more, get_or-map, get_or-set_same, set-set, length-set, length-map}
+use Rattle.std.proofs.lemmas.List.{map_push, map-set, replicate_more, get_or-map, get_or-set_same, length-set, length-map}
 use Rattle.std.proofs.lemmas.List.Elements.{All-append, All-nil, All-cons}
 use Rattle.xp_frames.specs.Held.{Held, IsNew}
 use Rattle.xp_core.specs.declared.event.Event.{Event}
@@ -35,42 +35,37 @@ idle_set streams line at stream new same =
     ∙ ap (λ rest. set (map (λ held. held.rest) streams) at rest) (ap (λ held. held.rest) new)
     ∙ ap (λ place. set (map (λ held. held.rest) streams) place []) same
 
--- A stream is taken out and put back: what was heard on it was heard on that line.
-pub heard_at : {A : Type 0} (streams : List Held) (line at again : ℕ) (taken fresh kept : Held) (octets : List ℕ) (events : List (Event A)) → at < length streams → at ≡ line → again ≡ line
+-- what was heard on a stream was heard on its line
+pub heard_at : {A : Type 0} (streams : List Held) (line at : ℕ) (taken kept : Held) (octets : List ℕ) (events : List (Event A)) → at < length streams → at ≡ line
     → taken ≡ get_or streams at taken → Hears line taken.rest octets events kept.rest
-    → Hears line (unfinished_at (rests streams) line) octets events (unfinished_at (rests (set (set streams at fresh) again kept)) line)
-heard_at streams line at again taken fresh kept octets events within here there read heard =
+    → Hears line (unfinished_at (rests streams) line) octets events (unfinished_at (rests (set streams at kept)) line)
+heard_at streams line at taken kept octets events within here read heard =
     let first : unfinished_at (rests streams) line ≡ taken.rest = (
     ap (λ i. get_or (rests streams) i []) (sym here)
     ∙ get_or-map (λ held. held.rest) streams at taken [] within
     ∙ ap (λ held. held.rest) (sym read)
     ) in
-    let last : unfinished_at (rests (set (set streams at fresh) again kept)) line ≡ kept.rest = (
-    get_or-map (λ held. held.rest) (set (set streams at fresh) again kept) line kept []
-    (subst (λ n. line < n) (sym (length-set (set streams at fresh) again kept ∙ length-set streams at fresh)) (subst (λ i. i < length streams) here within))
-    ∙ ap (λ i. (get_or (set (set streams at fresh) i kept) line kept).rest) there
-    ∙ ap (λ held. held.rest) (get_or-set_same (set streams at fresh) line kept kept (subst (λ n. line < n) (sym (length-set streams at fresh)) (subst (λ i. i < length streams) here within)))
+    let last : unfinished_at (rests (set streams at kept)) line ≡ kept.rest = (
+    ap (λ i. get_or (rests (set streams at kept)) i []) (sym here)
+    ∙ get_or-map (λ held. held.rest) (set streams at kept) at kept [] (subst (λ n. at < n) (sym (length-set streams at kept)) within)
+    ∙ ap (λ held. held.rest) (get_or-set_same streams at kept kept within)
     ) in
-    subst (λ before. Hears line before octets events (unfinished_at (rests (set (set streams at fresh) again kept)) line)) (sym first)
+    subst (λ before. Hears line before octets events (unfinished_at (rests (set streams at kept)) line)) (sym first)
     (subst (λ after. Hears line taken.rest octets events after) (sym last) heard)
 
 -- the other lines' octets stay
-pub kept_at : (streams : List Held) (line at again : ℕ) (fresh kept : Held) → at < length streams → at ≡ line → again ≡ line
-    → rests (set (set streams at fresh) again kept) ≡ set (rests streams) line (unfinished_at (rests (set (set streams at fresh) again kept)) line)
-kept_at streams line at again fresh kept within here there =
-    let once : set (set streams at fresh) again kept ≡ set streams line kept =
-    ap (λ i. set (set streams at fresh) i kept) there ∙ ap (λ i. set (set streams i fresh) line kept) here ∙ set-set streams line fresh kept in
-    let rest : unfinished_at (rests (set streams line kept)) line ≡ kept.rest = (
-    ap (λ list. get_or list line []) (map-set (λ held. held.rest) streams line kept)
+pub kept_at : (streams : List Held) (line at : ℕ) (kept : Held) → at < length streams → at ≡ line
+    → rests (set streams at kept) ≡ set (rests streams) line (unfinished_at (rests (set streams at kept)) line)
+kept_at streams line at kept within here =
+    let put : rests (set streams at kept) ≡ set (rests streams) line kept.rest = (
+    map-set (λ held. held.rest) streams at kept ∙ ap (λ place. set (rests streams) place kept.rest) here
+    ) in
+    let rest : unfinished_at (rests (set streams at kept)) line ≡ kept.rest = (
+    ap (λ list. get_or list line []) put
     ∙ get_or-set_same (rests streams) line kept.rest [] (subst (λ n. line < n) (sym (length-map streams (λ held. held.rest))) (subst (λ i. i < length streams) here within))
     ) in
-    ap rests once ∙ map-set (λ held. held.rest) streams line kept
-    ∙ ap (set (rests streams) line) (sym rest)
-    ∙ ap (λ list. set (rests streams) line (unfinished_at (rests list) line)) (sym once)
+    put ∙ ap (set (rests streams) line) (sym rest)
 
 pub within_rests : (streams : List Held) (unfinished : List (List ℕ)) (line at : ℕ) → rests streams ≡ unfinished → at ≡ line → line < length unfinished → at < length streams
 within_rests streams unfinished line at same here within =
     subst (λ n. at < n) (length-map streams (λ held. held.rest)) (subst (λ list. at < length list) (sym same) (subst (λ i. i < length unfinished) (sym here) within))
-
-pub is_new_after : (after fresh : Held) → after ≡ fresh → IsNew fresh → IsBetweenFrames after
-is_new_after after fresh same new = is_between after (same ∙ new)

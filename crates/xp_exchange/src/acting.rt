@@ -18,12 +18,12 @@ use xp_core::{Core, Entry, Event, StepFault};
 use xp_script::write_entry;
 use xp_subs::Subs;
 
-/// Takes the events off their queue and acts on them in turn, each written before the next. The text of each is made in
-/// this buffer, whatever it holds.
+/// Takes the events off their queue and acts on them in turn, each written before the next. The octets of each frame and
+/// the text of each entry are made in this memory, whatever it holds.
 pub fn act_on_all<A: Allocator + Copy, W: Write>(
-    alloc: A,
     core: &mut Core<A>,
     events: &mut VecDeque<Event<A>, A>,
+    memory: &mut Vec<u8, A>,
     text: &mut Vec<u8, A>,
     writer: &mut W,
 ) -> Result<(), ReplayFault>
@@ -32,15 +32,15 @@ pub fn act_on_all<A: Allocator + Copy, W: Write>(
     ensures subs { core.new.subs ≡ core.old.subs }
 {
     while let Some(event) = events.pop_front() {
-        act_on(alloc, core, event, text, writer)?;
+        act_on(core, event, memory, text, writer)?;
     }
     Ok(())
 }
 
 fn act_on<A: Allocator + Copy, W: Write>(
-    alloc: A,
     core: &mut Core<A>,
     event: Event<A>,
+    memory: &mut Vec<u8, A>,
     text: &mut Vec<u8, A>,
     writer: &mut W,
 ) -> Result<(), ReplayFault>
@@ -49,13 +49,13 @@ fn act_on<A: Allocator + Copy, W: Write>(
     ensures acted { (text : List ℕ) × Appends (W.contents writer.old) (W.contents writer.new) text × Acted core.old (event ∷ []) result core.new text }
     ensures subs { core.new.subs ≡ core.old.subs }
 {
-    match core.step(event) {
+    match core.enter(event) {
         Ok(_) => {
             let entries = core.history();
             tell(
-                alloc,
                 core.subs(),
                 &entries[entries.len() - 1],
+                memory,
                 text,
                 writer,
             )
@@ -74,11 +74,11 @@ fn reason_of<A: Allocator>(fault: &StepFault<A>) -> ReplayFault
     }
 }
 
-/// Writes the text of an entry, which is made in this buffer.
-fn tell<A: Allocator + Copy, W: Write>(
-    alloc: A,
+/// Writes the text of an entry, which is made in this memory.
+fn tell<A: Allocator, W: Write>(
     subs: &Subs,
     entry: &Entry<A>,
+    memory: &mut Vec<u8, A>,
     text: &mut Vec<u8, A>,
     writer: &mut W,
 ) -> Result<(), ReplayFault>
@@ -87,6 +87,6 @@ fn tell<A: Allocator + Copy, W: Write>(
     ensures { Tells (W.contents writer.old) (W.contents writer.new) (entry_text subs.now entry.now) result }
 {
     text.clear();
-    write_entry(alloc, subs, entry, text)?;
+    write_entry(subs, entry, memory, text)?;
     write_out(writer, text)
 }

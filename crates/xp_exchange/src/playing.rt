@@ -17,7 +17,6 @@ use std::collections::VecDeque;
 use std::io::Write;
 use std::marker::Model;
 use std::mem;
-use xp_channel::Channel;
 use xp_core::{Core, Event, What};
 use xp_script::{Command, LineFault};
 use xp_subs::LineNo;
@@ -28,8 +27,8 @@ pub struct Playing<A: Allocator = Global> {
     alloc: A,
     core: Core<A>,
     streams: Streams<A>,
-    /// For the octets and the events of a line, and for the text of an entry. They are kept for their memory: what they
-    /// hold between two lines is of no use.
+    /// For the octets of a line and then of a frame that is put out, for the events of a line, and for the text of an
+    /// entry. They are kept for their memory: what they hold between two lines is of no use.
     octets: Vec<u8, A>,
     events: VecDeque<Event<A>, A>,
     text: Vec<u8, A>,
@@ -98,9 +97,9 @@ impl<A: Allocator + Copy> Playing<A> {
             &mut self.octets,
         )?;
         act_on_all(
-            self.alloc,
             &mut self.core,
             &mut self.events,
+            &mut self.octets,
             &mut self.text,
             writer,
         )
@@ -147,7 +146,7 @@ fn hear<A: Allocator + Copy>(
 fn is_off<A: Allocator>(core: &Core<A>, line: LineNo) -> bool
     ensures { result ≡ is_off_at (world_of core.now) line }
 {
-    matches!(core.line(line).channel, Channel::Off)
+    core.is_out_of_service(line)
 }
 
 /// Adds an event to the queue.

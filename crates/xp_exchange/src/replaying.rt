@@ -12,6 +12,7 @@ use memchr::memchr;
 use std::alloc::{Allocator, Global};
 use std::io::{ErrorKind, Read, Write};
 use std::marker::Model;
+use std::mem;
 use xp_core::Core;
 use xp_script::MAX_LINE_OCTETS;
 use xp_subs::Subs;
@@ -31,7 +32,8 @@ pub struct Replayed<A: Allocator = Global> {
     pub core: Core<A>,
 }
 
-/// Replays a script on an exchange that is opened for it: `replay_on`.
+/// Replays a script on an exchange that is opened for it: `replay_on`. The exchange is left as it is, and its memory to the
+/// end of the program: to give back each entry's is some 500 instructions for it.
 pub fn replay<A: Allocator + Copy, R: Read + Drop, W: Write>(
     alloc: A,
     subs: Subs,
@@ -41,7 +43,9 @@ pub fn replay<A: Allocator + Copy, R: Read + Drop, W: Write>(
     ensures { IfSome (R.remaining reader) (λ script. (text : List ℕ) × Appends (W.contents writer.old) (W.contents writer.new) text × ReplaysAlone A subs script result text) }
 {
     let core = Core::new(alloc, subs)?;
-    replay_on(alloc, core, &mut reader, writer).ended
+    let Replayed { ended, core } = replay_on(alloc, core, &mut reader, writer);
+    mem::forget(core);
+    ended
 }
 
 /// Replays a script: plays its lines in turn to an exchange, and writes what it puts out and records, each line's before

@@ -8,7 +8,6 @@ use crate::frames::hear;
 use std::alloc::{AllocError, Allocator, Global};
 use std::collections::VecDeque;
 use std::marker::Model;
-use std::mem;
 use xp_core::Event;
 use xp_frames::Deframer;
 use xp_subs::LineNo;
@@ -65,11 +64,12 @@ impl<A: Allocator + Copy> Streams<A> {
         ensures lines { length self.new ≡ length self.old }
         ensures fit { OnOk result (All (λ event. (event.line ≡ line) × CanCome event.what) events.new.items) }
     {
-        // Out of its place, since want of memory may leave it with packets that wait.
-        let place = &mut self.streams[usize::from(line)];
-        let mut stream = mem::replace(place, Deframer::new(self.alloc));
-        hear(self.alloc, line, &mut stream, octets, events)?;
-        self.streams[usize::from(line)] = stream;
+        let stream = &mut self.streams[usize::from(line)];
+        if let Err(refused) = hear(self.alloc, line, stream, octets, events) {
+            // Want of memory may leave packets that wait.
+            *stream = Deframer::new(self.alloc);
+            return Err(refused);
+        }
         Ok(())
     }
 }

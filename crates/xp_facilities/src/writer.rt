@@ -169,10 +169,9 @@ fn push_item<A: Allocator>(
     ensures { OnOk result (field.new.items
         ≡ field.old.items ++ octets_of (record { code = code; parameters = parameters.now })) }
 {
-    if code < codes::FIRST_COUNTED {
-        field.extend_from_slice(&[code])?;
-    } else {
-        field.extend_from_slice(&[code, parameters.len() as u8])?;
+    field.push(code)?;
+    if code >= codes::FIRST_COUNTED {
+        field.push(parameters.len() as u8)?;
     }
     field.extend_from_slice(parameters)
 }

@@ -114,9 +114,21 @@ pub(crate) fn push_block<A: Allocator>(
     out.push((calling << 4) | called)?;
     push_addresses(out, &block.called, &block.calling)?;
     out.push(size)?;
-    out.extend_from_slice(block.facilities.as_slice())?;
-    out.extend_from_slice(block.user.as_slice())?;
-    Ok(())
+    push_octets(out, block.facilities.as_slice())?;
+    push_octets(out, block.user.as_slice())
+}
+
+/// Writes octets as they are. Often there are none.
+pub(crate) fn push_octets<A: Allocator>(
+    out: &mut Vec<u8, A>,
+    octets: &[u8],
+) -> Result<(), AllocError>
+    ensures { OnOk result (out.new.items ≡ out.old.items ++ octets.now) }
+{
+    if octets.is_empty() {
+        return Ok(());
+    }
+    out.extend_from_slice(octets)
 }
 
 /// Writes a block where there is one.

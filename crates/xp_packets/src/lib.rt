@@ -9,6 +9,7 @@ mod data;
 mod digits;
 mod end;
 mod fault;
+mod few;
 mod fitness;
 mod flow;
 mod header;
@@ -33,4 +34,4 @@ pub use laws::{
 pub use octets::Octets;
 pub use packet::Packet;
 pub use reading::decode;
-pub use writing::encode;
+pub use writing::{encode, write_packet};

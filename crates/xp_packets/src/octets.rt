@@ -1,5 +1,6 @@
 ghost use Rattle.std.specs.Prelude.{◌≡◌, ◌↔◌, [], IfOk, IsTrue, length};
 
+use crate::few::{Few, MOST_IN_PLACE};
 use std::alloc::{AllocError, Allocator, Global};
 use std::marker::Model;
 use std::sync::ArcSlice;
@@ -10,13 +11,10 @@ pub struct Octets<A: Allocator = Global> {
     held: Held<A>,
 }
 
-/// Where octets are.
+/// Where octets are: a few in place, and more in a block.
 #[derive(Debug, Drop)]
 enum Held<A: Allocator> {
-    /// There are none.
-    Nothing,
-    /// As many as charging information has (X.25 clause 7.2), in place.
-    Ten([u8; 10]),
+    Few(Few),
     Block(ArcSlice<u8, A>),
 }
 
@@ -35,16 +33,16 @@ impl<A: Allocator> Octets<A> {
         ensures { result ≡ [] }
     {
         Octets {
-            held: Held::Nothing,
+            held: Held::Few(Few::of(&[])),
         }
     }
 
-    /// Ten octets, which take no memory.
+    /// Ten octets, as charging information has (X.25 clause 7.2), which take no memory.
     pub fn of_ten(octets: [u8; 10]) -> Octets<A>
         ensures { result ≡ octets }
     {
         Octets {
-            held: Held::Ten(octets),
+            held: Held::Few(Few::of(&octets)),
         }
     }
 
@@ -53,8 +51,7 @@ impl<A: Allocator> Octets<A> {
         ensures { result.now ≡ self.now }
     {
         match &self.held {
-            Held::Nothing => &[],
-            Held::Ten(octets) => octets,
+            Held::Few(few) => few.as_slice(),
             Held::Block(block) => block.as_slice(),
         }
     }
@@ -78,8 +75,7 @@ impl<A: Allocator> Octets<A> {
         ensures { IfOk result (λ copied. copied ≡ self.now) }
     {
         let held = match &self.held {
-            Held::Nothing => Held::Nothing,
-            Held::Ten(octets) => Held::Ten(*octets),
+            Held::Few(few) => Held::Few(few.copy()),
             Held::Block(block) => Held::Block(block.clone()?),
         };
         Ok(Octets { held })
@@ -87,13 +83,13 @@ impl<A: Allocator> Octets<A> {
 }
 
 impl<A: Allocator + Copy> Octets<A> {
-    /// The octets of a vector; memory is wanted only where there are some.
+    /// The octets of a vector; memory is wanted only where there are more than a few.
     pub fn from_vec(octets: Vec<u8, A>) -> Result<Octets<A>, AllocError>
         ensures { IfOk result (λ held. held ≡ octets.items) }
     {
-        if octets.is_empty() {
+        if octets.len() <= MOST_IN_PLACE {
             return Ok(Octets {
-                held: Held::Nothing,
+                held: Held::Few(Few::of(&octets)),
             });
         }
         let block = ArcSlice::from_vec(octets)?;
@@ -102,10 +98,15 @@ impl<A: Allocator + Copy> Octets<A> {
         })
     }
 
-    /// An owned copy of octets; memory is wanted only where there are some.
+    /// An owned copy of octets; memory is wanted only where there are more than a few.
     pub fn from_slice(alloc: A, octets: &[u8]) -> Result<Octets<A>, AllocError>
         ensures { IfOk result (λ held. held ≡ octets.now) }
     {
+        if octets.len() <= MOST_IN_PLACE {
+            return Ok(Octets {
+                held: Held::Few(Few::of(octets)),
+            });
+        }
         Octets::from_vec(Vec::from_slice(alloc, octets)?)
     }
 }

@@ -7,7 +7,7 @@ ghost use Rattle.xp_packets.specs.Fitness.{block_of, has_long_facilities, has_wr
 ghost use Rattle.xp_packets.specs.Spelling.{WrittenAs};
 ghost use Rattle.xp_packets.specs.Writing.{has_d, has_q, type_of, written, written_body};
 
-use crate::block::{push_block, push_option};
+use crate::block::{push_block, push_octets, push_option};
 use crate::clear::push_cause;
 use crate::fault::PacketFault;
 use crate::fitness::first_unfit;
@@ -21,11 +21,7 @@ use std::alloc::{AllocError, Allocator};
 ///
 /// # Errors
 ///
-/// `Wrong` with the first reason, in the order of examination, why `decode` could never give this
-/// packet: `Short` where an interrupt has no data or a clear a block without a diagnostic, `Format`
-/// where the identifier is over 4,095 or P(S) or P(R) over 7, `Facilities` where there are over 109
-/// octets of them, `Long` where there is more data than a packet of its kind carries. `Memory` only
-/// where none of these holds.
+/// Those of [`write_packet`].
 pub fn encode<A: Allocator>(
     alloc: A,
     identifier: u16,
@@ -35,31 +31,53 @@ pub fn encode<A: Allocator>(
     ensures octets { IfOk result (λ octets. octets.items ≡ written identifier packet.now) }
     ensures refused { IfErr result (λ fault. Refuses fault (unfit identifier packet.now)) }
 {
+    let mut octets = Vec::new(alloc);
+    write_packet(identifier, packet, &mut octets)?;
+    Ok(octets)
+}
+
+/// Adds the octets of a packet on a logical channel to others, as `encode` gives them.
+///
+/// # Errors
+///
+/// `Wrong` with the first reason, in the order of examination, why `decode` could never give this
+/// packet: `Short` where an interrupt has no data or a clear a block without a diagnostic, `Format`
+/// where the identifier is over 4,095 or P(S) or P(R) over 7, `Facilities` where there are over 109
+/// octets of them, `Long` where there is more data than a packet of its kind carries. `Memory` only
+/// where none of these holds; then some of the octets may have been added.
+pub fn write_packet<A: Allocator>(
+    identifier: u16,
+    packet: &Packet<A>,
+    out: &mut Vec<u8, A>,
+) -> Result<(), PacketFault>
+    ensures written { OnOk result ((unfit identifier packet.now ≡ None) × WrittenAs (written identifier packet.now) identifier packet.now) }
+    ensures octets { OnOk result (out.new.items ≡ out.old.items ++ written identifier packet.now) }
+    ensures refused { IfErr result (λ fault. Refuses fault (unfit identifier packet.now)) }
+{
     if let Some(wrong) = first_unfit(identifier, packet) {
         return Err(wrong.into());
     }
-    Ok(written_of(alloc, identifier, packet)?)
+    push_packet(out, identifier, packet)?;
+    Ok(())
 }
 
-fn written_of<A: Allocator>(
-    alloc: A,
+fn push_packet<A: Allocator>(
+    out: &mut Vec<u8, A>,
     identifier: u16,
     packet: &Packet<A>,
-) -> Result<Vec<u8, A>, AllocError>
+) -> Result<(), AllocError>
     requires { unfit identifier packet.now ≡ None }
-    ensures written { IfOk result (λ octets. octets.items ≡ written identifier packet.now) }
+    ensures written { OnOk result (out.new.items ≡ out.old.items ++ written identifier packet.now) }
     ensures addressed { OnOk result (HasAddresses packet.now) }
 {
-    let mut octets = Vec::new(alloc);
     push_heading(
-        &mut octets,
+        out,
         has_q(packet),
         has_d(packet),
         identifier,
         type_of(packet),
     )?;
-    push_body(&mut octets, packet)?;
-    Ok(octets)
+    push_body(out, packet)
 }
 
 fn has_q<A: Allocator>(packet: &Packet<A>) -> bool
@@ -119,7 +137,7 @@ fn push_body<A: Allocator>(out: &mut Vec<u8, A>, packet: &Packet<A>) -> Result<(
             push_option(out, block)
         }
         Packet::DataPacket { octets, .. } | Packet::Interrupt { octets } => {
-            out.extend_from_slice(octets.as_slice())
+            push_octets(out, octets.as_slice())
         }
         Packet::Reset { cause, diagnostic } => push_cause(out, *cause, *diagnostic),
         _ => Ok(()),

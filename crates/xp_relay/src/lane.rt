@@ -1,6 +1,6 @@
 //! One direction of a call, as it is kept.
 
-ghost use Rattle.std.specs.Prelude.{◌≡◌, ◌+◌, ◌<◌, ◌≤◌, ◌&&◌, not, IfOk, length};
+ghost use Rattle.std.specs.Prelude.{◌≡◌, ◌+◌, ◌<◌, ◌≤◌, ◌&&◌, not, IfOk, OnOk, length};
 ghost use Rattle.xp_relay.specs.Direction.{Direction, opening};
 ghost use Rattle.xp_relay.specs.Judgement.{most_octets};
 ghost use Rattle.xp_relay.specs.Kept.{Shows};
@@ -72,6 +72,23 @@ impl<A: Allocator> Lane<A> {
             ready: true,
             owes: false,
         })
+    }
+
+    /// The same in the memory of this direction, whatever it was.
+    pub(crate) fn renew(&mut self, terms: Way) -> Result<(), AllocError>
+        requires { IsWithinWay terms }
+        ensures { OnOk result (Shows self.new (opening terms)) }
+    {
+        self.held.clear();
+        self.held.reserve(usize::from(terms.window))?;
+        self.terms = terms;
+        self.pr = 0;
+        self.oldest = 0;
+        self.out = 0;
+        self.interrupt = Interruption::Idle;
+        self.ready = true;
+        self.owes = false;
+        Ok(())
     }
 
     /// The packet size, in octets.

@@ -1,4 +1,4 @@
-ghost use Rattle.std.specs.Prelude.{◌≡◌, ◌+◌, ◌-◌, ◌<◌, ◌≤◌, [], ◌∷◌, ◌++◌, IfOk, List, length, option_to_list};
+ghost use Rattle.std.specs.Prelude.{◌≡◌, ◌+◌, ◌-◌, ◌<◌, ◌≤◌, [], ◌∷◌, ◌++◌, IfNone, IfOk, IfSome, List, length, option_to_list};
 
 use std::alloc::{AllocError, Allocator, Global};
 use std::marker::Model;
@@ -42,6 +42,16 @@ impl<A: Allocator> Moves<A> {
         Ok(Moves { moves, room })
     }
 
+    /// No moves, and room for so many, in the memory of these.
+    pub fn emptied(self, room: usize) -> Result<Moves<A>, AllocError>
+        ensures { IfOk result (λ made. made ≡ record { moves = []; room = room }) }
+    {
+        let Moves { mut moves, room: _ } = self;
+        moves.clear();
+        moves.reserve(room)?;
+        Ok(Moves { moves, room })
+    }
+
     /// The moves so far, in order.
     pub fn as_slice(&self) -> &[Move<A>]
         ensures { result.now ≡ self.now.moves }
@@ -55,6 +65,17 @@ impl<A: Allocator> Moves<A> {
     {
         let Moves { moves, room: _ } = self;
         moves
+    }
+
+    /// The first move, which is taken out, unless there is none. The memory of all stays.
+    pub fn take_first(&mut self) -> Option<Move<A>>
+        ensures some { IfSome result (λ first. self.old.moves ≡ first ∷ self.new.moves) }
+        ensures none { IfNone result (self.old.moves ≡ []) }
+    {
+        if self.moves.is_empty() {
+            return None;
+        }
+        Some(self.moves.remove(0))
     }
 
     /// The moves with one more.

@@ -1,4 +1,4 @@
-ghost use Rattle.std.specs.Prelude.{◌≡◌, ◌≤◌, [], IfOk, length};
+ghost use Rattle.std.specs.Prelude.{◌≡◌, ◌≤◌, [], IfOk, OnOk, length};
 ghost use Rattle.xp_relay.specs.Coupled.{Coupled, Follows, ShowsCall, coupled, received_by, sent_by, state_at};
 ghost use Rattle.xp_relay.specs.Judgement.{judgement};
 ghost use Rattle.xp_relay.specs.Terms.{IsWithinTerms};
@@ -20,8 +20,8 @@ use xp_packets::{End, Octets};
 
 mod taking;
 
-/// What a live call carries between its ends. All calls but `new` and `copy` take no memory: the room for what can
-/// wait is made by these, and that for the moves comes with the call.
+/// What a live call carries between its ends. All calls but these that make or copy one take no memory: the room for what
+/// can wait is made by those, and that for the moves comes with the call.
 #[derive(Debug, Drop)]
 pub struct Relay<A: Allocator = Global> {
     from_caller: Lane<A>,
@@ -56,6 +56,24 @@ impl<A: Allocator + Copy> Relay<A> {
             from_caller: self.from_caller.copy()?,
             from_called: self.from_called.copy()?,
         })
+    }
+
+    /// The same in the memory of another relay, which is equal to this one from then on. Where that has room for the
+    /// windows already, only what waits takes memory. After a failure it may be any relay.
+    pub fn copy_over(&self, other: &mut Relay<A>) -> Result<(), AllocError>
+        ensures { OnOk result (other.new ≡ self.now) }
+    {
+        self.from_caller.copy_over(&mut other.from_caller)?;
+        self.from_called.copy_over(&mut other.from_called)
+    }
+
+    /// A call that was just set up on these terms, in the memory of this relay. After a failure it may be any relay.
+    pub fn renew(&mut self, terms: Terms) -> Result<(), AllocError>
+        requires { IsWithinTerms terms }
+        ensures { OnOk result (ShowsCall self.new (coupled terms)) }
+    {
+        self.from_caller.renew(terms.way_from(End::Caller))?;
+        self.from_called.renew(terms.way_from(End::Called))
     }
 }
 

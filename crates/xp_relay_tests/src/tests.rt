@@ -168,6 +168,6 @@ fn requests_of_new_and_copy_refused(rt: HostRuntime) -> Result<(), Fail> {
         assert!(rt; goes_out_of_a_copy(&alloc)?);
         refusals = refusals.wrapping_add(1);
     }
-    assert_eq!(rt; refusals, 9);
+    assert_eq!(rt; refusals, 7);
     Ok(())
 }

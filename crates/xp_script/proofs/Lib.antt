@@ -1,4 +1,5 @@
 mod DigitLemmas
+mod FrameLemmas
 mod HexLemmas
 mod ListLemmas
 mod NameLemmas

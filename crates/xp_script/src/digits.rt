@@ -54,9 +54,6 @@ fn digit_of(value: u8) -> u8
     requires { value < 16 }
     ensures { result ≡ slice_index lower_digits value }
 {
-    if value < 10 {
-        b'0' + value
-    } else {
-        b'a' - 10 + value
-    }
+    let letters = if value < 10 { 0 } else { b'a' - 10 - b'0' };
+    b'0' + letters + value
 }

@@ -15,15 +15,16 @@ use xp_core::{Entry, Output};
 use xp_subs::Subs;
 
 /// Adds the text of an entry: a line for each packet put out, as a frame in hexadecimal, then one for each record. The
-/// lines that it names are those of the subscriptions, as in the history of an exchange.
+/// lines that it names are those of the subscriptions, as in the history of an exchange. The octets of each frame are put
+/// into this memory, whatever it holds.
 ///
 /// # Errors
 ///
 /// Where memory is wanting the text stays as it was.
-pub fn write_entry<A: Allocator + Copy>(
-    alloc: A,
+pub fn write_entry<A: Allocator>(
     subs: &Subs,
     entry: &Entry<A>,
+    memory: &mut Vec<u8, A>,
     text: &mut Vec<u8, A>,
 ) -> Result<(), AllocError>
     requires writable { AreWritable entry.now.outputs }
@@ -32,7 +33,7 @@ pub fn write_entry<A: Allocator + Copy>(
     ensures err { OnErr result (text.new.items ≡ text.old.items) }
 {
     let before = text.len();
-    match push_entry(alloc, subs, entry, text) {
+    match push_entry(subs, entry, memory, text) {
         Ok(()) => Ok(()),
         Err(refused) => {
             text.truncate(before);
@@ -42,10 +43,10 @@ pub fn write_entry<A: Allocator + Copy>(
 }
 
 /// Adds the text of an entry, or of the first part of it.
-fn push_entry<A: Allocator + Copy>(
-    alloc: A,
+fn push_entry<A: Allocator>(
     subs: &Subs,
     entry: &Entry<A>,
+    memory: &mut Vec<u8, A>,
     text: &mut Vec<u8, A>,
 ) -> Result<(), AllocError>
     requires writable { AreWritable entry.now.outputs }
@@ -53,14 +54,14 @@ fn push_entry<A: Allocator + Copy>(
     ensures ok { OnOk result (text.new.items ≡ text.old.items ++ entry_text subs.now entry.now) }
     ensures kept { Keeps text.old.items text.new.items }
 {
-    push_outputs(alloc, subs, entry.outputs.as_slice(), text)?;
+    push_outputs(subs, entry.outputs.as_slice(), memory, text)?;
     push_records(subs, entry.records.as_slice(), text)
 }
 
-fn push_outputs<A: Allocator + Copy>(
-    alloc: A,
+fn push_outputs<A: Allocator>(
     subs: &Subs,
     outputs: &[Output<A>],
+    memory: &mut Vec<u8, A>,
     text: &mut Vec<u8, A>,
 ) -> Result<(), AllocError>
     requires writable { AreWritable outputs.now }
@@ -69,7 +70,7 @@ fn push_outputs<A: Allocator + Copy>(
     ensures kept { Keeps text.old.items text.new.items }
 {
     for output in outputs {
-        push_output(alloc, subs, output, text)?;
+        push_output(subs, output, memory, text)?;
     }
     Ok(())
 }

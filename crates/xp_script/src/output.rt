@@ -1,7 +1,6 @@
 //! The text of what is put out.
 
-ghost use Rattle.std.specs.Prelude.{◌≡◌, ◌<◌, ◌++◌, None, OnOk};
-ghost use Rattle.hex.specs.Hex.{encode_lower};
+ghost use Rattle.std.specs.Prelude.{◌≡◌, ◌<◌, ◌≤◌, ◌++◌, drop, length, None, OnOk};
 ghost use Rattle.xp_core.specs.Writable.{IsWritable};
 ghost use Rattle.xp_frames.specs.Frame.{frame};
 ghost use Rattle.xp_packets.specs.Fitness.{unfit};
@@ -10,18 +9,21 @@ ghost use Rattle.xp_charge.specs.Text.{Keeps};
 ghost use Rattle.xp_script.specs.Text.{output_text};
 ghost use Rattle.xp_subs.specs.Tables.{line_count};
 
-use crate::text::{push_field, push_octets};
+use crate::text::{push_front, push_octets};
 use std::alloc::{AllocError, Allocator};
 use xp_core::{Output, Put};
 use xp_frames::frame_head;
-use xp_packets::{Packet, encode};
+use xp_packets::{Packet, write_packet};
 use xp_subs::Subs;
 
-/// Adds the line of a packet that is put out; a close has none.
+/// How many octets of a frame stand before its packet.
+const HEAD: usize = 4;
+
+/// Adds the line of a packet that is put out; a close has none. Its frame is made in this memory, whatever it holds.
 pub fn push_output<A: Allocator>(
-    alloc: A,
     subs: &Subs,
     output: &Output<A>,
+    memory: &mut Vec<u8, A>,
     text: &mut Vec<u8, A>,
 ) -> Result<(), AllocError>
     requires writable { IsWritable output.now.outgoing.put }
@@ -32,31 +34,41 @@ pub fn push_output<A: Allocator>(
     match &output.outgoing.put {
         Put::Close => Ok(()),
         Put::Send { identifier, packet } => {
-            text.extend_from_slice(b"out")?;
-            push_field(text, subs.name_of(output.line).as_bytes())?;
-            text.push(b' ')?;
-            push_frame(alloc, *identifier, packet, text)?;
+            put_frame(*identifier, packet, memory)?;
+            push_front(text, subs.name_of(output.line).as_bytes())?;
+            push_octets(text, memory)?;
             text.push(b'\n')?;
             Ok(())
         }
     }
 }
 
-/// Adds the frame of a packet in hexadecimal. One that has a spelling has 3 to 1,028 octets, so that only memory can be
-/// wanting.
-fn push_frame<A: Allocator>(
-    alloc: A,
+/// Puts the frame of a packet into a vector, whatever it holds. One that has a spelling has 3 to 1,028 octets, so that
+/// only memory can be wanting.
+fn put_frame<A: Allocator>(
     identifier: u16,
     packet: &Packet<A>,
-    text: &mut Vec<u8, A>,
+    octets: &mut Vec<u8, A>,
 ) -> Result<(), AllocError>
     requires { unfit identifier packet.now ≡ None }
-    ensures ok { OnOk result (text.new.items ≡ text.old.items ++ encode_lower (frame (written identifier packet.now))) }
-    ensures kept { Keeps text.old.items text.new.items }
+    ensures frame { OnOk result (octets.new.items ≡ frame (written identifier packet.now)) }
+    ensures most { OnOk result (length octets.new.items ≤ 1032) }
 {
-    let octets = encode(alloc, identifier, packet).map_err(|_| AllocError)?;
-    let octets = octets.as_slice();
-    let head = frame_head(octets).map_err(|_| AllocError)?;
-    push_octets(text, &head)?;
-    push_octets(text, octets)
+    octets.clear();
+    // The head comes into its place when the packet's length is known.
+    octets.resize(HEAD, 0)?;
+    write_packet(identifier, packet, octets).map_err(|_| AllocError)?;
+    let head = frame_head(&octets[HEAD..]).map_err(|_| AllocError)?;
+    put_head(octets, &head);
+    Ok(())
+}
+
+/// Puts a head into its place.
+fn put_head(octets: &mut [u8], head: &[u8])
+    requires head { length head.now ≡ 4 }
+    requires room { 4 ≤ length octets.old }
+    ensures head { octets.new ≡ head.now ++ drop 4 octets.old }
+    ensures len { length octets.new ≡ length octets.old }
+{
+    octets[..HEAD].copy_from_slice(head);
 }

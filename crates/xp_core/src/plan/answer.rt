@@ -21,11 +21,12 @@ use crate::call::LiveCall;
 use crate::change::Change;
 use crate::outcome::{Agreement, Outcome};
 use crate::output::Buffer;
-use crate::relays::{Carriage, Metered};
+use crate::records::Records;
+use crate::relays::Carriage;
+use crate::workspace::Workspace;
 use std::alloc::{AllocError, Allocator};
 use xp_answer::{Answer, Connection, examine};
 use xp_charge::Meter;
-use xp_relay::Relay;
 
 /// An answer connects the call, and the caller is told so (X.25 clause 4.1.5); a fault of it is a procedure error.
 #[inline(never)]
@@ -33,6 +34,7 @@ pub fn answer<A: Allocator + Copy>(
     alloc: A,
     found: &Found<'_, A>,
     answer: &CallAccepted<'_, A>,
+    workspace: &mut Workspace<A>,
 ) -> Result<Plan<A>, AllocError>
     requires line { found.now.line < line_count found.now.subs.now }
     requires terms { AllHaveTerms found.now.machine.now }
@@ -40,7 +42,7 @@ pub fn answer<A: Allocator + Copy>(
     ensures { (before : List (Entered A)) → IsFound found.now before → IfOk result (PlansAnswer (at_found found.now before) (answer_of answer.now)) }
 {
     let Some(call) = found.machine.call_on(found.line) else {
-        return Ok(Plan::of(Buffer::with_room(alloc, 0)?));
+        return Ok(Plan::none(alloc));
     };
     let address = found.subs.address_of(found.line);
     match examine(
@@ -54,13 +56,11 @@ pub fn answer<A: Allocator + Copy>(
         Answer::Connected(connection) => {
             let outputs = Buffer::with_room(alloc, 1)?;
             let agreement = agreement_of(&connection);
-            let relay = Relay::new(alloc, agreement.relay_terms())?;
             let meter = Meter::new(found.subs.segment_limit());
-            let plan = connect(found, call, connection, outputs);
-            Ok(plan.carrying(Carriage {
-                caller: call.caller,
-                metered: Metered { relay, meter },
-            }))
+            let metered = workspace.opened(alloc, agreement.relay_terms(), meter)?;
+            let plan = connect(alloc, found, call, connection, outputs);
+            let caller = call.caller;
+            Ok(plan.carrying(Carriage { caller, metered }))
         }
         Answer::Refused(diagnostic) => {
             let plan = fail(alloc, found, diagnostic)?;
@@ -80,6 +80,7 @@ fn agreement_of<A: Allocator>(connection: &Connection<A>) -> Agreement
 
 /// The call is connected: both lines are in data transfer.
 fn connect<A: Allocator>(
+    alloc: A,
     found: &Found<'_, A>,
     call: &LiveCall,
     connection: Connection<A>,
@@ -97,7 +98,8 @@ fn connect<A: Allocator>(
         line: found.line,
         agreement,
     };
-    Plan::of(outputs.with(send(found.machine, call.caller, connection.packet)))
+    let outputs = outputs.with(send(found.machine, call.caller, connection.packet));
+    Plan::of(outputs, Records::none(alloc))
         .settling(Outcome::Connected(agreement))
         .changing(change)
 }

@@ -18,7 +18,9 @@ use crate::call::LiveCall;
 use crate::event::What;
 use crate::machine::Machine;
 use crate::output::Buffer;
-use crate::relays::{Carriage, Metered, Relays};
+use crate::records::Records;
+use crate::relays::{Carriage, Relays};
+use crate::workspace::Workspace;
 use std::alloc::{AllocError, Allocator};
 use xp_packets::Packet;
 use xp_relay::Moves;
@@ -34,34 +36,35 @@ pub fn carry<A: Allocator + Copy>(
     found: &Found<'_, A>,
     relays: &Relays<A>,
     what: &What<A>,
+    workspace: &mut Workspace<A>,
 ) -> Result<Plan<A>, AllocError>
     requires { IsShort found.now.charged }
     ensures { (before : List (Entered A)) → IsFound found.now before → AreCarried found.now.subs.now before found.now.machine.now relays.now → IfOk result (PlansCarried (at_found found.now before) what.now) }
 {
     let Some(Charged { call, meter: _ }) = found.charged else {
-        return Ok(Plan::of(Buffer::with_room(alloc, 0)?));
+        return Ok(Plan::none(alloc));
     };
     let Some(packet) = packet_in(what) else {
-        return Ok(Plan::of(Buffer::with_room(alloc, 0)?));
+        return Ok(Plan::none(alloc));
     };
     if call.agreed.is_none() {
-        return Ok(Plan::of(Buffer::with_room(alloc, 0)?));
+        return Ok(Plan::none(alloc));
     }
     let Some(metered) = relays.under(call.caller) else {
-        return Ok(Plan::of(Buffer::with_room(alloc, 0)?));
+        return Ok(Plan::none(alloc));
     };
     let here = call.end_of(found.line);
     let Ok(meter) = metered.count(here, packet) else {
         return exceed(alloc, found);
     };
-    let mut relay = metered.relay.copy()?;
-    let room = Moves::with_room(alloc, MOST_MOVES)?;
-    let moves = relay.take(here, packet, room)?;
-    let outputs = send_all(alloc, found.machine, call, moves)?;
-    Ok(Plan::of(outputs).carrying(Carriage {
-        caller: call.caller,
-        metered: Metered { relay, meter },
-    }))
+    let mut metered = workspace.copy_of(alloc, metered)?;
+    let room = workspace.moves(alloc, MOST_MOVES)?;
+    let mut moves = metered.take(here, packet, room)?;
+    let outputs = send_all(alloc, found.machine, call, &mut moves)?;
+    workspace.keep_moves(moves);
+    metered.set_meter(meter);
+    let caller = call.caller;
+    Ok(Plan::of(outputs, Records::none(alloc)).carrying(Carriage { caller, metered }))
 }
 
 /// The packet in an event.
@@ -74,18 +77,17 @@ fn packet_in<'a, A: Allocator>(what: &'a What<A>) -> Option<&'a Packet<A>>
     }
 }
 
-/// Each move is sent to the call's line at its end.
+/// Each move is taken out, and sent to the call's line at its end.
 fn send_all<A: Allocator>(
     alloc: A,
     machine: &Machine<A>,
     call: &LiveCall,
-    moves: Moves<A>,
+    moves: &mut Moves<A>,
 ) -> Result<Buffer<A>, AllocError>
-    ensures { IfOk result (λ buffer. buffer.outputs ≡ map (send_on machine.now (call_of_kept call.now)) moves.moves) }
+    ensures { IfOk result (λ buffer. buffer.outputs ≡ map (send_on machine.now (call_of_kept call.now)) moves.old.moves) }
 {
-    let moves = moves.into_vec();
-    let mut outputs = Buffer::with_room(alloc, moves.len())?;
-    for carried in moves {
+    let mut outputs = Buffer::with_room(alloc, moves.as_slice().len())?;
+    while let Some(carried) = moves.take_first() {
         let line = call.line_at(carried.side);
         outputs = outputs.with(send(machine, line, carried.packet));
     }

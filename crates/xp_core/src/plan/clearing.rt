@@ -23,6 +23,7 @@ use crate::event::What;
 use crate::machine::Machine;
 use crate::outcome::Outcome;
 use crate::output::{Buffer, Output};
+use crate::records::Records;
 use std::alloc::{AllocError, Allocator};
 use xp_answer::carry_clear;
 use xp_causes::clearing_cause::{
@@ -33,19 +34,19 @@ use xp_causes::{cause_told, diagnostic_told};
 use xp_subs::LineNo;
 
 /// A line comes into service.
-pub fn rise<A: Allocator>(alloc: A, found: &Found<'_, A>) -> Result<Plan<A>, AllocError>
+pub fn rise<A: Allocator + Copy>(alloc: A, found: &Found<'_, A>) -> Result<Plan<A>, AllocError>
     ensures { (before : List (Entered A)) → IfOk result (λ plan. IsPlainPlan plan (at_found found.now before) nothing_told (Rises found.now.line ∷ [])) }
 {
     let line = found.line;
-    Ok(Plan::of(Buffer::with_room(alloc, 0)?).changing(Change::Rise { line }))
+    Ok(Plan::none(alloc).changing(Change::Rise { line }))
 }
 
 /// A cleared line is free again.
-pub fn free<A: Allocator>(alloc: A, found: &Found<'_, A>) -> Result<Plan<A>, AllocError>
+pub fn free<A: Allocator + Copy>(alloc: A, found: &Found<'_, A>) -> Result<Plan<A>, AllocError>
     ensures { (before : List (Entered A)) → IfOk result (λ plan. IsPlainPlan plan (at_found found.now before) nothing_told (Leaves found.now.line IsFree ∷ [])) }
 {
     let line = found.line;
-    Ok(Plan::of(Buffer::with_room(alloc, 0)?).changing(Change::Free { line }))
+    Ok(Plan::none(alloc).changing(Change::Free { line }))
 }
 
 /// A line goes out of service: its call ends as out of order.
@@ -64,7 +65,8 @@ pub fn fall<A: Allocator + Copy>(
     let far = found.clear_far(alloc, cause, diagnostic);
     let outputs = Buffer::with_room(alloc, 2)?.with_some(own).with_some(far);
     let withdrawal = found.withdraw(Way::GoesOut, cause, diagnostic);
-    Ok(Plan::of(outputs).withdrawing(withdrawal))
+    let records = Records::of(alloc, withdrawal.charged)?;
+    Ok(Plan::of(outputs, records).changing(withdrawal.change))
 }
 
 /// A line that is given up as too slow has its connection closed.
@@ -130,7 +132,8 @@ fn clear_both<A: Allocator + Copy>(
     let other = found.clear_far(alloc, far, diagnostic);
     let outputs = Buffer::with_room(alloc, 2)?.with(own).with_some(other);
     let withdrawal = found.withdraw(Way::IsCleared, far, diagnostic);
-    Ok(Plan::of(outputs).withdrawing(withdrawal))
+    let records = Records::of(alloc, withdrawal.charged)?;
+    Ok(Plan::of(outputs, records).changing(withdrawal.change))
 }
 
 /// A clear request is confirmed at once (X.25 clause 4.1.7), and the line's call ends.
@@ -149,7 +152,8 @@ pub fn confirm<A: Allocator + Copy>(
     let cause = cause_told(clear.cause);
     let diagnostic = diagnostic_told(clear.diagnostic);
     let withdrawal = found.withdraw(Way::IsFree, cause, diagnostic);
-    Ok(Plan::of(outputs).withdrawing(withdrawal))
+    let records = Records::of(alloc, withdrawal.charged)?;
+    Ok(Plan::of(outputs, records).changing(withdrawal.change))
 }
 
 /// What the far end of the line's call, if it is in one, is told of a clear request.

@@ -25,9 +25,9 @@ use super::request::{Cancelled, request};
 use crate::entry::Entry;
 use crate::event::{Event, What};
 use crate::machine::Machine;
-use crate::output::Buffer;
 use crate::relays::Relays;
 use crate::table::action_of;
+use crate::workspace::Workspace;
 use std::alloc::{AllocError, Allocator};
 use xp_causes::diagnostic::TIMER_EXPIRED_FOR_INCOMING_CALL;
 use xp_channel::Action;
@@ -41,6 +41,7 @@ pub fn plan_of<A: Allocator + Copy>(
     relays: &Relays<A>,
     before: &[Entry<A>],
     event: &Event<A>,
+    workspace: &mut Workspace<A>,
 ) -> Result<Plan<A>, AllocError>
     requires sound { IsSound subs.now }
     requires line { event.now.line < line_count subs.now }
@@ -58,7 +59,7 @@ pub fn plan_of<A: Allocator + Copy>(
     let what = &event.what;
     match action_of(machine.line(line).state, what) {
         Action::Nothing => nothing(alloc, &found),
-        Action::Relayed => carry(alloc, &found, relays, what),
+        Action::Relayed => carry(alloc, &found, relays, what, workspace),
         Action::Rise => rise(alloc, &found),
         Action::Fall => fall(alloc, &found, what),
         Action::Free => free(alloc, &found),
@@ -74,7 +75,7 @@ pub fn plan_of<A: Allocator + Copy>(
         },
         Action::Answer => match accepted_in(what) {
             None => nothing(alloc, &found),
-            Some(accepted) => answer(alloc, &found, &accepted),
+            Some(accepted) => answer(alloc, &found, &accepted, workspace),
         },
         Action::Confirm => match clear_in(what) {
             None => nothing(alloc, &found),
@@ -83,8 +84,8 @@ pub fn plan_of<A: Allocator + Copy>(
     }
 }
 
-fn nothing<A: Allocator>(alloc: A, _found: &Found<'_, A>) -> Result<Plan<A>, AllocError>
+fn nothing<A: Allocator + Copy>(alloc: A, _found: &Found<'_, A>) -> Result<Plan<A>, AllocError>
     ensures { (before : List (Entered A)) → IfOk result (λ plan. IsPlainPlan plan (at_found _found.now before) nothing_told []) }
 {
-    Ok(Plan::of(Buffer::with_room(alloc, 0)?))
+    Ok(Plan::none(alloc))
 }

@@ -1,6 +1,6 @@
 //! A call request: it is put to a line as an incoming call, or cleared.
 
-ghost use Rattle.std.specs.Prelude.{◌≡◌, ◌<◌, [], ◌∷◌, ◌++◌, List, None, IfOk};
+ghost use Rattle.std.specs.Prelude.{◌≡◌, ◌<◌, ◌≤◌, [], ◌∷◌, ◌++◌, List, None, IfOk, length, option_to_list};
 ghost use Rattle.xp_core.specs.Acts.{cancelled_told};
 ghost use Rattle.xp_core.specs.Asked.{request_of};
 ghost use Rattle.xp_core.specs.Changes.{Change as Changing, Begins, IsRefused};
@@ -23,6 +23,7 @@ use crate::change::Change;
 use crate::channel::LogicalChannel;
 use crate::outcome::Outcome;
 use crate::output::{Buffer, Output};
+use crate::records::Records;
 use std::alloc::{AllocError, Allocator};
 use xp_answer::{Setup, incoming_call};
 use xp_causes::Refusal;
@@ -87,16 +88,32 @@ pub fn request<A: Allocator + Copy>(
         → IfOk result (PlansRequest (at_found found.now before) (request_of request.now) ended far) }
 {
     let (subs, caller) = (found.subs, found.line);
-    let outputs = Buffer::with_room(alloc, 2)?;
+    let outputs = Buffer::with_room(alloc, count(&cancelled.told) + 1)?;
     match decide(alloc, subs, found.machine, caller, request.block)? {
-        Verdict::Refuse(why) => Ok(refused(found, request, why, cancelled, outputs)),
+        Verdict::Refuse(why) => {
+            let records = Records::with_room(alloc, count(&cancelled.charged) + 1)?;
+            Ok(refused(found, request, why, cancelled, outputs, records))
+        }
         Verdict::Take(ring) => {
             let (called, calling) = (subs.address_of(ring.line), subs.address_of(caller));
             let packet = incoming_call(alloc, &ring, called, calling, request.d, request.block)?;
             let setup = Setup::of(&ring);
             let line = ring.line;
-            Ok(put(found, request, line, setup, packet, cancelled, outputs))
+            let records = Records::with_room(alloc, count(&cancelled.charged))?;
+            Ok(put(
+                found, request, line, setup, packet, cancelled, outputs, records,
+            ))
         }
+    }
+}
+
+/// Whether there is one, as a number.
+fn count<T>(some: &Option<T>) -> usize
+    ensures { result ≡ length (option_to_list some.now) }
+{
+    match some {
+        None => 0,
+        Some(_) => 1,
     }
 }
 
@@ -109,9 +126,12 @@ fn put<A: Allocator>(
     packet: Packet<A>,
     cancelled: Cancelled<A>,
     outputs: Buffer<A>,
+    records: Records<A>,
 ) -> Plan<A>
     requires empty { outputs.outputs ≡ [] }
-    requires room { 1 < outputs.room }
+    requires room { length (option_to_list cancelled.told) < outputs.room }
+    requires none { records.items ≡ [] }
+    requires records { length (option_to_list cancelled.charged) ≤ records.room }
     ensures outcome { result.outcome ≡ Outcome.Put called setup }
     ensures quiet { result.carriage ≡ None }
     ensures planned { (before : List (Entered A)) (ended : List Changing) (far : List (Sent A)) → IsCancelled cancelled (at_found found.now before) ended far
@@ -132,14 +152,16 @@ fn put<A: Allocator>(
         charged,
         told,
     } = cancelled;
-    Plan::of(outputs.with_some(told).with(ring))
-        .settling(Outcome::Put {
-            line: called,
-            setup,
-        })
-        .cancelling(line)
-        .changing(begins)
-        .with_some_record(charged)
+    Plan::of(
+        outputs.with_some(told).with(ring),
+        records.with_some(charged),
+    )
+    .settling(Outcome::Put {
+        line: called,
+        setup,
+    })
+    .cancelling(line)
+    .changing(begins)
 }
 
 /// The call is cleared at once.
@@ -149,9 +171,12 @@ fn refused<A: Allocator>(
     why: Refusal,
     cancelled: Cancelled<A>,
     outputs: Buffer<A>,
+    records: Records<A>,
 ) -> Plan<A>
     requires empty { outputs.outputs ≡ [] }
-    requires room { 1 < outputs.room }
+    requires room { length (option_to_list cancelled.told) < outputs.room }
+    requires none { records.items ≡ [] }
+    requires records { length (option_to_list cancelled.charged) < records.room }
     ensures outcome { result.outcome ≡ Outcome.Refused why }
     ensures quiet { result.carriage ≡ None }
     ensures planned { (before : List (Entered A)) (ended : List Changing) (far : List (Sent A)) → IsCancelled cancelled (at_found found.now before) ended far
@@ -177,13 +202,12 @@ fn refused<A: Allocator>(
         charged,
         told,
     } = cancelled;
-    Plan::of(outputs.with(own).with_some(told))
+    let records = records.with_some(charged).with(record);
+    Plan::of(outputs.with(own).with_some(told), records)
         .settling(Outcome::Refused(why))
         .cancelling(line)
         .changing(Change::Refuse {
             line: caller,
             identifier,
         })
-        .with_some_record(charged)
-        .with_record(record)
 }

@@ -1,6 +1,6 @@
 //! Equal copies.
 
-ghost use Rattle.std.specs.Prelude.{◌≡◌, IfOk};
+ghost use Rattle.std.specs.Prelude.{◌≡◌, IfOk, OnOk};
 
 use crate::data::{Data, Interruption};
 use crate::lane::Lane;
@@ -29,5 +29,25 @@ impl<A: Allocator + Copy> Lane<A> {
             ready: self.ready,
             owes: self.owes,
         })
+    }
+
+    /// The same in the memory of another direction, which has this value from then on. Where there is room already, it
+    /// takes no memory for the queue.
+    pub(crate) fn copy_over(&self, other: &mut Lane<A>) -> Result<(), AllocError>
+        ensures { OnOk result (other.new ≡ self.now) }
+    {
+        other.held.clear();
+        other.held.reserve(usize::from(self.terms.window))?;
+        other.terms = self.terms;
+        other.pr = self.pr;
+        other.oldest = self.oldest;
+        other.out = self.out;
+        other.ready = self.ready;
+        other.owes = self.owes;
+        other.interrupt = self.interrupt.copy()?;
+        for place in 0..self.held.len() {
+            other.held.push_back_reserved(self.held[place].copy()?);
+        }
+        Ok(())
     }
 }

@@ -12,4 +12,4 @@ returns-in-Ok-clause-ok g c =
     c.work_out.new.machine c.work_out.new.relays c.enter.new.self.history c.enter.new.self.records _ (next_entry before c.args.event c.in-Ok.work)
     c.in-Ok.ensures.ok refl (omega (arith, c.requires.line, c.requires.sound.lines)) grown
     (c.enter.ensures.records ∙ ap (λ r. r ++ c.in-Ok.work.records.items) c.in-Ok.ensures.records)
-    (c.enter.ensures.number ∙ ap (λ h. length h + 1) c.in-Ok.ensures.history) c.enter.ensures.told
+    (c.enter.ensures.number ∙ ap (λ h. length h + 1) c.in-Ok.ensures.history) c.args.tells c.in-Ok.ensures.told c.enter.ensures.told

@@ -15,5 +15,5 @@ returns-in_err-core g c =
 
 pub returns : goal.returns
 returns g c =
-    told_alone g.row.A.Denot c.args.subs (g.R.Read.remaining c.args.reader) (g.W.Write.contents c.args.writer.now) _ _ c.in_ok-core.core _ c.replay_on.result.ended
-    c.in_ok-core.ensures c.replay_on.ensures
+    told_alone g.row.A.Denot c.args.subs (g.R.Read.remaining c.args.reader) (g.W.Write.contents c.args.writer.now) _ _ c.in_ok-core.core _ c.replay_on-ended.result.ended
+    c.in_ok-core.ensures c.replay_on-ended.ensures

@@ -11,22 +11,22 @@ use Rattle.xp_core.proofs.plan.answer.answer.Goals as goal
 
 pub returns-in_default : goal.returns-in_default
 returns-in_default g c before found =
-    not_called (at_found c.args.found.now before) (answer_of c.args.answer.now) c.of.result c.in_default.ensures (search rules) (search rules) (search rules)
+    not_called (at_found c.args.found.now before) (answer_of c.args.answer.now) c.none.result c.in_default.ensures (search rules) (search rules) (search rules)
 
 pub examine-requires : goal.examine-requires
 examine-requires g c = indicated c.args.found.now.machine.now c.args.found.now.line c.in-Some.call.now c.in-Some.ensures c.requires.terms
 
-pub returns-in_ok-relay-in-Connected : goal.returns-in_ok-relay-in-Connected
-returns-in_ok-relay-in-Connected g c before found =
+pub returns-in_ok-metered-in-Connected : goal.returns-in_ok-metered-in-Connected
+returns-in_ok-metered-in-Connected g c before found =
     let at = at_found c.args.found.now before in
     connected at (answer_of c.args.answer.now) c.carrying.result c.in-Some.call.now c.in-Some.ensures c.address_of-address.result.now c.address_of-address.ensures
     c.in_ok-connection.field-0 c.in_ok-connection.ensures.answered c.in-Connected.connection c.in-Connected.is (search rules)
     (record {
-      metered = record { relay = c.in_ok-relay-in-Connected.relay; meter = c.new-meter.result };
+      metered = c.in_ok-metered-in-Connected.metered;
       kept = ap (λ p. p.carriage) c.carrying.ensures;
-      shows = let P : Terms → Type 0 = λ t. ShowsCall c.in_ok-relay-in-Connected.relay (coupled t) in (
-        subst P (c.relay_terms.ensures ∙ ap terms_of c.agreement_of-agreement.ensures) c.in_ok-relay-in-Connected.ensures,
-        c.new-meter.ensures ∙ ap opening c.segment_limit.ensures,
+      shows = let P : Terms → Type 0 = λ t. ShowsCall c.in_ok-metered-in-Connected.metered.relay (coupled t) in (
+        subst P (c.relay_terms.ensures ∙ ap terms_of c.agreement_of-agreement.ensures) c.in_ok-metered-in-Connected.ensures.shows,
+        c.in_ok-metered-in-Connected.ensures.meter ∙ c.new-meter.ensures ∙ ap opening c.segment_limit.ensures,
       );
     })
     (carried_otherwise _ _ c.carrying.result at _ _ c.carrying.ensures (c.connect-plan.ensures.planned before (sym c.in-Some.ensures)))

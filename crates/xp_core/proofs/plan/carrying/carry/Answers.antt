@@ -1,8 +1,9 @@
 use Rattle.std.proofs.Common.{rules, ◌≡◌, ◌∙◌, is_none, true, false, None, Some, ap, subst, sym}
 use Rattle.xp_packets.specs.declared.end.End.{End}
-use Rattle.xp_relay.specs.Coupled.{Follows, KeptPair, ShowsCall, received_by, sent_by}
+use Rattle.xp_relay.specs.Coupled.{Follows, ShowsCall, received_by, sent_by}
 use Rattle.xp_relay.specs.Turns.{turn_of}
 use Rattle.xp_core.specs.Carried.{end_of}
+use Rattle.xp_core.specs.declared.relays.Metered.{Metered}
 use Rattle.xp_core.specs.Found.{at_found}
 use Rattle.xp_core.specs.Kept.{call_of_kept, entry_of}
 use Rattle.xp_core.specs.Relays.{Counts, relay_under}
@@ -15,11 +16,11 @@ use Rattle.xp_core.proofs.plan.carrying.carry.Goals as goal
 pub returns-in_default : goal.returns-in_default
 returns-in_default g c before found carried =
     let at = at_found c.args.found.now before in
-    in_no_call at c.args.what.now c.of.result (not_in_call at c.args.found.now.charged found c.in_default.is) (search rules) (search rules) (search rules)
+    in_no_call at c.args.what.now c.none.result (not_in_call at c.args.found.now.charged found c.in_default.is) (search rules) (search rules) (search rules)
 
 pub returns-in_default-packet_in : goal.returns-in_default-packet_in
 returns-in_default-packet_in g c before found carried =
-    of_no_packet (at_found c.args.found.now before) c.args.what.now c.of-in_default-packet_in.result c.in_default-packet_in.ensures (search rules) (search rules) (search rules)
+    of_no_packet (at_found c.args.found.now before) c.args.what.now c.none-in_default-packet_in.result c.in_default-packet_in.ensures (search rules) (search rules) (search rules)
 
 pub returns-then-is_none : goal.returns-then-is_none
 returns-then-is_none g c before found carried =
@@ -28,7 +29,7 @@ returns-then-is_none g c before found carried =
     let same : c.in-Some.field-0.call.now ≡ call = search (rules, c.in-Some.call-is) in
     let on : call_on at.world at.line ≡ Some (entry_of call) = in_call at c.args.found.now.charged found c.in-Some.field-0 c.in-Some.is ∙ ap (λ k. Some (entry_of k)) same in
     let none : is_none call.agreed ≡ true = search rules in
-    unconnected at c.args.what.now c.of-then-is_none.result call on c.in-Some-packet_in.packet.now c.in-Some-packet_in.ensures (none_of call.agreed none) (search rules) (search rules) (search rules)
+    unconnected at c.args.what.now c.none-then-is_none.result call on c.in-Some-packet_in.packet.now c.in-Some-packet_in.ensures (none_of call.agreed none) (search rules) (search rules) (search rules)
 
 pub returns-in_default-under : goal.returns-in_default-under
 returns-in_default-under g c before found carried =
@@ -76,9 +77,9 @@ returns g c before found carried =
     c.count.result c.in-Ok.meter c.in-Ok.is
     (λ shown shows. let P : End → Type 0 = λ e. Counts kept.meter e (judged packet (sent_by e shown) (received_by e shown)) c.count.result in
     subst P here (c.count.ensures shown shows))
-    c.take.new.self c.in_ok-moves.moves.moves
+    c.take.new.self.relay c.in_ok-moves.moves.moves
     (λ shown shows.
-    let F : End → Type 0 = λ e. Follows e (turn_of e packet) shown c.take.new.self c.in_ok-moves.moves.moves in
-    let S : KeptPair _ → Type 0 = λ r. ShowsCall r shown in
-    subst F here (c.in_ok-moves.ensures.ok shown (subst S (sym c.in_ok-relay.ensures) shows)))
+    let F : End → Type 0 = λ e. Follows e (turn_of e packet) shown c.take.new.self.relay c.in_ok-moves.moves.moves in
+    let S : Metered _ → Type 0 = λ m. ShowsCall m.relay shown in
+    subst F here (c.in_ok-moves.ensures.ok shown (subst S (sym c.in_ok-metered.ensures) shows)))
     (search rules) (search rules) (search rules) (search rules) (search rules) (search rules)

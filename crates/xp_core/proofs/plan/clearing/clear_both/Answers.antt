@@ -10,7 +10,7 @@ returns g c before found =
     let at = at_found c.args.found.now before in
     let own = clear_own at (call_on at.world at.line) c.args.near c.args.diagnostic in
     let far = clear_far at (call_on at.world at.line) c.args.far c.args.diagnostic in
-    let put : c.withdrawing.result.outputs.outputs ≡ (c.clear_own-own.result ∷ []) ++ option_to_list c.clear_far-other.result = search rules in
-    leaving c.withdrawing.result at (own ∷ []) far c.withdraw-withdrawal.result _ (c.withdraw-withdrawal.ensures before found)
+    let put : c.changing.result.outputs.outputs ≡ (c.clear_own-own.result ∷ []) ++ option_to_list c.clear_far-other.result = search rules in
+    leaving c.changing.result at (own ∷ []) far c.withdraw-withdrawal.result _ (c.withdraw-withdrawal.ensures before found)
     (put ∙ ap (λ o. (o ∷ []) ++ option_to_list c.clear_far-other.result) (c.clear_own-own.ensures before found) ∙ ap (λ f. (own ∷ []) ++ f) (c.clear_far-other.ensures before found))
     (search rules) (search rules) (search rules) (search rules) (search rules)

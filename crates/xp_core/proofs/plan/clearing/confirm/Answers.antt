@@ -12,9 +12,9 @@ returns g c before found =
     let at = at_found c.args.found.now before in
     let own = confirm_own at (call_on at.world at.line) in
     let far = option_to_list c.in_ok-far.far in
-    let put : c.withdrawing.result.outputs.outputs ≡ (c.confirm_own-own.result ∷ []) ++ far = search rules in
+    let put : c.changing.result.outputs.outputs ≡ (c.confirm_own-own.result ∷ []) ++ far = search rules in
     let left = c.withdraw-withdrawal.ensures before found in
-    let plain = leaving c.withdrawing.result at (own ∷ []) far c.withdraw-withdrawal.result _ (search (rules, left))
+    let plain = leaving c.changing.result at (own ∷ []) far c.withdraw-withdrawal.result _ (search (rules, left))
     (put ∙ ap (λ o. (o ∷ []) ++ far) (c.confirm_own-own.ensures before found))
     (search rules) (search rules) (search rules) (search rules) (search rules) in
-    confirmed at (clear_of c.args.clear.now) c.withdrawing.result far plain.plain plain.quiet (c.in_ok-far.ensures before found) plain.planned
+    confirmed at (clear_of c.args.clear.now) c.changing.result far plain.plain plain.quiet (c.in_ok-far.ensures before found) plain.planned

@@ -13,7 +13,7 @@ returns g c before found =
     let at = at_found c.args.found.now before in
     let own = closed at.world at.line c.args.what.now in
     let far = clear_far at (call_on at.world at.line) OUT_OF_ORDER NO_ADDITIONAL_INFORMATION in
-    let put : c.withdrawing.result.outputs.outputs ≡ option_to_list c.closing-own.result ++ option_to_list c.clear_far-far.result = search rules in
-    leaving c.withdrawing.result at own far c.withdraw-withdrawal.result _ (c.withdraw-withdrawal.ensures before found)
+    let put : c.changing.result.outputs.outputs ≡ option_to_list c.closing-own.result ++ option_to_list c.clear_far-far.result = search rules in
+    leaving c.changing.result at own far c.withdraw-withdrawal.result _ (c.withdraw-withdrawal.ensures before found)
     (put ∙ ap (λ o. o ++ option_to_list c.clear_far-far.result) c.closing-own.ensures ∙ ap (λ f. own ++ f) (c.clear_far-far.ensures before found))
     (search rules) (search rules) (search rules) (search rules) (search rules)

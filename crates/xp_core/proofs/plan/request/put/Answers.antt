@@ -10,7 +10,7 @@ use Rattle.xp_core.proofs.plan.request.put.Goals as goal
 pub returns-clause-planned : goal.returns-clause-planned
 returns-clause-planned g c before ended far ends =
     let line = c.args.found.now.line in
-    planned c.with_some_record.result (at_found c.args.found.now before) c.args.cancelled ended far
+    planned c.changing.result (at_found c.args.found.now before) c.args.cancelled ended far
     (kept.Begin line c.args.request.now.identifier c.args.called c.args.request.now.block.now.called c.args.setup)
     (Begins line c.args.request.now.identifier c.args.called c.args.request.now.block.now.called c.args.setup)
     [] (send_as c.args.found.now.machine.now c.args.called INITIAL_IDENTIFIER c.args.packet ∷ []) [] ends

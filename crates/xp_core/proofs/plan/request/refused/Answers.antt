@@ -10,7 +10,7 @@ use Rattle.xp_core.proofs.plan.request.refused.Goals as goal
 pub returns-clause-planned : goal.returns-clause-planned
 returns-clause-planned g c before ended far ends =
     let line = c.args.found.now.line in
-    planned c.with_record.result (at_found c.args.found.now before) c.args.cancelled ended far
+    planned c.changing.result (at_found c.args.found.now before) c.args.cancelled ended far
     (kept.Refuse line c.args.request.now.identifier)
     (IsRefused line c.args.request.now.identifier c.args.request.now.block.now.called c.args.why)
     (send_as c.args.found.now.machine.now line c.args.request.now.identifier (clear_indication c.args.why.cause c.args.why.diagnostic) ∷ []) []

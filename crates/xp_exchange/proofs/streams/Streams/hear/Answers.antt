@@ -1,32 +1,25 @@
-use Rattle.std.proofs.Common.{◌≡◌, subst, sym, set, get_or, arith}
+use Rattle.std.proofs.Common.{◌≡◌, subst, set}
 use Rattle.std.proofs.lemmas.List.Elements.{All-set}
 use Rattle.xp_exchange.specs.Acting.{IsBetweenFrames}
 use Rattle.xp_exchange.specs.Heard.{Hears}
 use Rattle.xp_exchange.specs.Play.{unfinished_at}
-use Rattle.xp_exchange.proofs.Idle.{rests, is_new_after, heard_at, kept_at, within_rests}
+use Rattle.xp_exchange.proofs.Idle.{rests, is_between, heard_at, kept_at, within_rests}
 use Rattle.xp_exchange.proofs.streams.Streams.hear.Goals as goal
 
 pub invariant_of-self : goal.invariant_of-self
-invariant_of-self g c =
-    All-set IsBetweenFrames c.self.inside.streams.items c.from.result _ (is_new_after _ _ c.replace-stream.ensures.after c.new.ensures) c.self.invariant
+invariant_of-self g c = All-set IsBetweenFrames c.self.inside.streams.items c.from.result _ (is_between _ c.new.ensures) c.self.invariant
 
 pub invariant_of-self-2 : goal.invariant_of-self-2
-invariant_of-self-2 g c =
-    All-set IsBetweenFrames _ c.from-2.result _ c.in_ok-hear.ensures.between
-    (All-set IsBetweenFrames c.self.inside.streams.items c.from.result _ (is_new_after _ _ c.replace-stream.ensures.after c.new.ensures) c.self.invariant)
-
-pub index_mut-requires : goal.index_mut-requires
-index_mut-requires g c = omega (arith, within_rests c.self.inside.streams.items _ _ c.from-2.result c.self.view_is c.from-2.ensures c.requires, c.self.inside.streams.ok.0)
+invariant_of-self-2 g c = All-set IsBetweenFrames c.self.inside.streams.items c.from.result _ c.in_default.ensures.between c.self.invariant
 
 pub returns-clause-heard : goal.returns-clause-heard
 returns-clause-heard g c =
     let within = within_rests c.self.inside.streams.items _ _ c.from.result c.self.view_is c.from.ensures c.requires in
-    subst (λ unfinished. Hears c.args.line (unfinished_at unfinished c.args.line) c.args.octets.now c.hear.new.events.items (unfinished_at (rests (set (set c.self.inside.streams.items c.from.result c.replace-stream.new.dest) c.from-2.result c.hear.new.stream)) c.args.line)) c.self.view_is
-    (heard_at c.self.inside.streams.items c.args.line c.from.result c.from-2.result c.replace-stream.result _ _ _ _ within c.from.ensures c.from-2.ensures
-    (subst (λ stream. stream ≡ get_or c.self.inside.streams.items c.from.result stream) (sym c.replace-stream.ensures.value) c.index_mut-place.ensures.value) c.in_ok-hear.ensures.heard)
+    subst (λ unfinished. Hears c.args.line (unfinished_at unfinished c.args.line) c.args.octets.now c.hear.new.events.items (unfinished_at (rests (set c.self.inside.streams.items c.from.result c.hear.new.stream)) c.args.line)) c.self.view_is
+    (heard_at c.self.inside.streams.items c.args.line c.from.result c.index_mut-stream.result.now c.hear.new.stream _ _ within c.from.ensures c.index_mut-stream.ensures.value c.in_default.ensures.heard)
 
 pub returns-clause-kept : goal.returns-clause-kept
 returns-clause-kept g c =
     let within = within_rests c.self.inside.streams.items _ _ c.from.result c.self.view_is c.from.ensures c.requires in
-    subst (λ unfinished. rests (set (set c.self.inside.streams.items c.from.result c.replace-stream.new.dest) c.from-2.result c.hear.new.stream) ≡ set unfinished c.args.line (unfinished_at (rests (set (set c.self.inside.streams.items c.from.result c.replace-stream.new.dest) c.from-2.result c.hear.new.stream)) c.args.line)) c.self.view_is
-    (kept_at c.self.inside.streams.items c.args.line c.from.result c.from-2.result c.replace-stream.new.dest c.hear.new.stream within c.from.ensures c.from-2.ensures)
+    subst (λ unfinished. rests (set c.self.inside.streams.items c.from.result c.hear.new.stream) ≡ set unfinished c.args.line (unfinished_at (rests (set c.self.inside.streams.items c.from.result c.hear.new.stream)) c.args.line)) c.self.view_is
+    (kept_at c.self.inside.streams.items c.args.line c.from.result c.hear.new.stream within c.from.ensures)

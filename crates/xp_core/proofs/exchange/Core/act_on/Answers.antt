@@ -1,7 +1,7 @@
 use Rattle.xp_core.proofs.Few.{outcome_few}
-use Rattle.xp_core.proofs.Showing.{kept_relays, kept_terms, outcome_advances, outcome_fits, outcome_keeps, outcome_shows}
+use Rattle.xp_core.proofs.Showing.{kept_relays, kept_terms, outcome_advances, outcome_advances_untold, outcome_fits, outcome_keeps, outcome_shows}
 use Rattle.xp_core.proofs.Sounds.{right_here}
-use Rattle.xp_core.proofs.exchange.Core.step.Goals as goal
+use Rattle.xp_core.proofs.exchange.Core.act_on.Goals as goal
 
 pub advance-requires-clause-sound : goal.advance-requires-clause-sound
 advance-requires-clause-sound g c = right_here c.self.inside.subs c.self.inside.journal.history _ c.self.inside.machine c.self.invariant.run c.self.invariant.shown
@@ -13,18 +13,21 @@ pub advance-requires-clause-carried : goal.advance-requires-clause-carried
 advance-requires-clause-carried g c = kept_relays c.self.inside.subs c.self.inside.journal.history c.self.inside.machine c.self.inside.relays c.self.inside.journal.records c.self.invariant
 
 pub invariant_of-self : goal.invariant_of-self
-invariant_of-self g c = outcome_shows _ _ _ _ _ c.args.event _ _ _ _ c.advance.result c.self.invariant c.requires.readable
+invariant_of-self g c = outcome_shows _ _ _ _ _ c.args.event _ _ _ _ c.args.tells c.advance.result c.self.invariant c.requires.readable
     c.advance.ensures.ok c.advance.ensures.machine c.advance.ensures.relays c.advance.ensures.history c.advance.ensures.records
 
+pub returns-clause-untold : goal.returns-clause-untold
+returns-clause-untold g c = outcome_advances_untold _ _ _ _ _ c.args.event _ _ _ _ c.args.tells c.advance.result _ _ _ c.self.invariant c.requires.readable c.advance.ensures.ok c.self.view_is
+
 pub returns-clause-ok : goal.returns-clause-ok
-returns-clause-ok g c = outcome_advances _ _ _ _ _ c.args.event _ _ _ _ c.advance.result _ _ _ c.self.invariant c.requires.readable c.advance.ensures.ok c.self.view_is
+returns-clause-ok g c does = outcome_advances _ _ _ _ _ c.args.event _ _ _ _ c.args.tells c.advance.result _ _ _ c.self.invariant c.requires.readable c.advance.ensures.ok c.self.view_is does
 
 pub returns-clause-writable : goal.returns-clause-writable
-returns-clause-writable g c = outcome_fits _ _ _ _ _ c.args.event _ _ _ _ c.advance.result c.self.invariant c.requires.readable c.advance.ensures.ok
+returns-clause-writable g c does = outcome_fits _ _ _ _ _ c.args.event _ _ _ _ c.args.tells c.advance.result c.self.invariant c.requires.readable c.advance.ensures.ok does
 
 pub returns-clause-err : goal.returns-clause-err
 returns-clause-err g c = outcome_keeps _ _ _ c.advance.result _ _ _ c.advance.ensures.history c.advance.ensures.as_many c.self.view_is
 
 pub returns-clause-few : goal.returns-clause-few
-returns-clause-few g c = outcome_few _ _ _ _ _ c.args.event _ _ _ _ c.advance.result
-    (kept_terms c.self.inside.subs c.self.inside.journal.history c.self.inside.machine c.self.inside.relays c.self.inside.journal.records c.self.invariant) c.advance.ensures.ok
+returns-clause-few g c does = outcome_few _ _ _ _ _ c.args.event _ _ _ _ c.args.tells c.advance.result
+    (kept_terms c.self.inside.subs c.self.inside.journal.history c.self.inside.machine c.self.inside.relays c.self.inside.journal.records c.self.invariant) c.advance.ensures.ok does

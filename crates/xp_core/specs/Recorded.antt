@@ -1,0 +1,8 @@
+-- The records of one entry.
+use Rattle.std.specs.Prelude.{ℕ, List}
+use Rattle.xp_charge.specs.declared.record.Record.{Record}
+
+pub record Recorded : Type 0 where
+  pub items : List Record
+  -- for how many more there is room
+  pub room : ℕ
