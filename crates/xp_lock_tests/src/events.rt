@@ -71,19 +71,13 @@ pub fn entered<N: Name>(
     requires readable { IsReadable what }
     requires kind { is_stall what ≡ false }
 {
-    let taken = offer(rt, exchange, pass, what);
-    entry(&taken)
-}
-
-/// The number of the entry, where it was taken.
-fn entry(taken: &Result<Done, OfferFault>) -> Option<u64> {
-    match taken {
-        Ok(done) => Some(done.entry()),
-        Err(_) => None,
+    if let Ok(done) = offer(rt, exchange, pass, what) {
+        return Some(done.entry());
     }
+    None
 }
 
-/// Whether an offer of what comes on the pass's line is refused for this reason.
+/// Whether an offer of what comes on the pass's line is refused, for a reason that is so.
 pub fn is_refused<N: Name>(
     rt: &impl Wait,
     exchange: &Exchange<N, Global>,
@@ -94,8 +88,10 @@ pub fn is_refused<N: Name>(
     requires readable { IsReadable what }
     requires kind { is_stall what ≡ false }
 {
-    let taken = offer(rt, exchange, pass, what);
-    reason.is_told(&taken)
+    if let Err(fault) = offer(rt, exchange, pass, what) {
+        return reason.is_of(&fault);
+    }
+    false
 }
 
 /// Why an offer is refused.
@@ -107,10 +103,10 @@ pub enum Reason {
 
 impl Reason {
     /// By reference: of a value that is looked into, the prover takes each kind of packet apart as it is dropped.
-    fn is_told(self, taken: &Result<Done, OfferFault>) -> bool {
+    fn is_of(self, fault: &OfferFault) -> bool {
         match self {
-            Reason::Halted => matches!(taken, Err(OfferFault::Halted(_))),
-            Reason::NoRoom => matches!(taken, Err(OfferFault::NoRoom(_))),
+            Reason::Halted => matches!(fault, OfferFault::Halted(_)),
+            Reason::NoRoom => matches!(fault, OfferFault::NoRoom(_)),
         }
     }
 }

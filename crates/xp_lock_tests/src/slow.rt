@@ -38,58 +38,56 @@ struct Seen {
     segments: Option<(u32, u32)>,
 }
 
-/// What an output is.
-#[derive(Clone, Copy)]
-enum Kind {
-    /// A clear indication with this cause and diagnostic.
-    Clears(u8, Option<u8>),
-    /// The connection is to be closed.
-    Closes,
-    Other,
-}
-
-impl Kind {
-    fn of(item: &Outgoing) -> Kind {
-        match &item.put {
-            Put::Close => Kind::Closes,
-            Put::Send { packet, .. } => Kind::of_packet(packet),
-        }
-    }
-
-    fn of_packet(packet: &Packet) -> Kind {
-        match packet {
-            Packet::Clear {
-                cause,
-                diagnostic,
-                ..
-            } => Kind::Clears(*cause, *diagnostic),
-            _ => Kind::Other,
-        }
-    }
-}
-
-/// Takes all outputs of the pass's line: how many there were, and what the last is.
+/// Takes all outputs of the pass's line: how many there were, and the last.
 fn take_all<N: Name>(
     rt: &impl Wait,
     exchange: &Exchange<N, Global>,
     pass: &mut LinePass<N, Global>,
-) -> (usize, Kind) {
-    let mut last = Kind::Other;
-    for count in 0..100usize {
-        let Some(item) = exchange.next_out(rt, pass) else {
-            return (count, last);
-        };
-        last = Kind::of(&item);
+) -> (usize, Option<Outgoing>) {
+    let mut count = 0;
+    let mut last = None;
+    for taken in 0..100usize {
+        match exchange.next_out(rt, pass) {
+            Some(item) => last = Some(item),
+            None => break,
+        }
+        count = taken + 1;
     }
-    (100, last)
+    (count, last)
+}
+
+/// The cause and the diagnostic of a clear indication.
+fn cleared(item: &Option<Outgoing>) -> Option<(u8, Option<u8>)> {
+    match &item.as_ref()?.put {
+        Put::Send {
+            packet: Packet::Clear {
+                cause,
+                diagnostic,
+                ..
+            },
+            ..
+        } => Some((*cause, *diagnostic)),
+        _ => None,
+    }
+}
+
+/// Whether an output is to close the connection.
+fn closes(item: &Option<Outgoing>) -> bool {
+    matches!(
+        item,
+        Some(Outgoing {
+            put: Put::Close,
+            ..
+        })
+    )
 }
 
 /// The first line that was given something.
-fn rung(taken: &Result<Done, OfferFault>) -> Option<LineNo> {
-    match taken {
-        Ok(done) => done.given().first().copied(),
-        Err(_) => None,
+fn rung(taken: Result<Done, OfferFault>) -> Option<LineNo> {
+    if let Ok(done) = taken {
+        return done.given().first().copied();
     }
+    None
 }
 
 /// a1 calls b1: the first line that was given something.
@@ -104,25 +102,23 @@ fn connect<N: Name>(
     };
     let _up = offer(rt, exchange, a1, What::Up);
     let _up = offer(rt, exchange, b1, What::Up);
-    let called = offer(rt, exchange, a1, packet(alloc, &CALL)?);
-    let first = rung(&called);
+    let first = rung(offer(rt, exchange, a1, packet(alloc, &CALL)?));
     let _accepted = offer(rt, exchange, b1, packet(alloc, &ACCEPTED)?);
     Ok(first)
 }
 
-/// a1 sends b1 packets that b1 acknowledges; a1 takes its outputs at once, b1 does where that is asked. What the last output
-/// to a1 is.
+/// a1 sends b1 packets that b1 acknowledges; a1 takes its outputs at once, b1 does where that is asked. The last output to a1.
 fn send_all<N: Name>(
     rt: &impl Wait,
     alloc: Global,
     exchange: &Exchange<N, Global>,
     passes: &mut [LinePass<N, Global>],
     at_once: bool,
-) -> Result<Kind, Fail> {
-    let mut last = Kind::Other;
+) -> Result<Option<Outgoing>, Fail> {
     let [a1, b1, ..] = passes else {
-        return Ok(last);
+        return Ok(None);
     };
+    let mut last = None;
     for number in 0..PACKETS {
         let _data = offer(rt, exchange, a1, packet(alloc, &data(number % 8))?);
         let _ready = offer(rt, exchange, b1, packet(alloc, &ready((number + 1) % 8))?);
@@ -144,7 +140,7 @@ fn come_back<N: Name>(
     seen.without_room = is_refused(rt, exchange, b1, What::Up, Reason::NoRoom);
     let (kept, last) = take_all(rt, exchange, b1);
     seen.kept = kept;
-    seen.closes = matches!(last, Kind::Closes);
+    seen.closes = closes(&last);
     seen.came_up = offer(rt, exchange, b1, What::Up).is_ok();
 }
 
@@ -158,9 +154,8 @@ fn talk<N: Name>(
 ) -> Result<Seen, Fail> {
     let mut seen = Seen::default();
     seen.rung = connect(rt, alloc, exchange, passes)?;
-    if let Kind::Clears(cause, diagnostic) = send_all(rt, alloc, exchange, passes, at_once)? {
-        seen.cleared = Some((cause, diagnostic));
-    }
+    let last = send_all(rt, alloc, exchange, passes, at_once)?;
+    seen.cleared = cleared(&last);
     if let Some(b1) = passes.get_mut(1) {
         come_back(rt, exchange, b1, &mut seen);
     }
