@@ -27,17 +27,13 @@ fn entries<A: Allocator + Copy>(core: &Core<A>) -> &[Entry<A>]
     core.history()
 }
 
-fn exchange(alloc: Global) -> Result<Core<Global>, Fail> {
-    Ok(Core::new(alloc, Subs::read(alloc, THREE_STATIONS)?)?)
-}
-
 /// Replays the script on an exchange of its own.
 fn replayed<R: Read, W: Write>(
     alloc: Global,
     reader: &mut R,
     writer: &mut W,
 ) -> Result<Replayed, Fail> {
-    let core = exchange(alloc)?;
+    let core = Core::new(alloc, Subs::read(alloc, THREE_STATIONS)?)?;
     Ok(replay_on(alloc, core, reader, writer))
 }
 
@@ -112,11 +108,6 @@ fn reader_that_fails_at_each_call(rt: HostRuntime) -> Result<(), Fail> {
     from_source(&rt, rt.alloc(), end, ErrorKind::Interrupted, (Ok(()), 3))
 }
 
-/// The script, whose octets are nothing to a proof here.
-fn script() -> &'static [u8] {
-    SCRIPT
-}
-
 /// How a writer refuses.
 #[derive(Clone, Copy, Debug)]
 enum Refusal {
@@ -176,7 +167,7 @@ fn onto_sheet(
         room,
         refusal: Some(refusal),
     };
-    let mut script = script();
+    let mut script = SCRIPT;
     let replayed = replayed(alloc, &mut script, &mut sheet)?;
     assert_eq!(rt; replayed.ended, expected.0, "at {room}");
     assert_eq!(rt; entries(&replayed.core).len(), 3, "at {room}");

@@ -68,23 +68,14 @@ fn offer<A: Allocator + Copy>(
     core.step(event)
 }
 
-/// How many entries there are. What else the exchange promises of them would be carried through the proof of a function that
-/// asks for more than one of these, so each stands in a function of its own.
-fn entries<A: Allocator + Copy>(core: &Core<A>) -> usize {
-    core.history().len()
-}
-
-fn records<A: Allocator + Copy>(core: &Core<A>) -> usize {
-    core.records().len()
-}
-
-fn view<A: Allocator + Copy>(core: &Core<A>, line: LineNo) -> LineView {
-    core.line(line)
-}
-
 /// All that the exchange shows of two lines, and how long its lists are.
 fn shown<A: Allocator + Copy>(core: &Core<A>) -> (LineView, LineView, usize, usize) {
-    (view(core, A1), view(core, B1), entries(core), records(core))
+    (
+        core.line(A1),
+        core.line(B1),
+        core.history().len(),
+        core.records().len(),
+    )
 }
 
 /// Hands an event in. Where that is refused for memory nothing has changed, and it is handed in again.
@@ -118,7 +109,7 @@ fn play<A: Allocator + Copy>(rt: &impl Abort, subs: Subs, ample: A, scarce: A) -
         assert_eq!(rt; told.entry, at as u64 + 1);
         assert_eq!(rt; told.outputs.as_slice().len(), *outputs, "entry {at}");
     }
-    assert_eq!(rt; records(&core), 1);
+    assert_eq!(rt; core.records().len(), 1);
     stall_all(rt, &mut core, ample)
 }
 
@@ -144,7 +135,7 @@ fn stall_all<A: Allocator + Copy>(
             "line {line}"
         );
     }
-    assert_eq!(rt; records(core), 2);
+    assert_eq!(rt; core.records().len(), 2);
     Ok(())
 }
 
