@@ -1,3 +1,4 @@
+mod Expiring
 mod Octets
 mod Offered
 mod Pulling

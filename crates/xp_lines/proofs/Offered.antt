@@ -1,5 +1,5 @@
 -- What a line offers, one event at a time.
-use Rattle.std.proofs.Common.{◌≡◌, ℕ, List, [], ◌∷◌, ◌++◌, refl, sym, ap, ◌∙◌, append_assoc, append-nil, map, subst, Option, None, Some, Bool, true, false, Result, Ok, Err}
+use Rattle.std.proofs.Common.{◌≡◌, ℕ, List, [], ◌∷◌, ◌++◌, refl, sym, ap, ◌∙◌, append_assoc, append-nil, map, subst, Option, None, Some, Bool, true, false, ◌||◌, Result, Ok, Err}
 use Rattle.std.specs.Prelude.{option_to_list}
 use Rattle.std.proofs.lemmas.List.{map-append}
 use Rattle.std.specs.declared.alloc.AllocError.{AllocError}
@@ -7,10 +7,12 @@ use Rattle.xp_frames.specs.Held.{Held}
 use Rattle.xp_core.specs.declared.entry.Entry.{Entry}
 use Rattle.xp_core.specs.declared.event.What.{What}
 use Rattle.xp_lock.specs.Passes.{Pass, mine}
+use Rattle.xp_lines.specs.Gates.{Refused}
 use Rattle.xp_lines.specs.Heard.{IsReadAs, AreReadAs}
 use Rattle.xp_lock.specs.declared.done.Done.{Done}
 use Rattle.xp_lines.specs.Offering.{IsRefusal, NextIs, Tells}
 use Rattle.xp_lines.specs.Offers.{Gains, Offers, goes_on, on_line}
+use Rattle.xp_lines.specs.Ringing.{has_any}
 use Rattle.xp_lines.specs.declared.offering.Stop.{Stop}
 use Rattle.xp_lines.specs.declared.offering.Stop.TheVariants as stops
 
@@ -140,3 +142,25 @@ refusal_stops stops.Held never = absurd never
 refusal_stops stops.Memory is = refl
 refusal_stops stops.Halted is = refl
 refusal_stops stops.Journal is = refl
+
+-- only a gate holds
+pub refusal_held : (stop : Stop) (found : Option Stop) → IsRefusal stop → found ≡ Some stop → found ≡ Some stops.Held → ⊥
+refusal_held stops.Held found never is held = never
+refusal_held stops.Memory found refused is held = absurd (let both : Some stops.Memory ≡ Some stops.Held = sym is ∙ held in cc)
+refusal_held stops.Halted found refused is held = absurd (let both : Some stops.Halted ≡ Some stops.Held = sym is ∙ held in cc)
+refusal_held stops.Journal found refused is held = absurd (let both : Some stops.Journal ≡ Some stops.Held = sym is ∙ held in cc)
+
+module _ {T : Type 0} where
+  pub any_more : (xs : List T) (x : T) → true ≡ has_any (xs ++ x ∷ [])
+  any_more [] x = refl
+  any_more (first ∷ xs) x = refl
+
+  any_both : (xs ys : List T) → has_any xs || has_any ys ≡ has_any (xs ++ ys)
+  any_both [] ys = refl
+  any_both (x ∷ xs) ys = refl
+
+  pub any_of_both : (either one other : Bool) (xs ys : List T) → either ≡ one || other → one ≡ has_any xs → other ≡ has_any ys → either ≡ has_any (xs ++ ys)
+  any_of_both either one other xs ys is one_is other_is = is ∙ ap (λ o. o || other) one_is ∙ ap (λ o. has_any xs || o) other_is ∙ any_both xs ys
+
+pub refused_by : {G : Type 0} (answers : G → Bool → G → Type 0) (before : G) (answer : Bool) (gate : G) → answers before answer gate → answer ≡ false → Refused answers gate
+refused_by answers before answer gate told is = record { before = before; refuses = subst (λ a. answers before a gate) is told }

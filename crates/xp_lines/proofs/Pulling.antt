@@ -1,15 +1,18 @@
 -- What becomes of octets that are pulled, before and behind a pull.
-use Rattle.std.proofs.Common.{◌≡◌, ℕ, List, [], ◌∷◌, ◌++◌, refl, sym, ap, ◌∙◌, append_assoc, append-nil, subst, Option, None, Some, true, false, Result, Ok, Err}
+use Rattle.std.proofs.Common.{◌≡◌, ℕ, List, [], ◌∷◌, ◌++◌, refl, sym, ap, ◌∙◌, append_assoc, append-nil, subst, Option, None, Some, Bool, true, false, inl, inr, Result, Ok, Err}
 use Rattle.std.specs.Prelude.{option_to_list}
 use Rattle.xp_frames.specs.declared.fault.FrameFault.{FrameFault}
 use Rattle.xp_frames.specs.declared.fault.FrameFault.TheVariants as faults
 use Rattle.xp_frames.specs.Held.{Feeds, Held, Takes}
 use Rattle.xp_core.specs.declared.event.What.{What}
+use Rattle.xp_lines.specs.Gates.{IsAllOffered, Refused, WaitsForGate}
 use Rattle.xp_lines.specs.Heard.{AreReadAs}
 use Rattle.xp_lines.specs.Offers.{Offers, goes_on}
 use Rattle.xp_lines.specs.Reads.{Completes, Pulls, Reads, heard_after, heard_at, is_lost, pull_by, stays}
 use Rattle.xp_lines.specs.declared.offering.Stop.{Stop}
 use Rattle.xp_lines.specs.declared.offering.Stop.TheVariants as stops
+use Rattle.xp_lines.specs.declared.reading.Heard.{Heard}
+use Rattle.xp_lines.specs.declared.reading.Heard.TheVariants as heards
 use Rattle.xp_lines.specs.declared.reading.Pull.{Pull}
 use Rattle.xp_lines.specs.declared.reading.Pull.TheVariants as pulls
 
@@ -133,3 +136,21 @@ module _ {A : Type 0} where
           kept = λ is. second.kept (stays_after pull stop is).1;
         };
       }
+
+module _ {A G : Type 0} (answers : G → Bool → G → Type 0) (held : Option (What A)) (waiting : List (List ℕ)) (gate : G) where
+  -- the offering stopped, and the link stays only where that was for the gate
+  pub left_at_gate : (found : Option Stop) (stop : Stop) (heard : Heard) → heard ≡ heard_at stop → found ≡ Some stop → (found ≡ Some stops.Held → Refused answers gate)
+      → heard ≡ heards.Open → WaitsForGate answers held waiting gate
+  left_at_gate found stops.Held heard heard_is is refused stays = inr (refused is)
+  left_at_gate found stops.Memory heard heard_is is refused stays = absurd (let both : heards.Over ≡ heards.Open = sym heard_is ∙ stays in cc)
+  left_at_gate found stops.Halted heard heard_is is refused stays = absurd (let both : heards.Halted ≡ heards.Open = sym heard_is ∙ stays in cc)
+  left_at_gate found stops.Journal heard heard_is is refused stays = absurd (let both : heards.Journal ≡ heards.Open = sym heard_is ∙ stays in cc)
+
+  -- the link stays only where all that came was offered, or the gate said no
+  pub left_by_gate : (pull : Pull) (stop : Option Stop) (heard : Heard) → heard ≡ heard_after pull stop → (stop ≡ None → IsAllOffered held waiting) → (stop ≡ Some stops.Held → Refused answers gate)
+      → heard ≡ heards.Open → WaitsForGate answers held waiting gate
+  left_by_gate pull None heard heard_is all refused stays = inl (all refl)
+  left_by_gate pull (Some stops.Held) heard heard_is all refused stays = inr (refused refl)
+  left_by_gate pull (Some stops.Memory) heard heard_is all refused stays = absurd (let both : heards.Over ≡ heards.Open = sym heard_is ∙ stays in cc)
+  left_by_gate pull (Some stops.Halted) heard heard_is all refused stays = absurd (let both : heards.Halted ≡ heards.Open = sym heard_is ∙ stays in cc)
+  left_by_gate pull (Some stops.Journal) heard heard_is all refused stays = absurd (let both : heards.Journal ≡ heards.Open = sym heard_is ∙ stays in cc)

@@ -1,11 +1,11 @@
 -- Events that octets tell, and expiries, which none do.
-use Rattle.std.proofs.Common.{◌≡◌, ℕ, List, [], ◌∷◌, ◌++◌, refl, ap, ◌∙◌, true, cond, inl, inr}
+use Rattle.std.proofs.Common.{◌≡◌, ℕ, List, [], ◌∷◌, ◌++◌, refl, ap, ◌∙◌, Bool, true, false, cond, Option}
 use Rattle.std.specs.List.{AllByRecursion}
 use Rattle.xp_core.specs.declared.event.What.{What}
 use Rattle.xp_core.specs.declared.event.What.TheVariants.{Up, Down, Frame, WrongFrame, Expire, Stall}
 use Rattle.xp_lines.specs.Heard.{AreReadAs, IsReadAs}
+use Rattle.xp_lines.specs.Ringing.{Lapses, expiry, is_late}
 use Rattle.xp_lines.specs.Together.{but_expiries, is_no_expiry}
-use Rattle.xp_lines.specs.Turns.{IsExpiry}
 
 module _ {A : Type 0} where
   abbrev pub HasNoExpiry : List (What A) → Type 0
@@ -42,8 +42,10 @@ module _ {A : Type 0} where
   all_without (what ∷ whats) none =
       ap (λ is. cond is (what ∷ but_expiries whats) (but_expiries whats)) none.0 ∙ ap (λ rest. what ∷ rest) (all_without whats none.1)
 
-  pub none_left : (expired : List (What A)) → IsExpiry expired → but_expiries expired ≡ []
-  none_left expired is = elim is [
-    | inl nothing ↦ ap but_expiries nothing
-    | inr one ↦ ap but_expiries one
-  ]
+  none_of_expiry : (late : Bool) → but_expiries {A = A} (expiry late) ≡ []
+  none_of_expiry true = refl
+  none_of_expiry false = refl
+
+  pub none_left : (linked : Bool) (now : ℕ) (since : Option ℕ) (expired : List (What A)) (after : Option ℕ) → Lapses linked now since expired after → but_expiries expired ≡ []
+  none_left true now since expired after lapses = ap but_expiries lapses.0 ∙ none_of_expiry (is_late now since)
+  none_left false now since expired after lapses = ap but_expiries lapses

@@ -1,5 +1,5 @@
 -- That the turns on a link add up, one after the other.
-use Rattle.std.proofs.Common.{◌≡◌, ◌⊎◌, ℕ, List, [], ◌∷◌, ◌++◌, refl, sym, ap, ◌∙◌, append_assoc, append-nil, map, subst, Option, Some, Bool, true, false, inl, inr}
+use Rattle.std.proofs.Common.{◌≡◌, ◌⊎◌, ℕ, ◌+◌, ◌≤◌, arith, List, [], ◌∷◌, ◌++◌, refl, sym, ap, ◌∙◌, append_assoc, append-nil, map, subst, Option, Some, Bool, true, false, inl, inr}
 use Rattle.std.specs.Prelude.{option_to_list}
 use Rattle.std.proofs.lemmas.Grind.{flat_map-append}
 use Rattle.std.proofs.lemmas.List.{map-append}
@@ -9,17 +9,20 @@ use Rattle.xp_frames.proofs.Frames.{frames-append, packets-append}
 use Rattle.xp_core.specs.declared.entry.Entry.{Entry}
 use Rattle.xp_core.specs.declared.event.What.{What}
 use Rattle.xp_core.specs.declared.event.What.TheVariants.{Down}
+use Rattle.xp_core.specs.declared.output.Outgoing.{Outgoing}
 use Rattle.xp_lock.specs.Handed.{handed}
 use Rattle.xp_lock.specs.Passes.{Pass, mine}
 use Rattle.xp_lines.specs.Offers.{Gains, on_line}
 use Rattle.xp_lines.specs.Reads.{Completes, stays}
-use Rattle.xp_lines.specs.Together.{AreTurns, IsFresh, IsLeftSo, Left, MayFollow, Together, TurnsAddUp, but_expiries, is_linked, is_no_expiry, last_of}
+use Rattle.xp_lines.specs.Ringing.{Lapses, answered, has_any, rung}
+use Rattle.xp_lines.specs.Together.{AreTurns, IsFresh, IsLeftSo, Left, MayFollow, Together, TurnsAddUp, but_expiries, calls, expiries, is_linked, is_no_expiry, last_of, waits}
 use Rattle.xp_lines.specs.Turns.{Downs, Follows, IsTurnBy, Seen, Worked, Works, is_owed}
 use Rattle.xp_lines.specs.Wire.{Took, carried, wire}
 use Rattle.xp_lines.specs.declared.reading.Heard.{Heard}
 use Rattle.xp_lines.specs.declared.reading.Heard.TheVariants as heards
 use Rattle.xp_lines.specs.declared.turning.After.{After}
 use Rattle.xp_lines.specs.declared.turning.After.TheVariants.{Linked, Dropped, DownOwed, Halted, Journal}
+use Rattle.xp_lines.proofs.Expiring.{calls_both, expiries_both, lapses_few, no_expiries, rung_few}
 use Rattle.xp_lines.proofs.Octets.{appends_both, appends_nothing}
 use Rattle.xp_lines.proofs.Pulling.{completes_nothing, read_both}
 use Rattle.xp_lines.proofs.Sums.{HasNoExpiry, all_without, none_behind, none_both, none_front, none_left, none_of_read}
@@ -64,6 +67,8 @@ module _ {A : Type 0} where
     in_order = refl;
     closing = [];
     is_closing = inl refl;
+    expire_once = omega arith;
+    may_expire = λ _. let none : waits came.ringing ≡ 0 = ap waits fresh.ringing in omega (arith, none);
     entries = [];
     mine_is = sym (append-nil (mine pass));
     events = refl;
@@ -71,11 +76,32 @@ module _ {A : Type 0} where
   }
 
   module _ (connection : ℕ) (old : Pass A) (came : Seen A) where
+    -- no more calls expire than were written
+    expire_few : (now : ℕ) (linked sent : Bool) (since : Option ℕ) (whats told expired : List (What A)) (ringing after : Option ℕ) (items more : List (Outgoing A))
+        → expiries told ≡ 0 → expiries whats + waits ringing ≤ calls connection items → (linked ≡ true → since ≡ rung now connection ringing more)
+        → Lapses linked now (answered sent since) expired after
+        → (expiries (whats ++ (told ++ expired)) ≤ calls connection (items ++ more))
+        × (linked ≡ true → expiries (whats ++ (told ++ expired)) + waits after ≤ calls connection (items ++ more))
+    expire_few now true sent since whats told expired ringing after items more none before since_is lapses =
+        let all : expiries (whats ++ (told ++ expired)) ≡ expiries whats + (expiries told + expiries expired) =
+        expiries_both whats (told ++ expired) ∙ ap (λ n. expiries whats + n) (expiries_both told expired) in
+        let both : calls connection (items ++ more) ≡ calls connection items + calls connection more = calls_both connection items more in
+        let at : waits since ≡ waits (rung now connection ringing more) = ap waits (since_is refl) in
+        let written : waits (rung now connection ringing more) ≤ waits ringing + calls connection more = rung_few now connection ringing more in
+        let told_few : expiries expired + waits after ≤ waits since = lapses_few now sent since expired after lapses in
+        (omega (arith, all, both, at, written, told_few, none, before), λ _. omega (arith, all, both, at, written, told_few, none, before))
+    expire_few now false sent since whats told expired ringing after items more none before since_is lapses =
+        let all : expiries (whats ++ (told ++ expired)) ≡ expiries whats + (expiries told + expiries expired) =
+        expiries_both whats (told ++ expired) ∙ ap (λ n. expiries whats + n) (expiries_both told expired) in
+        let both : calls connection (items ++ more) ≡ calls connection items + calls connection more = calls_both connection items more in
+        let nothing : expiries expired ≡ 0 = ap expiries lapses in
+        (omega (arith, all, both, nothing, none, before), λ is. absurd (let never : false ≡ true = is in cc))
+
     -- the line worked, from where its link stayed
-    worked_on : (pass : Pass A) (seen : Seen A) (heard : Heard) (new_pass : Pass A) (new : Seen A)
-        → Together connection old came true pass seen → Works connection pass seen heard new_pass new
+    worked_on : (now : ℕ) (pass : Pass A) (seen : Seen A) (heard : Heard) (new_pass : Pass A) (new : Seen A)
+        → Together connection old came true pass seen → Works now connection pass seen heard new_pass new
         → (next : Together connection old came (stays heard) new_pass new) × (next.closing ≡ [])
-    worked_on pass seen heard new_pass new t works =
+    worked_on now pass seen heard new_pass new t works =
         let kept = t.kept refl in
         let w = works.writes in
         let h = works.hears in
@@ -89,7 +115,9 @@ module _ {A : Type 0} where
         none_front h.whats o.unoffered (subst HasNoExpiry o.in_order (none_both held o.read none (none_of_read o.packets o.read o.read_as))) in
         let told : but_expiries gained ≡ h.whats =
         filter-append is_no_expiry h.whats h.expired ∙ ap (λ xs. xs ++ but_expiries h.expired) (all_without h.whats offered)
-        ∙ ap (λ xs. h.whats ++ xs) (none_left h.expired h.is_expiry) ∙ append-nil h.whats in
+        ∙ ap (λ xs. h.whats ++ xs) (none_left (stays heard) now (answered (has_any h.whats) works.since) h.expired new.ringing h.lapses) ∙ append-nil h.whats in
+        let few = expire_few now (stays heard) (has_any h.whats) works.since t.whats h.whats h.expired seen.ringing new.ringing t.items w.items
+        (no_expiries h.whats offered) (t.may_expire refl) works.since_is h.lapses in
         let all_told : but_expiries (t.whats ++ gained) ≡ but_expiries t.whats ++ h.whats =
         filter-append is_no_expiry t.whats gained ∙ ap (λ xs. but_expiries t.whats ++ xs) told in (
           record {
@@ -131,6 +159,8 @@ module _ {A : Type 0} where
                 ∙ sym (append_assoc (but_expiries t.whats) h.whats o.unoffered) ∙ ap (λ xs. xs ++ o.unoffered) (sym all_told);
             closing = [];
             is_closing = inl refl;
+            expire_once = few.0;
+            may_expire = few.1;
             entries = t.entries ++ h.gains.entries;
             mine_is =
                 h.gains.mine_is ∙ ap (λ xs. xs ++ h.gains.entries) (took_mine pass w.items works.between w.took ∙ t.mine_is)
@@ -179,6 +209,8 @@ module _ {A : Type 0} where
         in_order = t.in_order;
         closing = closing;
         is_closing = is_closing;
+        expire_once = t.expire_once;
+        may_expire = λ is. absurd (let both : false ≡ true = is in cc);
         entries = entries;
         mine_is = mine_is;
         events = events;
@@ -241,24 +273,24 @@ module _ {A : Type 0} where
     next_by_heard heards.Journal pass seen after new_pass left t opened follows =
         subst (λ a. Next a new_pass (record seen { held = left })) (sym follows.0) (nothing_offered false pass seen new_pass left t opened follows.1).0
 
-    next_by_work : (pass : Pass A) (seen : Seen A) (after : After) (new_pass : Pass A) (new : Seen A)
-        → Together connection old came true pass seen → Worked connection pass seen after new_pass new → Next after new_pass new
-    next_by_work pass seen after new_pass new t worked =
-        let next = worked_on pass seen worked.heard worked.worked_pass worked.worked t worked.works in
+    next_by_work : (now : ℕ) (pass : Pass A) (seen : Seen A) (after : After) (new_pass : Pass A) (new : Seen A)
+        → Together connection old came true pass seen → Worked now connection pass seen after new_pass new → Next after new_pass new
+    next_by_work now pass seen after new_pass new t worked =
+        let next = worked_on now pass seen worked.heard worked.worked_pass worked.worked t worked.works in
         subst (Next after new_pass) (sym worked.rest)
         (next_by_heard worked.heard worked.worked_pass worked.worked after new_pass new.held next.0 next.1 worked.follows)
 
-    next_linked : (owed : Bool) (pass : Pass A) (seen : Seen A) (after : After) (new_pass : Pass A) (new : Seen A)
-        → Together connection old came true pass seen → IsTurnBy owed connection pass seen after new_pass new → Next after new_pass new
-    next_linked true pass seen after new_pass new t turn =
+    next_linked : (owed : Bool) (now : ℕ) (pass : Pass A) (seen : Seen A) (after : After) (new_pass : Pass A) (new : Seen A)
+        → Together connection old came true pass seen → IsTurnBy owed now connection pass seen after new_pass new → Next after new_pass new
+    next_linked true now pass seen after new_pass new t turn =
         subst (Next after new_pass) (sym turn.1) (next_by_down true pass seen after new_pass new.held t (t.kept refl).5 turn.0)
-    next_linked false pass seen after new_pass new t turn = next_by_work pass seen after new_pass new t turn
+    next_linked false now pass seen after new_pass new t turn = next_by_work now pass seen after new_pass new t turn
 
-    next_owed : (pass : Pass A) (seen : Seen A) (after : After) (new_pass : Pass A) (new : Seen A)
-        → Next DownOwed pass seen → IsTurnBy (is_owed seen.held) connection pass seen after new_pass new → Next after new_pass new
-    next_owed pass seen after new_pass new (t, opened, held) turn =
-        let owed : IsTurnBy true connection pass seen after new_pass new =
-        subst (λ o. IsTurnBy o connection pass seen after new_pass new) (ap is_owed held) turn in
+    next_owed : (now : ℕ) (pass : Pass A) (seen : Seen A) (after : After) (new_pass : Pass A) (new : Seen A)
+        → Next DownOwed pass seen → IsTurnBy (is_owed seen.held) now connection pass seen after new_pass new → Next after new_pass new
+    next_owed now pass seen after new_pass new (t, opened, held) turn =
+        let owed : IsTurnBy true now connection pass seen after new_pass new =
+        subst (λ o. IsTurnBy o now connection pass seen after new_pass new) (ap is_owed held) turn in
         subst (Next after new_pass) (sym owed.1) (next_by_down false pass seen after new_pass new.held t opened owed.0)
 
     together_of : (after : After) (pass : Pass A) (seen : Seen A) → Next after pass seen → Together connection old came (is_linked after) pass seen
@@ -272,9 +304,9 @@ module _ {A : Type 0} where
         → IsLeftSo connection old came (last_of (record { after = after; pass = pass; seen = seen }) turns)
     turns_from after pass seen [] next may are = together_of after pass seen next
     turns_from Linked pass seen (left ∷ turns) next may are =
-        turns_from left.after left.pass left.seen turns (next_linked (is_owed seen.held) pass seen left.after left.pass left.seen next are.0) are.1 are.2
+        turns_from left.after left.pass left.seen turns (next_linked (is_owed seen.held) are.0.0 pass seen left.after left.pass left.seen next are.0.1) are.1 are.2
     turns_from DownOwed pass seen (left ∷ turns) next may are =
-        turns_from left.after left.pass left.seen turns (next_owed pass seen left.after left.pass left.seen next are.0) are.1 are.2
+        turns_from left.after left.pass left.seen turns (next_owed are.0.0 pass seen left.after left.pass left.seen next are.0.1) are.1 are.2
     turns_from Dropped pass seen (left ∷ turns) next may are = absurd (let none : left ∷ turns ≡ [] = may in cc)
     turns_from Halted pass seen (left ∷ turns) next may are = absurd (let none : left ∷ turns ≡ [] = may in cc)
     turns_from Journal pass seen (left ∷ turns) next may are = absurd (let none : left ∷ turns ≡ [] = may in cc)

@@ -1,6 +1,7 @@
 pub mod Counts
 pub mod Ended
 pub mod Flow
+pub mod Gates
 pub mod Heard
 pub mod Offering
 pub mod Offers

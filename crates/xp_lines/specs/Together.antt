@@ -1,10 +1,14 @@
 -- What the turns of a line on one link come to together.
-use Rattle.std.specs.Prelude.{◌≡◌, ◌⊎◌, ℕ, Bool, true, false, List, [], ◌∷◌, ◌++◌, filter, map, None, option_to_list}
+use Rattle.std.specs.Prelude.{◌≡◌, ◌⊎◌, ℕ, ◌+◌, ◌≤◌, ◌==◌, Bool, true, false, cond, List, [], ◌∷◌, ◌++◌, filter, map, Option, None, Some, option_to_list}
 use Rattle.std.specs.Io.KnownBytes.{Appends}
 use Rattle.xp_core.specs.declared.entry.Entry.{Entry}
 use Rattle.xp_core.specs.declared.event.What.{What}
 use Rattle.xp_core.specs.declared.event.What.TheVariants.{Up, Down, Frame, WrongFrame, Expire, Stall}
+use Rattle.xp_packets.specs.declared.packet.Packet.{Packet}
+use Rattle.xp_packets.specs.declared.packet.Packet.TheVariants as packets
 use Rattle.xp_core.specs.declared.output.Outgoing.{Outgoing}
+use Rattle.xp_core.specs.declared.output.Put.{Put}
+use Rattle.xp_core.specs.declared.output.Put.TheVariants.{Send, Close}
 use Rattle.xp_lock.specs.Passes.{Pass, mine}
 use Rattle.xp_lines.specs.Heard.{AreReadAs}
 use Rattle.xp_lines.specs.Offers.{on_line}
@@ -27,6 +31,11 @@ is_linked DownOwed = false
 is_linked Halted = false
 is_linked Journal = false
 
+-- an incoming call that waits for the line's answer
+abbrev pub waits : Option ℕ → ℕ
+waits None = 0
+waits (Some since) = 1
+
 module _ {A : Type 0} where
   -- the link stays, or its Down has still to be offered: else the turn was the last
   abbrev pub MayFollow : After → List (Left A) → Type 0
@@ -40,19 +49,20 @@ module _ {A : Type 0} where
   abbrev pub AreTurns : ℕ → Pass A → Seen A → List (Left A) → Type 0
   AreTurns connection pass seen [] = Unit {0}
   AreTurns connection pass seen (left ∷ turns) =
-      IsTurn connection pass seen left.after left.pass left.seen × MayFollow left.after turns × AreTurns connection left.pass left.seen turns
+      ((now : ℕ) × IsTurn now connection pass seen left.after left.pass left.seen) × MayFollow left.after turns × AreTurns connection left.pass left.seen turns
 
   -- how the last of them left the line, which came so
   abbrev pub last_of : Left A → List (Left A) → Left A
   last_of came [] = came
   last_of came (left ∷ turns) = last_of left turns
 
-  -- a link that has just come: nothing was read, and nothing waits
+  -- a link that has just come: nothing was read, nothing waits, and no call rings
   pub record IsFresh (seen : Seen A) : Type 0 where
     pub held : seen.held ≡ None
     pub waiting : seen.frames.waiting ≡ []
     pub rest : seen.frames.rest ≡ []
     pub unwritten : seen.unwritten ≡ []
+    pub ringing : seen.ringing ≡ None
 
   -- anything but that an incoming call was not answered in time, which no octets tell
   abbrev pub is_no_expiry : What A → Bool
@@ -66,13 +76,31 @@ module _ {A : Type 0} where
   abbrev pub but_expiries : List (What A) → List (What A)
   but_expiries whats = filter is_no_expiry whats
 
+  -- how many of what happened are expiries
+  abbrev pub expiries : List (What A) → ℕ
+  expiries [] = 0
+  expiries (what ∷ whats) = cond (is_no_expiry what) 0 1 + expiries whats
+
+  -- how many incoming calls of this connection are among the outputs
+  abbrev pub calls_of : Packet A → ℕ
+  calls_of (packets.Call d block) = 1
+  calls_of packet = 0
+
+  abbrev pub calls_by : Put A → ℕ
+  calls_by (Send identifier packet) = calls_of packet
+  calls_by Close = 0
+
+  abbrev pub calls : ℕ → List (Outgoing A) → ℕ
+  calls connection [] = 0
+  calls connection (item ∷ items) = cond (item.connection == connection) (calls_by item.put) 0 + calls connection items
+
   -- the link's Down, once, or not yet
   abbrev pub IsClosing : List (What A) → Type 0
   IsClosing closing = (closing ≡ []) ⊎ (closing ≡ Down ∷ [])
 
   -- Since its link came the line took these items, and their octets were pushed; these octets were pulled, which are the
   -- frames of packets, and each packet in order is an event that the line's own entries have; expiries came between them,
-  -- and the Down last. While the link stays nothing of it is lost: what is not yet pushed, read or offered waits.
+  -- no more than incoming calls, and the Down last. While the link stays nothing of it is lost: what is not yet pushed, read or offered waits.
   pub record Together (connection : ℕ) (old : Pass A) (came : Seen A) (linked : Bool) (new : Pass A) (now : Seen A) : Type 0 where
     pub line : new.line ≡ old.line
     pub items : List (Outgoing A)
@@ -99,6 +127,9 @@ module _ {A : Type 0} where
     pub in_order : read ≡ but_expiries whats ++ unoffered
     pub closing : List (What A)
     pub is_closing : IsClosing closing
+    -- no more expiries than incoming calls, of which one may still wait
+    pub expire_once : expiries whats ≤ calls connection items
+    pub may_expire : linked ≡ true → expiries whats + waits now.ringing ≤ calls connection items
     pub entries : List (Entry A)
     pub mine_is : mine new ≡ mine old ++ entries
     pub events : map (λ entry. entry.event) entries ≡ map (on_line old.line) (whats ++ closing)

@@ -1,5 +1,5 @@
 -- What leaves over a link of what its line takes from its outbox.
-use Rattle.std.specs.Prelude.{◌≡◌, ℕ, ◌==◌, cond, List, [], ◌++◌, Option, flat_map}
+use Rattle.std.specs.Prelude.{◌≡◌, ◌⊎◌, ℕ, ◌==◌, cond, List, [], ◌++◌, Option, flat_map}
 use Rattle.std.specs.Io.KnownBytes.{Appends}
 use Rattle.xp_frames.specs.Frame.{frame}
 use Rattle.xp_packets.specs.Writing.{written}
@@ -42,3 +42,5 @@ module _ {A : Type 0} where
     pub pushed : List ℕ
     pub grows : Appends before after pushed
     pub whole : unwritten ++ wire connection items ≡ (pushed ++ left) ++ lost
+    -- nothing is taken before all that was unwritten is pushed
+    pub in_turn : (items ≡ []) ⊎ ((sent : List ℕ) × (pushed ≡ unwritten ++ sent))

@@ -73,8 +73,14 @@ pub trait Port: Drop {
 
 /// The clock of a line's thread.
 pub trait Clock: Drop {
+    ghost use Rattle.std.specs.Prelude.{ℕ, ⊤};
+
+    // What a time that is told says of the clock before it and after it, where anything is known.
+    ghost tells: { Self → ℕ → Self → Type 0 } = { λ _ _ _. ⊤ };
+
     /// The time in seconds, from any moment on.
-    fn now(&mut self) -> u64;
+    fn now(&mut self) -> u64
+        ensures { tells self.old result self.new };
 
     /// Lets time pass: the line has nothing to do until octets come for it or another line's thread wakes it.
     fn idle(&mut self);
@@ -85,6 +91,12 @@ pub trait Clock: Drop {
 
 /// Says when the packets of a line may go to the exchange.
 pub trait Gate: Drop {
+    ghost use Rattle.std.specs.Prelude.{Bool, ⊤};
+
+    // What an answer tells of the gate before it and after it, where anything is known.
+    ghost answers: { Self → Bool → Self → Type 0 } = { λ _ _ _. ⊤ };
+
     /// Asked before each packet is offered; where it says no, the packet waits and is asked for again.
-    fn may_go(&mut self, line: LineNo) -> bool;
+    fn may_go(&mut self, line: LineNo) -> bool
+        ensures { answers self.old result self.new };
 }

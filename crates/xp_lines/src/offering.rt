@@ -1,9 +1,11 @@
 //! What happened on a line, on its way to the exchange.
 
-ghost use Rattle.std.specs.Prelude.{◌≡◌, ℕ, List, [], ◌∷◌, None, Option, IfOk};
+ghost use Rattle.std.specs.Prelude.{◌≡◌, ℕ, List, [], ◌∷◌, None, Some, Option, IfOk};
 ghost use Rattle.xp_core.specs.declared.event.What.{What as Happening};
+ghost use Rattle.xp_lines.specs.Gates.{IsAllOffered, Refused};
 ghost use Rattle.xp_lines.specs.Offers.{Gains, Offers, goes_on};
 ghost use Rattle.xp_lines.specs.Offering.{IsRefusal, NextIs, Tells};
+ghost use Rattle.xp_lines.specs.Ringing.{has_any};
 
 use crate::link::{Clock, Gate};
 use crate::waiting::Waiting;
@@ -90,8 +92,9 @@ pub fn offer_waiting<N: Name, C: Clock, G: Gate, A: Allocator + Copy, R: Wait>(
     clock: &mut C,
     gate: &mut G,
 ) -> Offered
-    ensures offers { (whats : List (Happening A)) × Gains pass.old whats pass.new × Offers waiting.old frames.old.waiting whats (goes_on result.stop) waiting.new frames.new.waiting }
-    ensures all { result.stop ≡ None → (waiting.new ≡ None) × (frames.new.waiting ≡ []) }
+    ensures offers { (whats : List (Happening A)) × Gains pass.old whats pass.new × Offers waiting.old frames.old.waiting whats (goes_on result.stop) waiting.new frames.new.waiting × (result.moved ≡ has_any whats) }
+    ensures all { result.stop ≡ None → IsAllOffered waiting.new frames.new.waiting }
+    ensures held { result.stop ≡ Some Stop.Held → Refused G.answers gate.new }
     ensures rest { (frames.new.rest ≡ frames.old.rest) × (frames.new.failed ≡ frames.old.failed) }
 {
     let mut moved = false;
@@ -115,7 +118,8 @@ pub fn offer_waiting<N: Name, C: Clock, G: Gate, A: Allocator + Copy, R: Wait>(
 }
 
 fn done_with(stop: Option<Stop>, moved: bool, records: u64) -> Offered
-    ensures { result.stop ≡ stop }
+    ensures stop { result.stop ≡ stop }
+    ensures moved { result.moved ≡ moved }
 {
     Offered {
         stop,

@@ -1,10 +1,12 @@
 //! The octets of a line's link, on their way to the exchange.
 
-ghost use Rattle.std.specs.Prelude.{◌≡◌, ℕ, List};
+ghost use Rattle.std.specs.Prelude.{◌≡◌, ◌||◌, ℕ, List};
 ghost use Rattle.std.specs.Io.KnownBytes.{Appends};
 ghost use Rattle.xp_core.specs.declared.event.What.{What as Happening};
+ghost use Rattle.xp_lines.specs.Gates.{WaitsForGate};
 ghost use Rattle.xp_lines.specs.Offers.{Gains};
-ghost use Rattle.xp_lines.specs.Reads.{Pulls, Reads, heard_after, heard_at, pull_by};
+ghost use Rattle.xp_lines.specs.Ringing.{has_any};
+ghost use Rattle.xp_lines.specs.Reads.{Pulls, Reads, heard_after, heard_at, pull_by, stays};
 
 use crate::link::{Clock, Gate, Link, Pulled};
 use crate::offering::{Offered, Stop, offer_waiting};
@@ -28,6 +30,13 @@ pub enum Heard {
     Halted,
     /// The exchange's journal is full.
     Journal,
+}
+
+/// Whether the line goes on with its link.
+pub fn stays(heard: Heard) -> bool
+    ensures { result ≡ stays heard }
+{
+    matches!(heard, Heard::Open)
 }
 
 /// What the reading of a turn came to.
@@ -101,8 +110,9 @@ pub fn read_in<N: Name, L: Link, C: Clock, G: Gate, A: Allocator + Copy, R: Wait
     clock: &mut C,
     gate: &mut G,
 ) -> Taken
-    ensures reads { (pulled : List ℕ) × Appends (L.pulled link.old) (L.pulled link.new) pulled × (whats : List (Happening A)) × Gains pass.old whats pass.new × Reads waiting.old frames.old pulled whats result.heard waiting.new frames.new }
+    ensures reads { (pulled : List ℕ) × Appends (L.pulled link.old) (L.pulled link.new) pulled × (whats : List (Happening A)) × Gains pass.old whats pass.new × Reads waiting.old frames.old pulled whats result.heard waiting.new frames.new × (result.offered ≡ has_any whats) }
     ensures pushed { L.pushed link.new ≡ L.pushed link.old }
+    ensures left { result.heard ≡ Heard.Open → WaitsForGate G.answers waiting.new frames.new.waiting gate.new }
 {
     let first = offer_waiting(rt, alloc, exchange, pass, frames, waiting, clock, gate);
     if let Some(stop) = first.stop {
@@ -115,7 +125,8 @@ pub fn read_in<N: Name, L: Link, C: Clock, G: Gate, A: Allocator + Copy, R: Wait
 
 /// What is read where the offering stopped before a pull.
 fn stopped(offered: Offered, stop: Stop) -> Taken
-    ensures { result.heard ≡ heard_at stop }
+    ensures heard { result.heard ≡ heard_at stop }
+    ensures offered { result.offered ≡ offered.moved }
 {
     Taken {
         heard: heard_at(stop),
@@ -139,7 +150,8 @@ pub fn heard_at(stop: Stop) -> Heard
 
 /// What is read before a pull and behind it.
 fn both(first: Offered, pull: Pull, second: Offered) -> Taken
-    ensures { result.heard ≡ heard_after pull second.stop }
+    ensures heard { result.heard ≡ heard_after pull second.stop }
+    ensures offered { result.offered ≡ first.moved || second.moved }
 {
     let heard = match (second.stop, pull) {
         (Some(Stop::Halted), _) => Heard::Halted,

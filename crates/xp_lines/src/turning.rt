@@ -1,14 +1,18 @@
 //! One turn of a line on its link.
 
-ghost use Rattle.std.specs.Prelude.{◌≡◌, ℕ, List, Some};
+ghost use Rattle.std.specs.Prelude.{◌≡◌, ◌⊎◌, ℕ, List, Some, false};
 ghost use Rattle.xp_core.specs.declared.event.What.{What as Happening};
 ghost use Rattle.xp_core.specs.declared.event.What.TheVariants.{Down as WentDown};
-ghost use Rattle.xp_lines.specs.Turns.{Downs, Follows, Hears, IsTurn, Lapses, Works, is_owed};
+ghost use Rattle.xp_lines.specs.Gates.{WaitsForGate};
+ghost use Rattle.xp_lines.specs.Offers.{Gains};
+ghost use Rattle.xp_lines.specs.Reads.{stays};
+ghost use Rattle.xp_lines.specs.Ringing.{Lapses};
+ghost use Rattle.xp_lines.specs.Turns.{Downs, Follows, Hears, IsTurn, Works, is_owed};
 
 use crate::bell::Bell;
 use crate::link::{Clock, Gate, Link};
 use crate::offering::{Stop, offer};
-use crate::reading::{Heard, Taken, heard_at, read_in};
+use crate::reading::{Heard, Taken, heard_at, read_in, stays};
 use crate::session::Session;
 use crate::waiting::Waiting;
 use crate::writing::{Ended, write_out};
@@ -52,8 +56,9 @@ pub fn turn<N: Name, L: Link, C: Clock, G: Gate, A: Allocator + Copy, R: Wait>(
     clock: &mut C,
     gate: &mut G,
 ) -> Turned
-    ensures turn { IsTurn session.old.connection pass.old (record { held = session.old.waiting; frames = session.old.frames; unwritten = session.old.unwritten.items; pushed = L.pushed session.old.link; pulled = L.pulled session.old.link }) result.after pass.new (record { held = session.new.waiting; frames = session.new.frames; unwritten = session.new.unwritten.items; pushed = L.pushed session.new.link; pulled = L.pulled session.new.link }) }
+    ensures turn { (now : ℕ) × (is_owed session.old.waiting ≡ false → (told : C) × C.tells clock.old now told) × IsTurn now session.old.connection pass.old (record { held = session.old.waiting; frames = session.old.frames; unwritten = session.old.unwritten.items; pushed = L.pushed session.old.link; pulled = L.pulled session.old.link; ringing = session.old.ringing }) result.after pass.new (record { held = session.new.waiting; frames = session.new.frames; unwritten = session.new.unwritten.items; pushed = L.pushed session.new.link; pulled = L.pulled session.new.link; ringing = session.new.ringing }) }
     ensures connection { session.new.connection ≡ session.old.connection }
+    ensures left { result.after ≡ After.Linked → WaitsForGate G.answers session.new.waiting session.new.frames.waiting gate.new }
     ensures line { pass.new.line ≡ pass.old.line }
 {
     let Session {
@@ -170,7 +175,8 @@ fn work<N: Name, L: Link, C: Clock, G: Gate, A: Allocator + Copy, R: Wait>(
     clock: &mut C,
     gate: &mut G,
 ) -> Taken
-    ensures { Works connection pass.old (record { held = waiting.old; frames = frames.old; unwritten = unwritten.old.items; pushed = L.pushed link.old; pulled = L.pulled link.old }) result.heard pass.new (record { held = waiting.new; frames = frames.new; unwritten = unwritten.new.items; pushed = L.pushed link.new; pulled = L.pulled link.new }) }
+    ensures works { Works bell.old.now connection pass.old (record { held = waiting.old; frames = frames.old; unwritten = unwritten.old.items; pushed = L.pushed link.old; pulled = L.pulled link.old; ringing = bell.old.since }) result.heard pass.new (record { held = waiting.new; frames = frames.new; unwritten = unwritten.new.items; pushed = L.pushed link.new; pulled = L.pulled link.new; ringing = bell.new.since }) }
+    ensures left { result.heard ≡ Heard.Open → WaitsForGate G.answers waiting.new frames.new.waiting gate.new }
 {
     let halted = exchange.halted();
     let written = write_out(rt, exchange, pass, connection, link, unwritten, bell);
@@ -202,8 +208,9 @@ fn hear<N: Name, L: Link, C: Clock, G: Gate, A: Allocator + Copy, R: Wait>(
     clock: &mut C,
     gate: &mut G,
 ) -> Taken
-    ensures hears { Hears pass.old waiting.old frames.old (L.pulled link.old) result.heard pass.new waiting.new frames.new (L.pulled link.new) }
+    ensures hears { Hears bell.old.now pass.old waiting.old frames.old (L.pulled link.old) bell.old.since result.heard pass.new waiting.new frames.new (L.pulled link.new) bell.new.since }
     ensures pushed { L.pushed link.new ≡ L.pushed link.old }
+    ensures left { result.heard ≡ Heard.Open → WaitsForGate G.answers waiting.new frames.new.waiting gate.new }
 {
     let taken = read_in(
         rt, alloc, exchange, pass, link, frames, waiting, clock, gate,
@@ -243,9 +250,13 @@ fn expire_late<N: Name, C: Clock, A: Allocator + Copy, R: Wait>(
     bell: &mut Bell,
     taken: Taken,
 ) -> Taken
-    ensures { (expired : List (Happening A)) × Lapses pass.old taken.heard result.heard expired pass.new }
+    ensures lapses { (expired : List (Happening A)) × Gains pass.old expired pass.new × Lapses (stays result.heard) bell.old.now bell.old.since expired bell.new.since }
+    ensures ends { (result.heard ≡ taken.heard) ⊎ (stays result.heard ≡ false) }
 {
-    if taken.heard != Heard::Open || !bell.expires() {
+    if !stays(taken.heard) {
+        return taken;
+    }
+    if !bell.expires() {
         return taken;
     }
     match offer(rt, exchange, pass, clock, Waiting::expire()) {

@@ -1,10 +1,11 @@
 //! What the exchange puts out to a line, on its way into the line's link.
 
-ghost use Rattle.std.specs.Prelude.{◌≡◌, ℕ, List, [], ◌++◌, false, OnErr, OnOk};
+ghost use Rattle.std.specs.Prelude.{◌≡◌, ◌==◌, ℕ, List, [], ◌++◌, false, cond, OnErr, OnOk};
 ghost use Rattle.xp_lines.specs.Wire.{Fills, Writes, carried};
 ghost use Rattle.xp_frames.specs.Frame.{frame};
 ghost use Rattle.xp_packets.specs.Writing.{written};
 ghost use Rattle.xp_lines.specs.Ended.{is_lost};
+ghost use Rattle.xp_lines.specs.Ringing.{rings_by, rung};
 
 use crate::bell::Bell;
 use crate::flow::{Flow, push_rest};
@@ -49,7 +50,7 @@ pub fn write_out<N: Name, L: Link, A: Allocator + Copy, R: Wait>(
     unwritten: &mut Vec<u8, A>,
     bell: &mut Bell,
 ) -> Written
-    ensures writes { (lost : List ℕ) × Writes connection pass.old unwritten.old.items (L.pushed link.old) pass.new unwritten.new.items (L.pushed link.new) lost × (is_lost result.ended ≡ false → lost ≡ []) }
+    ensures writes { (lost : List ℕ) × (writes : Writes connection pass.old unwritten.old.items (L.pushed link.old) pass.new unwritten.new.items (L.pushed link.new) lost) × (is_lost result.ended ≡ false → (lost ≡ []) × (bell.new ≡ record bell.old { since = rung bell.old.now connection bell.old.since writes.items })) }
     ensures pulled { L.pulled link.new ≡ L.pulled link.old }
 {
     match push_rest(link, unwritten) {
@@ -91,7 +92,7 @@ fn take_out<N: Name, A: Allocator + Copy, R: Wait>(
     unwritten: &mut Vec<u8, A>,
     bell: &mut Bell,
 ) -> Written
-    ensures { (lost : List ℕ) × Fills connection pass.old unwritten.old.items pass.new unwritten.new.items lost × (is_lost result.ended ≡ false → lost ≡ []) }
+    ensures { (lost : List ℕ) × (fills : Fills connection pass.old unwritten.old.items pass.new unwritten.new.items lost) × (is_lost result.ended ≡ false → (lost ≡ []) × (bell.new ≡ record bell.old { since = rung bell.old.now connection bell.old.since fills.items })) }
 {
     for _output in 0..MOST_OUTPUTS {
         let Some(item) = exchange.next_out(rt, pass) else {
@@ -117,6 +118,7 @@ fn put_item<A: Allocator + Copy>(
     bell: &mut Bell,
 ) -> Result<bool, AllocError>
     ensures ok { OnOk result (unwritten.new.items ≡ unwritten.old.items ++ carried connection item.now) }
+    ensures rung { OnOk result (bell.new ≡ record bell.old { since = cond (item.now.connection == connection) (rings_by bell.old.now bell.old.since item.now.put) bell.old.since }) }
     ensures err { OnErr result (unwritten.new.items ≡ unwritten.old.items) }
 {
     if item.connection != connection {

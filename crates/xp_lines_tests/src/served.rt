@@ -88,7 +88,7 @@ const CONFIRMS: Plan = Plan {
 
 pub static FIVE_AT_ONCE: [Plan; 5] = [CONFIRMS, CONFIRMS, CONFIRMS, CONFIRMS, CONFIRMS];
 
-/// a1 calls b1, which takes all and answers nothing.
+/// a1 calls b1 once all other lines are up; b1 takes all and answers nothing.
 pub static NO_ANSWER: [Plan; 5] = [
     Plan {
         gives: &[Piece {
@@ -98,7 +98,7 @@ pub static NO_ANSWER: [Plan; 5] = [
         count: 1,
         wants: CALLER_EXPIRED,
         leave: Leave {
-            pulled: &[1],
+            pulled: &[1, 2, 3, 4],
             ..FREELY
         },
         ..SILENT

@@ -103,6 +103,10 @@ fn sleep(poll: &mut Poll, events: &mut Events, bell: &Bell) -> bool {
 }
 
 impl Clock for TcpClock {
+    ghost use Rattle.std.specs.Prelude.{◌≡◌, ◌≤◌};
+
+    ghost tells = { λ before now after. (after ≡ now) × (before ≤ now) };
+
     /// The seconds since the system began. It never goes back: where the system fails to tell, it is what it was.
     fn now(&mut self) -> u64
         ensures told { self.new ≡ result }

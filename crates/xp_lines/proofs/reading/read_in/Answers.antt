@@ -1,9 +1,9 @@
-use Rattle.std.proofs.Common.{◌++◌, [], subst, sym}
+use Rattle.std.proofs.Common.{◌++◌, [], subst, sym, ◌∙◌}
 use Rattle.xp_lines.specs.Offers.{Offers, goes_on}
 use Rattle.xp_lines.specs.Reads.{Reads}
 use Rattle.xp_lines.proofs.Octets.{appends_nothing}
-use Rattle.xp_lines.proofs.Offered.{gains_both}
-use Rattle.xp_lines.proofs.Pulling.{reads_both, reads_stopped}
+use Rattle.xp_lines.proofs.Offered.{any_of_both, gains_both}
+use Rattle.xp_lines.proofs.Pulling.{left_by_gate, left_at_gate, reads_both, reads_stopped}
 use Rattle.xp_lines.proofs.reading.read_in.Goals as goal
 
 pub returns-in-Some-clause-reads : goal.returns-in-Some-clause-reads
@@ -11,8 +11,17 @@ returns-in-Some-clause-reads g c =
     let first = c.offer_waiting-first in
     let offers = first.ensures.offers in
     let at = subst (λ stop. Offers c.args.waiting.now c.args.frames.now.waiting offers.0 (goes_on stop) first.new.waiting first.new.frames.waiting) c.in-Some.is offers.2 in
-    let reads = reads_stopped _ _ _ _ _ _ at first.ensures.rest.0 in
-    ([], appends_nothing _, offers.0, offers.1, subst (λ heard. Reads c.args.waiting.now c.args.frames.now [] offers.0 heard first.new.waiting first.new.frames) (sym c.stopped.ensures) reads)
+    let reads = reads_stopped _ _ _ _ _ _ at first.ensures.rest.0 in (
+      [],
+      appends_nothing _,
+      offers.0,
+      offers.1,
+      subst (λ heard. Reads c.args.waiting.now c.args.frames.now [] offers.0 heard first.new.waiting first.new.frames) (sym c.stopped.ensures.heard) reads,
+      c.stopped.ensures.offered ∙ offers.3,
+    )
+
+pub returns-in-Some-clause-left : goal.returns-in-Some-clause-left
+returns-in-Some-clause-left g c = left_at_gate _ _ _ _ _ _ _ c.stopped.ensures.heard c.in-Some.is c.offer_waiting-first.ensures.held
 
 pub returns-clause-reads : goal.returns-clause-reads
 returns-clause-reads g c =
@@ -26,5 +35,9 @@ returns-clause-reads g c =
       pulls.1,
       first.ensures.offers.0 ++ second.ensures.offers.0,
       gains_both _ _ _ _ _ first.ensures.offers.1 second.ensures.offers.1,
-      subst (λ heard. Reads c.args.waiting.now c.args.frames.now pulls.0 (first.ensures.offers.0 ++ second.ensures.offers.0) heard second.new.waiting second.new.frames) (sym c.both.ensures) reads,
+      subst (λ heard. Reads c.args.waiting.now c.args.frames.now pulls.0 (first.ensures.offers.0 ++ second.ensures.offers.0) heard second.new.waiting second.new.frames) (sym c.both.ensures.heard) reads,
+      any_of_both _ _ _ _ _ c.both.ensures.offered first.ensures.offers.3 second.ensures.offers.3,
     )
+
+pub returns-clause-left : goal.returns-clause-left
+returns-clause-left g c = left_by_gate _ _ _ _ _ _ _ c.both.ensures.heard c.offer_waiting-second.ensures.all c.offer_waiting-second.ensures.held
