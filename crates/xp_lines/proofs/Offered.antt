@@ -2,19 +2,16 @@
 use Rattle.std.proofs.Common.{◌≡◌, ℕ, List, [], ◌∷◌, ◌++◌, refl, sym, ap, ◌∙◌, append_assoc, append-nil, map, subst, Option, None, Some, Bool, true, false, ◌||◌, Result, Ok, Err}
 use Rattle.std.specs.Prelude.{option_to_list}
 use Rattle.std.proofs.lemmas.List.{map-append}
-use Rattle.std.specs.declared.alloc.AllocError.{AllocError}
 use Rattle.xp_frames.specs.Held.{Held}
 use Rattle.xp_core.specs.declared.entry.Entry.{Entry}
 use Rattle.xp_core.specs.declared.event.What.{What}
 use Rattle.xp_lock.specs.Passes.{Pass, mine}
-use Rattle.xp_lines.specs.Gates.{Refused}
 use Rattle.xp_lines.specs.Heard.{IsReadAs, AreReadAs}
 use Rattle.xp_lock.specs.declared.done.Done.{Done}
 use Rattle.xp_lines.specs.Offering.{IsRefusal, NextIs, Tells}
-use Rattle.xp_lines.specs.Offers.{Gains, Offers, goes_on, on_line}
+use Rattle.xp_lines.specs.Offers.{Gains, Offers, on_line}
 use Rattle.xp_lines.specs.Ringing.{has_any}
 use Rattle.xp_lines.specs.declared.offering.Stop.{Stop}
-use Rattle.xp_lines.specs.declared.offering.Stop.TheVariants as stops
 
 module _ {A : Type 0} where
   pub gains_nothing : (pass : Pass A) → Gains pass [] pass
@@ -98,57 +95,11 @@ module _ {A : Type 0} where
     kept = λ is. (refl, kept is);
   }
 
-  -- nothing more waits
-  pub all_offered : (held : Option (What A)) (frames : Held) (whats : List (What A)) (waiting : Option (What A)) (before : Held) (left : Option (What A)) (now : Held)
-      → OfferedSoFar held frames whats (option_to_list waiting) before → NextIs waiting before (Ok None) left now
-      → OfferedSoFar held frames whats (option_to_list left) now × (left ≡ None) × (now.waiting ≡ [])
-  all_offered held frames whats (Some first) before left now so_far next = absurd next
-  all_offered held frames whats None before left now so_far next =
-      (subst (λ w. OfferedSoFar held frames whats (option_to_list w) now) (sym next.1) (subst (OfferedSoFar held frames whats []) (sym next.2) so_far), next.1, ap (λ h. h.waiting) next.2 ∙ next.0)
-
-  -- a packet found no memory to be read
-  pub unread_lost : (held : Option (What A)) (frames : Held) (whats : List (What A)) (waiting : Option (What A)) (before : Held) (error : AllocError) (left : Option (What A)) (now : Held) (on : Bool)
-      → OfferedSoFar held frames whats (option_to_list waiting) before → NextIs waiting before (Err error) left now → on ≡ false
-      → Offers held frames.waiting whats on left now.waiting × (now.rest ≡ frames.rest) × (now.failed ≡ frames.failed)
-  unread_lost held frames whats (Some first) before error left now on so_far next stops = absurd next
-  unread_lost held frames whats None before error left now on so_far (packet, waits, none, rest, failed) stops = (
-    record {
-      packets = so_far.packets;
-      unread = packet ∷ now.waiting;
-      frames_are = so_far.frames_are ∙ ap (λ xs. so_far.packets ++ xs) waits;
-      read = so_far.read;
-      read_as = so_far.read_as;
-      unoffered = [];
-      in_order = so_far.in_order;
-      kept = λ is. absurd (let both : false ≡ true = sym stops ∙ is in cc);
-    },
-    rest ∙ so_far.rest,
-    failed ∙ so_far.failed,
-  )
-
-  -- what is in hand was refused, and is dropped
-  pub hand_dropped : (held : Option (What A)) (frames : Held) (whats : List (What A)) (hand : List (What A)) (on : Bool) (left : Option (What A)) (now : Held)
-      → OfferedSoFar held frames whats hand now → on ≡ false → Offers held frames.waiting whats on left now.waiting
-  hand_dropped held frames whats hand on left now so_far stops = hand_kept held frames whats hand on left now so_far (λ is. absurd (let both : false ≡ true = sym stops ∙ is in cc))
-
   pub refused : (old new : Pass A) (what : What A) (result : Result Done Stop) (stop : Stop) → Tells old what result new → result ≡ Err stop → IsRefusal stop × (new ≡ old)
   refused old new what result stop tells is = subst (λ r. Tells old what r new) is tells
 
   pub accepted : (old new : Pass A) (what : What A) (result : Result Done Stop) (done : Done) → Tells old what result new → result ≡ Ok done → Gains old (what ∷ []) new
   accepted old new what result done tells is = subst (λ r. Tells old what r new) is tells
-
-pub refusal_stops : (stop : Stop) → IsRefusal stop → goes_on (Some stop) ≡ false
-refusal_stops stops.Held never = absurd never
-refusal_stops stops.Memory is = refl
-refusal_stops stops.Halted is = refl
-refusal_stops stops.Journal is = refl
-
--- only a gate holds
-pub refusal_held : (stop : Stop) (found : Option Stop) → IsRefusal stop → found ≡ Some stop → found ≡ Some stops.Held → ⊥
-refusal_held stops.Held found never is held = never
-refusal_held stops.Memory found refused is held = absurd (let both : Some stops.Memory ≡ Some stops.Held = sym is ∙ held in cc)
-refusal_held stops.Halted found refused is held = absurd (let both : Some stops.Halted ≡ Some stops.Held = sym is ∙ held in cc)
-refusal_held stops.Journal found refused is held = absurd (let both : Some stops.Journal ≡ Some stops.Held = sym is ∙ held in cc)
 
 module _ {T : Type 0} where
   pub any_more : (xs : List T) (x : T) → true ≡ has_any (xs ++ x ∷ [])
@@ -162,5 +113,22 @@ module _ {T : Type 0} where
   pub any_of_both : (either one other : Bool) (xs ys : List T) → either ≡ one || other → one ≡ has_any xs → other ≡ has_any ys → either ≡ has_any (xs ++ ys)
   any_of_both either one other xs ys is one_is other_is = is ∙ ap (λ o. o || other) one_is ∙ ap (λ o. has_any xs || o) other_is ∙ any_both xs ys
 
-pub refused_by : {G : Type 0} (answers : G → Bool → G → Type 0) (before : G) (answer : Bool) (gate : G) → answers before answer gate → answer ≡ false → Refused answers gate
-refused_by answers before answer gate told is = record { before = before; refuses = subst (λ a. answers before a gate) is told }
+module _ {A : Type 0} where
+  -- The first of a list of events were taken, and these are left.
+  pub record TakenSoFar (old : Pass A) (ready left : List (What A)) (moved : Bool) (new : Pass A) : Type 0 where
+    pub whats : List (What A)
+    pub in_order : ready ≡ whats ++ left
+    pub gains : Gains old whats new
+    pub moved_is : moved ≡ has_any whats
+
+  pub taken_none : (pass : Pass A) (ready : List (What A)) → TakenSoFar pass ready ready false pass
+  taken_none pass ready = record { whats = []; in_order = refl; gains = gains_nothing pass; moved_is = refl }
+
+  pub taken_one : (old before new : Pass A) (ready left rest : List (What A)) (what : What A) (moved : Bool)
+      → TakenSoFar old ready left moved before → left ≡ what ∷ rest → Gains before (what ∷ []) new → TakenSoFar old ready rest true new
+  taken_one old before new ready left rest what moved so_far is gains = record {
+    whats = so_far.whats ++ what ∷ [];
+    in_order = so_far.in_order ∙ ap (λ xs. so_far.whats ++ xs) is ∙ sym (append_assoc so_far.whats (what ∷ []) rest);
+    gains = gains_both _ _ _ _ _ so_far.gains gains;
+    moved_is = any_more so_far.whats what;
+  }

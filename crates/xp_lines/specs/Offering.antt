@@ -1,5 +1,5 @@
 -- What the private steps of offering tell one another.
-use Rattle.std.specs.Prelude.{◌≡◌, ℕ, List, [], ◌∷◌, Option, Some, None, Result, Ok, Err}
+use Rattle.std.specs.Prelude.{◌≡◌, ℕ, Bool, List, [], ◌∷◌, ◌++◌, Option, Some, None, Result, Ok, Err}
 use Rattle.std.specs.declared.alloc.AllocError.{AllocError}
 use Rattle.xp_frames.specs.Held.{Held}
 use Rattle.xp_core.specs.declared.event.What.{What}
@@ -7,6 +7,7 @@ use Rattle.xp_lock.specs.declared.done.Done.{Done}
 use Rattle.xp_lock.specs.Passes.{Pass}
 use Rattle.xp_lines.specs.Heard.{IsReadAs}
 use Rattle.xp_lines.specs.Offers.{Gains}
+use Rattle.xp_lines.specs.Ringing.{has_any}
 use Rattle.xp_lines.specs.declared.offering.Stop.{Stop}
 use Rattle.xp_lines.specs.declared.offering.Stop.TheVariants as stops
 
@@ -15,6 +16,10 @@ IsRefusal stops.Held = ⊥
 IsRefusal stops.Memory = Unit {0}
 IsRefusal stops.Halted = Unit {0}
 IsRefusal stops.Journal = Unit {0}
+
+abbrev pub IsRefusalIf : Option Stop → Type 0
+IsRefusalIf None = Unit {0}
+IsRefusalIf (Some stop) = IsRefusal stop
 
 module _ {A : Type 0} where
   -- what is offered is taken, or refused, which changes nothing; a gate is not asked
@@ -34,3 +39,13 @@ module _ {A : Type 0} where
   NextIs None frames (Err wanting) left frames_left =
       (packet : List ℕ) × (frames.waiting ≡ packet ∷ frames_left.waiting) × (left ≡ None)
       × (frames_left.rest ≡ frames.rest) × (frames_left.failed ≡ frames.failed)
+
+  -- These events were offered, in order, and taken up to the first that was refused.
+  pub record TakesFront (old : Pass A) (ready : List (What A)) (stop : Option Stop) (moved : Bool) (new : Pass A) : Type 0 where
+    pub whats : List (What A)
+    pub left : List (What A)
+    pub in_order : ready ≡ whats ++ left
+    pub gains : Gains old whats new
+    pub all : stop ≡ None → left ≡ []
+    pub refused : IsRefusalIf stop
+    pub moved_is : moved ≡ has_any whats

@@ -3,6 +3,7 @@
 
 mod bell;
 mod flow;
+mod gathering;
 mod laws;
 mod line;
 mod link;

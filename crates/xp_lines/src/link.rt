@@ -86,6 +86,7 @@ pub trait Clock: Drop {
     fn idle(&mut self);
 
     /// Something was put out to another line, whose thread may be asleep. A clock that lets no time pass has none to wake.
+    /// It is called while the exchange's lock is held, and does not wait.
     fn wake(&mut self, _line: LineNo) {}
 }
 
@@ -96,7 +97,8 @@ pub trait Gate: Drop {
     // What an answer tells of the gate before it and after it, where anything is known.
     ghost answers: { Self → Bool → Self → Type 0 } = { λ _ _ _. ⊤ };
 
-    /// Asked before each packet is offered; where it says no, the packet waits and is asked for again.
+    /// Asked before each packet is offered, while the exchange's lock is free, so it may wait for other lines; where it says
+    /// no, the packet waits and is asked for again. Packets that it lets go one after the other are offered together.
     fn may_go(&mut self, line: LineNo) -> bool
         ensures { answers self.old result self.new };
 }

@@ -1,19 +1,20 @@
 //! What happened on a line, on its way to the exchange.
 
-ghost use Rattle.std.specs.Prelude.{◌≡◌, ℕ, List, [], ◌∷◌, None, Some, Option, IfOk};
+ghost use Rattle.std.specs.Prelude.{◌≡◌, List, None, Some};
 ghost use Rattle.xp_core.specs.declared.event.What.{What as Happening};
 ghost use Rattle.xp_lines.specs.Gates.{IsAllOffered, Refused};
 ghost use Rattle.xp_lines.specs.Offers.{Gains, Offers, goes_on};
-ghost use Rattle.xp_lines.specs.Offering.{IsRefusal, NextIs, Tells};
+ghost use Rattle.xp_lines.specs.Offering.{IsRefusal, TakesFront, Tells};
 ghost use Rattle.xp_lines.specs.Ringing.{has_any};
 
+use crate::gathering::gather;
 use crate::link::{Clock, Gate};
 use crate::waiting::Waiting;
-use std::alloc::{AllocError, Allocator};
+use std::alloc::Allocator;
 use std::sync::Wait;
 use xp_core::Event;
 use xp_frames::Deframer;
-use xp_lock::{Done, Exchange, LinePass, Name, OfferFault};
+use xp_lock::{Done, Exchange, ExchangeGuard, LinePass, Name, OfferFault};
 use xp_subs::LineNo;
 
 /// Why the offering stopped before the end.
@@ -49,11 +50,25 @@ pub fn offer<N: Name, C: Clock, A: Allocator + Copy, R: Wait>(
 ) -> Result<Done, Stop>
     ensures { Tells pass.old waiting result pass.new }
 {
+    let mut guard = exchange.lock(rt);
+    offer_held(rt, &mut guard, pass, clock, waiting)
+}
+
+/// Offers one event of the pass's line while the exchange's lock is held.
+fn offer_held<N: Name, C: Clock, A: Allocator + Copy, R: Wait>(
+    rt: &R,
+    guard: &mut ExchangeGuard<'_, N, A>,
+    pass: &mut LinePass<N, A>,
+    clock: &mut C,
+    waiting: Waiting<A>,
+) -> Result<Done, Stop>
+    ensures { Tells pass.old waiting result pass.new }
+{
     let event = Event {
         line: pass.line(),
         what: waiting.into_what(),
     };
-    match exchange.offer(rt, pass, event) {
+    match guard.offer(rt, pass, event) {
         Ok(done) => {
             wake_others(clock, &done, pass.line());
             Ok(done)
@@ -97,24 +112,36 @@ pub fn offer_waiting<N: Name, C: Clock, G: Gate, A: Allocator + Copy, R: Wait>(
     ensures held { result.stop ≡ Some Stop.Held → Refused G.answers gate.new }
     ensures rest { (frames.new.rest ≡ frames.old.rest) × (frames.new.failed ≡ frames.old.failed) }
 {
+    let gathered = gather(alloc, pass.line(), frames, waiting, gate);
+    let offered = offer_all(rt, exchange, pass, clock, gathered.ready);
+    let stop = offered.stop.or(gathered.stop);
+    done_with(stop, offered.moved, offered.records)
+}
+
+/// Offers packets that may go, in order, under one lock, until one is refused. Where there are none no lock is taken.
+fn offer_all<N: Name, C: Clock, A: Allocator + Copy, R: Wait>(
+    rt: &R,
+    exchange: &Exchange<N, A>,
+    pass: &mut LinePass<N, A>,
+    clock: &mut C,
+    ready: Vec<Waiting<A>, A>,
+) -> Offered
+    ensures { TakesFront pass.old ready.items result.stop result.moved pass.new }
+{
     let mut moved = false;
     let mut records = 0;
-    'packets: loop {
-        let next = match next_waiting(alloc, frames, waiting) {
-            Ok(Some(next)) => next,
-            Ok(None) => return done_with(None, moved, records),
-            Err(_) => return done_with(Some(Stop::Memory), moved, records),
-        };
-        if !gate.may_go(pass.line()) {
-            *waiting = Some(next);
-            return done_with(Some(Stop::Held), moved, records);
-        }
-        match offer(rt, exchange, pass, clock, next) {
+    if ready.is_empty() {
+        return done_with(None, moved, records);
+    }
+    let mut guard = exchange.lock(rt);
+    for next in ready {
+        match offer_held(rt, &mut guard, pass, clock, next) {
             Ok(done) => records = done.records() as u64,
             Err(stop) => return done_with(Some(stop), moved, records),
         }
         moved = true;
     }
+    done_with(None, moved, records)
 }
 
 fn done_with(stop: Option<Stop>, moved: bool, records: u64) -> Offered
@@ -126,23 +153,4 @@ fn done_with(stop: Option<Stop>, moved: bool, records: u64) -> Offered
         moved,
         records,
     }
-}
-
-/// What is to be offered next, if anything.
-fn next_waiting<A: Allocator + Copy>(
-    alloc: A,
-    frames: &mut Deframer<A>,
-    waiting: &mut Option<Waiting<A>>,
-) -> Result<Option<Waiting<A>>, AllocError>
-    ensures { NextIs waiting.old frames.old result waiting.new frames.new }
-{
-    if let Some(held) = waiting.take() {
-        return Ok(Some(held));
-    }
-    let Some(packet) = frames.next() else {
-        return Ok(None);
-    };
-    let read = Waiting::read(alloc, &packet)?;
-    frames.reuse(packet);
-    Ok(Some(read))
 }

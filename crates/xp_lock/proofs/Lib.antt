@@ -11,6 +11,7 @@ pub mod Queues
 pub mod Ready
 pub mod Refused
 pub mod Returned
+pub mod Room
 pub mod Stalled
 pub mod Steps
 pub mod Taken

@@ -1,10 +1,11 @@
 -- How the stalls that an event forces are entered.
-use Rattle.std.specs.Prelude.{◌≡◌, ℕ, ◌+◌, ◌<◌, ◌≤◌, true, false, List, [], ◌∷◌, ◌++◌, drop, length, take}
+use Rattle.std.specs.Prelude.{◌≡◌, ℕ, ◌+◌, ◌<◌, ◌≤◌, true, false, List, [], ◌∷◌, ◌++◌, All, drop, length, take}
 use Rattle.xp_outbox.specs.Ends.{Putting}
 use Rattle.xp_subs.specs.Tables.{line_count}
 use Rattle.xp_core.specs.declared.entry.Entry.{Entry}
 use Rattle.xp_core.specs.declared.event.Event.{Event}
 use Rattle.xp_core.specs.declared.output.Outgoing.{Outgoing}
+use Rattle.xp_core.specs.declared.output.Output.{Output}
 use Rattle.xp_core.specs.Channel.{is_off}
 use Rattle.xp_core.specs.Exchange.{Exchange, world_of}
 use Rattle.xp_core.specs.Run.{Run}
@@ -52,6 +53,10 @@ module _ {A : Type 0} where
     pub in_service : is_off (state_at (world_of core) line) ≡ false
     pub given : 0 < length (put_out_to line (drop from core.history))
     pub short : (box_at boxes line).free < PLACES_KEPT
+
+  -- each line that these outputs are to is known to have its places
+  abbrev pub HaveRoom : List (Putting (Outgoing A)) → List (Output A) → Type 0
+  HaveRoom boxes outputs = All (λ output. PLACES_KEPT ≤ (box_at boxes output.line).free) outputs
 
   pub record IsLowestShort (core : Exchange A) (from : ℕ) (boxes : List (Putting (Outgoing A))) (line : ℕ) : Type 0 where
     pub there : line < length boxes

@@ -12,6 +12,7 @@ ghost use Rattle.xp_lock.specs.Passes.{Freshens, IsLegal};
 use crate::book::Book;
 use crate::done::Done;
 use crate::fault::{CloseFault, OfferFault};
+use crate::guard::ExchangeGuard;
 use crate::keeper::Keeper;
 use crate::missing::first_missing;
 use crate::name::Name;
@@ -21,7 +22,7 @@ use std::alloc::{Allocator, Global};
 use std::marker::Model;
 use std::sync::atomic::AtomicBool;
 use std::sync::atomic::Ordering::SeqCst;
-use std::sync::{Mutex, MutexGuard, Wait};
+use std::sync::{Mutex, Wait};
 use std::thread;
 use xp_core::{Event, Outgoing};
 use xp_subs::LineNo;
@@ -90,19 +91,19 @@ impl<N: Name, A: Allocator + Copy> Exchange<N, A> {
         ensures err { IfErr result (λ fault. event_in fault ≡ event) }
         ensures pass { OnErr result (pass.new ≡ pass.old) }
     {
-        self.locked(rt).take(rt, &self.word, pass, event)
+        self.lock(rt).offer(rt, pass, event)
     }
 
     /// Takes the lock, which is held for some microseconds. A thread that sleeps on it costs more than many tries, between
     /// which others run: whoever holds it, or the ends that packets come from.
-    fn locked<R: Wait>(&self, rt: &R) -> MutexGuard<'_, Keeper<N, A>> {
+    pub fn lock<R: Wait>(&self, rt: &R) -> ExchangeGuard<'_, N, A> {
         for _try in 0..MOST_TRIES {
-            if let Some(guard) = self.lock.try_lock() {
-                return guard;
+            if let Some(keeper) = self.lock.try_lock() {
+                return ExchangeGuard::new(keeper, &self.word);
             }
             thread::yield_now();
         }
-        self.lock.lock(rt)
+        ExchangeGuard::new(self.lock.lock(rt), &self.word)
     }
 
     /// Takes the oldest output of the pass's line. It takes no lock.

@@ -1,20 +1,20 @@
 //! The stalls that an event forces.
 
-ghost use Rattle.std.specs.Prelude.{ℕ, ◌≡◌, ◌+◌, ◌<◌, ◌≤◌, true, false, IfNone, IfSome, length, slice_set};
+ghost use Rattle.std.specs.Prelude.{ℕ, ◌≡◌, ◌+◌, ◌<◌, ◌≤◌, true, false, All, IfNone, IfSome, length, slice_set};
 ghost use Rattle.xp_subs.specs.Tables.{line_count};
 ghost use Rattle.xp_core.specs.Channel.{is_off as is_off_at};
 ghost use Rattle.xp_core.specs.Exchange.{Advances, world_of};
 ghost use Rattle.xp_core.specs.Stalls.{stall_of};
 ghost use Rattle.xp_core.specs.World.{state_at};
 ghost use Rattle.xp_lock.specs.Boxes.{IsAlike, box_at};
-ghost use Rattle.xp_lock.specs.Stalling.{HasEntered, HasStalled, IsLowestShort, IsSearched, IsShort};
+ghost use Rattle.xp_lock.specs.Stalling.{HasEntered, HasStalled, HaveRoom, IsLowestShort, IsSearched, IsShort};
 
 use crate::boxes::{Box, LEAST_PLACES, look_at, put_all};
 use crate::given::is_given;
 use std::alloc::Allocator;
 use std::sync::Wait;
 use xp_channel::Channel;
-use xp_core::{Core, Event, Stepped, What};
+use xp_core::{Core, Entry, Event, Output, Stepped, What};
 use xp_subs::LineNo;
 
 /// Stalls the lines that are due, the lowest first, until none is. The stalls are prepared: they take no memory.
@@ -34,8 +34,28 @@ pub fn stall_all<A: Allocator + Copy, R: Wait>(
     }
 }
 
-/// The lowest line that is due to be stalled by the entries from this one on.
+/// The lowest line that is due to be stalled by the entries from this one on. Nearly always each line that they put something
+/// out to is known to have its places, and then no line is gone through.
 fn due_line<A: Allocator, R: Wait>(
+    rt: &R,
+    core: &Core<A>,
+    boxes: &mut Vec<Box<A>, A>,
+    from: usize,
+) -> Option<LineNo>
+    requires count { length boxes.old.items ≡ line_count core.now.subs }
+    requires from { from ≤ length core.now.history }
+    ensures searched { IsSearched core.now boxes.old.items boxes.new.items }
+    ensures due { IfSome result (IsLowestShort core.now from boxes.new.items) }
+    ensures none { IfNone result ((line : ℕ) → line < length boxes.new.items → IsShort core.now from boxes.new.items line → ⊥) }
+{
+    if all_have_room(boxes.as_slice(), &core.history()[from..]) {
+        return None;
+    }
+    find_due(rt, core, boxes, from)
+}
+
+/// Goes through the lines for the lowest that is due.
+fn find_due<A: Allocator, R: Wait>(
     rt: &R,
     core: &Core<A>,
     boxes: &mut Vec<Box<A>, A>,
@@ -54,6 +74,33 @@ fn due_line<A: Allocator, R: Wait>(
         }
     }
     None
+}
+
+/// Whether each line that these entries put something out to is known to have its places.
+fn all_have_room<A: Allocator>(boxes: &[Box<A>], entries: &[Entry<A>]) -> bool
+    ensures { result ≡ true → All (λ entry. HaveRoom boxes.now entry.outputs) entries.now }
+{
+    for entry in entries {
+        if !have_room(boxes, entry.outputs.as_slice()) {
+            return false;
+        }
+    }
+    true
+}
+
+/// Whether each line that these outputs are to is known to have its places.
+fn have_room<A: Allocator>(boxes: &[Box<A>], outputs: &[Output<A>]) -> bool
+    ensures { result ≡ true → HaveRoom boxes.now outputs.now }
+{
+    for output in outputs {
+        let Some(end) = boxes.get(usize::from(output.line)) else {
+            return false;
+        };
+        if end.free() < LEAST_PLACES {
+            return false;
+        }
+    }
+    true
 }
 
 /// Whether a line is due to be stalled: it is in service, was given something, and has too few free places, which are

@@ -1,6 +1,6 @@
 use Rattle.std.proofs.Common.{ℕ, ◌<◌}
 use Rattle.xp_lock.specs.Stalling.{IsSearched, IsShort}
-use Rattle.xp_lock.proofs.stalling.due_line.Given as goal
+use Rattle.xp_lock.proofs.stalling.find_due.Given as goal
 
 abbrev pub invariant-loop-line : goal.invariant-loop-line
 invariant-loop-line g l = record {

@@ -1,0 +1,85 @@
+//! The packets of a line that may go to the exchange.
+
+ghost use Rattle.std.specs.Prelude.{◌≡◌, ◌++◌, ◌∷◌, [], None, OnErr, OnOk, Some};
+ghost use Rattle.xp_lines.specs.Gates.{IsAllOffered, Refused};
+ghost use Rattle.xp_lines.specs.Offers.{Offers, goes_on};
+ghost use Rattle.xp_lines.specs.Offering.{NextIs};
+
+use crate::link::Gate;
+use crate::offering::Stop;
+use crate::waiting::Waiting;
+use std::alloc::{AllocError, Allocator};
+use xp_frames::Deframer;
+use xp_subs::LineNo;
+
+/// Packets that may go to the exchange, in order.
+#[derive(Drop)]
+pub struct Gathered<A: Allocator> {
+    pub ready: Vec<Waiting<A>, A>,
+    /// Why there are no more of them, where some are left.
+    pub stop: Option<Stop>,
+}
+
+/// Gathers what waits, and then the packets that wait, in order, as far as the gate lets them go. So the gate is asked, and
+/// the packets are read, before the exchange's lock is taken.
+pub fn gather<G: Gate, A: Allocator + Copy>(
+    alloc: A,
+    line: LineNo,
+    frames: &mut Deframer<A>,
+    waiting: &mut Option<Waiting<A>>,
+    gate: &mut G,
+) -> Gathered<A>
+    ensures gathers { Offers waiting.old frames.old.waiting result.ready.items (goes_on result.stop) waiting.new frames.new.waiting }
+    ensures all { result.stop ≡ None → IsAllOffered waiting.new frames.new.waiting }
+    ensures held { result.stop ≡ Some Stop.Held → Refused G.answers gate.new }
+    ensures rest { (frames.new.rest ≡ frames.old.rest) × (frames.new.failed ≡ frames.old.failed) }
+{
+    let mut ready = Vec::new(alloc);
+    'packets: loop {
+        let next = match next_waiting(alloc, frames, waiting) {
+            Ok(Some(next)) => next,
+            Ok(None) => return gathered_until(ready, None),
+            Err(_) => return gathered_until(ready, Some(Stop::Memory)),
+        };
+        if !gate.may_go(line) {
+            *waiting = Some(next);
+            return gathered_until(ready, Some(Stop::Held));
+        }
+        if add(&mut ready, next).is_err() {
+            return gathered_until(ready, Some(Stop::Memory));
+        }
+    }
+}
+
+fn add<A: Allocator>(ready: &mut Vec<Waiting<A>, A>, next: Waiting<A>) -> Result<(), AllocError>
+    ensures ok { OnOk result (ready.new.items ≡ ready.old.items ++ next ∷ []) }
+    ensures err { OnErr result (ready.new.items ≡ ready.old.items) }
+{
+    ready.push(next)?;
+    Ok(())
+}
+
+fn gathered_until<A: Allocator>(ready: Vec<Waiting<A>, A>, stop: Option<Stop>) -> Gathered<A>
+    ensures { result ≡ record { ready = ready; stop = stop } }
+{
+    Gathered { ready, stop }
+}
+
+/// What is to be offered next, if anything.
+fn next_waiting<A: Allocator + Copy>(
+    alloc: A,
+    frames: &mut Deframer<A>,
+    waiting: &mut Option<Waiting<A>>,
+) -> Result<Option<Waiting<A>>, AllocError>
+    ensures { NextIs waiting.old frames.old result waiting.new frames.new }
+{
+    if let Some(held) = waiting.take() {
+        return Ok(Some(held));
+    }
+    let Some(packet) = frames.next() else {
+        return Ok(None);
+    };
+    let read = Waiting::read(alloc, &packet)?;
+    frames.reuse(packet);
+    Ok(Some(read))
+}
