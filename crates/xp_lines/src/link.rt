@@ -86,7 +86,7 @@ pub trait Clock: Drop {
     fn idle(&mut self);
 
     /// Something was put out to another line, whose thread may be asleep. A clock that lets no time pass has none to wake.
-    /// It is called while the exchange's lock is held, and does not wait.
+    /// It does not wait: where what was offered went to several lines, it is called while the exchange's lock is held.
     fn wake(&mut self, _line: LineNo) {}
 }
 

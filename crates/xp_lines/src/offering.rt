@@ -50,16 +50,19 @@ pub fn offer<N: Name, C: Clock, A: Allocator + Copy, R: Wait>(
 ) -> Result<Done, Stop>
     ensures { Tells pass.old waiting result pass.new }
 {
-    let mut guard = exchange.lock(rt);
-    offer_held(rt, &mut guard, pass, clock, waiting)
+    let taken = offer_held(rt, &mut exchange.lock(rt), pass, waiting);
+    if let Ok(done) = &taken {
+        let last = wake_others(clock, None, done, pass.line());
+        wake(clock, last);
+    }
+    taken
 }
 
 /// Offers one event of the pass's line while the exchange's lock is held.
-fn offer_held<N: Name, C: Clock, A: Allocator + Copy, R: Wait>(
+fn offer_held<N: Name, A: Allocator + Copy, R: Wait>(
     rt: &R,
     guard: &mut ExchangeGuard<'_, N, A>,
     pass: &mut LinePass<N, A>,
-    clock: &mut C,
     waiting: Waiting<A>,
 ) -> Result<Done, Stop>
     ensures { Tells pass.old waiting result pass.new }
@@ -68,20 +71,32 @@ fn offer_held<N: Name, C: Clock, A: Allocator + Copy, R: Wait>(
         line: pass.line(),
         what: waiting.into_what(),
     };
-    match guard.offer(rt, pass, event) {
-        Ok(done) => {
-            wake_others(clock, &done, pass.line());
-            Ok(done)
-        }
-        Err(fault) => Err(stop_at(&fault)),
-    }
+    guard
+        .offer(rt, pass, event)
+        .map_err(|fault| stop_at(&fault))
 }
 
-fn wake_others<C: Clock>(clock: &mut C, done: &Done, line: LineNo) {
+/// Wakes lines that something was put out to, other than this one, all but the last: what follows is mostly put out to that
+/// one too, and it is woken once, behind all of it.
+fn wake_others<C: Clock>(
+    clock: &mut C,
+    last: Option<LineNo>,
+    done: &Done,
+    line: LineNo,
+) -> Option<LineNo> {
+    let mut last = last;
     for given in done.given() {
-        if *given != line {
-            clock.wake(*given);
+        if *given != line && last != Some(*given) {
+            wake(clock, last);
+            last = Some(*given);
         }
+    }
+    last
+}
+
+fn wake<C: Clock>(clock: &mut C, line: Option<LineNo>) {
+    if let Some(line) = line {
+        clock.wake(line);
     }
 }
 
@@ -118,7 +133,8 @@ pub fn offer_waiting<N: Name, C: Clock, G: Gate, A: Allocator + Copy, R: Wait>(
     done_with(stop, offered.moved, offered.records)
 }
 
-/// Offers packets that may go, in order, under one lock, until one is refused. Where there are none no lock is taken.
+/// Offers packets that may go, in order, under one lock, until one is refused. Where there are none no lock is taken. The
+/// last line that something was put out to is woken behind the lock, so that it finds all that it was given at once.
 fn offer_all<N: Name, C: Clock, A: Allocator + Copy, R: Wait>(
     rt: &R,
     exchange: &Exchange<N, A>,
@@ -128,15 +144,33 @@ fn offer_all<N: Name, C: Clock, A: Allocator + Copy, R: Wait>(
 ) -> Offered
     ensures { TakesFront pass.old ready.items result.stop result.moved pass.new }
 {
+    if ready.is_empty() {
+        return done_with(None, false, 0);
+    }
+    let mut last = None;
+    let offered = offer_each(rt, &mut exchange.lock(rt), pass, clock, ready, &mut last);
+    wake(clock, last);
+    offered
+}
+
+fn offer_each<N: Name, C: Clock, A: Allocator + Copy, R: Wait>(
+    rt: &R,
+    guard: &mut ExchangeGuard<'_, N, A>,
+    pass: &mut LinePass<N, A>,
+    clock: &mut C,
+    ready: Vec<Waiting<A>, A>,
+    last: &mut Option<LineNo>,
+) -> Offered
+    ensures { TakesFront pass.old ready.items result.stop result.moved pass.new }
+{
     let mut moved = false;
     let mut records = 0;
-    if ready.is_empty() {
-        return done_with(None, moved, records);
-    }
-    let mut guard = exchange.lock(rt);
     for next in ready {
-        match offer_held(rt, &mut guard, pass, clock, next) {
-            Ok(done) => records = done.records() as u64,
+        match offer_held(rt, guard, pass, next) {
+            Ok(done) => {
+                records = done.records() as u64;
+                *last = wake_others(clock, *last, &done, pass.line());
+            }
             Err(stop) => return done_with(Some(stop), moved, records),
         }
         moved = true;

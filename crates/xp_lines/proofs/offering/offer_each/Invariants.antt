@@ -1,7 +1,7 @@
 use Rattle.std.proofs.Common.{◌≡◌, length}
 use Rattle.std.specs.Vec.Iter.{into_iter_items, into_iter_len}
 use Rattle.xp_lines.proofs.Offered.{TakenSoFar}
-use Rattle.xp_lines.proofs.offering.offer_all.Given as goal
+use Rattle.xp_lines.proofs.offering.offer_each.Given as goal
 
 abbrev pub invariant-loop-next : goal.invariant-loop-next
 invariant-loop-next g l = record {

@@ -1,6 +1,6 @@
 use Rattle.std.proofs.Common.{ap, arith, length, rules, subst, sym}
 use Rattle.xp_lines.proofs.Offered.{TakenSoFar, accepted, taken_none, taken_one}
-use Rattle.xp_lines.proofs.offering.offer_all.Goals as goal
+use Rattle.xp_lines.proofs.offering.offer_each.Goals as goal
 
 pub loop-next-init : goal.loop-next-init
 loop-next-init g c = record {
