@@ -33,16 +33,19 @@ LOADS = {
 }
 IDLE = "idle"
 
+# So many times as many rounds as are wanted may be left out.
+MOST_OTHERS = 20
+
 # What is charged for a packet of 128 octets.
 SEGMENTS = 2
 
-TITLES = ("", "", "packets/s", "mean", "median", "99 %", "most", "processor")
+TITLES = ("", "", "packets/s", "mean", "median", "99 %", "most", "processor", "stolen %")
 
 
 def play(program, served, load, seconds):
     """What the load generator tells of one run, and the processor time of the program that was served, for a packet."""
     command = [program, served.base, load.pairs, load.window, seconds, min(THREADS, load.pairs), *([load.gap] if load.gap else [])]
-    before = served.processor()
+    before, stolen, begun = served.processor(), server.stolen(), time.monotonic()
     run = subprocess.run([str(part) for part in command], capture_output=True, text=True)
     if run.returncode != 0:
         sys.exit(f"the load ended with status {run.returncode}: {run.stderr.strip()}; {served.said()}")
@@ -50,6 +53,7 @@ def play(program, served, load, seconds):
     packets = sum(told["packets"])
     told["rate"] = packets / told["seconds"]
     told["processor"] = (served.processor() - before) / packets * 1e6
+    told["stolen"] = 100 * (server.stolen() - stolen) / (time.monotonic() - begun) / os.cpu_count()
     return told
 
 
@@ -73,17 +77,17 @@ def measure(programs, load, seconds, folder):
 
 def middle(runs):
     """The median of each figure over the rounds, but the most of the greatest times."""
-    figures = {name: statistics.median(run[name] for run in runs) for name in ("rate", "mean", "median", "p99", "processor")}
+    figures = {name: statistics.median(run[name] for run in runs) for name in ("rate", "mean", "median", "p99", "processor", "stolen")}
     return {**figures, "most": max(run["most"] for run in runs)}
 
 
 def row(*fields):
-    print("{:<14}{:<10}{:>12}{:>10}{:>10}{:>10}{:>10}{:>11}".format(*fields), flush=True)
+    print("{:<14}{:<10}{:>12}{:>10}{:>10}{:>10}{:>10}{:>11}{:>10}".format(*fields), flush=True)
 
 
 def tell(name, of, figures):
     columns = ("rate", "mean", "median", "p99", "most", "processor")
-    row(name, of, *(f"{figures[column]:,.0f}" for column in columns))
+    row(name, of, *(f"{figures[column]:,.0f}" for column in columns), f"{figures['stolen']:.1f}")
 
 
 def tell_goal(what, is_reached):
@@ -102,11 +106,27 @@ def tell_goals(name, relay, exchange):
         print(f"{'':<14}{share:.2f} of the relay's packets", flush=True)
 
 
-def compare(programs, name, seconds, rounds, folder):
-    runs = [measure(programs, LOADS[name], seconds, folder) for _ in range(rounds)]
+def quiet_rounds(programs, load, arguments, folder):
+    """So many rounds in which the host took no more than the share that is let pass, and how many others there were."""
+    kept, others = [], 0
+    while len(kept) < arguments.rounds:
+        runs = measure(programs, load, arguments.seconds, folder)
+        if max(run["stolen"] for run in runs) <= arguments.stolen:
+            kept.append(runs)
+        else:
+            others += 1
+            if others == MOST_OTHERS * arguments.rounds:
+                sys.exit(f"the host took more than {arguments.stolen:g} % of the processors in {others} rounds")
+    return kept, others
+
+
+def compare(programs, name, arguments, folder):
+    runs, others = quiet_rounds(programs, LOADS[name], arguments, folder)
     relay, exchange = (middle(of) for of in zip(*runs))
     tell(name, "relay", relay)
     tell("", "exchange", exchange)
+    if others > 0:
+        print(f"{'':<14}{others} more rounds left out, in which the host took more than {arguments.stolen:g} %")
     tell_goals(name, relay, exchange)
 
 
@@ -149,6 +169,7 @@ def main():
     parser.add_argument("--xp", default=str(server.PROGRAM), help="the built program (default: the one that ./xp built)")
     parser.add_argument("--seconds", type=float, default=5, help="how long each run sends (default: 5)")
     parser.add_argument("--rounds", type=int, default=3, help="runs of each measurement, of which the median is told (default: 3)")
+    parser.add_argument("--stolen", type=float, default=100, help="leave rounds out in which the host of a virtual machine took more than so many percent of its processors")
     parser.add_argument("--only", choices=[*LOADS, IDLE], action="append", help="this measurement only; may be given again")
     arguments = parser.parse_args()
 
@@ -161,7 +182,7 @@ def main():
             if name == IDLE:
                 tell_idle(programs, arguments.seconds, arguments.rounds, folder)
             else:
-                compare(programs, name, arguments.seconds, arguments.rounds, folder)
+                compare(programs, name, arguments, folder)
 
 
 if __name__ == "__main__":

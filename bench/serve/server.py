@@ -82,6 +82,13 @@ CLEAR_REQUEST = bytes.fromhex("1001130000")
 CLEAR_CONFIRMATION = bytes.fromhex("100117")
 
 
+def stolen():
+    """The seconds, over all processors, that a host which others share has kept from this machine since it began."""
+    with open("/proc/stat") as told:
+        fields = told.readline().split()
+    return int(fields[8]) / os.sysconf("SC_CLK_TCK")
+
+
 class Process:
     """A program that serves connections, started now and ended with the block at the latest."""
 
