@@ -1,0 +1,187 @@
+#!/usr/bin/env python3
+"""Proves and builds the program xp, and before it the libraries it stands on: side by side where none stands on another.
+
+A run of the kit's command rt keeps every other one out of its crate and of all libraries below, so two runs of
+`rt lib` would wait for each other. So this takes the module that rt itself is made of, keeps other runs out of
+all the crates once, and builds each library as `rt lib` does. `rt run` then does the program.
+
+What a run proved is kept in the crates' folders out/, so a run after one that was cut off goes on from there.
+"""
+
+import importlib.util
+import os
+import queue
+import signal
+import subprocess
+import sys
+import threading
+import time
+
+TOP = os.path.dirname(os.path.dirname(os.path.realpath(__file__)))
+PROGRAM = f"{TOP}/crates/xp"
+# What the program is run on once it is built.
+EXAMPLE = f"{TOP}/examples/three-stations.toml"
+
+MEMORY_OF_A_PROOF = 2 * 1024**3
+# Lines from which a crate is proved sooner by several jobs. A crate of 800 lines took longer by four jobs than by one.
+LARGE = 1000
+# Seconds after which a line says what is still running.
+SILENCE = 60
+LINES_SHOWN = 40
+
+
+def say(text):
+    print(f"xp: {text}", file=sys.stderr, flush=True)
+
+
+def load_kit():
+    """Returns the module of the kit that the command rt is made of."""
+    page = subprocess.run(["rt", "doc"], stdout=subprocess.PIPE, universal_newlines=True, check=True)
+    file = f"{os.path.dirname(page.stdout.strip())}/bin/rtlib.py"
+    # The kit's folder is left as it is.
+    sys.dont_write_bytecode = True
+    spec = importlib.util.spec_from_file_location("rtlib", file)
+    kit = importlib.util.module_from_spec(spec)
+    spec.loader.exec_module(kit)
+    return kit
+
+
+def most_at_once(kit):
+    """Returns how many proofs run at a time: one a processor, as many as the free memory holds."""
+    found = 1
+    while kit.fits(*[MEMORY_OF_A_PROOF] * (found + 1)):
+        found += 1
+    return found
+
+
+def lines_of(kit, crate):
+    return sum(kit.text_of(it).count("\n") for it in kit.files_of(crate.folder))
+
+
+def longest_chains(lines):
+    """Returns for each crate the lines of the longest chain of crates that starts at it, each standing on the one before.
+
+    It is given the lines of each crate, which come after those of the crates that it stands on."""
+    above = dict.fromkeys(lines, 0)
+    chains = {}
+    for crate in reversed(list(lines)):
+        chains[crate] = lines[crate] + above[crate]
+        for below in crate.deps:
+            above[below] = max(above[below], chains[crate])
+    return chains
+
+
+class Proof:
+    """The proof of all crates: which are done, which are running since when, and which are left."""
+
+    def __init__(self, kit):
+        self.kit = kit
+        self.program = kit.Crate(PROGRAM, TOP, {})
+        self.at_once = most_at_once(kit)
+        # Each crate comes after those that it stands on.
+        self.lines = {it: lines_of(kit, it) for it in [*self.program.below(), self.program]}
+        self.chains = longest_chains(self.lines)
+        self.left = sorted(self.lines, key=lambda it: -self.chains[it])
+        self.done = set()
+        self.running = {}
+        self.finished = queue.Queue()
+        self.began = time.time()
+
+    def log_of(self, crate):
+        return f"{crate.folder}/out/xp.log"
+
+    def run(self):
+        """Proves all crates, and returns the first that is not proved, or None."""
+        # This starts the process that ends every proof when this one ends, however it ends. It has to be there before any thread.
+        self.kit.guarded()
+        self.held = self.kit.lock(self.program.below())
+        for crate in self.lines:
+            self.kit.stop_on_links(crate.folder)
+        self.skip_what_is_built()
+        news = f"{len(self.done)} from before" if self.done else ""
+        while self.left or self.running:
+            self.start_what_can_run()
+            self.tell(news)
+            crate, status, seconds = self.next_finished()
+            if status:
+                return crate
+            self.done.add(crate)
+            news = f"{crate.name} took {seconds:.0f} s"
+        self.tell(news)
+        return None
+
+    def skip_what_is_built(self):
+        self.done = {it for it in self.program.below() if it.is_built()}
+        self.left = [it for it in self.left if it not in self.done]
+
+    def start_what_can_run(self):
+        for crate in list(self.left):
+            if len(self.running) < self.at_once and self.done.issuperset(crate.deps):
+                self.left.remove(crate)
+                self.running[crate] = time.time()
+                threading.Thread(target=self.build, args=[crate, self.jobs_for(crate)], daemon=True).start()
+
+    def jobs_for(self, crate):
+        """Returns in how many processes the crate is proved: the one with the longest chain gets every processor."""
+        leads = all(self.chains[crate] >= self.chains[it] for it in self.running)
+        return self.at_once if leads and self.lines[crate] >= LARGE else 1
+
+    def build(self, crate, jobs):
+        status = 1
+        try:
+            os.makedirs(f"{crate.folder}/out", exist_ok=True)
+            with open(self.log_of(crate), "w", encoding="utf-8", errors="replace") as crate.out:
+                if crate is self.program:
+                    status = self.build_program(crate.out)
+                else:
+                    status = crate.build_rlib(["--jobs", str(jobs)], anew=False)
+        finally:
+            self.finished.put((crate, status))
+
+    def build_program(self, log):
+        # rt itself keeps other runs out, and nothing else runs by now.
+        for it in self.held:
+            os.close(it)
+        words = [*self.kit.guarded(), "rt", "run", "--", "check", EXAMPLE]
+        return subprocess.run(words, cwd=PROGRAM, stdin=subprocess.DEVNULL, stdout=log, stderr=log).returncode
+
+    def next_finished(self):
+        """Waits for a crate to finish, and returns it, its status and how long it took. Says now and then what is running."""
+        while True:
+            try:
+                crate, status = self.finished.get(timeout=SILENCE)
+                return crate, status, time.time() - self.running.pop(crate)
+            except queue.Empty:
+                self.tell("")
+
+    def tell(self, news):
+        minutes = (time.time() - self.began) / 60
+        parts = [f"{len(self.done)} of {len(self.lines)} proved after {minutes:.0f} min", news]
+        since = [f"{it.name} since {time.strftime('%H:%M', time.localtime(at))}" for it, at in self.running.items()]
+        parts.append(f"running: {', '.join(since)}" if since else "")
+        say("; ".join(filter(None, parts)))
+
+
+def show_end(log):
+    with open(log, encoding="utf-8", errors="replace") as it:
+        sys.stderr.writelines(it.readlines()[-LINES_SHOWN:])
+
+
+def main():
+    try:
+        proof = Proof(load_kit())
+        failed = proof.run()
+    except KeyboardInterrupt:
+        say("stopped; the next run goes on from here")
+        # The shell that waits for this then ends too.
+        signal.signal(signal.SIGINT, signal.SIG_DFL)
+        os.kill(os.getpid(), signal.SIGINT)
+    if failed:
+        show_end(proof.log_of(failed))
+        say(f"the program was not built, since {failed.name} was not; {proof.log_of(failed)} has the whole")
+        return 1
+    return 0
+
+
+if __name__ == "__main__":
+    sys.exit(main())
