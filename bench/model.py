@@ -2,8 +2,8 @@
 """What a script comes to, by a plain model of the exchange (docs/PROTOCOL.md), written beside the program and not from it.
 
 It is whole for a call's data transfer and its charging: windows, flow control, interrupts, resets, segments. Of the rest it knows what calls need:
-lines that come and go, calls between stations without groups and redirection, packet and window sizes, clearing,
-procedure errors. A script that asks for more is beyond it, and it says so.
+lines that come and go, calls between stations of one line without groups and redirection, refusals, fast select, packet and
+window sizes, clearing, procedure errors. A script that asks for more is beyond it, and it says so.
 
     model.py FOLDER ..          compares what rows expect with what the model says
     model.py --write FOLDER ..  writes that as what they expect
@@ -65,6 +65,7 @@ class Call:
     sizes: tuple  # from the called, from the calling end
     windows: tuple
     reverse: bool
+    fast: int  # bits 8 and 7 of the facility: 2 where fast select is unrestricted, 3 where it is restricted
     charging: set  # the ends that asked for charging information
     sent_by: dict = None  # a Direction for each end, once the call is answered
 
@@ -204,27 +205,58 @@ class Line:
     call: Call = None
 
 
-def items(facilities):
-    """The values of packet sizes, window sizes, reverse charging and the request of charging information."""
-    found = {}
-    while facilities:
-        code, length = facilities[0], 1 + {0: 1, 1: 2, 2: 3}.get(facilities[0] >> 6, 99)
-        value, facilities = facilities[1:length], facilities[length:]
-        limits = {0x42: range(4, 13), 0x43: range(1, 8), 0x01: range(2), 0x04: range(256)}.get(code, ())
-        if len(value) != length - 1 or any(octet not in limits for octet in value):
-            raise Beyond(f"facility {code:02x}{value.hex()}")
-        found[code] = tuple(value)
+class Refused(Exception):
+    """A call request or an answer is not taken, for this reason."""
+
+    def __init__(self, cause, diagnostic):
+        self.cause, self.diagnostic = cause, diagnostic
+
+
+OFFERED = {0x01, 0x02, 0x03, 0x04, 0x09, 0x42, 0x43, 0x47, 0x48}
+KNOWN_CODES = {0x01, 0x04, 0x42, 0x43}
+MARKS = {b"\x00", b"\x0f", b"\xff"}
+
+
+def cut(field):
+    """The items of a facility field, as codes and values."""
+    found = []
+    while field:
+        code = field[0]
+        length = 2 + (code >> 6) if code < 0xC0 else 2 + (field[1] if len(field) > 1 else 0)
+        if len(field) < length:
+            raise Refused(0x13, 69)
+        found.append((code, field[1 if code < 0xC0 else 2 : length]))
+        field = field[length:]
     return found
+
+
+def items(field):
+    """The values of fast select and reverse charging, packet sizes, window sizes and the request of charging information."""
+    listed = cut(field)
+    marks = [place for place, (code, _) in enumerate(listed) if code == 0]
+    found = dict(listed[: marks[0]] if marks else listed)
+    if found.keys() - OFFERED:
+        raise Refused(0x03, 65)
+    if any(value not in MARKS for code, value in listed if code == 0):
+        raise Refused(0x03, 66)
+    for code, lawful in ((0x42, range(4, 13)), (0x43, range(1, 8))):
+        if any(octet not in lawful for octet in found.get(code, b"")):
+            raise Refused(0x03, 66)
+    if marks or found.keys() - KNOWN_CODES:
+        raise Beyond(f"facilities {field.hex()}")
+    return {code: tuple(value) for code, value in found.items()}
 
 
 class Exchange:
     def __init__(self, subscriptions):
-        self.lines = {}
+        self.lines, self.beyond = {}, set()
         for station in subscriptions["station"]:
-            known = len(station["line"]) == 1 and not station.keys() - KNOWN_KEYS
+            known = len(station["line"]) == 1 and not station.keys() - KNOWN_KEYS and "address" not in station["line"][0]
             for line in station["line"]:
-                address = line.get("address", station["address"]) if known else None
+                address = station["address"] if known else None
                 self.lines[line["name"]] = Line(line["name"], address, station)
+                if not known:
+                    self.beyond |= {station["address"], line.get("address", station["address"])}
         self.limit = subscriptions.get("segment_limit", MOST_SEGMENTS)
         self.calls = 0
 
@@ -287,24 +319,49 @@ class Exchange:
             return False
 
     def request(self, line, identifier, packet):
+        if line.state != "p1" or line.address is None:
+            raise Beyond("this call request")
+        self.calls += 1
+        line.identifier = identifier
+        try:
+            self.ring(line, packet)
+        except Refused as refused:
+            cause, diagnostic = refused.cause, refused.diagnostic
+            self.indicate_clear(line, cause, diagnostic)
+            dialled = packet.block.called or "-"
+            self.told.append(f"record {self.calls} {line.name} - {dialled} caller 0 0 {cause:02x} {diagnostic}")
+
+    def ring(self, line, packet):
+        """The call goes to the line of the dialled address, or is refused."""
         block = packet.block
         asked = items(block.facilities)
-        found = next((other for other in self.lines.values() if other.address == block.called), None)
-        idle = line.state == "p1" and found is not None and found is not line and found.state == "p1"
-        if not idle or line.address is None or len(block.user) > 16:
-            raise Beyond("this call request")
-        reverse = asked.get(0x01) == (1,)
+        fast, reverse = asked.get(0x01, (0,))[0] >> 6, asked.get(0x01, (0,))[0] & 1
+        fast = fast if fast > 1 else 0
+        if len(block.user) > 16 and not fast:
+            raise Refused(0x13, 39)
+        found = self.line_at(block.called)
         if reverse and not found.station.get("reverse_charging"):
-            raise Beyond("reverse charging")
-        self.calls += 1
+            raise Refused(0x19, 0)
+        if fast and not found.station.get("fast_select"):
+            raise Refused(0x29, 0)
+        if found.state != "p1" or found is line:
+            raise Refused(0x09, 0) if found.state == "off" else Refused(0x01, 71)
         sizes = tuple(min(size, 10) for size in asked.get(0x42, USUAL_SIZES))
         windows = asked.get(0x43, USUAL_WINDOWS)
         charging = {line} if asked.get(0x04, (0,))[0] & 1 else set()
-        line.call = found.call = Call(self.calls, line, found, block.called, sizes, windows, reverse, charging)
-        line.state, line.identifier = "p2", identifier
-        found.state, found.identifier = "p3", 1
-        told = (b"\x01\x01" if reverse else b"") + self.told_sizes(line.call)
+        call = Call(self.calls, line, found, block.called, sizes, windows, bool(reverse), fast, charging)
+        line.call = found.call = call
+        line.state, found.state, found.identifier = "p2", "p3", 1
+        told = (bytes([1, fast << 6 | reverse]) if fast or reverse else b"") + self.told_sizes(call)
         self.out(found, packet._replace(block=Block(found.address, line.address, told, block.user)))
+
+    def line_at(self, address):
+        if address in self.beyond:
+            raise Beyond("this address")
+        found = next((line for line in self.lines.values() if line.address == address), None)
+        if found is None:
+            raise Refused(0x0D, 67)
+        return found
 
     @staticmethod
     def told_sizes(call):
@@ -312,8 +369,13 @@ class Exchange:
 
     def answer(self, line, packet):
         call, block = line.call, packet.block or Block("", "", b"", b"")
-        given = items(block.facilities)
-        if block.user:
+        if call.fast == 3:
+            return self.fail(line, 42)
+        try:
+            given = items(block.facilities)
+        except Refused as refused:
+            return self.fail(line, refused.diagnostic)
+        if block.user and not call.fast:
             return self.fail(line, 39)
         for code, mine, usual in ((0x42, call.sizes, USUAL_SIZES), (0x43, call.windows, USUAL_WINDOWS)):
             for value, told, plain in zip(given.get(code, mine), mine, usual):
@@ -325,7 +387,7 @@ class Exchange:
         agreed = zip((call.called, call.caller), call.sizes, call.windows)
         call.sent_by = {end: Direction(2**size, window) for end, size, window in agreed}
         call.caller.state = line.state = "p4"
-        self.out(call.caller, Packet("accepted", d=packet.d, block=Block("", "", self.told_sizes(call), b"")))
+        self.out(call.caller, Packet("accepted", d=packet.d, block=Block("", "", self.told_sizes(call), block.user)))
 
     def transfer(self, line, packet):
         call = line.call
@@ -362,8 +424,8 @@ class Exchange:
         digits = f"{call.sent_by[call.far(line)].segments:08}{call.sent_by[line].segments:08}"
         return b"\xc2\x08" + bytes.fromhex(digits)
 
-    def indicate_clear(self, line, cause, diagnostic, facilities=b""):
-        block = Block("", "", facilities, b"") if facilities else None
+    def indicate_clear(self, line, cause, diagnostic, facilities=b"", user=b""):
+        block = Block("", "", facilities, user) if facilities or user else None
         self.out(line, Packet("clear", cause=cause, diagnostic=diagnostic, block=block))
         line.state = "p7"
 
@@ -373,7 +435,10 @@ class Exchange:
         self.out(line, Packet("clear confirmation", block=Block("", "", facilities, b"") if facilities else None))
         line.state = "p1"
         if call:
-            self.end_for(call.far(line), cause, packet.diagnostic or 0)
+            block = packet.block if call.fast else None
+            if block and block.facilities:
+                raise Beyond("facilities of a clear request")
+            self.end_for(call.far(line), cause, packet.diagnostic or 0, block.user if block else b"")
 
     def fail(self, line, diagnostic, charged=True):
         """A procedure error, or with 49 an expiry."""
@@ -388,8 +453,8 @@ class Exchange:
         if call and was != "off":
             self.end_for(call.far(line), 9, 0)
 
-    def end_for(self, far, cause, diagnostic):
-        self.indicate_clear(far, cause, diagnostic, self.charge_of(far.call, far))
+    def end_for(self, far, cause, diagnostic, user=b""):
+        self.indicate_clear(far, cause, diagnostic, self.charge_of(far.call, far), user)
         self.end(far.call, cause, diagnostic)
 
     def end(self, call, cause, diagnostic):
