@@ -1,9 +1,9 @@
 -- What the arguments of a command ask for.
 use Rattle.std.proofs.Common.{◌≡◌, ◌∙◌, [], arith, refl, sym, ap, subst, codes, option_map, Option, Some, None, IfNone, IfSome, List, ℕ, slice_index_or}
 use Rattle.clap.specs.Words.{Row, Text, first_of}
-use Rattle.xp.specs.Commands.{AsksFor, HasLimits, IsErrand}
-use Rattle.xp.specs.declared.errand.Errand.{Errand}
-use Rattle.xp.specs.declared.errand.Errand.TheVariants.{Do, Serve}
+use Rattle.xp.specs.Commands.{AsksFor, HasLimits, IsSubcommand}
+use Rattle.xp.specs.declared.subcommand.Subcommand.{Subcommand}
+use Rattle.xp.specs.declared.subcommand.Subcommand.TheVariants.{Do, Serve}
 use Rattle.xp_serve.specs.Limits.{AreLimits}
 use Rattle.xp_serve.specs.declared.limits.Limits.{Limits}
 use Rattle.xp_tasks.specs.declared.task.Task.{Task}
@@ -56,7 +56,7 @@ no_task Check same = unlike_check (ap first_letter same)
 no_task Replay same = unlike_replay (ap first_letter same)
 
 -- a command that asks for the lines to be served, and does not say when this ends
-pub serves_not : (word : Text) (rows : List Row) → word ≡ codes "serve" → ((limits : Limits) → HasLimits rows limits → ⊥) → (errand : Errand) → IsErrand word rows errand → ⊥
+pub serves_not : (word : Text) (rows : List Row) → word ≡ codes "serve" → ((limits : Limits) → HasLimits rows limits → ⊥) → (subcommand : Subcommand) → IsSubcommand word rows subcommand → ⊥
 serves_not word rows serve none (Do task) is = no_task task (sym serve ∙ is)
 serves_not word rows serve none (Serve limits) is = none limits is.1
 
@@ -74,24 +74,24 @@ word_in None = []
 word_in (Some pair) = pair.0
 
 module _ (found : Option (Text × List Row)) (word : Text) (rows : List Row) (found_is : found ≡ Some (word, rows)) where
-  both : (errand : Errand) (name : List ℕ) (asks : AsksFor found errand name) → ◌≡◌ {A = Option (Text × List Row)} (Some (asks.word, asks.rows)) (Some (word, rows))
-  both errand name asks = sym asks.found_is ∙ found_is
+  both : (subcommand : Subcommand) (name : List ℕ) (asks : AsksFor found subcommand name) → ◌≡◌ {A = Option (Text × List Row)} (Some (asks.word, asks.rows)) (Some (word, rows))
+  both subcommand name asks = sym asks.found_is ∙ found_is
 
-  word_alike : (errand : Errand) (name : List ℕ) (asks : AsksFor found errand name) → asks.word ≡ word
-  word_alike errand name asks = ap word_in (both errand name asks)
+  word_alike : (subcommand : Subcommand) (name : List ℕ) (asks : AsksFor found subcommand name) → asks.word ≡ word
+  word_alike subcommand name asks = ap word_in (both subcommand name asks)
 
-  rows_alike : (errand : Errand) (name : List ℕ) (asks : AsksFor found errand name) → asks.rows ≡ rows
-  rows_alike errand name asks = ap rows_in (both errand name asks)
+  rows_alike : (subcommand : Subcommand) (name : List ℕ) (asks : AsksFor found subcommand name) → asks.rows ≡ rows
+  rows_alike subcommand name asks = ap rows_in (both subcommand name asks)
 
-  -- a command that is no errand
-  pub asks_nothing : ((errand : Errand) → IsErrand word rows errand → ⊥) → (errand : Errand) (name : List ℕ) → AsksFor found errand name → ⊥
-  asks_nothing none errand name asks =
-      none errand
-      (subst (λ rows. IsErrand word rows errand) (rows_alike errand name asks)
-      (subst (λ word. IsErrand word asks.rows errand) (word_alike errand name asks) asks.errand_is))
+  -- a command that is no subcommand
+  pub asks_nothing : ((subcommand : Subcommand) → IsSubcommand word rows subcommand → ⊥) → (subcommand : Subcommand) (name : List ℕ) → AsksFor found subcommand name → ⊥
+  asks_nothing none subcommand name asks =
+      none subcommand
+      (subst (λ rows. IsSubcommand word rows subcommand) (rows_alike subcommand name asks)
+      (subst (λ word. IsSubcommand word asks.rows subcommand) (word_alike subcommand name asks) asks.subcommand_is))
 
   -- a command without a file
-  pub asks_no_file : first_of (codes "FILE") rows ≡ None → (errand : Errand) (name : List ℕ) → AsksFor found errand name → ⊥
-  asks_no_file none errand name asks =
-      let file : None ≡ Some name = sym none ∙ ap (first_of (codes "FILE")) (sym (rows_alike errand name asks)) ∙ asks.named in
+  pub asks_no_file : first_of (codes "FILE") rows ≡ None → (subcommand : Subcommand) (name : List ℕ) → AsksFor found subcommand name → ⊥
+  asks_no_file none subcommand name asks =
+      let file : None ≡ Some name = sym none ∙ ap (first_of (codes "FILE")) (sym (rows_alike subcommand name asks)) ∙ asks.named in
       absurd (cc)

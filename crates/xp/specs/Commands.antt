@@ -1,8 +1,8 @@
 -- The command lines that the program takes, as `clap` reads them.
 use Rattle.std.specs.Prelude.{◌≡◌, ℕ, List, [], Option, Some, true, codes}
 use Rattle.clap.specs.Words.{App, Row, Rule, Text, fault_of, first_of, new_app, new_rule, subcommand_of, with_rule, with_subcommand}
-use Rattle.xp.specs.declared.errand.Errand.{Errand}
-use Rattle.xp.specs.declared.errand.Errand.TheVariants.{Do, Serve}
+use Rattle.xp.specs.declared.subcommand.Subcommand.{Subcommand}
+use Rattle.xp.specs.declared.subcommand.Subcommand.TheVariants.{Do, Serve}
 use Rattle.xp_serve.specs.Limits.{AreLimits}
 use Rattle.xp_serve.specs.declared.limits.Limits.{Limits}
 use Rattle.xp_tasks.specs.declared.task.Task.{Task}
@@ -49,23 +49,23 @@ pub record HasLimits (rows : List Row) (limits : Limits) : Type 0 where
   pub limits_are : AreLimits wanted (first_of (codes "turns") rows) limits
 
 -- a command of this word, with its arguments as they were found, asks for this
-abbrev pub IsErrand : Text → List Row → Errand → Type 0
-IsErrand word rows (Do task) = word ≡ word_of task
-IsErrand word rows (Serve limits) = (word ≡ codes "serve") × HasLimits rows limits
+abbrev pub IsSubcommand : Text → List Row → Subcommand → Type 0
+IsSubcommand word rows (Do task) = word ≡ word_of task
+IsSubcommand word rows (Serve limits) = (word ≡ codes "serve") × HasLimits rows limits
 
 -- A command, with its arguments as they were found, asks for this with this file.
-pub record AsksFor (found : Option (Text × List Row)) (errand : Errand) (name : List ℕ) : Type 0 where
+pub record AsksFor (found : Option (Text × List Row)) (subcommand : Subcommand) (name : List ℕ) : Type 0 where
   pub word : Text
   pub rows : List Row
   pub found_is : found ≡ Some (word, rows)
-  pub errand_is : IsErrand word rows errand
+  pub subcommand_is : IsSubcommand word rows subcommand
   pub named : first_of (codes "FILE") rows ≡ Some name
 
 -- The words, of which the first is the program's own, are without fault, and ask for this with this file.
-pub record Ask (words : List Text) (errand : Errand) (name : List ℕ) : Type 0 where
+pub record Ask (words : List Text) (subcommand : Subcommand) (name : List ℕ) : Type 0 where
   pub faultless : fault_of program words ≡ []
-  pub asked : AsksFor (subcommand_of program words) errand name
+  pub asked : AsksFor (subcommand_of program words) subcommand name
 
 -- words that ask for something with a file
 abbrev pub AreRight : List Text → Type 0
-AreRight words = (errand : Errand) × (name : List ℕ) × Ask words errand name
+AreRight words = (subcommand : Subcommand) × (name : List ℕ) × Ask words subcommand name

@@ -4,7 +4,6 @@ use Rattle.clap.specs.declared.error.Error.{Error}
 use Rattle.clap.specs.Words.{kind_of}
 use Rattle.clap.specs.declared.error.kind.ErrorKind.TheVariants.{OutOfMemory}
 use Rattle.xp_serve.specs.Failures.{status_of as status_of_serving}
-use Rattle.xp_tasks.specs.declared.failure.TaskFailure.TheVariants.{Memory}
 use Rattle.xp_tasks.specs.Failures.{status_of as status_of_task}
 use Rattle.xp.specs.declared.failure.Failure.{Failure}
 use Rattle.xp.specs.declared.failure.Failure.TheVariants.{Arguments, Serve, Task}
@@ -14,8 +13,3 @@ abbrev pub status_of : Failure → ℕ
 status_of (Arguments told) = 2
 status_of (Task failure) = status_of_task failure
 status_of (Serve failure) = status_of_serving failure
-
--- arguments that are refused, and what is told of them
-pub record IsOfArguments (told : Error) (failure : Failure) : Type 0 where
-  pub memory : kind_of told ≡ OutOfMemory → failure ≡ Task Memory
-  pub refused : kind_of told ≢ OutOfMemory → failure ≡ Arguments told

@@ -6,7 +6,7 @@ ghost use Rattle.clap.specs.declared.error.kind.ErrorKind.TheVariants.{OutOfMemo
 ghost use Rattle.clap.specs.declared.builder.command.Command.TheViews.{out-Command as fields_of};
 ghost use Rattle.xp.specs.Commands.{AreRight, Ask, AsksFor, command_of, file as file_rule, number as number_rule, program, serve, tasks};
 
-use crate::errand::{Errand, RECORDS, SERVE, TURNS};
+use crate::subcommand::{RECORDS, SERVE, Subcommand, TURNS};
 use clap::error::ErrorKind;
 use clap::{Arg, ArgMatches, Command, Error};
 use std::alloc::{AllocError, Global};
@@ -67,19 +67,19 @@ const TURNS_HELP: &str = "Ends each line after so many turns [default: 100000000
 
 const FILE: &str = "The subscription file (TOML): the stations and their lines";
 
-/// What the words ask for.
+/// The arguments of the program: a subcommand and a subscription file.
 #[derive(Clone, Copy, Debug, PartialEq, Eq)]
 pub struct Arguments<'a> {
-    pub errand: Errand,
+    pub subcommand: Subcommand,
     /// The name of the subscription file.
     pub file: &'a str,
 }
 
 impl<'a> Arguments<'a> {
-    /// Reads the words of a command line, of which the first is the program's own. For right words only memory can be
-    /// wanting.
+    /// Reads the words of a command line; the first is the program's own name. Correct words fail only if an allocation
+    /// fails.
     pub fn read(alloc: Global, words: &'a [String]) -> Result<Arguments<'a>, Error>
-        ensures asked { IfOk result (λ arguments. Ask (map string_bytes words.now) arguments.errand arguments.file.now) }
+        ensures asked { IfOk result (λ arguments. Ask (map string_bytes words.now) arguments.subcommand arguments.file.now) }
         ensures taken { IfErr result (λ error. AreRight (map string_bytes words.now) → kind_of error ≡ OutOfMemory) }
     {
         let matches = command(alloc)?.try_get_matches_from(words)?;
@@ -89,19 +89,19 @@ impl<'a> Arguments<'a> {
         }
     }
 
-    /// The command that was found among the words, with its file.
+    /// The subcommand in the words, with its file.
     fn named(matches: &ArgMatches<'a>) -> Option<Arguments<'a>>
-        ensures found { IfSome result (λ arguments. AsksFor (subcommand_rows_of matches.now) arguments.errand arguments.file.now) }
-        ensures none { IfNone result ((errand : Errand) (name : List ℕ) → AsksFor (subcommand_rows_of matches.now) errand name → ⊥) }
+        ensures found { IfSome result (λ arguments. AsksFor (subcommand_rows_of matches.now) arguments.subcommand arguments.file.now) }
+        ensures none { IfNone result ((subcommand : Subcommand) (name : List ℕ) → AsksFor (subcommand_rows_of matches.now) subcommand name → ⊥) }
     {
         let (word, matches) = matches.subcommand()?;
-        let errand = Errand::named(word, matches)?;
+        let subcommand = Subcommand::named(word, matches)?;
         let file = matches.get_str("FILE")?;
-        Some(Arguments { errand, file })
+        Some(Arguments { subcommand, file })
     }
 }
 
-/// What is told where the words are refused for this reason.
+/// The error for words that are refused for this reason.
 pub fn refused(alloc: Global, reason: &str) -> Result<Error, Error> {
     Ok(command(alloc)?.error(ErrorKind::InvalidValue, reason)?)
 }
@@ -114,7 +114,7 @@ fn command<'a>(alloc: Global) -> Result<Command<'a>, AllocError>
     with_tasks(alloc)?.subcommand(serve)?.bin_name("xp")
 }
 
-/// The program's command line with the commands that ask for its tasks.
+/// The program's command line with a subcommand for each task.
 fn with_tasks<'a>(alloc: Global) -> Result<Command<'a>, AllocError>
     ensures shape { IfOk result (λ command. app_of command ≡ tasks) }
     ensures local { IfOk result (λ command. (fields_of command).has_globals ≡ false) }
@@ -130,7 +130,7 @@ fn with_tasks<'a>(alloc: Global) -> Result<Command<'a>, AllocError>
         .subcommand(replay)
 }
 
-/// The command that asks for a task, with what its help says before the arguments and after them.
+/// The subcommand of a task, with the text of its help before the arguments and after them.
 fn task_command<'a>(
     alloc: Global,
     task: Task,
@@ -146,7 +146,7 @@ fn task_command<'a>(
         .arg(file(alloc))
 }
 
-/// The command that asks for the lines to be served.
+/// The subcommand that serves the lines.
 fn serve_command<'a>(alloc: Global) -> Result<Command<'a>, AllocError>
     ensures shape { IfOk result (λ command. app_of command ≡ serve) }
     ensures local { IfOk result (λ command. (fields_of command).has_globals ≡ false) }

@@ -1,7 +1,8 @@
-//! Why the program did not do what it was asked for.
+//! Why the program failed.
 
 ghost use Rattle.std.specs.Prelude.{◌≡◌};
-ghost use Rattle.xp.specs.Failures.{status_of, IsOfArguments};
+ghost use Rattle.xp.specs.Failures.{status_of};
+ghost use Rattle.xp.specs.steps.Failures.{IsOfArguments};
 ghost use Rattle.xp.specs.declared.failure.Failure.TheVariants.{Serve as OfServing, Task as OfTask};
 ghost use Rattle.xp_tasks.specs.declared.failure.TaskFailure.TheVariants.{Memory as OutOfMemory};
 
@@ -12,22 +13,22 @@ use thiserror::Error;
 use xp_serve::ServeFailure;
 use xp_tasks::TaskFailure;
 
-/// Why the program did not do what it was asked for.
+/// Why the program failed.
 #[derive(Debug, Drop, Error)]
 pub enum Failure {
-    /// The arguments ask for nothing that it can do, or for help.
+    /// The arguments are faulty, or ask for help.
     #[error("{0}")]
     Arguments(clap::Error),
-    /// What they ask for was not done.
+    /// The task failed.
     #[error("{0}")]
     Task(TaskFailure),
-    /// The lines were not served to the end.
+    /// Serving ended before its time.
     #[error("{0}")]
     Serve(ServeFailure),
 }
 
 impl Failure {
-    /// The exit status: 2 for what was asked, and else that of the task or of serving.
+    /// The exit status: 2 for arguments, else that of the task or of serving.
     pub fn status(&self) -> u8
         ensures { result ≡ status_of self.now }
     {
@@ -38,10 +39,10 @@ impl Failure {
         }
     }
 
-    /// Tells it on standard error.
+    /// Prints it on standard error.
     pub fn tell(&self, rt: &impl Eprint) -> io::Result<()> {
         match self {
-            // It ends its last line by itself.
+            // clap ends the last line itself.
             Failure::Arguments(told) => rt.eprint(told),
             Failure::Task(failure) => rt.eprintln(failure),
             Failure::Serve(failure) => rt.eprintln(failure),

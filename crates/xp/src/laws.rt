@@ -1,11 +1,11 @@
-//! A law of command lines: the function's contract is the law, and its body is empty.
+//! A law of command lines: the contract is the law, and the body is empty.
 
 ghost use Rattle.std.specs.Prelude.{[], ◌∷◌, codes};
 ghost use Rattle.xp.specs.Commands.{Ask};
-ghost use Rattle.xp.specs.declared.errand.Errand.TheVariants.{Do, Serve};
+ghost use Rattle.xp.specs.declared.subcommand.Subcommand.TheVariants.{Do, Serve};
 ghost use Rattle.xp_tasks.specs.declared.task.Task.TheVariants.{Check, Replay};
 
-/// There are words that ask for each errand.
+/// Each subcommand can be asked for.
 pub fn errands_can_be_asked_for()
     ensures check { Ask (codes "xp" ∷ codes "check" ∷ codes "a" ∷ []) (Do Check) (codes "a") }
     ensures replay { Ask (codes "xp" ∷ codes "replay" ∷ codes "a" ∷ []) (Do Replay) (codes "a") }

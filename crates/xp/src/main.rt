@@ -1,15 +1,14 @@
-//! The exchange as a program: it checks a subscription file, replays a script of what its lines hear, and serves lines over
-//! TCP.
+//! The exchange as a program: it checks a subscription file, replays a script of events, and serves lines over TCP.
 #![tactic(auto)]
 
 mod arguments;
-mod errand;
 mod failure;
 mod laws;
+mod subcommand;
 
 use crate::arguments::Arguments;
-use crate::errand::Errand;
 use crate::failure::Failure;
+use crate::subcommand::Subcommand;
 use std::io::{BufReader, BufWriter, ErrorKind};
 use std::net::Net;
 use std::process::ExitCode;
@@ -25,14 +24,14 @@ fn main(rt: HostRuntime) -> ExitCode {
     match run(&rt) {
         Ok(()) => ExitCode::SUCCESS,
         Err(failure) => {
-            // Where the standard error fails there is nobody left to tell.
+            // If standard error fails too, nobody is left to read it.
             let _ = failure.tell(&rt);
             ExitCode::from(failure.status())
         }
     }
 }
 
-/// Does what the arguments ask for, over the file that they name.
+/// Performs the subcommand on the file that the arguments name.
 fn run<R: AllocGlobal + Env + Files + Input + Net + Print + Sync + Threads + Wait>(
     rt: &R,
 ) -> Result<(), Failure> {
@@ -40,13 +39,13 @@ fn run<R: AllocGlobal + Env + Files + Input + Net + Print + Sync + Threads + Wai
     let words = words(rt)?;
     let arguments = Arguments::read(alloc, &words)?;
     let subs = subscriptions(alloc, fs::read_to_string(rt, arguments.file))?;
-    match arguments.errand {
-        Errand::Do(task) => do_task(rt, task, subs),
-        Errand::Serve(limits) => serve_lines(rt, limits, subs),
+    match arguments.subcommand {
+        Subcommand::Do(task) => do_task(rt, task, subs),
+        Subcommand::Serve(limits) => serve_lines(rt, limits, subs),
     }
 }
 
-/// Does a task over the standard streams.
+/// Performs a task over the standard streams.
 fn do_task<R: AllocGlobal + Input + Print>(rt: &R, task: Task, subs: Subs) -> Result<(), Failure> {
     let alloc = rt.alloc();
     let reader = BufReader::new(alloc, rt.reader()).map_err(|_| TaskFailure::Memory)?;

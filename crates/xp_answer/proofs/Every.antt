@@ -3,12 +3,12 @@ use Rattle.std.proofs.Common.{◌≡◌, ◌≢◌, ℕ, Bool, true, false, List
 use Rattle.std.proofs.lemmas.Bool.{false≢true}
 use Rattle.std.proofs.lemmas.Slice.Eq.{bytes_eq-Decides}
 use Rattle.std.specs.Prelude.{unwrap_or}
-use Rattle.xp_causes.specs.Told.{cause_told, diagnostic_told}
+use Rattle.xp_causes.specs.Indicated.{indicated_cause, indicated_diagnostic}
 use Rattle.xp_causes.specs.declared.diagnostic.TheConstants.{NOT_COMPATIBLE_WITH_FACILITY, INVALID_FACILITY_LENGTH, FACILITY_CODE_NOT_ALLOWED, FACILITY_PARAMETER_NOT_ALLOWED, PACKET_TOO_LONG}
 use Rattle.xp_decide.specs.Asks.{is_fast}
 use Rattle.xp_facilities.proofs.OneReading.{some_reading}
-use Rattle.xp_facilities.specs.Asked.{Means, IsFaulty}
-use Rattle.xp_facilities.specs.declared.asked.Asked.{Asked}
+use Rattle.xp_facilities.specs.Requested.{Means, IsFaulty}
+use Rattle.xp_facilities.specs.declared.requested.RequestedFacilities.{RequestedFacilities}
 use Rattle.xp_facilities.specs.declared.fast_select.FastSelect.{FastSelect}
 use Rattle.xp_facilities.specs.declared.fast_select.FastSelect.TheVariants.{No, Unrestricted, Restricted}
 use Rattle.xp_facilities.specs.declared.fault.FacilityFault.{FacilityFault}
@@ -24,8 +24,8 @@ use Rattle.xp_answer.proofs.Tellable.{connected_told, cleared_told}
 use Rattle.xp_answer.specs.Answered.{Names, IsDiagnosedBy, MayCarry, MayNotCarry, Accepts, Declines, Connects, Answered}
 use Rattle.xp_answer.specs.Answered as answered
 use Rattle.xp_answer.specs.Blocks.{facilities_in, user_in}
-use Rattle.xp_answer.specs.CarriedOn.{AreCounts, CarriedOn, Carries, TakesOver, block_with}
-use Rattle.xp_answer.specs.CarriedOn as carried
+use Rattle.xp_answer.specs.ForwardedClear.{AreCounts, ForwardedClear, Carries, TakesOver, block_with}
+use Rattle.xp_answer.specs.ForwardedClear as carried
 use Rattle.xp_answer.specs.Laws.{HasOneAnswer, HasOneIndication}
 use Rattle.xp_answer.specs.Terms.{AreTerms, are_offered, settled}
 use Rattle.xp_answer.specs.declared.answer.Answer.{Answer}
@@ -67,7 +67,7 @@ module _ {A : Type 0} (setup : Setup) (address dialled : List ℕ) (d : Bool) (b
   abbrev Outcome : Type 0
   Outcome = (answer : Answer A) × Answered setup address dialled d block answer
 
-  connected : (asked : Asked A) → AreTerms setup.indicated → Accepts setup block asked → Outcome
+  connected : (asked : RequestedFacilities A) → AreTerms setup.indicated → Accepts setup block asked → Outcome
   connected asked terms accepts =
       let named = named address dialled setup.reason in
       let told = connected_told setup named.modified asked (facilities_in block) terms accepts.means in
@@ -90,14 +90,14 @@ module _ {A : Type 0} (setup : Setup) (address dialled : List ℕ) (d : Bool) (b
         ),
       )
 
-  by_offer : (asked : Asked A) → AreTerms setup.indicated → setup.fast ≢ Restricted → Means (facilities_in block) asked → MayCarry setup.fast block
+  by_offer : (asked : RequestedFacilities A) → AreTerms setup.indicated → setup.fast ≢ Restricted → Means (facilities_in block) asked → MayCarry setup.fast block
       → (offered : Bool) → are_offered setup.indicated asked ≡ offered → Outcome
   by_offer asked terms unrestricted means carries true offered =
       connected asked terms (record { unrestricted = unrestricted; means = means; carries = carries; offered = offered })
   by_offer asked terms unrestricted means carries false not =
       (Refused FACILITY_PARAMETER_NOT_ALLOWED, answered.not_offered asked unrestricted means carries not refl)
 
-  by_user : (asked : Asked A) → AreTerms setup.indicated → setup.fast ≢ Restricted → Means (facilities_in block) asked
+  by_user : (asked : RequestedFacilities A) → AreTerms setup.indicated → setup.fast ≢ Restricted → Means (facilities_in block) asked
       → MayCarry setup.fast block ⊎ MayNotCarry setup.fast block → Outcome
   by_user asked terms unrestricted means (inl may) = by_offer asked terms unrestricted means may (are_offered setup.indicated asked) refl
   by_user asked terms unrestricted means (inr not) = (Refused PACKET_TOO_LONG, answered.user_data asked unrestricted means not refl)
@@ -109,7 +109,7 @@ module _ {A : Type 0} (setup : Setup) (address dialled : List ℕ) (d : Bool) (b
   by_fault Memory unrestricted faulty = absurd faulty
 
   by_reading : AreTerms setup.indicated → setup.fast ≢ Restricted
-      → ((asked : Asked A) × Means (facilities_in block) asked) ⊎ ((fault : FacilityFault) × IsFaulty (facilities_in block) fault) → Outcome
+      → ((asked : RequestedFacilities A) × Means (facilities_in block) asked) ⊎ ((fault : FacilityFault) × IsFaulty (facilities_in block) fault) → Outcome
   by_reading terms unrestricted (inl read) = by_user read.0 terms unrestricted read.1 (carry setup.fast block)
   by_reading terms unrestricted (inr faulty) = by_fault faulty.0 unrestricted faulty.1
 
@@ -127,21 +127,21 @@ module _ {A : Type 0} (setup : Setup) (address dialled : List ℕ) (d : Bool) (b
 
 taken_over : (A : Type 0) (field : List ℕ) → (dte : List ℕ) × TakesOver A field dte
 taken_over A field = by_reading (some_reading field) where
-  by_reading : ((asked : Asked A) × Means field asked) ⊎ ((fault : FacilityFault) × IsFaulty field fault) → (dte : List ℕ) × TakesOver A field dte
+  by_reading : ((asked : RequestedFacilities A) × Means field asked) ⊎ ((fault : FacilityFault) × IsFaulty field fault) → (dte : List ℕ) × TakesOver A field dte
   by_reading (inl read) = (read.0.dte, carried.read read.0 read.1 refl)
   by_reading (inr faulty) = ([], carried.faulty faulty.0 faulty.1 refl)
 
 module _ {A : Type 0} (fast : FastSelect) (cause : ℕ) (diagnostic : Option ℕ) (block : Option (Block A)) (segments : Option SegmentCounts) where
   indicated : (user dte : List ℕ) → AreCounts segments → Carries fast block user dte
-      → (packet : Packet A) × CarriedOn fast cause diagnostic block segments packet
+      → (packet : Packet A) × ForwardedClear fast cause diagnostic block segments packet
   indicated user dte counts carries =
       let told = cleared_told fast block segments user dte counts carries in (
-        Clear (cause_told cause) (Some (diagnostic_told diagnostic)) (block_with told.0 user),
+        Clear (indicated_cause cause) (Some (indicated_diagnostic diagnostic)) (block_with told.0 user),
         record { user = user; dte = dte; carries = carries; field = told.0; tells = told.1; whole = refl },
       )
 
   some_indication : AreCounts segments → (selected : Bool) → is_fast fast ≡ selected
-      → (packet : Packet A) × CarriedOn fast cause diagnostic block segments packet
+      → (packet : Packet A) × ForwardedClear fast cause diagnostic block segments packet
   some_indication counts false not = indicated [] [] counts (carried.nothing not refl refl)
   some_indication counts true selected =
       let taken = taken_over A (facilities_in block) in

@@ -1,17 +1,17 @@
 -- The field of charging information tells it, and is short.
 use Rattle.std.proofs.Common.{◌≡◌, ℕ, ◌≤◌, List, [], ◌∷◌, length, Option, None, Some, refl, arith}
 use Rattle.std.proofs.lemmas.Bool.{le-ltb}
-use Rattle.xp_facilities.specs.Told.{Tells, options, throughput, short, closed_index, modified, open_index, pair, long, counts, redirection, row, marked, eight_digits}
+use Rattle.xp_facilities.specs.Indicated.{Indicates, options, throughput, two_digit_index, closed_index, modified, open_index, pair, four_digit_index, counts, redirection, optional_item, marked, eight_digits}
 use Rattle.xp_facilities.specs.declared.segment_counts.SegmentCounts.{SegmentCounts}
 use Rattle.xp_packets.specs.declared.packet.Packet.TheVariants.{ClearConfirm}
-use Rattle.xp_answer.specs.CarriedOn.{AreCounts, block_with, told_cleared}
+use Rattle.xp_answer.specs.ForwardedClear.{AreCounts, block_with, told_cleared}
 use Rattle.xp_answer.specs.Fields.{CanBeSent}
 use Rattle.xp_answer.specs.Information.{InformationIsTold, cleared_with, confirmed_with, information_field}
 use Rattle.xp_answer.proofs.Sent.{none_holds, few_facilities, with_block_sent}
 use Rattle.xp_answer.proofs.Tellable.{cleared_in_range, counted, none_tellable}
 
-pub information_tells : (A : Type 0) (segments : Option SegmentCounts) → AreCounts segments → Tells (told_cleared {A = A} segments []) (information_field segments)
-unfolding options throughput short closed_index modified open_index pair long counts redirection row marked eight_digits
+pub information_tells : (A : Type 0) (segments : Option SegmentCounts) → AreCounts segments → Indicates (told_cleared {A = A} segments []) (information_field segments)
+unfolding options throughput two_digit_index closed_index modified open_index pair four_digit_index counts redirection optional_item marked eight_digits
 information_tells A None are = record {
   carried = [];
   dte = record { whole = record { each = tt; whole = refl }; unmarked = refl };

@@ -1,11 +1,11 @@
 -- An answer has one outcome, and a clear request one indication.
 use Rattle.std.proofs.Common.{◌≡◌, ℕ, Bool, true, List, [], Option, Some, sym, ◌∙◌, ap, subst, inl, inr}
 use Rattle.std.proofs.lemmas.Bool.{false≢true}
-use Rattle.xp_causes.specs.Told.{cause_told, diagnostic_told}
-use Rattle.xp_decide.specs.declared.verdict.Ring.{Ring}
+use Rattle.xp_causes.specs.Indicated.{indicated_cause, indicated_diagnostic}
+use Rattle.xp_decide.specs.declared.verdict.IncomingCall.{IncomingCall}
 use Rattle.xp_facilities.proofs.OneReading.{Means-unique, Means-faultless, IsFaulty-unique}
-use Rattle.xp_facilities.specs.Told.{Tells}
-use Rattle.xp_facilities.specs.declared.asked.Asked.{Asked}
+use Rattle.xp_facilities.specs.Indicated.{Indicates}
+use Rattle.xp_facilities.specs.declared.requested.RequestedFacilities.{RequestedFacilities}
 use Rattle.xp_facilities.specs.declared.fast_select.FastSelect.{FastSelect}
 use Rattle.xp_facilities.specs.declared.fault.FacilityFault.{FacilityFault}
 use Rattle.xp_facilities.specs.declared.fault.FacilityFault.TheVariants.{Length, Code, Param, Memory}
@@ -15,11 +15,11 @@ use Rattle.xp_packets.specs.declared.block.Block.{Block}
 use Rattle.xp_packets.specs.declared.packet.Packet.{Packet}
 use Rattle.xp_packets.specs.declared.packet.Packet.TheVariants.{Call, Accepted, Clear}
 use Rattle.xp_answer.proofs.Sent.{tells_same}
-use Rattle.xp_answer.specs.Answered.{Names, IsDiagnosedBy, MayCarry, MayNotCarry, Accepts, Declines, Connects, Answered, told_connected}
+use Rattle.xp_answer.specs.Answered.{Names, IsDiagnosedBy, MayCarry, MayNotCarry, Accepts, Declines, Connects, Answered, outputs_of_answer}
 use Rattle.xp_answer.specs.Answered as answered
 use Rattle.xp_answer.specs.Blocks.{facilities_in, user_in}
-use Rattle.xp_answer.specs.CarriedOn.{CarriedOn, Carries, TakesOver, told_cleared, block_with}
-use Rattle.xp_answer.specs.CarriedOn as carried
+use Rattle.xp_answer.specs.ForwardedClear.{ForwardedClear, Carries, TakesOver, told_cleared, block_with}
+use Rattle.xp_answer.specs.ForwardedClear as carried
 use Rattle.xp_answer.specs.Incoming.{IsIncomingCall}
 use Rattle.xp_answer.specs.Terms.{are_offered}
 use Rattle.xp_answer.specs.declared.answer.Answer.{Answer}
@@ -47,7 +47,7 @@ module _ {A : Type 0} where
   carry_or_not fast block (inl none) not = not.0 none
   carry_or_not fast block (inr selected) not = false≢true (sym not.1 ∙ selected)
 
-  accepted_or_declined : (setup : Setup) (block : Option (Block A)) (asked : Asked A) (diagnostic : ℕ)
+  accepted_or_declined : (setup : Setup) (block : Option (Block A)) (asked : RequestedFacilities A) (diagnostic : ℕ)
       → Accepts setup block asked → Declines setup block diagnostic → ⊥
   accepted_or_declined setup block asked diagnostic accepts (answered.restricted is _) = accepts.unrestricted is
   accepted_or_declined setup block asked diagnostic accepts (answered.faulty fault _ faulty _) =
@@ -84,12 +84,12 @@ module _ {A : Type 0} where
   same_connection : (one other : Connection A) → one.packet ≡ other.packet → one.terms ≡ other.terms → one.charging ≡ other.charging → one ≡ other
   same_connection one other p t c = λ i. record { packet = p i; terms = t i; charging = c i }
 
-  connects_same : (setup : Setup) (address dialled : List ℕ) (d : Bool) (block : Option (Block A)) (asked : Asked A) (one other : Connection A)
+  connects_same : (setup : Setup) (address dialled : List ℕ) (d : Bool) (block : Option (Block A)) (asked : RequestedFacilities A) (one other : Connection A)
       → Connects setup address dialled d block asked one → Connects setup address dialled d block asked other → one ≡ other
   connects_same setup address dialled d block asked one other first second =
       let names = names_same address dialled setup.reason first.called second.called first.modified second.modified first.names second.names in
-      let tells = subst (λ modified. Tells (told_connected setup modified asked) first.field) names.1 first.tells in
-      let field = tells_same (told_connected setup second.modified asked) first.field second.field tells second.tells in
+      let tells = subst (λ modified. Indicates (outputs_of_answer setup modified asked) first.field) names.1 first.tells in
+      let field = tells_same (outputs_of_answer setup second.modified asked) first.field second.field tells second.tells in
       let packet : List ℕ → List ℕ → Packet A = λ called field. Accepted d (Some (record { called = called; calling = []; facilities = field; user = user_in block })) in
       same_connection one other
       (first.packet ∙ ap (λ called. packet called first.field) names.0 ∙ ap (λ field. packet second.called field) field ∙ sym second.packet)
@@ -108,7 +108,7 @@ module _ {A : Type 0} where
       absurd (accepted_or_declined setup block asked one accepts declines)
   answers_same setup address dialled d block (Refused one) (Refused other) first second = ap Refused (declines_same setup block one other first second)
 
-  pub incoming_call_same : (ring : Ring A) (called calling : List ℕ) (d : Bool) (block : Block A) (one other : Packet A)
+  pub incoming_call_same : (ring : IncomingCall A) (called calling : List ℕ) (d : Bool) (block : Block A) (one other : Packet A)
       → IsIncomingCall ring called calling d block one → IsIncomingCall ring called calling d block other → one ≡ other
   incoming_call_same ring called calling d block one other first second =
       let field = tells_same ring.told first.field second.field first.tells second.tells in
@@ -134,10 +134,10 @@ module _ {A : Type 0} where
       (a ∙ sym c, taken_over_same A (facilities_in block) dte dte' b d)
 
   pub indications_same : (fast : FastSelect) (cause : ℕ) (diagnostic : Option ℕ) (block : Option (Block A)) (segments : Option SegmentCounts) (one other : Packet A)
-      → CarriedOn fast cause diagnostic block segments one → CarriedOn fast cause diagnostic block segments other → one ≡ other
+      → ForwardedClear fast cause diagnostic block segments one → ForwardedClear fast cause diagnostic block segments other → one ≡ other
   indications_same fast cause diagnostic block segments one other first second =
       let same = carries_same fast block first.user second.user first.dte second.dte first.carries second.carries in
-      let tells = subst (λ dte. Tells (told_cleared {A = A} segments dte) first.field) same.1 first.tells in
+      let tells = subst (λ dte. Indicates (told_cleared {A = A} segments dte) first.field) same.1 first.tells in
       let field = tells_same (told_cleared {A = A} segments second.dte) first.field second.field tells second.tells in
-      let packet : List ℕ → List ℕ → Packet A = λ field user. Clear (cause_told cause) (Some (diagnostic_told diagnostic)) (block_with field user) in
+      let packet : List ℕ → List ℕ → Packet A = λ field user. Clear (indicated_cause cause) (Some (indicated_diagnostic diagnostic)) (block_with field user) in
       first.whole ∙ ap (λ field. packet field first.user) field ∙ ap (λ user. packet second.field user) same.0 ∙ sym second.whole

@@ -2,12 +2,12 @@
 use Rattle.std.proofs.Common.{ℕ, Option, sym, subst}
 use Rattle.std.specs.Prelude.{unwrap_or}
 use Rattle.xp_decide.specs.Indicated.{TellsWithin, IndicatesSizes}
-use Rattle.xp_decide.specs.Rings.{default_packet_sizes, default_window_sizes}
-use Rattle.xp_facilities.specs.declared.pair.Pair.{Pair}
-use Rattle.xp_facilities.specs.declared.told.Told.{Told}
+use Rattle.xp_decide.specs.IncomingCalls.{default_packet_sizes, default_window_sizes}
+use Rattle.xp_facilities.specs.declared.direction_sizes.DirectionSizes.{DirectionSizes}
+use Rattle.xp_facilities.specs.declared.indicated.IndicatedFacilities.{IndicatedFacilities}
 use Rattle.xp_answer.specs.Terms.{AreBetween, AreTerms, indicated_by}
 
-between : (least most : ℕ) (told : Option Pair) (usual : Pair) → TellsWithin least most told → AreBetween least most (unwrap_or told usual)
+between : (least most : ℕ) (told : Option DirectionSizes) (usual : DirectionSizes) → TellsWithin least most told → AreBetween least most (unwrap_or told usual)
 between least most told usual within =
     subst (λ t. AreBetween least most (unwrap_or t usual)) (sym within.told_are) (record {
       called_least = within.called_least;
@@ -16,7 +16,7 @@ between least most told usual within =
       calling_most = within.calling_most;
     })
 
-pub indicated_terms : {A : Type 0} (told : Told A) → IndicatesSizes told → AreTerms (indicated_by told)
+pub indicated_terms : {A : Type 0} (told : IndicatedFacilities A) → IndicatesSizes told → AreTerms (indicated_by told)
 indicated_terms told indicates = record {
   packet = between 4 10 told.packet default_packet_sizes indicates.packet;
   window = between 1 7 told.window default_window_sizes indicates.window;

@@ -2,23 +2,23 @@
 use Rattle.std.proofs.Common.{◌≡◌, ℕ, ◌≤◌, Bool, false, ltb, List, [], ◌∷◌, length, Option, None, Some, refl, sym, ap, ◌∙◌, subst, arith, inl}
 use Rattle.std.proofs.lemmas.Bool.{le-ltb}
 use Rattle.xp_decide.specs.Written.{CanBeWritten}
-use Rattle.xp_decide.specs.declared.verdict.Ring.{Ring}
+use Rattle.xp_decide.specs.declared.verdict.IncomingCall.{IncomingCall}
 use Rattle.xp_facilities.proofs.Bounds.{told-length, told-exchange}
 use Rattle.xp_facilities.proofs.Telling.{tells-octets}
-use Rattle.xp_facilities.specs.Told.{Tells, table}
-use Rattle.xp_facilities.specs.declared.asked.Asked.{Asked}
+use Rattle.xp_facilities.specs.Indicated.{Indicates, table}
+use Rattle.xp_facilities.specs.declared.requested.RequestedFacilities.{RequestedFacilities}
 use Rattle.xp_facilities.specs.declared.fast_select.FastSelect.{FastSelect}
 use Rattle.xp_facilities.specs.declared.segment_counts.SegmentCounts.{SegmentCounts}
-use Rattle.xp_facilities.specs.declared.told.Told.{Told}
+use Rattle.xp_facilities.specs.declared.indicated.IndicatedFacilities.{IndicatedFacilities}
 use Rattle.xp_packets.specs.Examination.{first_of}
 use Rattle.xp_packets.specs.declared.block.Block.{Block}
-use Rattle.xp_packets.specs.declared.fault.Wrong.TheVariants.{Short, Format, Facilities, Long}
+use Rattle.xp_packets.specs.declared.fault.Malformed.TheVariants.{Short, Format, Facilities, Long}
 use Rattle.xp_packets.specs.declared.packet.Packet.{Packet}
 use Rattle.xp_packets.specs.declared.packet.Packet.TheVariants.{Call, Accepted, Clear}
-use Rattle.xp_answer.specs.Answered.{Connects, told_connected}
+use Rattle.xp_answer.specs.Answered.{Connects, outputs_of_answer}
 use Rattle.xp_answer.specs.Blocks.{user_in}
-use Rattle.xp_answer.specs.CarriedOn.{CarriedOn, Carries, block_with, told_cleared}
-use Rattle.xp_answer.specs.CarriedOn as carried
+use Rattle.xp_answer.specs.ForwardedClear.{ForwardedClear, Carries, block_with, told_cleared}
+use Rattle.xp_answer.specs.ForwardedClear as carried
 use Rattle.xp_answer.specs.Fields.{CanBeSent}
 use Rattle.xp_answer.specs.Incoming.{IsIncomingCall}
 use Rattle.xp_answer.specs.declared.connection.Connection.{Connection}
@@ -27,7 +27,7 @@ use Rattle.xp_answer.specs.declared.setup.Setup.{Setup}
 -- ---- fields
 
 -- a field that tells values is one
-pub tells_same : {A : Type 0} (told : Told A) (one other : List ℕ) → Tells told one → Tells told other → one ≡ other
+pub tells_same : {A : Type 0} (told : IndicatedFacilities A) (one other : List ℕ) → Indicates told one → Indicates told other → one ≡ other
 tells_same told one other first second =
     first.whole
     ∙ sym (tells-octets (table told) told.dte first.carried first.dte.whole)
@@ -35,7 +35,7 @@ tells_same told one other first second =
     ∙ sym second.whole
 
 -- no redirection is told in a call connected packet or a clear indication
-pub short_field : {A : Type 0} (told : Told A) (field : List ℕ) → told.redirected ≡ None → Tells told field → length field ≤ 107
+pub short_field : {A : Type 0} (told : IndicatedFacilities A) (field : List ℕ) → told.redirected ≡ None → Indicates told field → length field ≤ 107
 short_field told field none tells = told-exchange told (length field) (told-length told field tells (rw none tt)) (inl none)
 
 -- ---- packets
@@ -82,16 +82,16 @@ with_block_sent A cause diagnostic [] (octet ∷ user) few most = cleared_sent [
 with_block_sent A cause diagnostic (octet ∷ field) user few most = cleared_sent [] [] (octet ∷ field) user few most cause diagnostic
 
 module _ {A : Type 0} where
-  pub incoming_call_sent : (ring : Ring A) (called calling : List ℕ) (d : Bool) (block : Block A) (packet : Packet A)
+  pub incoming_call_sent : (ring : IncomingCall A) (called calling : List ℕ) (d : Bool) (block : Block A) (packet : Packet A)
       → CanBeWritten ring.told → length block.user ≤ 128 → IsIncomingCall ring called calling d block packet → CanBeSent packet
   incoming_call_sent ring called calling d block packet written most is =
       let few = written.most is.field is.tells in
       subst CanBeSent (sym is.whole) (call_sent called calling is.field block.user few most d)
 
-  pub connected_sent : (setup : Setup) (address dialled : List ℕ) (d : Bool) (block : Option (Block A)) (asked : Asked A) (connection : Connection A)
+  pub connected_sent : (setup : Setup) (address dialled : List ℕ) (d : Bool) (block : Option (Block A)) (asked : RequestedFacilities A) (connection : Connection A)
       → length (user_in block) ≤ 128 → Connects setup address dialled d block asked connection → CanBeSent connection.packet
   connected_sent setup address dialled d block asked connection most connects =
-      let few = short_field (told_connected setup connects.modified asked) connects.field refl connects.tells in
+      let few = short_field (outputs_of_answer setup connects.modified asked) connects.field refl connects.tells in
       subst CanBeSent (sym connects.packet) (accepted_sent connects.called [] connects.field (user_in block) few most d)
 
   carried_few : (fast : FastSelect) (block : Option (Block A)) (user dte : List ℕ) → length (user_in block) ≤ 128 → Carries fast block user dte → length user ≤ 128
@@ -99,7 +99,7 @@ module _ {A : Type 0} where
   carried_few fast block user dte most (carried.both _ is _) = omega (arith, ap length is, most)
 
   pub carried_on_sent : (fast : FastSelect) (cause : ℕ) (diagnostic : Option ℕ) (block : Option (Block A)) (segments : Option SegmentCounts) (packet : Packet A)
-      → length (user_in block) ≤ 128 → CarriedOn fast cause diagnostic block segments packet → CanBeSent packet
+      → length (user_in block) ≤ 128 → ForwardedClear fast cause diagnostic block segments packet → CanBeSent packet
   carried_on_sent fast cause diagnostic block segments packet most is =
       let few = short_field (told_cleared {A = A} segments is.dte) is.field refl is.tells in
       subst CanBeSent (sym is.whole) (with_block_sent A _ _ is.field is.user few (carried_few fast block is.user is.dte most is.carries))

@@ -2,10 +2,10 @@
 use Rattle.std.proofs.Common.{◌≡◌, ℕ, ◌≤◌, ◌&&◌, leb, min, max, Bool, true, List, Option, None, Some, sym, subst, arith, ◌⊎◌, inl, inr}
 use Rattle.std.specs.Prelude.{unwrap_or}
 use Rattle.std.proofs.lemmas.Bool.{and_parts, or_cases, leb-true}
-use Rattle.xp_decide.specs.Rings.{default_packet_sizes, default_window_sizes}
+use Rattle.xp_decide.specs.IncomingCalls.{default_packet_sizes, default_window_sizes}
 use Rattle.xp_facilities.specs.Limits.{largest_window}
-use Rattle.xp_facilities.specs.declared.asked.Asked.{Asked}
-use Rattle.xp_facilities.specs.declared.pair.Pair.{Pair}
+use Rattle.xp_facilities.specs.declared.requested.RequestedFacilities.{RequestedFacilities}
+use Rattle.xp_facilities.specs.declared.direction_sizes.DirectionSizes.{DirectionSizes}
 use Rattle.xp_packets.specs.declared.block.Block.{Block}
 use Rattle.xp_answer.specs.Answered.{Accepts, Connects}
 use Rattle.xp_answer.specs.Terms.{AreBetween, AreTerms, AreSettled, AreWithin, AreWithinIndicated, IsWithin, is_between, is_offered, are_offered, settled}
@@ -31,7 +31,7 @@ between_within one other size between = by_order (or_cases _ _ between) where
 indicated_within : (one other : ℕ) → IsWithin one other one
 indicated_within one other = (omega arith, omega arith)
 
-offered_within : (indicated usual : Pair) (asked : Option Pair) → is_offered indicated usual asked ≡ true → AreWithin indicated usual (unwrap_or asked indicated)
+offered_within : (indicated usual : DirectionSizes) (asked : Option DirectionSizes) → is_offered indicated usual asked ≡ true → AreWithin indicated usual (unwrap_or asked indicated)
 offered_within indicated usual None offered = record {
   from_called = indicated_within indicated.from_called usual.from_called;
   from_calling = indicated_within indicated.from_calling usual.from_calling;
@@ -50,7 +50,7 @@ kept_within least most one other size a b c d within = bounded within.0 within.1
   bounded : min one other ≤ size → size ≤ max one other → (least ≤ size) × (size ≤ most)
   bounded low high = (omega (arith, a, c, low), omega (arith, b, d, high))
 
-pair_within : (least most : ℕ) (indicated usual sizes : Pair) → AreBetween least most indicated → AreBetween least most usual
+pair_within : (least most : ℕ) (indicated usual sizes : DirectionSizes) → AreBetween least most indicated → AreBetween least most usual
     → AreWithin indicated usual sizes → AreBetween least most sizes
 pair_within least most indicated usual sizes first second within =
     let called = kept_within least most indicated.from_called usual.from_called sizes.from_called
@@ -66,7 +66,7 @@ usual_window : AreBetween 1 largest_window default_window_sizes
 usual_window = record { called_least = omega arith; called_most = omega arith; calling_least = omega arith; calling_most = omega arith }
 
 module _ {A : Type 0} where
-  settled_within : (indicated : Terms) (asked : Asked A) → are_offered indicated asked ≡ true → AreWithinIndicated indicated (settled indicated asked)
+  settled_within : (indicated : Terms) (asked : RequestedFacilities A) → are_offered indicated asked ≡ true → AreWithinIndicated indicated (settled indicated asked)
   settled_within indicated asked offered =
       let parts = and_parts _ _ offered in
       record {
@@ -74,7 +74,7 @@ module _ {A : Type 0} where
         window = offered_within indicated.window default_window_sizes asked.window parts.1;
       }
 
-  settled_terms : (indicated : Terms) (asked : Asked A) → AreTerms indicated → are_offered indicated asked ≡ true → AreSettled indicated (settled indicated asked)
+  settled_terms : (indicated : Terms) (asked : RequestedFacilities A) → AreTerms indicated → are_offered indicated asked ≡ true → AreSettled indicated (settled indicated asked)
   settled_terms indicated asked terms offered =
       let within = settled_within indicated asked offered in
       record {
@@ -85,7 +85,7 @@ module _ {A : Type 0} where
         within = within;
       }
 
-  pub connection_settled : (setup : Setup) (address dialled : List ℕ) (d : Bool) (block : Option (Block A)) (asked : Asked A) (connection : Connection A)
+  pub connection_settled : (setup : Setup) (address dialled : List ℕ) (d : Bool) (block : Option (Block A)) (asked : RequestedFacilities A) (connection : Connection A)
       → AreTerms setup.indicated → Accepts setup block asked → Connects setup address dialled d block asked connection
       → AreSettled setup.indicated connection.terms
   connection_settled setup address dialled d block asked connection terms accepts connects =

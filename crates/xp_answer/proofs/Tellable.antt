@@ -4,50 +4,50 @@ use Rattle.std.specs.Prelude.{unwrap_or}
 use Rattle.std.proofs.Math.Nat.{le_trans}
 use Rattle.std.proofs.lemmas.Bool.{and_from, le-leb}
 use Rattle.xp_facilities.proofs.Meant.{AsksInRange, asks_in_range, IsTellable}
-use Rattle.xp_facilities.specs.Asked.{Means, IsFaulty, Parses}
+use Rattle.xp_facilities.specs.Requested.{Means, IsFaulty, Parses}
 use Rattle.xp_facilities.specs.Limits.{largest_window}
 use Rattle.xp_facilities.specs.Octets.{is_within}
-use Rattle.xp_facilities.specs.Told.{index_fits, sizes_fit, counts_fit, is_in_range}
-use Rattle.xp_facilities.specs.declared.asked.Asked.{Asked}
+use Rattle.xp_facilities.specs.Indicated.{index_fits, sizes_fit, counts_fit, is_in_range}
+use Rattle.xp_facilities.specs.declared.requested.RequestedFacilities.{RequestedFacilities}
 use Rattle.xp_facilities.specs.declared.fast_select.FastSelect.{FastSelect}
 use Rattle.xp_facilities.specs.declared.fault.FacilityFault.{FacilityFault}
 use Rattle.xp_facilities.specs.declared.fault.FacilityFault.TheVariants.{Length, Code, Param, Memory}
-use Rattle.xp_facilities.specs.declared.pair.Pair.{Pair}
+use Rattle.xp_facilities.specs.declared.direction_sizes.DirectionSizes.{DirectionSizes}
 use Rattle.xp_facilities.specs.declared.redirection.Reason.{Reason}
 use Rattle.xp_facilities.specs.declared.segment_counts.SegmentCounts.{SegmentCounts}
-use Rattle.xp_facilities.specs.declared.told.Told.{Told}
+use Rattle.xp_facilities.specs.declared.indicated.IndicatedFacilities.{IndicatedFacilities}
 use Rattle.xp_packets.specs.declared.block.Block.{Block}
 use Rattle.xp_facilities.specs.declared.fast_select.FastSelect.TheVariants.{Restricted}
-use Rattle.xp_answer.specs.Answered.{told_connected}
+use Rattle.xp_answer.specs.Answered.{outputs_of_answer}
 use Rattle.xp_answer.specs.Answered as answered
 use Rattle.xp_answer.specs.Blocks.{facilities_in}
-use Rattle.xp_answer.specs.Examined.{Examines, fault_of}
-use Rattle.xp_answer.specs.CarriedOn.{AreCounts, TakesOver, Carries, told_cleared}
-use Rattle.xp_answer.specs.CarriedOn as carried
-use Rattle.xp_answer.specs.Fields.{CanBeTold}
+use Rattle.xp_answer.specs.steps.Examined.{Examines, fault_of}
+use Rattle.xp_answer.specs.ForwardedClear.{AreCounts, TakesOver, Carries, told_cleared}
+use Rattle.xp_answer.specs.ForwardedClear as carried
+use Rattle.xp_answer.specs.steps.Fields.{CanBeTold}
 use Rattle.xp_answer.specs.Terms.{AreBetween, AreTerms}
 use Rattle.xp_answer.specs.declared.setup.Setup.{Setup}
 
 -- what is in its range, with such facilities between DTEs
-told_by : {A : Type 0} (told : Told A) → is_in_range told ≡ true → IsTellable told.dte → CanBeTold told
+told_by : {A : Type 0} (told : IndicatedFacilities A) → is_in_range told ≡ true → IsTellable told.dte → CanBeTold told
 told_by told in_range dte = (_, record { carried = dte.carried; dte = dte.is_carried; in_range = in_range; whole = refl })
 
 -- as the facility field bounds them
-fits : (least most more : ℕ) (sizes : Pair) → most ≤ more → AreBetween least most sizes → is_within least more sizes ≡ true
+fits : (least most more : ℕ) (sizes : DirectionSizes) → most ≤ more → AreBetween least most sizes → is_within least more sizes ≡ true
 fits least most more sizes grows between =
     and_from _ _
     (and_from _ _ (le-leb _ _ between.called_least) (le-leb _ _ (le_trans between.called_most grows)))
     (and_from _ _ (le-leb _ _ between.calling_least) (le-leb _ _ (le_trans between.calling_most grows)))
 
-settled_fits : (least most : ℕ) (asked : Option Pair) (indicated : Pair) → is_within least most indicated ≡ true → sizes_fit least most asked ≡ true
+settled_fits : (least most : ℕ) (asked : Option DirectionSizes) (indicated : DirectionSizes) → is_within least most indicated ≡ true → sizes_fit least most asked ≡ true
     → is_within least most (unwrap_or asked indicated) ≡ true
 unfolding sizes_fit
 settled_fits least most None indicated shown asks = shown
 settled_fits least most (Some sizes) indicated shown asks = asks
 
 module _ {A : Type 0} where
-  connected_in_range : (setup : Setup) (modified : Option Reason) (asked : Asked A) → AreTerms setup.indicated → AsksInRange asked
-      → is_in_range (told_connected setup modified asked) ≡ true
+  connected_in_range : (setup : Setup) (modified : Option Reason) (asked : RequestedFacilities A) → AreTerms setup.indicated → AsksInRange asked
+      → is_in_range (outputs_of_answer setup modified asked) ≡ true
   unfolding is_in_range index_fits sizes_fit counts_fit
   connected_in_range setup modified asked terms asks =
       let packet = settled_fits 4 12 asked.packet setup.indicated.packet (fits 4 10 12 setup.indicated.packet (omega arith) terms.packet) asks.packet in
@@ -55,11 +55,11 @@ module _ {A : Type 0} where
       let few = le-leb (length asked.dte) 80 asks.dte.few in
       rw (packet, window, few) refl
 
-  pub connected_told : (setup : Setup) (modified : Option Reason) (asked : Asked A) (field : List ℕ) → AreTerms setup.indicated → Means field asked
-      → CanBeTold (told_connected setup modified asked)
+  pub connected_told : (setup : Setup) (modified : Option Reason) (asked : RequestedFacilities A) (field : List ℕ) → AreTerms setup.indicated → Means field asked
+      → CanBeTold (outputs_of_answer setup modified asked)
   connected_told setup modified asked field terms means =
       let asks = asks_in_range field asked means in
-      told_by (told_connected setup modified asked) (connected_in_range setup modified asked terms asks) asks.dte
+      told_by (outputs_of_answer setup modified asked) (connected_in_range setup modified asked terms asks) asks.dte
 
 pub none_tellable : IsTellable []
 none_tellable = record { carried = []; is_carried = record { whole = record { each = tt; whole = refl }; unmarked = refl }; few = omega arith }

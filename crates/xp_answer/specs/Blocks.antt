@@ -1,4 +1,4 @@
--- What a packet carries in its block; without one it carries nothing (X.25 clauses 5.2.3 and 5.2.4).
+-- The content of a packet's block; a packet without a block carries nothing (X.25 clauses 5.2.3 and 5.2.4).
 use Rattle.std.specs.Prelude.{ℕ, List, [], Option, None, Some}
 use Rattle.xp_packets.specs.declared.block.Block.{Block}
 

@@ -1,14 +1,14 @@
--- What follows from the rules of answering and of clearing.
+-- Laws of answering and clearing.
 use Rattle.std.specs.Prelude.{◌≡◌, ℕ, ◌≤◌, Bool, List, length, Option}
 use Rattle.xp_decide.specs.Written.{CanBeWritten}
-use Rattle.xp_decide.specs.declared.verdict.Ring.{Ring}
+use Rattle.xp_decide.specs.declared.verdict.IncomingCall.{IncomingCall}
 use Rattle.xp_facilities.specs.declared.fast_select.FastSelect.{FastSelect}
 use Rattle.xp_facilities.specs.declared.segment_counts.SegmentCounts.{SegmentCounts}
 use Rattle.xp_packets.specs.declared.block.Block.{Block}
 use Rattle.xp_packets.specs.declared.packet.Packet.{Packet}
 use Rattle.xp_answer.specs.Answered.{Answered}
 use Rattle.xp_answer.specs.Blocks.{user_in}
-use Rattle.xp_answer.specs.CarriedOn.{AreCounts, CarriedOn}
+use Rattle.xp_answer.specs.ForwardedClear.{AreCounts, ForwardedClear}
 use Rattle.xp_answer.specs.Fields.{CanBeSent}
 use Rattle.xp_answer.specs.Incoming.{IsIncomingCall}
 use Rattle.xp_answer.specs.Terms.{AreTerms, AreSettled}
@@ -17,23 +17,23 @@ use Rattle.xp_answer.specs.declared.answer.Answer.TheVariants.{Connected}
 use Rattle.xp_answer.specs.declared.connection.Connection.{Connection}
 use Rattle.xp_answer.specs.declared.setup.Setup.{Setup}
 
--- ---- a call that is put to a line
+-- ---- an incoming call to a line
 
--- its packet is one
+-- there is only one packet for it
 abbrev pub IncomingCallIsOne : Type 0 → Type 0
 IncomingCallIsOne A =
-    (ring : Ring A) (called calling : List ℕ) (d : Bool) (block : Block A) (one other : Packet A)
+    (ring : IncomingCall A) (called calling : List ℕ) (d : Bool) (block : Block A) (one other : Packet A)
     → IsIncomingCall ring called calling d block one → IsIncomingCall ring called calling d block other → one ≡ other
 
 abbrev pub IncomingCallCanBeSent : Type 0 → Type 0
 IncomingCallCanBeSent A =
-    (ring : Ring A) (called calling : List ℕ) (d : Bool) (block : Block A) (packet : Packet A)
+    (ring : IncomingCall A) (called calling : List ℕ) (d : Bool) (block : Block A) (packet : Packet A)
     → CanBeWritten ring.told → length block.user ≤ 128 → IsIncomingCall ring called calling d block packet
     → CanBeSent packet
 
 -- ---- its answer
 
--- an answer is accepted or refused, in one way
+-- the answer is accepted or refused, and has only one outcome
 pub record HasOneAnswer (A : Type 0) (setup : Setup) (address dialled : List ℕ) (d : Bool) (block : Option (Block A)) : Type 0 where
   pub some : (answer : Answer A) × Answered setup address dialled d block answer
   pub same : (one other : Answer A) → Answered setup address dialled d block one → Answered setup address dialled d block other → one ≡ other
@@ -57,18 +57,18 @@ ConnectedCanBeSent A =
 
 -- ---- a clear request
 
--- the far end is told one thing
+-- there is exactly one clear indication for the far end
 pub record HasOneIndication (A : Type 0) (fast : FastSelect) (cause : ℕ) (diagnostic : Option ℕ) (block : Option (Block A)) (segments : Option SegmentCounts) : Type 0 where
-  pub some : (packet : Packet A) × CarriedOn fast cause diagnostic block segments packet
-  pub same : (one other : Packet A) → CarriedOn fast cause diagnostic block segments one → CarriedOn fast cause diagnostic block segments other → one ≡ other
+  pub some : (packet : Packet A) × ForwardedClear fast cause diagnostic block segments packet
+  pub same : (one other : Packet A) → ForwardedClear fast cause diagnostic block segments one → ForwardedClear fast cause diagnostic block segments other → one ≡ other
 
 abbrev pub EveryClearHasOneIndication : Type 0 → Type 0
 EveryClearHasOneIndication A =
     (fast : FastSelect) (cause : ℕ) (diagnostic : Option ℕ) (block : Option (Block A)) (segments : Option SegmentCounts)
     → AreCounts segments → HasOneIndication A fast cause diagnostic block segments
 
-abbrev pub CarriedOnCanBeSent : Type 0 → Type 0
-CarriedOnCanBeSent A =
+abbrev pub ForwardedClearCanBeSent : Type 0 → Type 0
+ForwardedClearCanBeSent A =
     (fast : FastSelect) (cause : ℕ) (diagnostic : Option ℕ) (block : Option (Block A)) (segments : Option SegmentCounts) (packet : Packet A)
-    → length (user_in block) ≤ 128 → CarriedOn fast cause diagnostic block segments packet
+    → length (user_in block) ≤ 128 → ForwardedClear fast cause diagnostic block segments packet
     → CanBeSent packet

@@ -1,10 +1,10 @@
-pub mod Blocks
-pub mod Terms
-pub mod Setup
-pub mod Fields
-pub mod Incoming
 pub mod Answered
-pub mod Examined
-pub mod CarriedOn
+pub mod Blocks
+pub mod Fields
+pub mod ForwardedClear
+pub mod Incoming
 pub mod Information
 pub mod Laws
+pub mod Setup
+pub mod Terms
+pub mod steps

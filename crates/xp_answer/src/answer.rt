@@ -1,7 +1,7 @@
 ghost use Rattle.std.specs.Prelude.{◌≡◌, ◌≤◌, length, false, IsTrue, IfOk};
 ghost use Rattle.xp_answer.specs.Answered.{Answered, IfConnected, MayCarry, MayNotCarry};
 ghost use Rattle.xp_answer.specs.Blocks.{user_in};
-ghost use Rattle.xp_answer.specs.Examined.{Examines};
+ghost use Rattle.xp_answer.specs.steps.Examined.{Examines};
 ghost use Rattle.xp_answer.specs.Fields.{CanBeSent};
 ghost use Rattle.xp_answer.specs.Terms.{AreTerms, AreSettled};
 
@@ -11,23 +11,28 @@ use crate::fault::AnswerFault;
 use crate::setup::Setup;
 use std::alloc::{AllocError, Allocator, Global};
 use xp_causes::diagnostic;
-use xp_facilities::{Asked, FastSelect, parse};
+use xp_facilities::{FastSelect, RequestedFacilities, parse};
 use xp_packets::{Block, Digits};
 
-/// What becomes of the answer to an incoming call.
+/// The outcome of the answer to an incoming call.
 #[derive(Debug, Drop, PartialEq)]
 pub enum Answer<A: Allocator = Global> {
     /// The call is connected.
     Connected(Connection<A>),
-    /// It is a procedure error of the called line with this diagnostic (X.25 Annex E), which clears both ends.
+    /// The answer is a procedure error of the called line. The call is cleared at both ends with this diagnostic
+    /// (X.25 Annex E).
     Refused(u8),
 }
 
-/// What becomes of the answer that the line with this address gives to a call to the dialled one. The D bit and the block
-/// are those of the call accepted packet.
+/// Examines the answer of the line with the address `address` to a call to `dialled`. The D bit and the block are
+/// those of the call accepted packet.
 ///
-/// The first fault refuses it: restricted fast select, which the called line may only clear; a faulty facility field; user
-/// data without fast select; a size that was not offered.
+/// The first of these faults refuses the answer: the call has restricted fast select, so that the called line may
+/// only clear it; the facility field is faulty; there is user data without fast select; a size was not offered.
+///
+/// # Errors
+///
+/// An allocation failed.
 pub fn examine<A: Allocator + Copy>(
     alloc: A,
     setup: &Setup,
@@ -39,10 +44,10 @@ pub fn examine<A: Allocator + Copy>(
     requires { AreTerms setup.now.indicated }
     ensures answered { IfOk result (Answered setup.now address.now dialled.now d block.now) }
 
-    // No size of the call is beyond what was indicated and what is usual.
+    // Each size of the call is between the one that was indicated and the default.
     ensures settled { IfOk result (λ answer. IfConnected answer (λ c. AreSettled setup.now.indicated c.terms)) }
 
-    // With at most 128 octets of user data the call connected packet can be encoded.
+    // If there are at most 128 octets of user data, the call connected packet can be encoded.
     ensures sent { length (user_in block.now) ≤ 128 → IfOk result (λ answer. IfConnected answer (λ c. CanBeSent c.packet)) }
 {
     match accept(alloc, setup, block) {
@@ -55,16 +60,16 @@ pub fn examine<A: Allocator + Copy>(
     }
 }
 
-/// What the answer asks.
+/// Reads the facilities that the answer requests.
 ///
 /// # Errors
 ///
-/// Want of memory, or its first fault.
+/// A failed allocation, or the first fault of the answer.
 fn accept<A: Allocator + Copy>(
     alloc: A,
     setup: &Setup,
     block: &Option<Block<A>>,
-) -> Result<Asked<A>, AnswerFault>
+) -> Result<RequestedFacilities<A>, AnswerFault>
     ensures { Examines setup.now block.now result }
 {
     if setup.fast == FastSelect::Restricted {
@@ -80,7 +85,7 @@ fn accept<A: Allocator + Copy>(
     Ok(asked)
 }
 
-/// Whether an answer may carry what user data it has: without fast select it has none.
+/// Whether the answer may carry its user data. Without fast select it may carry none.
 fn may_carry<A: Allocator>(fast: FastSelect, block: &Option<Block<A>>) -> bool
     ensures may { IsTrue result → MayCarry fast block.now }
     ensures may_not { result ≡ false → MayNotCarry fast block.now }

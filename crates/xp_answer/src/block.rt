@@ -1,4 +1,4 @@
-//! What a packet carries in its block, where it has one.
+//! The content of a packet's block, if it has one.
 
 ghost use Rattle.std.specs.Prelude.{◌≡◌, ◌≢◌, [], false, IsTrue, IfOk};
 ghost use Rattle.xp_answer.specs.Blocks.{facilities_in, user_in};
@@ -6,7 +6,7 @@ ghost use Rattle.xp_answer.specs.Blocks.{facilities_in, user_in};
 use std::alloc::{AllocError, Allocator};
 use xp_packets::{Block, Octets};
 
-/// Its facility field.
+/// The facility field of the block.
 pub fn facilities_in<A: Allocator>(block: &Option<Block<A>>) -> &[u8]
     ensures { result.now ≡ facilities_in block.now }
 {
@@ -16,7 +16,11 @@ pub fn facilities_in<A: Allocator>(block: &Option<Block<A>>) -> &[u8]
     }
 }
 
-/// A copy of its user data.
+/// A copy of the user data of the block. It is empty if there is no block.
+///
+/// # Errors
+///
+/// As for [`Octets::copy`].
 pub fn user_in<A: Allocator + Copy>(
     alloc: A,
     block: &Option<Block<A>>,
@@ -29,7 +33,7 @@ pub fn user_in<A: Allocator + Copy>(
     }
 }
 
-/// Whether it has user data.
+/// Whether the block has user data.
 pub fn has_user_data<A: Allocator>(block: &Option<Block<A>>) -> bool
     ensures some { IsTrue result → user_in block.now ≢ [] }
     ensures none { result ≡ false → user_in block.now ≡ [] }

@@ -1,20 +1,26 @@
 ghost use Rattle.std.specs.Prelude.{◌≡◌, ◌≤◌, length, IfOk};
 ghost use Rattle.xp_decide.specs.Asks.{is_fast};
 ghost use Rattle.xp_answer.specs.Blocks.{user_in};
-ghost use Rattle.xp_answer.specs.CarriedOn.{AreCounts, CarriedOn, Carries, TakesOver, block_with, told_cleared};
+ghost use Rattle.xp_answer.specs.ForwardedClear.{AreCounts, ForwardedClear, Carries, TakesOver, block_with, told_cleared};
 ghost use Rattle.xp_answer.specs.Fields.{CanBeSent};
 
 use crate::block::{facilities_in, user_in};
 use crate::field::field_of;
 use std::alloc::{AllocError, Allocator};
-use xp_causes::{cause_told, diagnostic_told};
-use xp_facilities::{FacilityFault, FastSelect, SegmentCounts, Selection, Told, parse};
+use xp_causes::{indicated_cause, indicated_diagnostic};
+use xp_facilities::{
+    FacilityFault, FastSelect, IndicatedFacilities, SegmentCounts, Selection, parse,
+};
 use xp_packets::{Block, Digits, Octets, Packet};
 
-/// The clear indication by which a clear request with this cause, diagnostic and block reaches the far end of a call. With
-/// fast select of either kind it carries the user data and the facilities between DTEs on; to the line that pays for the
-/// call it may tell its segments.
-pub fn carry_clear<A: Allocator + Copy>(
+/// The clear indication that the far end of a call receives for a clear request with this cause, diagnostic and
+/// block. With fast select of either kind, the user data and the facilities between DTEs are forwarded. If `segments`
+/// is given, it indicates the call's segments; this is for the line that pays for the call.
+///
+/// # Errors
+///
+/// An allocation failed.
+pub fn forward_clear<A: Allocator + Copy>(
     alloc: A,
     fast: FastSelect,
     cause: u8,
@@ -23,21 +29,21 @@ pub fn carry_clear<A: Allocator + Copy>(
     segments: Option<SegmentCounts>,
 ) -> Result<Packet<A>, AllocError>
     requires { AreCounts segments }
-    ensures carried { IfOk result (CarriedOn fast cause diagnostic block.now segments) }
+    ensures carried { IfOk result (ForwardedClear fast cause diagnostic block.now segments) }
 
-    // With at most 128 octets of user data it can be encoded.
+    // If there are at most 128 octets of user data, the packet can be encoded.
     ensures sent { length (user_in block.now) ≤ 128 → IfOk result CanBeSent }
 {
     let (user, dte) = carried(alloc, fast, block)?;
     let facilities = field_of(alloc, &tell(segments, dte))?;
     Ok(Packet::Clear {
-        cause: cause_told(cause),
-        diagnostic: Some(diagnostic_told(diagnostic)),
+        cause: indicated_cause(cause),
+        diagnostic: Some(indicated_diagnostic(diagnostic)),
         block: block_with(facilities, user),
     })
 }
 
-/// What goes on of a clear request's block: user data, and facilities between DTEs.
+/// What is forwarded of the block of a clear request: user data, and facilities between DTEs.
 fn carried<A: Allocator + Copy>(
     alloc: A,
     fast: FastSelect,
@@ -53,7 +59,7 @@ fn carried<A: Allocator + Copy>(
     Ok((user, dte))
 }
 
-/// The facilities between DTEs of a field; none where it is faulty.
+/// The facilities between DTEs of a field. There are none if the field is faulty.
 fn dte_in<A: Allocator + Copy>(alloc: A, field: &[u8]) -> Result<Octets<A>, AllocError>
     ensures { IfOk result (TakesOver A field.now) }
 {
@@ -69,10 +75,10 @@ fn dte_in<A: Allocator + Copy>(alloc: A, field: &[u8]) -> Result<Octets<A>, Allo
 }
 
 /// The facilities of the clear indication.
-pub fn tell<A: Allocator>(segments: Option<SegmentCounts>, dte: Octets<A>) -> Told<A>
+pub fn tell<A: Allocator>(segments: Option<SegmentCounts>, dte: Octets<A>) -> IndicatedFacilities<A>
     ensures { result ≡ told_cleared segments dte }
 {
-    Told {
+    IndicatedFacilities {
         selection: Selection::Nothing,
         fast: FastSelect::No,
         reverse: false,
@@ -86,7 +92,7 @@ pub fn tell<A: Allocator>(segments: Option<SegmentCounts>, dte: Octets<A>) -> To
     }
 }
 
-/// A block without addresses, where there is something to be carried.
+/// A block without addresses, or none if there is nothing to carry.
 pub fn block_with<A: Allocator>(facilities: Octets<A>, user: Octets<A>) -> Option<Block<A>>
     ensures { result ≡ block_with facilities user }
 {
@@ -101,7 +107,7 @@ pub fn block_with<A: Allocator>(facilities: Octets<A>, user: Octets<A>) -> Optio
     })
 }
 
-/// Whether it is fast select of either kind.
+/// Whether the call has fast select of either kind.
 fn is_fast_select(fast: FastSelect) -> bool
     ensures { result ≡ is_fast fast }
 {

@@ -1,5 +1,5 @@
 ghost use Rattle.std.specs.Prelude.{◌≡◌, IfOk};
-ghost use Rattle.xp_answer.specs.Answered.{Accepts, Connects, Names, told_connected};
+ghost use Rattle.xp_answer.specs.Answered.{Accepts, Connects, Names, outputs_of_answer};
 ghost use Rattle.xp_answer.specs.Terms.{AreTerms};
 
 use crate::block::user_in;
@@ -7,21 +7,25 @@ use crate::field::field_of;
 use crate::setup::Setup;
 use crate::terms::Terms;
 use std::alloc::{AllocError, Allocator, Global};
-use xp_facilities::{Asked, FastSelect, Reason, Selection, Told};
+use xp_facilities::{FastSelect, IndicatedFacilities, Reason, RequestedFacilities, Selection};
 use xp_packets::{Block, Digits, Packet};
 
-/// A call that its called line has accepted.
+/// A call that the called line has accepted.
 #[derive(Debug, Drop, PartialEq)]
 pub struct Connection<A: Allocator = Global> {
     /// The call connected packet, for the caller.
     pub packet: Packet<A>,
-    /// The sizes of the call.
+    /// The packet and window sizes of the call.
     pub terms: Terms,
-    /// The called line asks for charging information.
+    /// Whether the called line requests charging information.
     pub charging: bool,
 }
 
-/// Connects the call of an answer that may be given and asks this.
+/// Connects the call. The answer has been accepted, and requests `asked`.
+///
+/// # Errors
+///
+/// An allocation failed.
 pub fn connect<A: Allocator + Copy>(
     alloc: A,
     setup: &Setup,
@@ -29,7 +33,7 @@ pub fn connect<A: Allocator + Copy>(
     dialled: &Digits,
     d: bool,
     block: &Option<Block<A>>,
-    asked: Asked<A>,
+    asked: RequestedFacilities<A>,
 ) -> Result<Connection<A>, AllocError>
     requires terms { AreTerms setup.now.indicated }
     requires accepts { Accepts setup.now block.now asked }
@@ -55,8 +59,8 @@ pub fn connect<A: Allocator + Copy>(
     })
 }
 
-/// What the caller is told of the called line: its address and why it is another than the dialled one, where it is
-/// (X.25 clause 6.26).
+/// What the caller learns of the called line: nothing if the line has the dialled address, otherwise its address, and
+/// why it is not the dialled one (X.25 clause 6.26).
 fn names(address: &Digits, dialled: &Digits, reason: Option<Reason>) -> (Digits, Option<Reason>)
     ensures { Names address.now dialled.now reason result.0 result.1 }
 {
@@ -68,11 +72,15 @@ fn names(address: &Digits, dialled: &Digits, reason: Option<Reason>) -> (Digits,
 }
 
 /// The facilities of the call connected packet.
-fn tell<A: Allocator>(setup: &Setup, modified: Option<Reason>, asked: Asked<A>) -> Told<A>
-    ensures { result ≡ told_connected setup.now modified asked }
+fn tell<A: Allocator>(
+    setup: &Setup,
+    modified: Option<Reason>,
+    asked: RequestedFacilities<A>,
+) -> IndicatedFacilities<A>
+    ensures { result ≡ outputs_of_answer setup.now modified asked }
 {
     let terms = setup.indicated.settled(&asked);
-    Told {
+    IndicatedFacilities {
         selection: Selection::Nothing,
         fast: FastSelect::No,
         reverse: false,

@@ -1,15 +1,15 @@
 ghost use Rattle.std.specs.Prelude.{◌≡◌};
-ghost use Rattle.xp_answer.specs.Examined.{fault_of};
+ghost use Rattle.xp_answer.specs.steps.Examined.{fault_of};
 
 use xp_causes::diagnostic;
 use xp_facilities::FacilityFault;
 
-/// Why an answer connects no call.
+/// Why an answer does not connect the call.
 #[derive(Clone, Copy, Debug, PartialEq, Eq)]
 pub enum AnswerFault {
-    /// It is a procedure error with this diagnostic (X.25 Annex E).
+    /// The answer is a procedure error with this diagnostic (X.25 Annex E).
     Refused(u8),
-    /// Out of memory.
+    /// An allocation failed.
     Memory,
 }
 

@@ -5,14 +5,18 @@ ghost use Rattle.xp_answer.specs.Incoming.{IsIncomingCall};
 
 use crate::field::field_of;
 use std::alloc::{AllocError, Allocator};
-use xp_decide::Ring;
+use xp_decide::IncomingCall;
 use xp_packets::{Block, Digits, Packet};
 
-/// The incoming call packet for the line that rings: `called` is that line's address and `calling` the caller's; the D
-/// bit and the block are those of the call request.
+/// The incoming call packet for the line that rings. `called` is that line's address and `calling` the caller's. The
+/// D bit and the block are those of the call request.
+///
+/// # Errors
+///
+/// An allocation failed.
 pub fn incoming_call<A: Allocator + Copy>(
     alloc: A,
-    ring: &Ring<A>,
+    ring: &IncomingCall<A>,
     called: &Digits,
     calling: &Digits,
     d: bool,
@@ -21,7 +25,7 @@ pub fn incoming_call<A: Allocator + Copy>(
     requires { CanBeWritten ring.now.told }
     ensures put { IfOk result (IsIncomingCall ring.now called.now calling.now d block.now) }
 
-    // With at most 128 octets of user data it can be encoded.
+    // If there are at most 128 octets of user data, the packet can be encoded.
     ensures sent { length block.now.user ≤ 128 → IfOk result CanBeSent }
 {
     let facilities = field_of(alloc, &ring.told)?;

@@ -1,7 +1,8 @@
-//! The packets of the exchange's own that end a call, with charging information for the line that pays. They take no memory.
+//! The packets by which the exchange itself ends a call, with charging information for the line that pays. They need
+//! no allocation.
 
 ghost use Rattle.std.specs.Prelude.{◌≡◌, []};
-ghost use Rattle.xp_answer.specs.CarriedOn.{AreCounts, block_with};
+ghost use Rattle.xp_answer.specs.ForwardedClear.{AreCounts, block_with};
 ghost use Rattle.xp_answer.specs.Fields.{CanBeSent};
 ghost use Rattle.xp_answer.specs.Information.{cleared_with, confirmed_with, information_field};
 
@@ -9,7 +10,8 @@ use std::alloc::Allocator;
 use xp_facilities::{SegmentCounts, segments_field};
 use xp_packets::{Block, Digits, Octets, Packet};
 
-/// A clear indication of the exchange's own (X.25 clause 5.2.4). To the line that pays for the call it may tell its segments.
+/// A clear indication from the exchange itself (X.25 clause 5.2.4). If `segments` is given, it indicates the call's
+/// segments; this is for the line that pays for the call.
 pub fn clear_indication<A: Allocator>(
     alloc: A,
     cause: u8,
@@ -27,7 +29,8 @@ pub fn clear_indication<A: Allocator>(
     }
 }
 
-/// A clear confirmation (X.25 clause 5.2.5). To the line that pays for the call it may tell its segments.
+/// A clear confirmation (X.25 clause 5.2.5). If `segments` is given, it indicates the call's segments; this is for
+/// the line that pays for the call.
 pub fn clear_confirmation<A: Allocator>(alloc: A, segments: Option<SegmentCounts>) -> Packet<A>
     requires { AreCounts segments }
     ensures told { result ≡ confirmed_with segments }
@@ -38,7 +41,7 @@ pub fn clear_confirmation<A: Allocator>(alloc: A, segments: Option<SegmentCounts
     }
 }
 
-/// The block that tells segments, where there are some to be told.
+/// The block that indicates the segments, or none if there are no segments to indicate.
 fn information<A: Allocator>(alloc: A, segments: Option<SegmentCounts>) -> Option<Block<A>>
     ensures { result ≡ block_with (information_field segments) [] }
 {

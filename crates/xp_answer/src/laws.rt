@@ -1,10 +1,10 @@
-//! Laws of the definitions, each the contract of a function with nothing to do.
+//! Laws of the definitions. Each law is the contract of a function with an empty body.
 ghost use Rattle.xp_answer.specs.Information.{InformationIsTold};
-ghost use Rattle.xp_answer.specs.Laws.{IncomingCallIsOne, IncomingCallCanBeSent, EveryAnswerHasOne, ConnectionsSettleTerms, ConnectedCanBeSent, EveryClearHasOneIndication, CarriedOnCanBeSent};
+ghost use Rattle.xp_answer.specs.Laws.{IncomingCallIsOne, IncomingCallCanBeSent, EveryAnswerHasOne, ConnectionsSettleTerms, ConnectedCanBeSent, EveryClearHasOneIndication, ForwardedClearCanBeSent};
 
 use std::alloc::Allocator;
 
-/// A line that rings gets one packet.
+/// There is only one incoming call packet for a line that rings.
 pub fn incoming_call_is_one<A: Allocator>()
     ensures { IncomingCallIsOne A }
 {}
@@ -14,12 +14,12 @@ pub fn incoming_call_can_be_sent<A: Allocator>()
     ensures { IncomingCallCanBeSent A }
 {}
 
-/// Each answer is accepted or refused, never both, and in one way.
+/// Every answer is either accepted or refused, never both, and has only one outcome.
 pub fn every_answer_has_one_outcome<A: Allocator>()
     ensures { EveryAnswerHasOne A }
 {}
 
-/// The sizes of a connected call lie within what was indicated and what is usual.
+/// Each size of a connected call is between the one that was indicated and the default.
 pub fn connections_settle_terms<A: Allocator>()
     ensures { ConnectionsSettleTerms A }
 {}
@@ -29,17 +29,18 @@ pub fn connected_can_be_sent<A: Allocator>()
     ensures { ConnectedCanBeSent A }
 {}
 
-/// A clear request makes the far end be told one thing.
+/// A clear request leads to exactly one clear indication for the far end.
 pub fn every_clear_has_one_indication<A: Allocator>()
     ensures { EveryClearHasOneIndication A }
 {}
 
 /// The clear indication can be encoded, and its facility field has at most 107 octets.
-pub fn carried_on_can_be_sent<A: Allocator>()
-    ensures { CarriedOnCanBeSent A }
+pub fn forwarded_clear_can_be_sent<A: Allocator>()
+    ensures { ForwardedClearCanBeSent A }
 {}
 
-/// Charging information is told as the facility field says, and the packets of the exchange's own that tell it can be encoded.
+/// The facility field of charging information indicates the segments, and the exchange's own packets with it can be
+/// encoded.
 pub fn information_is_told<A: Allocator>()
     ensures { InformationIsTold A }
 {}

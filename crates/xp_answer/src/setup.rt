@@ -5,33 +5,33 @@ ghost use Rattle.xp_answer.specs.Terms.{AreTerms};
 
 use crate::terms::Terms;
 use std::alloc::Allocator;
-use xp_decide::Ring;
+use xp_decide::IncomingCall;
 use xp_facilities::{FastSelect, Reason};
 use xp_packets::End;
 
-/// What the exchange keeps of the set-up of a call.
+/// What the exchange stores of the set-up of a call.
 #[derive(Clone, Copy, Debug, Default, PartialEq, Eq)]
 pub struct Setup {
     /// The sizes that the incoming call indicated.
     pub indicated: Terms,
-    /// Fast select.
+    /// The fast select of the call.
     pub fast: FastSelect,
-    /// The throughput class that the caller asked for.
+    /// The throughput class that the caller requested.
     pub throughput: Option<u8>,
     /// Why the call was first redirected, if it was.
     pub reason: Option<Reason>,
-    /// Who pays.
+    /// The end that pays.
     pub payer: End,
-    /// The caller asks for charging information.
+    /// Whether the caller requests charging information.
     pub charging: bool,
 }
 
 impl Setup {
-    /// What is kept of a call that is put to a line.
-    pub fn of<A: Allocator>(ring: &Ring<A>) -> Setup
+    /// What is stored of a call when its incoming call is sent to a line.
+    pub fn of<A: Allocator>(ring: &IncomingCall<A>) -> Setup
         ensures kept { result ≡ setup_of ring.now }
 
-        // Sizes that may be indicated are those of a call.
+        // Sizes that an incoming call may indicate are sizes that a call may have.
         ensures terms { IndicatesSizes ring.now.told → AreTerms result.indicated }
     {
         Setup {
@@ -45,7 +45,7 @@ impl Setup {
     }
 }
 
-/// Who pays for a call with or without reverse charging (X.25 clause 6.18).
+/// The end that pays for a call with or without reverse charging (X.25 clause 6.18).
 fn payer(reverse: bool) -> End
     ensures { result ≡ payer_of reverse }
 {

@@ -2,16 +2,16 @@ ghost use Rattle.std.specs.Prelude.{◌≡◌};
 ghost use Rattle.xp_answer.specs.Terms.{is_between, is_offered, are_offered, indicated_by, settled};
 
 use std::alloc::Allocator;
-use xp_facilities::{Asked, Pair, Told};
+use xp_facilities::{DirectionSizes, IndicatedFacilities, RequestedFacilities};
 
-/// The packet sizes of a call that asks for none, as powers of two: 128 octets.
-const USUAL_PACKET_SIZES: Pair = Pair {
+/// The default packet sizes, for a call that requests none, as powers of two: 128 octets.
+const USUAL_PACKET_SIZES: DirectionSizes = DirectionSizes {
     from_called: 7,
     from_calling: 7,
 };
 
-/// The window sizes of a call that asks for none.
-const USUAL_WINDOW_SIZES: Pair = Pair {
+/// The default window sizes, for a call that requests none: 2 packets.
+const USUAL_WINDOW_SIZES: DirectionSizes = DirectionSizes {
     from_called: 2,
     from_calling: 2,
 };
@@ -20,14 +20,14 @@ const USUAL_WINDOW_SIZES: Pair = Pair {
 #[derive(Clone, Copy, Debug, Default, PartialEq, Eq)]
 pub struct Terms {
     /// Packet sizes, as powers of two: 4 to 12.
-    pub packet: Pair,
+    pub packet: DirectionSizes,
     /// Window sizes, 1 to 7.
-    pub window: Pair,
+    pub window: DirectionSizes,
 }
 
 impl Terms {
-    /// What an incoming call indicates.
-    pub fn indicated_by<A: Allocator>(told: &Told<A>) -> Terms
+    /// The sizes that an incoming call indicates.
+    pub fn indicated_by<A: Allocator>(told: &IndicatedFacilities<A>) -> Terms
         ensures { result ≡ indicated_by told.now }
     {
         Terms {
@@ -36,16 +36,16 @@ impl Terms {
         }
     }
 
-    /// Whether an answer may ask for its sizes, where these were indicated.
-    pub(crate) fn are_offered<A: Allocator>(&self, asked: &Asked<A>) -> bool
+    /// Whether an answer may request its sizes, if `self` was indicated.
+    pub(crate) fn are_offered<A: Allocator>(&self, asked: &RequestedFacilities<A>) -> bool
         ensures { result ≡ are_offered self.now asked.now }
     {
         is_offered(self.packet, USUAL_PACKET_SIZES, asked.packet)
             && is_offered(self.window, USUAL_WINDOW_SIZES, asked.window)
     }
 
-    /// The sizes of the call, where these were indicated.
-    pub(crate) fn settled<A: Allocator>(&self, asked: &Asked<A>) -> Terms
+    /// The sizes of the call, if `self` was indicated.
+    pub(crate) fn settled<A: Allocator>(&self, asked: &RequestedFacilities<A>) -> Terms
         ensures { result ≡ settled self.now asked.now }
     {
         Terms {
@@ -55,8 +55,12 @@ impl Terms {
     }
 }
 
-/// Whether what is asked, if anything is, lies from what was indicated to what is usual, in each direction.
-fn is_offered(indicated: Pair, usual: Pair, asked: Option<Pair>) -> bool
+/// Whether the requested sizes, if there are any, are between the indicated and the default ones, in each direction.
+fn is_offered(
+    indicated: DirectionSizes,
+    usual: DirectionSizes,
+    asked: Option<DirectionSizes>,
+) -> bool
     ensures { result ≡ is_offered indicated usual asked }
 {
     asked.is_none_or(|asked| {
@@ -69,7 +73,7 @@ fn is_offered(indicated: Pair, usual: Pair, asked: Option<Pair>) -> bool
     })
 }
 
-/// Whether a size lies from one to another, whichever is the greater.
+/// Whether `size` is between `one` and `other`, whichever is greater, or equal to one of them.
 fn is_between(one: u8, other: u8, size: u8) -> bool
     ensures { result ≡ is_between one other size }
 {

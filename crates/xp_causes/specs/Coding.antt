@@ -1,13 +1,13 @@
--- How causes, diagnostics and refusals are coded.
+-- The codes of causes, diagnostics and refusals.
 use Rattle.std.specs.Prelude.{◌≡◌, ℕ}
 use Rattle.xp_causes.specs.declared.clearing_cause.TheConstants as clearing
 use Rattle.xp_causes.specs.declared.diagnostic.TheConstants as diagnostic
-use Rattle.xp_causes.specs.declared.dte.TheConstants.{DTE_ORIGINATED, DTE_CAUSES}
+use Rattle.xp_causes.specs.declared.dte.TheConstants.{DTE_ORIGINATED, FIRST_DTE_CAUSE}
 use Rattle.xp_causes.specs.declared.refusal.Refusal.{Refusal}
 use Rattle.xp_causes.specs.declared.refusal.TheConstants.Refusal as refusal
 use Rattle.xp_causes.specs.declared.resetting_cause.TheConstants as resetting
 
--- X.25 clause 5.2.4
+-- the clearing causes of X.25 clause 5.2.4
 pub record ClearingCausesAreCoded : Type 0 where
   pub number_busy : clearing.NUMBER_BUSY ≡ 0x01
   pub invalid_facility_request : clearing.INVALID_FACILITY_REQUEST ≡ 0x03
@@ -20,20 +20,20 @@ pub record ClearingCausesAreCoded : Type 0 where
   pub reverse_charging_not_subscribed : clearing.REVERSE_CHARGING_NOT_SUBSCRIBED ≡ 0x19
   pub fast_select_not_subscribed : clearing.FAST_SELECT_NOT_SUBSCRIBED ≡ 0x29
 
--- X.25 clause 5.4.3
+-- the resetting causes of X.25 clause 5.4.3
 pub record ResettingCausesAreCoded : Type 0 where
   pub remote_procedure_error : resetting.REMOTE_PROCEDURE_ERROR ≡ 0x03
   pub local_procedure_error : resetting.LOCAL_PROCEDURE_ERROR ≡ 0x05
 
--- the causes of both kinds that come from a DTE
+-- the causes that come from a DTE, of clears and of resets
 pub record DteCausesAreCoded : Type 0 where
   pub dte_originated : DTE_ORIGINATED ≡ 0x00
-  pub first_of_dte : DTE_CAUSES ≡ 0x80
+  pub first_of_dte : FIRST_DTE_CAUSE ≡ 0x80
 
 abbrev pub CausesAreCoded : Type 0
 CausesAreCoded = ClearingCausesAreCoded × ResettingCausesAreCoded × DteCausesAreCoded
 
--- X.25 Annex E
+-- the diagnostic codes of X.25 Annex E
 pub record DiagnosticsAreCoded : Type 0 where
   pub no_additional_information : diagnostic.NO_ADDITIONAL_INFORMATION ≡ 0
   pub invalid_send_number : diagnostic.INVALID_SEND_NUMBER ≡ 1
@@ -66,7 +66,7 @@ pub record DiagnosticsAreCoded : Type 0 where
   pub call_collision : diagnostic.CALL_COLLISION ≡ 72
   pub too_many_redirections : diagnostic.TOO_MANY_REDIRECTIONS ≡ 78
 
--- the cause and the diagnostic of the clear indication that tells a refusal
+-- the cause and the diagnostic of the clear indication for a refusal
 abbrev pub indicated : Refusal → ℕ × ℕ
 indicated refused = (refused.cause, refused.diagnostic)
 

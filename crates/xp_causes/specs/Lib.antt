@@ -1,3 +1,3 @@
-pub mod Told
 pub mod Coding
+pub mod Indicated
 pub mod Refusals

@@ -1,4 +1,4 @@
-//! The clearing causes that the exchange gives (X.25 clause 5.2.4).
+//! The clearing causes that the exchange sends (X.25 clause 5.2.4).
 
 /// Number busy.
 pub const NUMBER_BUSY: u8 = 0x01;

@@ -1,4 +1,4 @@
-//! The diagnostics that the exchange gives (X.25 Annex E).
+//! The diagnostic codes that the exchange sends (X.25 Annex E).
 
 /// No additional information.
 pub const NO_ADDITIONAL_INFORMATION: u8 = 0;

@@ -1,5 +1,5 @@
-//! Clearing causes, resetting causes and diagnostics (X.25 clauses 5.2.4 and 5.4.3, Annex E), and the refusals of call
-//! requests that they tell.
+//! Clearing causes, resetting causes and diagnostics (X.25 clauses 5.2.4 and 5.4.3, Annex E), and the refusals of
+//! call requests that use them.
 #![tactic(auto)]
 
 pub mod clearing_cause;
@@ -9,8 +9,6 @@ mod laws;
 mod refusal;
 pub mod resetting_cause;
 
-pub use dte::{DTE_CAUSES, DTE_ORIGINATED, cause_told, diagnostic_told};
-pub use laws::{
-    causes_are_coded, diagnostics_are_coded, refusals_are_coded, refusals_are_tellable,
-};
+pub use dte::{DTE_ORIGINATED, FIRST_DTE_CAUSE, indicated_cause, indicated_diagnostic};
+pub use laws::{causes_are_coded, diagnostics_are_coded, refusals_are_coded, refusals_fit_octets};
 pub use refusal::Refusal;

@@ -1,6 +1,6 @@
 use crate::{clearing_cause, diagnostic};
 
-/// Why a call request is refused: what the clear indication tells (X.25 clause 5.2.4, Annex E).
+/// Why a call request is refused: the cause and the diagnostic of the clear indication (X.25 clause 5.2.4, Annex E).
 #[derive(Clone, Copy, Debug, PartialEq, Eq)]
 pub struct Refusal {
     pub cause: u8,
@@ -8,13 +8,13 @@ pub struct Refusal {
 }
 
 impl Refusal {
-    /// The facility field is no list of facilities.
+    /// The facility field is not a list of facilities.
     pub const FACILITY_LENGTH: Refusal = Refusal {
         cause: clearing_cause::LOCAL_PROCEDURE_ERROR,
         diagnostic: diagnostic::INVALID_FACILITY_LENGTH,
     };
 
-    /// A facility that is not offered, or that the station may not ask for.
+    /// The exchange does not offer a facility, or the station may not request it.
     pub const FACILITY_NOT_ALLOWED: Refusal = Refusal {
         cause: clearing_cause::INVALID_FACILITY_REQUEST,
         diagnostic: diagnostic::FACILITY_CODE_NOT_ALLOWED,
@@ -32,13 +32,13 @@ impl Refusal {
         diagnostic: diagnostic::PACKET_TOO_LONG,
     };
 
-    /// A closed user group, or the bar on outgoing calls, keeps the caller from this call.
+    /// Closed user groups, or a bar on the caller's outgoing calls, do not permit the call.
     pub const ACCESS_BARRED: Refusal = Refusal {
         cause: clearing_cause::ACCESS_BARRED,
         diagnostic: diagnostic::NO_ADDITIONAL_INFORMATION,
     };
 
-    /// The station has no group of the selected index.
+    /// The station has no closed user group with the selected index.
     pub const GROUP_NOT_KNOWN: Refusal = Refusal {
         cause: clearing_cause::ACCESS_BARRED,
         diagnostic: diagnostic::FACILITY_PARAMETER_NOT_ALLOWED,
@@ -50,19 +50,19 @@ impl Refusal {
         diagnostic: diagnostic::INVALID_CALLED_ADDRESS,
     };
 
-    /// The called station takes no calls.
+    /// The called station has incoming calls barred.
     pub const INCOMING_CALLS_BARRED: Refusal = Refusal {
         cause: clearing_cause::ACCESS_BARRED,
         diagnostic: diagnostic::INCOMING_CALL_BARRED,
     };
 
-    /// The called station pays for no calls.
+    /// The called station does not accept reverse charging.
     pub const REVERSE_CHARGING_NOT_ACCEPTED: Refusal = Refusal {
         cause: clearing_cause::REVERSE_CHARGING_NOT_SUBSCRIBED,
         diagnostic: diagnostic::NO_ADDITIONAL_INFORMATION,
     };
 
-    /// The called station takes no calls with fast select.
+    /// The called station does not accept fast select.
     pub const FAST_SELECT_NOT_ACCEPTED: Refusal = Refusal {
         cause: clearing_cause::FAST_SELECT_NOT_SUBSCRIBED,
         diagnostic: diagnostic::NO_ADDITIONAL_INFORMATION,
@@ -80,7 +80,7 @@ impl Refusal {
         diagnostic: diagnostic::NO_LOGICAL_CHANNEL_AVAILABLE,
     };
 
-    /// The call was to be redirected a fifth time.
+    /// The call would be redirected a fifth time.
     pub const TOO_MANY_REDIRECTIONS: Refusal = Refusal {
         cause: clearing_cause::NOT_OBTAINABLE,
         diagnostic: diagnostic::TOO_MANY_REDIRECTIONS,

@@ -1,25 +1,27 @@
-/// What an event does to its line and to the call that the line is in.
+/// What an event does to its line, and to the line's call.
 #[derive(Clone, Copy, Debug, PartialEq, Eq)]
 pub enum Action {
+    /// The event is ignored.
     Nothing,
     /// The line comes into service.
     Rise,
     /// The line goes out of service, and its call ends.
     Fall,
-    /// A call request is decided.
+    /// The exchange decides on a call request.
     NewCall,
-    /// Call collision (X.25 clause 4.1.6): the incoming call is cancelled, and the line's own request decided.
+    /// Call collision (X.25 clause 4.1.6). The exchange cancels the incoming call, and decides on the line's own
+    /// request.
     Collision,
-    /// The incoming call is answered.
+    /// The line answers the incoming call.
     Answer,
-    /// The clear request is confirmed, and the line's call ends.
+    /// The exchange confirms the clear request, and the line's call ends.
     Confirm,
-    /// The line is free again; nothing is answered.
+    /// The line is free again. The exchange sends nothing.
     Free,
-    /// A procedure error, which clears with this diagnostic.
+    /// A procedure error. The exchange clears with this diagnostic.
     Error(u8),
-    /// Data, flow control, an interrupt or a reset of the line's call.
+    /// Data, flow control, an interrupt or a reset, for the line's call.
     Relayed,
-    /// The incoming call was not answered in time, and is cleared.
+    /// The line did not answer the incoming call in time. The exchange clears the call.
     Expired,
 }

@@ -1,9 +1,10 @@
 ghost use Rattle.std.specs.Prelude.{◌≡◌};
-ghost use Rattle.xp_channel.specs.Table.{cell, invalid, state_after};
-ghost use Rattle.xp_channel.specs.declared.kind.Kind.TheVariants.{Clear, Wrong};
+ghost use Rattle.xp_channel.specs.Table.{cell, state_after};
+ghost use Rattle.xp_channel.specs.steps.Table.{invalid};
+ghost use Rattle.xp_channel.specs.declared.kind.EventKind.TheVariants.{Clear, Malformed};
 
 use crate::action::Action;
-use crate::kind::Kind;
+use crate::kind::EventKind;
 use xp_causes::diagnostic::{INVALID_IN_P1, INVALID_IN_P2, INVALID_IN_P3, INVALID_IN_P4};
 
 /// The state of a line's logical channel (X.25 Annex B).
@@ -14,20 +15,21 @@ pub enum Channel {
     Off,
     /// p1, ready.
     P1,
-    /// p2, DTE waiting: the line asked for a call.
+    /// p2, DTE waiting: the line has requested a call.
     P2,
-    /// p3, DCE waiting: a call was put to the line.
+    /// p3, DCE waiting: the line has an incoming call to answer.
     P3,
     /// p4, data transfer.
     P4,
-    /// p7, DCE clear indication: the line has yet to confirm it.
+    /// p7, DCE clear indication: the line has not confirmed the clear indication yet.
     P7,
 }
 
 impl Channel {
-    /// What an event of this kind does to a line in this state, which becomes the state that the table leads to. At a new
-    /// call, a collision and an answer it stays, since what becomes of the line then depends on more than its own state.
-    pub fn on_packet(&mut self, kind: Kind) -> Action
+    /// The action that an event of this kind causes. The line goes to the state that the table gives. For a new call,
+    /// a collision and an answer the state does not change here, because the next state depends on more than the
+    /// line's own state.
+    pub fn on_packet(&mut self, kind: EventKind) -> Action
         ensures action { result ≡ cell self.old kind }
         ensures state { self.new ≡ state_after self.old result }
     {
@@ -36,45 +38,46 @@ impl Channel {
         action
     }
 
-    fn action(self, kind: Kind) -> Action
+    fn action(self, kind: EventKind) -> Action
         ensures { result ≡ cell self kind }
     {
         match kind {
-            Kind::Up => match self {
+            EventKind::Up => match self {
                 Channel::Off => Action::Rise,
                 _ => Action::Nothing,
             },
-            Kind::Down => match self {
+            EventKind::Down => match self {
                 Channel::Off => Action::Nothing,
                 _ => Action::Fall,
             },
-            Kind::Call => match self {
+            EventKind::Call => match self {
                 Channel::P1 => Action::NewCall,
                 Channel::P3 => Action::Collision,
                 _ => self.out_of_place(),
             },
-            Kind::Accepted => match self {
+            EventKind::Accepted => match self {
                 Channel::P3 => Action::Answer,
                 _ => self.out_of_place(),
             },
-            Kind::Clear => self.clear(),
-            Kind::ClearConfirm => match self {
+            EventKind::Clear => self.clear(),
+            EventKind::ClearConfirm => match self {
                 Channel::P7 => Action::Free,
                 _ => self.out_of_place(),
             },
-            Kind::Relayed => match self {
+            EventKind::Relayed => match self {
                 Channel::P4 => Action::Relayed,
                 _ => self.out_of_place(),
             },
-            Kind::Expire => match self {
+            EventKind::Expire => match self {
                 Channel::P3 => Action::Expired,
                 _ => Action::Nothing,
             },
-            Kind::Wrong(diagnostic) => self.error(diagnostic),
+            EventKind::Malformed(diagnostic) => self.error(diagnostic),
         }
     }
 
-    // A clear request; in p7 the two clearings cross, and neither is confirmed (X.25 clause 4.1.7).
+    // The action for a clear request. In p7 the two clears cross, and the exchange confirms neither (X.25 clause
+    // 4.1.7).
     fn clear(self) -> Action
         ensures { result ≡ cell self Clear }
     {
@@ -85,9 +88,10 @@ impl Channel {
         }
     }
 
-    // An error with this diagnostic, where the line is in service and has no clear indication to confirm.
+    // An error with this diagnostic, if the line is in service and has no clear indication to confirm. Otherwise
+    // nothing.
     fn error(self, diagnostic: u8) -> Action
-        ensures { result ≡ cell self (Wrong diagnostic) }
+        ensures { result ≡ cell self (Malformed diagnostic) }
     {
         match self {
             Channel::Off | Channel::P7 => Action::Nothing,
@@ -95,7 +99,7 @@ impl Channel {
         }
     }
 
-    // A packet that the state does not allow.
+    // The action for a packet that the state does not allow.
     fn out_of_place(self) -> Action
         ensures { result ≡ invalid self }
     {

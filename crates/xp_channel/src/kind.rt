@@ -1,15 +1,15 @@
 ghost use Rattle.std.specs.Prelude.{◌≡◌};
-ghost use Rattle.xp_channel.specs.Kinds.{kind_of, kind_of_wrong};
+ghost use Rattle.xp_channel.specs.Kinds.{kind_of, kind_of_malformed};
 
 use std::alloc::Allocator;
-use xp_packets::{Packet, Wrong};
+use xp_packets::{Malformed, Packet};
 
-/// The kinds of events that the table of actions tells apart.
+/// The kinds of events: the columns of the table of actions.
 #[derive(Clone, Copy, Debug, PartialEq, Eq)]
-pub enum Kind {
-    /// The line's connection came.
+pub enum EventKind {
+    /// The line's connection is up.
     Up,
-    /// The line's connection went, or the exchange gave it up because nothing was taken from it.
+    /// The line's connection is down, or the exchange gave it up because nothing was read from it.
     Down,
     Call,
     Accepted,
@@ -17,22 +17,22 @@ pub enum Kind {
     ClearConfirm,
     /// Data, flow control, interrupts and resets.
     Relayed,
-    /// The time within which an incoming call has to be answered (T11) is over.
+    /// The time to answer an incoming call (T11) is over.
     Expire,
-    /// A frame that is no packet, with the diagnostic that says why.
-    Wrong(u8),
+    /// A frame that is not a packet, with the diagnostic that gives the reason.
+    Malformed(u8),
 }
 
-impl Kind {
+impl EventKind {
     /// The kind of a packet.
-    pub fn of<A: Allocator>(packet: &Packet<A>) -> Kind
+    pub fn of<A: Allocator>(packet: &Packet<A>) -> EventKind
         ensures { result ≡ kind_of packet.now }
     {
         match packet {
-            Packet::Call { .. } => Kind::Call,
-            Packet::Accepted { .. } => Kind::Accepted,
-            Packet::Clear { .. } => Kind::Clear,
-            Packet::ClearConfirm { .. } => Kind::ClearConfirm,
+            Packet::Call { .. } => EventKind::Call,
+            Packet::Accepted { .. } => EventKind::Accepted,
+            Packet::Clear { .. } => EventKind::Clear,
+            Packet::ClearConfirm { .. } => EventKind::ClearConfirm,
             Packet::DataPacket { .. }
             | Packet::Ready { .. }
             | Packet::NotReady { .. }
@@ -40,14 +40,14 @@ impl Kind {
             | Packet::Interrupt { .. }
             | Packet::InterruptConfirm
             | Packet::Reset { .. }
-            | Packet::ResetConfirm => Kind::Relayed,
+            | Packet::ResetConfirm => EventKind::Relayed,
         }
     }
 
-    /// The kind of a frame that is no packet.
-    pub fn of_wrong(wrong: Wrong) -> Kind
-        ensures { result ≡ kind_of_wrong wrong }
+    /// The kind of a frame that is not a packet.
+    pub fn of_malformed(wrong: Malformed) -> EventKind
+        ensures { result ≡ kind_of_malformed wrong }
     {
-        Kind::Wrong(wrong.diagnostic())
+        EventKind::Malformed(wrong.diagnostic())
     }
 }

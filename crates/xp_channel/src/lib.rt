@@ -7,4 +7,4 @@ mod kind;
 
 pub use action::Action;
 pub use channel::Channel;
-pub use kind::Kind;
+pub use kind::EventKind;

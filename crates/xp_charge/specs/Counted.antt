@@ -1,7 +1,7 @@
--- What a meter has counted of a call.
+-- The state of a call's meter.
 use Rattle.std.specs.Prelude.{ℕ}
 
--- the segments in each direction, and how many a direction may have
+-- the segments in each direction, and the limit of each direction
 pub record Counted : Type 0 where
   pub limit : ℕ
   pub from_caller : ℕ

@@ -3,3 +3,4 @@ pub mod Lines
 pub mod Meter
 pub mod Segments
 pub mod Text
+pub mod steps

@@ -2,7 +2,7 @@
 use Rattle.std.specs.Prelude.{ℕ, ◌<◌, IfSome}
 use Rattle.xp_charge.specs.declared.record.Record.{Record}
 
--- both are among so many
+-- the numbers of both lines are below `count`
 pub record HasLines (count : ℕ) (ended : Record) : Type 0 where
   pub caller : ended.caller < count
   pub called : IfSome ended.called (λ line. line < count)

@@ -1,4 +1,4 @@
--- The meter of a call: the sum of the segments of what was accepted, for each direction.
+-- The meter of a call: for each direction, the sum of the segments of the accepted packets.
 use Rattle.std.specs.Prelude.{ℕ, ◌+◌}
 use Rattle.xp_packets.specs.declared.end.End.{End}
 use Rattle.xp_packets.specs.declared.end.End.TheVariants.{Caller, Called}
@@ -8,7 +8,7 @@ abbrev pub far_end : End → End
 far_end Caller = Called
 far_end Called = Caller
 
--- of a new call
+-- the meter of a new call
 abbrev pub opening : ℕ → Counted
 opening limit = record { limit = limit; from_caller = 0; from_called = 0 }
 
@@ -17,7 +17,7 @@ abbrev pub counted_from : End → Counted → ℕ
 counted_from Caller counted = counted.from_caller
 counted_from Called counted = counted.from_called
 
--- so many more received from an end
+-- `more` segments received from an end
 abbrev pub with_more : End → ℕ → Counted → Counted
 with_more Caller more counted = record counted { from_caller = counted.from_caller + more }
 with_more Called more counted = record counted { from_called = counted.from_called + more }

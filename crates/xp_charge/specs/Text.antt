@@ -7,10 +7,6 @@ use Rattle.xp_packets.specs.declared.end.End.TheVariants.{Caller, Called}
 use Rattle.xp_subs.specs.Tables.{Tables, line_at}
 use Rattle.xp_charge.specs.declared.record.Record.{Record}
 
--- The text still begins with what stood there before.
-abbrev pub Keeps : List ℕ → List ℕ → Type 0
-Keeps before after = take (length before) after ≡ before
-
 -- a space, then the field
 abbrev pub field : List ℕ → List ℕ
 field text = 32 ∷ text
@@ -18,12 +14,12 @@ field text = 32 ∷ text
 abbrev pub name_of : Tables → ℕ → List ℕ
 name_of tables line = (line_at tables line).name
 
--- `-` where there is no called line
+-- `-` if there is no called line
 abbrev pub called_text : Tables → Option ℕ → List ℕ
 called_text tables None = codes "-"
 called_text tables (Some line) = name_of tables line
 
--- `-` where there are no digits
+-- `-` if there are no digits
 abbrev pub digits_text : List ℕ → List ℕ
 digits_text [] = codes "-"
 digits_text (digit ∷ digits) = text_of_digits (digit ∷ digits)
@@ -32,7 +28,7 @@ abbrev pub payer_text : End → List ℕ
 payer_text Caller = codes "caller"
 payer_text Called = codes "called"
 
--- which call ended
+-- which call ended: its number, its lines and the dialled digits
 abbrev pub call_text : Tables → Record → List ℕ
 call_text tables ended =
     field (decimal ended.number)
@@ -49,6 +45,6 @@ charge_text ended =
     ++ field (encode_lower (ended.cause ∷ []))
     ++ field (decimal ended.diagnostic)
 
--- the charging record of an ended call
+-- the charging record of an ended call, as one line
 abbrev pub record_text : Tables → Record → List ℕ
 record_text tables ended = codes "record" ++ call_text tables ended ++ charge_text ended ++ 10 ∷ []

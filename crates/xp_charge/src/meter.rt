@@ -7,12 +7,12 @@ use std::marker::Model;
 use thiserror::Error;
 use xp_packets::End;
 
-/// A data packet that would take its direction past the segment limit.
+/// The error that a data packet would exceed the segment limit of its direction.
 #[derive(Clone, Copy, Debug, PartialEq, Eq, Error)]
 #[error("over the segment limit")]
 pub struct OverLimit;
 
-/// The segments of a call's accepted data packets, in each direction at most so many.
+/// The segments of a call's accepted data packets, at most `limit` in each direction.
 #[derive(Clone, Copy, Debug, PartialEq, Eq)]
 pub struct Meter {
     limit: u32,
@@ -45,11 +45,11 @@ impl Meter {
         }
     }
 
-    /// Counts a data packet with so many octets that was accepted from this end.
+    /// Counts a data packet with `octets` octets of user data, accepted from this end.
     ///
     /// # Errors
     ///
-    /// Exactly where that direction would have more segments than the limit; then nothing is counted.
+    /// Exactly if that direction would then have more segments than the limit. Then nothing is counted.
     pub fn add(&mut self, end: End, octets: usize) -> Result<(), OverLimit>
         ensures ok { OnOk result (self.new ≡ with_more end (segments octets) self.old) }
         ensures within { IsOk result ↔ (counted_from end self.old + segments octets ≤ self.old.limit) }
@@ -63,7 +63,7 @@ impl Meter {
         Ok(())
     }
 
-    /// The segments that were sent to this end, and those received from it.
+    /// The segments sent to this end, and those received from it.
     pub fn counts_for(&self, end: End) -> (u32, u32)
         ensures sent { result.0 ≡ counted_from (far_end end) self.now }
         ensures received { result.1 ≡ counted_from end self.now }
@@ -75,7 +75,7 @@ impl Meter {
         }
     }
 
-    // the segments from this end with so many more
+    // the segments from this end, and `more` in addition
     fn sum(&self, end: End, more: usize) -> Result<u32, OverLimit>
         ensures ok { IfOk result (λ sum. (sum ≡ counted_from end self.now + more) × (sum ≤ self.now.limit)) }
         ensures over { OnErr result (self.now.limit < counted_from end self.now + more) }

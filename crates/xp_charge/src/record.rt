@@ -1,6 +1,7 @@
 ghost use Rattle.std.specs.Prelude.{◌≡◌, ◌++◌, ◌<◌, IfSome, OnErr, OnOk};
 ghost use Rattle.xp_charge.specs.Lines.{HasLines};
-ghost use Rattle.xp_charge.specs.Text.{Keeps, call_text, called_text, charge_text, payer_text, record_text};
+ghost use Rattle.xp_charge.specs.Text.{call_text, called_text, charge_text, payer_text, record_text};
+ghost use Rattle.xp_charge.specs.steps.Text.{Keeps};
 ghost use Rattle.xp_subs.specs.Tables.{line_count};
 
 use crate::text::{NONE, push_digits, push_field, push_number, push_octet};
@@ -13,21 +14,21 @@ use xp_subs::{LineNo, Subs};
 pub struct Record {
     /// The call's number, from 1.
     pub number: u64,
-    /// The line that asked for the call.
+    /// The line that requested the call.
     pub caller: LineNo,
-    /// The line that the call was put to; None where it was refused.
+    /// The line that the call was offered to. `None` if the call was refused.
     pub called: Option<LineNo>,
-    /// The called address as the caller gave it.
+    /// The called address, as the caller gave it.
     pub dialled: Digits,
-    /// Who pays: the called line where the call was put to it with reverse charging, else the caller.
+    /// The end that pays: the called line if the call was offered to it with reverse charging, otherwise the caller.
     pub payer: End,
     /// Segments from the caller, 0 to 99,999,999.
     pub from_caller: u32,
     /// Segments from the called line, 0 to 99,999,999.
     pub from_called: u32,
-    /// The clearing cause that the other end was told, or the caller where the call was refused.
+    /// The clearing cause that the other end received; for a refused call, the one that the caller received.
     pub cause: u8,
-    /// The diagnostic told with it.
+    /// The diagnostic that was sent with the cause.
     pub diagnostic: u8,
 }
 
@@ -49,11 +50,11 @@ impl Record {
         }
     }
 
-    /// Adds the line of the record.
+    /// Appends the record to `text`, as one line.
     ///
     /// # Errors
     ///
-    /// Where memory is wanting the text stays as it was.
+    /// If an allocation fails, `text` is unchanged.
     pub fn write<A: Allocator>(&self, subs: &Subs, text: &mut Vec<u8, A>) -> Result<(), AllocError>
         requires { HasLines (line_count subs.now) self.now }
         ensures ok { OnOk result (text.new.items ≡ text.old.items ++ record_text subs.now self.now) }
@@ -69,7 +70,7 @@ impl Record {
         }
     }
 
-    /// Adds the line, or the first part of it.
+    /// Appends the record, or only the first part of it if an allocation fails.
     fn push<A: Allocator>(&self, subs: &Subs, text: &mut Vec<u8, A>) -> Result<(), AllocError>
         requires { HasLines (line_count subs.now) self.now }
         ensures ok { OnOk result (text.new.items ≡ text.old.items ++ record_text subs.now self.now) }
@@ -82,7 +83,7 @@ impl Record {
         Ok(())
     }
 
-    /// Adds which call it was: its number, its lines and the digits that were dialled.
+    /// Appends which call it was: its number, its lines and the dialled digits.
     fn push_call<A: Allocator>(&self, subs: &Subs, text: &mut Vec<u8, A>) -> Result<(), AllocError>
         requires { HasLines (line_count subs.now) self.now }
         ensures ok { OnOk result (text.new.items ≡ text.old.items ++ call_text subs.now self.now) }
@@ -94,7 +95,7 @@ impl Record {
         push_digits(text, &self.dialled)
     }
 
-    /// Adds who pays, for how much, and how the call ended.
+    /// Appends who pays, for how much, and how the call ended.
     fn push_charge<A: Allocator>(&self, text: &mut Vec<u8, A>) -> Result<(), AllocError>
         ensures ok { OnOk result (text.new.items ≡ text.old.items ++ charge_text self.now) }
         ensures kept { Keeps text.old.items text.new.items }

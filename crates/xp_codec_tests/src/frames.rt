@@ -10,7 +10,7 @@ const FRAME: &[u8] = b"\x00\x00\x00\x0d\x10\x01\x0b\x07\x20\x80\x02\x00\x00\x01\
 
 // What comes first in a stream, what comes next, and what is told of that. A head is judged once its four octets are
 // there, the version first.
-const BAD_HEADS: [(&[u8], &[u8], &str); 5] = [
+const BAD_HEADS: [(&[u8], &[u8], &str); 6] = [
     (b"\x00\x01\x00", b"\x03", "frame version 1 in place of 0"),
     (b"", b"\x12\x34\x00\x02", "frame version 4660 in place of 0"),
     (
@@ -24,6 +24,7 @@ const BAD_HEADS: [(&[u8], &[u8], &str); 5] = [
         b"\x05",
         "packet length 1029 outside 3 to 1028 octets",
     ),
+    (b"\x00\x01\x00\x03", FRAME, "the stream has failed"),
 ];
 
 // What is told of a call.
@@ -37,7 +38,7 @@ fn told(alloc: Global, answer: Result<(), FrameFault>) -> Result<String, AllocEr
 // What is told of the second of two pieces of a stream.
 fn fed(alloc: Global, first: &[u8], next: &[u8]) -> Result<String, Fail> {
     let mut frames = Deframer::new(alloc);
-    frames.feed(first)?;
+    let _failed = frames.feed(first);
     Ok(told(alloc, frames.feed(next))?)
 }
 

@@ -157,6 +157,18 @@ fn data_without_spelling(rt: HostRuntime) -> Result<(), Fail> {
 }
 
 #[test]
+fn interrupt_without_spelling(rt: HostRuntime) -> Result<(), Fail> {
+    let packet = Packet::Interrupt {
+        octets: octets(rt.alloc(), 0)?,
+    };
+    assert_eq!(rt;
+        told_of_packet(rt.alloc(), 1, &packet)?.as_str(),
+        "packet too short"
+    );
+    Ok(())
+}
+
+#[test]
 fn clears_without_spelling(rt: HostRuntime) -> Result<(), Fail> {
     for (diagnostic, facilities, user, expected) in [
         (Some(0), 109, 128, "ok"),

@@ -11,25 +11,24 @@ use Rattle.xp_decide.proofs.Written.{told_sizes}
 use Rattle.xp_subs.specs.Tables.{Tables, line_count}
 use Rattle.xp_core.specs.declared.entry.Entry.{Entry}
 use Rattle.xp_core.specs.declared.event.What.{What}
-use Rattle.xp_core.specs.declared.outcome.Agreement.{Agreement}
-use Rattle.xp_core.specs.Acts.{lines_seen}
+use Rattle.xp_machine.specs.declared.agreement.Agreement.{Agreement}
+use Rattle.xp_machine.specs.World.{line_states, Call, World, call_numbered, opening}
 use Rattle.xp_core.specs.Agreed.{AllHaveTerms, HasTerms}
-use Rattle.xp_core.specs.Changes.{Change, Rises, Leaves, Begins, IsRefused, Connects, Ends, all_changed, changed}
+use Rattle.xp_machine.specs.Changes.{Change, Rises, Leaves, Begins, IsRefused, Connects, Ends, all_changed, changed}
 use Rattle.xp_core.specs.Run.{Run}
-use Rattle.xp_core.specs.Setting.{Setting, setting}
+use Rattle.xp_core.specs.StepContext.{StepContext, step_context}
 use Rattle.xp_core.specs.Step.{Step}
-use Rattle.xp_core.specs.Does.{changes_of}
+use Rattle.xp_core.specs.Effects.{changes_of}
 use Rattle.xp_core.specs.Table.{action_at}
-use Rattle.xp_core.specs.World.{Call, World, call_numbered, opening}
-use Rattle.xp_core.proofs.Maps.{new_or_old, was_there}
+use Rattle.xp_machine.proofs.Maps.{new_or_old, was_there}
 use Rattle.xp_core.proofs.Origins.{ComesOf, IsBegun, IsConnection, all_come}
 use Rattle.xp_core.proofs.RunLemmas.{run_keeps}
 
-module _ {A : Type 0} (at : Setting A) (what : What A) (here : AllHaveTerms at.world) where
+module _ {A : Type 0} (at : StepContext A) (what : What A) (here : AllHaveTerms at.world) where
   begun_terms : (line identifier called : ℕ) (dialled : List ℕ) (setup : Setup) → IsBegun at what line identifier called dialled setup → AreTerms setup.indicated
   begun_terms line identifier called dialled setup from =
       let P : Setup → Type 0 = λ s. AreTerms s.indicated in
-      subst P (sym from.setup_is) (indicated_terms from.ring.told (told_sizes at.tables (lines_seen at.world) at.line from.asked.request.block from.ring from.decided))
+      subst P (sym from.setup_is) (indicated_terms from.ring.told (told_sizes at.tables (line_states at.world) at.line from.asked.request.block from.ring from.decided))
 
   connected_terms : (number : ℕ) (call : Call) (agreement : Agreement) → IsConnection at number call agreement → HasTerms (record call { agreed = Some agreement })
   connected_terms number call agreement from =
@@ -68,7 +67,7 @@ module _ {A : Type 0} where
   step_agreed : (tables : Tables) (before : List (Entry A)) (world : World) (entry : Entry A) (next : World)
       → AllHaveTerms world → Step tables before world entry next → AllHaveTerms next
   step_agreed tables before world entry next terms step =
-      let at : Setting A = setting tables before world entry.event.line in
+      let at : StepContext A = step_context tables before world entry.event.line in
       let P : World → Type 0 = λ w. AllHaveTerms w in
       subst P (sym step.leads)
       (all_changed_terms at entry.event.what terms (changes_of tables before world entry) world

@@ -1,4 +1,4 @@
--- What is planned for a packet that a line hands in.
+-- What is planned for a packet of a line.
 use Rattle.std.proofs.Common.{◌≡◌, ◌∙◌, ℕ, Bool, true, false, Result, Ok, Err, IfOk, Option, Some, None, option_map, is_none, List, [], ◌∷◌, map, refl, ap, sym, subst}
 use Rattle.xp_causes.specs.declared.clearing_cause.TheConstants.{NETWORK_CONGESTION}
 use Rattle.xp_causes.specs.declared.diagnostic.TheConstants.{NO_ADDITIONAL_INFORMATION}
@@ -6,32 +6,36 @@ use Rattle.xp_charge.specs.Counted.{Counted}
 use Rattle.xp_charge.specs.Meter.{counted_from}
 use Rattle.xp_charge.specs.declared.meter.OverLimit.{OverLimit}
 use Rattle.xp_packets.specs.declared.packet.Packet.{Packet}
-use Rattle.xp_relay.specs.Coupled.{Coupled, Follows, KeptPair, ShowsCall, received_by, sent_by}
+use Rattle.xp_relay.specs.Coupled.{Coupled, Follows, StoredDirections, RepresentsCall, received_by, sent_by}
 use Rattle.xp_relay.specs.Turns.{turn_of}
 use Rattle.xp_relay.specs.declared.moves.Move.{Move}
-use Rattle.xp_core.specs.declared.call.LiveCall.{LiveCall}
+use Rattle.xp_machine.specs.declared.call.LiveCall.{LiveCall}
 use Rattle.xp_core.specs.declared.event.What.{What}
-use Rattle.xp_core.specs.declared.outcome.Agreement.{Agreement}
+use Rattle.xp_machine.specs.declared.agreement.Agreement.{Agreement}
 use Rattle.xp_core.specs.declared.outcome.Outcome.{Outcome}
 use Rattle.xp_core.specs.declared.outcome.Outcome.TheVariants.{Plain, Exceeded}
 use Rattle.xp_core.specs.declared.output.Output.{Output}
 use Rattle.xp_core.specs.declared.plan.Plan.{Plan}
-use Rattle.xp_core.specs.declared.relays.Metered.{Metered}
-use Rattle.xp_core.specs.Acts.{Carries, CarriesAs, told_of_excess}
-use Rattle.xp_core.specs.Carried.{Carried, carried_by, directions, end_of, turn_of_carried}
-use Rattle.xp_core.specs.Changes.{IsCleared}
-use Rattle.xp_core.specs.Does.{carries, leaves}
-use Rattle.xp_core.specs.Kept.{call_of_kept, entry_of}
-use Rattle.xp_core.specs.Plan.{IsPlan, PlansCarried, applied_by, applied_if_any, freed_if_any}
-use Rattle.xp_core.specs.Relays.{AreCarried, Counts, IsShownBy, Relays, RelaysFor, RelaysOn, counted_by, relay_under}
-use Rattle.xp_core.specs.Segments.{goes_past, is_past_limit, judged, judged_at}
-use Rattle.xp_core.specs.Setting.{Setting}
+use Rattle.xp_machine.specs.declared.relays.MeteredRelay.{MeteredRelay}
+use Rattle.xp_core.specs.Acts.{Carries, CarriesAs, outputs_of_excess}
+use Rattle.xp_core.specs.RelayedPackets.{RelayedPacket, relayed_by, directions, turn_of_relayed}
+use Rattle.xp_machine.specs.CallEnds.{end_of}
+use Rattle.xp_machine.specs.Changes.{IsCleared}
+use Rattle.xp_core.specs.Effects.{carries, leaves}
+use Rattle.xp_machine.specs.StoredState.{call_of_stored, entry_of}
+use Rattle.xp_core.specs.steps.Plan.{IsPlan, PlansRelayed, applied_by}
+use Rattle.xp_machine.specs.AppliedChange.{applied_if_any, freed_if_any}
+use Rattle.xp_core.specs.steps.Relays.{RelaysRepresentCalls, IsRepresentedBy, Relays, RelaysFor, RelaysOn, counted_by}
+use Rattle.xp_machine.specs.Relays.{Counts, relay_under}
+use Rattle.xp_machine.specs.Segments.{goes_past, judged}
+use Rattle.xp_core.specs.Segments.{is_past_limit, judged_at}
+use Rattle.xp_core.specs.StepContext.{StepContext}
 use Rattle.xp_core.specs.Table.{packet_in}
-use Rattle.xp_core.specs.Told.{Told, carried_told, nothing_told, send_on}
-use Rattle.xp_core.specs.World.{Call, call_on}
-use Rattle.xp_core.proofs.Carried.{carried_alone}
+use Rattle.xp_core.specs.EventOutputs.{EventOutputs, outputs_of_relayed, no_outputs, send_on}
+use Rattle.xp_machine.specs.World.{Call, call_on}
+use Rattle.xp_core.proofs.RelayedPackets.{carried_alone}
 use Rattle.xp_core.proofs.Counting.{counted_here}
-use Rattle.xp_core.proofs.InCall.{shown_on}
+use Rattle.xp_machine.proofs.InCall.{shown_on}
 
 pub some_of : {X : Type 0} (x : Option X) → is_none x ≡ false → (y : X) × (x ≡ Some y)
 some_of None is = absurd (cc)
@@ -47,76 +51,76 @@ both_ok (Ok x) P Q R leads one other = leads x one other
 both_ok (Err fault) P Q R leads one other = tt
 
 module _ {A : Type 0} where
-  abbrev carried_of : ℕ → ℕ × Call → Agreement → Packet A → Carried A
+  abbrev carried_of : ℕ → ℕ × Call → Agreement → Packet A → RelayedPacket A
   carried_of line found agreement packet =
       record { number = found.0; call = found.1; agreement = agreement; arrival = record { here = end_of found.1 line; packet = packet } }
 
-  no_packet : (line : ℕ) (found : Option (ℕ × Call)) → carried_by {A = A} line found None ≡ None
+  no_packet : (line : ℕ) (found : Option (ℕ × Call)) → relayed_by {A = A} line found None ≡ None
   no_packet line None = refl
   no_packet line (Some found) = refl
 
   -- the relay of a connected call is kept
-  kept_under : (at : Setting A) (call : LiveCall) → call_on at.world at.line ≡ Some (entry_of call) → (agreement : Agreement) → call.agreed ≡ Some agreement
-      → (relays : List (Option (Metered A))) → AreCarried at.tables at.before at.world relays
-      → IsShownBy (relay_under relays call.caller) (directions at.tables at.before call.number agreement) (counted_by at.tables at.before call.number (Some agreement))
+  kept_under : (at : StepContext A) (call : LiveCall) → call_on at.world at.line ≡ Some (entry_of call) → (agreement : Agreement) → call.agreed ≡ Some agreement
+      → (relays : List (Option (MeteredRelay A))) → RelaysRepresentCalls at.tables at.before at.world relays
+      → IsRepresentedBy (relay_under relays call.caller) (directions at.tables at.before call.number agreement) (counted_by at.tables at.before call.number (Some agreement))
   kept_under at call on agreement agreed relays carried =
-      carried call.number (call_of_kept call) agreement (shown_on at.world at.line (entry_of call) on).1 agreed
+      carried call.number (call_of_stored call) agreement (shown_on at.world at.line (entry_of call) on).1 agreed
 
-  pub never_lost : (at : Setting A) (call : LiveCall) → call_on at.world at.line ≡ Some (entry_of call) → (agreement : Agreement) → call.agreed ≡ Some agreement
-      → (relays : List (Option (Metered A))) → AreCarried at.tables at.before at.world relays → None ≡ relay_under relays call.caller → ⊥
+  pub never_lost : (at : StepContext A) (call : LiveCall) → call_on at.world at.line ≡ Some (entry_of call) → (agreement : Agreement) → call.agreed ≡ Some agreement
+      → (relays : List (Option (MeteredRelay A))) → RelaysRepresentCalls at.tables at.before at.world relays → None ≡ relay_under relays call.caller → ⊥
   never_lost at call on agreement agreed relays carried none =
-      let P : Option (Metered A) → Type 0 =
-      λ r. IsShownBy r (directions at.tables at.before call.number agreement) (counted_by at.tables at.before call.number (Some agreement)) in
+      let P : Option (MeteredRelay A) → Type 0 =
+      λ r. IsRepresentedBy r (directions at.tables at.before call.number agreement) (counted_by at.tables at.before call.number (Some agreement)) in
       subst P (sym none) (kept_under at call on agreement agreed relays carried)
 
-  module _ (at : Setting A) (what : What A) (plan : Plan A) where
-    abbrev by : Option (Carried A)
-    by = carried_by at.line (call_on at.world at.line) (packet_in what)
+  module _ (at : StepContext A) (what : What A) (plan : Plan A) where
+    abbrev by : Option (RelayedPacket A)
+    by = relayed_by at.line (call_on at.world at.line) (packet_in what)
 
     -- what is planned for a packet, or for none
-    abbrev Planned : Option (Carried A) → Type 0
+    abbrev Planned : Option (RelayedPacket A) → Type 0
     Planned c =
-        (told : Told A) × Carries at c plan.outcome told × Relays at.tables at.before c (carries at.line (call_on at.world at.line) plan.outcome) plan.carriage
+        (told : EventOutputs A) × Carries at c plan.outcome told × Relays at.tables at.before c (carries at.line (call_on at.world at.line) plan.outcome) plan.relay_update
         × IsPlan plan at told (carries at.line (call_on at.world at.line) plan.outcome)
 
-    planned_so : (c : Option (Carried A)) → by ≡ c → Planned c → PlansCarried at what plan
+    planned_so : (c : Option (RelayedPacket A)) → by ≡ c → Planned c → PlansRelayed at what plan
     planned_so c is planned =
         let it = subst Planned (sym is) planned in
         record { told = it.0; acts = it.1; relays = it.2; planned = it.3 }
 
     -- nothing changes
-    abbrev quietly : Told A → Type 0
+    abbrev quietly : EventOutputs A → Type 0
     quietly told = IsPlan plan at told (carries at.line (call_on at.world at.line) plan.outcome)
 
-    still : (told : Told A) → plan.outcome ≡ Plain → IsPlan plan at told [] → quietly told
+    still : (told : EventOutputs A) → plan.outcome ≡ Plain → IsPlan plan at told [] → quietly told
     still told plain planned =
         let P : Outcome → Type 0 = λ o. IsPlan plan at told (carries at.line (call_on at.world at.line) o) in
         subst P (sym plain) planned
 
-    nothing_carried : by ≡ None → plan.outcome ≡ Plain → plan.carriage ≡ None → IsPlan plan at nothing_told [] → PlansCarried at what plan
+    nothing_carried : by ≡ None → plan.outcome ≡ Plain → plan.relay_update ≡ None → IsPlan plan at no_outputs [] → PlansRelayed at what plan
     nothing_carried none plain quiet planned =
-        let R : Outcome → Type 0 = λ o. RelaysFor at.tables (carries at.line (call_on at.world at.line) o) plan.carriage in
-        planned_so None none (nothing_told, (plain, refl), subst R (sym plain) quiet, still nothing_told plain planned)
+        let R : Outcome → Type 0 = λ o. RelaysFor at.tables (carries at.line (call_on at.world at.line) o) plan.relay_update in
+        planned_so None none (no_outputs, (plain, refl), subst R (sym plain) quiet, still no_outputs plain planned)
 
     -- a line in no call
-    pub in_no_call : call_on at.world at.line ≡ None → plan.outcome ≡ Plain → plan.carriage ≡ None → IsPlan plan at nothing_told [] → PlansCarried at what plan
-    in_no_call is = nothing_carried (ap (λ found. carried_by at.line found (packet_in what)) is)
+    pub in_no_call : call_on at.world at.line ≡ None → plan.outcome ≡ Plain → plan.relay_update ≡ None → IsPlan plan at no_outputs [] → PlansRelayed at what plan
+    in_no_call is = nothing_carried (ap (λ found. relayed_by at.line found (packet_in what)) is)
 
     -- no packet
-    pub of_no_packet : None ≡ packet_in what → plan.outcome ≡ Plain → plan.carriage ≡ None → IsPlan plan at nothing_told [] → PlansCarried at what plan
-    of_no_packet is = nothing_carried (ap (carried_by at.line (call_on at.world at.line)) (sym is) ∙ no_packet at.line (call_on at.world at.line))
+    pub of_no_packet : None ≡ packet_in what → plan.outcome ≡ Plain → plan.relay_update ≡ None → IsPlan plan at no_outputs [] → PlansRelayed at what plan
+    of_no_packet is = nothing_carried (ap (relayed_by at.line (call_on at.world at.line)) (sym is) ∙ no_packet at.line (call_on at.world at.line))
 
     module _ (call : LiveCall) (on : call_on at.world at.line ≡ Some (entry_of call)) (packet : Packet A) (is : Some packet ≡ packet_in what) where
       by_this : by ≡ option_map (λ agreement. carried_of at.line (entry_of call) agreement packet) call.agreed
-      by_this = ap (λ found. carried_by at.line found (packet_in what)) on ∙ ap (carried_by at.line (Some (entry_of call))) (sym is)
+      by_this = ap (λ found. relayed_by at.line found (packet_in what)) on ∙ ap (relayed_by at.line (Some (entry_of call))) (sym is)
 
       -- a call that is not connected
-      pub unconnected : call.agreed ≡ None → plan.outcome ≡ Plain → plan.carriage ≡ None → IsPlan plan at nothing_told [] → PlansCarried at what plan
+      pub unconnected : call.agreed ≡ None → plan.outcome ≡ Plain → plan.relay_update ≡ None → IsPlan plan at no_outputs [] → PlansRelayed at what plan
       unconnected none = nothing_carried (by_this ∙ ap (option_map (λ agreement. carried_of at.line (entry_of call) agreement packet)) none)
 
-      module _ (agreement : Agreement) (agreed : call.agreed ≡ Some agreement) (relays : List (Option (Metered A))) (carried : AreCarried at.tables at.before at.world relays)
-          (kept : Metered A) (under : Some kept ≡ relay_under relays call.caller) where
-        abbrev its : Carried A
+      module _ (agreement : Agreement) (agreed : call.agreed ≡ Some agreement) (relays : List (Option (MeteredRelay A))) (carried : RelaysRepresentCalls at.tables at.before at.world relays)
+          (kept : MeteredRelay A) (under : Some kept ≡ relay_under relays call.caller) where
+        abbrev its : RelayedPacket A
         its = carried_of at.line (entry_of call) agreement packet
 
         abbrev shown : Coupled A
@@ -128,9 +132,9 @@ module _ {A : Type 0} where
         abbrev judged_it : Option ℕ
         judged_it = judged_at shown its.arrival
 
-        it_shows : IsShownBy (Some kept) shown meter
+        it_shows : IsRepresentedBy (Some kept) shown meter
         it_shows =
-            let P : Option (Metered A) → Type 0 = λ r. IsShownBy r shown meter in
+            let P : Option (MeteredRelay A) → Type 0 = λ r. IsRepresentedBy r shown meter in
             subst P (sym under) (kept_under at call on agreement agreed relays carried)
 
         it_is : by ≡ Some its
@@ -138,7 +142,7 @@ module _ {A : Type 0} where
 
         -- its meter says whether the packet is past the limit
         abbrev Counting : Result Counted OverLimit → Type 0
-        Counting result = (before : Coupled A) → ShowsCall kept.relay before
+        Counting result = (before : Coupled A) → RepresentsCall kept.relay before
             → Counts kept.meter its.arrival.here (judged packet (sent_by its.arrival.here before) (received_by its.arrival.here before)) result
 
         counted_so : (result : Result Counted OverLimit) → Counting result → Counts meter its.arrival.here judged_it result
@@ -151,26 +155,26 @@ module _ {A : Type 0} where
         past_is past is' = ap (λ n. goes_past at.tables.segment_limit n judged_it) (sym (counted_here at.tables at.before call.number (Some agreement) its.arrival.here)) ∙ is'
 
         pub goes_through : (result : Result Counted OverLimit) (counted : Counted) → result ≡ Ok counted → Counting result
-            → (relay : KeptPair A) (moves : List (Move A))
-            → ((before : Coupled A) → ShowsCall kept.relay before → Follows its.arrival.here (turn_of its.arrival.here packet) before relay moves)
-            → plan.outcome ≡ Plain → plan.carriage ≡ Some (record { caller = call.caller; metered = record { relay = relay; meter = counted } })
-            → plan.outputs.outputs ≡ map (send_on at.world (call_of_kept call)) moves → plan.cancelled ≡ None → plan.change ≡ None → plan.records.items ≡ []
-            → PlansCarried at what plan
-        goes_through result counted ok counts relay moves follows plain carriage outputs uncancelled unchanged none =
+            → (relay : StoredDirections A) (moves : List (Move A))
+            → ((before : Coupled A) → RepresentsCall kept.relay before → Follows its.arrival.here (turn_of its.arrival.here packet) before relay moves)
+            → plan.outcome ≡ Plain → plan.relay_update ≡ Some (record { caller = call.caller; metered = record { relay = relay; meter = counted } })
+            → plan.outputs.outputs ≡ map (send_on at.world (call_of_stored call)) moves → plan.cancelled ≡ None → plan.change ≡ None → plan.records.items ≡ []
+            → PlansRelayed at what plan
+        goes_through result counted ok counts relay moves follows plain relay_update outputs uncancelled unchanged none =
             let C : Result Counted OverLimit → Type 0 = λ r. Counts meter its.arrival.here judged_it r in
             let within = subst C ok (counted_so result counts) in
             let past : is_past_limit at.tables at.before (Some its) ≡ false = past_is false within.0 in
             let it = follows shown it_shows.0 in
-            let told : Told A = carried_told at.tables at.before at.world (Some its) in
+            let told : EventOutputs A = outputs_of_relayed at.tables at.before at.world (Some its) in
             let A' : Bool → Type 0 = λ b. CarriesAs at (Some its) b plan.outcome told in
-            let R' : Bool → Type 0 = λ b. RelaysOn at.tables at.before its b plan.carriage in
-            let sent : List (Output A) = map (send_on at.world (call_of_kept call)) (turn_of_carried at.tables at.before its).moves in
+            let R' : Bool → Type 0 = λ b. RelaysOn at.tables at.before its b plan.relay_update in
+            let sent : List (Output A) = map (send_on at.world (call_of_stored call)) (turn_of_relayed at.tables at.before its).moves in
             planned_so (Some its) it_is (
               told,
               subst A' (sym past) (plain, refl),
-              subst R' (sym past) (record { metered = record { relay = relay; meter = counted }; kept = carriage; shows = (it.shown, within.1) }),
+              subst R' (sym past) (record { metered = record { relay = relay; meter = counted }; kept = relay_update; shows = (it.shown, within.1) }),
               still told plain (record {
-                outputs = outputs ∙ ap (map (send_on at.world (call_of_kept call))) it.moves ∙ carried_alone sent;
+                outputs = outputs ∙ ap (map (send_on at.world (call_of_stored call))) it.moves ∙ carried_alone sent;
                 records = none;
                 does = planned_nothing uncancelled unchanged;
               }),
@@ -180,17 +184,17 @@ module _ {A : Type 0} where
             planned_nothing uncancelled unchanged = ap (λ c. applied_if_any c (freed_if_any plan.cancelled at.world)) unchanged ∙ ap (λ l. freed_if_any l at.world) uncancelled
 
         pub goes_beyond : (result : Result Counted OverLimit) (over : OverLimit) → result ≡ Err over → Counting result
-            → plan.outcome ≡ Exceeded → plan.carriage ≡ None
-            → IsPlan plan at (told_of_excess at) (leaves at.line IsCleared NETWORK_CONGESTION NO_ADDITIONAL_INFORMATION (call_on at.world at.line) ∷ [])
-            → PlansCarried at what plan
+            → plan.outcome ≡ Exceeded → plan.relay_update ≡ None
+            → IsPlan plan at (outputs_of_excess at) (leaves at.line IsCleared NETWORK_CONGESTION NO_ADDITIONAL_INFORMATION (call_on at.world at.line) ∷ [])
+            → PlansRelayed at what plan
         goes_beyond result over err counts exceeded quiet planned =
             let C : Result Counted OverLimit → Type 0 = λ r. Counts meter its.arrival.here judged_it r in
             let past : is_past_limit at.tables at.before (Some its) ≡ true = past_is true (subst C err (counted_so result counts)) in
-            let A' : Bool → Type 0 = λ b. CarriesAs at (Some its) b plan.outcome (told_of_excess at) in
-            let R' : Bool → Type 0 = λ b. RelaysOn at.tables at.before its b plan.carriage in
-            let P : Outcome → Type 0 = λ o. IsPlan plan at (told_of_excess at) (carries at.line (call_on at.world at.line) o) in
+            let A' : Bool → Type 0 = λ b. CarriesAs at (Some its) b plan.outcome (outputs_of_excess at) in
+            let R' : Bool → Type 0 = λ b. RelaysOn at.tables at.before its b plan.relay_update in
+            let P : Outcome → Type 0 = λ o. IsPlan plan at (outputs_of_excess at) (carries at.line (call_on at.world at.line) o) in
             planned_so (Some its) it_is (
-              told_of_excess at,
+              outputs_of_excess at,
               subst A' (sym past) (exceeded, refl),
               subst R' (sym past) quiet,
               subst P (sym exceeded) planned,

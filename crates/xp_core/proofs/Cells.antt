@@ -2,10 +2,10 @@
 use Rattle.std.proofs.Common.{◌≡◌, ℕ, None, refl}
 use Rattle.xp_channel.specs.declared.action.Action.{Action}
 use Rattle.xp_channel.specs.declared.action.Action.TheVariants.{Nothing, Rise, Fall, NewCall, Collision, Answer, Confirm, Free, Error, Relayed, Expired}
-use Rattle.xp_channel.specs.declared.kind.Kind.{Kind}
-use Rattle.xp_channel.specs.declared.kind.Kind.TheVariants as kinds
+use Rattle.xp_channel.specs.declared.kind.EventKind.{EventKind}
+use Rattle.xp_channel.specs.declared.kind.EventKind.TheVariants as kinds
 use Rattle.xp_channel.specs.Table.{cell}
-use Rattle.xp_core.specs.Channel.{State, Off, Ready, Waiting, Ringing, Talking, Cleared, call_of, channel_of}
+use Rattle.xp_machine.specs.Channel.{State, Off, Ready, Waiting, Ringing, Talking, Cleared, call_of, channel_of}
 
 abbrev pub Suits : Action → State → Type 0
 Suits Rise state = call_of state ≡ None
@@ -20,7 +20,7 @@ Suits (Error diagnostic) state = Unit {0}
 Suits Relayed state = Unit {0}
 Suits Expired state = Unit {0}
 
-pub suits : (state : State) (kind : Kind) → Suits (cell (channel_of state) kind) state
+pub suits : (state : State) (kind : EventKind) → Suits (cell (channel_of state) kind) state
 suits Off kinds.Up = refl
 suits Off kinds.Down = tt
 suits Off kinds.Call = tt
@@ -29,7 +29,7 @@ suits Off kinds.Clear = tt
 suits Off kinds.ClearConfirm = tt
 suits Off kinds.Relayed = tt
 suits Off kinds.Expire = tt
-suits Off (kinds.Wrong diagnostic) = tt
+suits Off (kinds.Malformed diagnostic) = tt
 suits Ready kinds.Up = tt
 suits Ready kinds.Down = tt
 suits Ready kinds.Call = refl
@@ -38,7 +38,7 @@ suits Ready kinds.Clear = tt
 suits Ready kinds.ClearConfirm = tt
 suits Ready kinds.Relayed = tt
 suits Ready kinds.Expire = tt
-suits Ready (kinds.Wrong diagnostic) = tt
+suits Ready (kinds.Malformed diagnostic) = tt
 suits (Waiting number) kinds.Up = tt
 suits (Waiting number) kinds.Down = tt
 suits (Waiting number) kinds.Call = tt
@@ -47,7 +47,7 @@ suits (Waiting number) kinds.Clear = tt
 suits (Waiting number) kinds.ClearConfirm = tt
 suits (Waiting number) kinds.Relayed = tt
 suits (Waiting number) kinds.Expire = tt
-suits (Waiting number) (kinds.Wrong diagnostic) = tt
+suits (Waiting number) (kinds.Malformed diagnostic) = tt
 suits (Ringing number) kinds.Up = tt
 suits (Ringing number) kinds.Down = tt
 suits (Ringing number) kinds.Call = (number, refl)
@@ -56,7 +56,7 @@ suits (Ringing number) kinds.Clear = tt
 suits (Ringing number) kinds.ClearConfirm = tt
 suits (Ringing number) kinds.Relayed = tt
 suits (Ringing number) kinds.Expire = tt
-suits (Ringing number) (kinds.Wrong diagnostic) = tt
+suits (Ringing number) (kinds.Malformed diagnostic) = tt
 suits (Talking number) kinds.Up = tt
 suits (Talking number) kinds.Down = tt
 suits (Talking number) kinds.Call = tt
@@ -65,7 +65,7 @@ suits (Talking number) kinds.Clear = tt
 suits (Talking number) kinds.ClearConfirm = tt
 suits (Talking number) kinds.Relayed = tt
 suits (Talking number) kinds.Expire = tt
-suits (Talking number) (kinds.Wrong diagnostic) = tt
+suits (Talking number) (kinds.Malformed diagnostic) = tt
 suits Cleared kinds.Up = tt
 suits Cleared kinds.Down = tt
 suits Cleared kinds.Call = tt
@@ -74,4 +74,4 @@ suits Cleared kinds.Clear = refl
 suits Cleared kinds.ClearConfirm = refl
 suits Cleared kinds.Relayed = tt
 suits Cleared kinds.Expire = tt
-suits Cleared (kinds.Wrong diagnostic) = tt
+suits Cleared (kinds.Malformed diagnostic) = tt

@@ -9,58 +9,58 @@ use Rattle.xp_causes.specs.declared.clearing_cause.TheConstants.{REMOTE_PROCEDUR
 use Rattle.xp_charge.specs.Meter.{opening}
 use Rattle.xp_relay.specs.Coupled.{coupled}
 use Rattle.xp_subs.specs.Tables.{address_of}
-use Rattle.xp_core.specs.declared.call.LiveCall.{LiveCall}
+use Rattle.xp_machine.specs.declared.call.LiveCall.{LiveCall}
 use Rattle.xp_core.specs.declared.outcome.Outcome.{Outcome}
 use Rattle.xp_core.specs.declared.outcome.Outcome.TheVariants.{Plain, Connected, Declined}
 use Rattle.xp_core.specs.declared.output.Output.{Output}
 use Rattle.xp_core.specs.declared.plan.Plan.{Plan}
-use Rattle.xp_core.specs.declared.relays.Carriage.{Carriage}
-use Rattle.xp_core.specs.Acts.{Answers, IsConfirmed, agreement_of, told_confirmed, told_connected, told_of_error}
+use Rattle.xp_machine.specs.declared.relays.RelayUpdate.{RelayUpdate}
+use Rattle.xp_core.specs.Acts.{Answers, IsConfirmed, agreement_of, outputs_of_clear, outputs_of_answer, outputs_of_error}
 use Rattle.xp_core.specs.Agreed.{AllHaveTerms}
-use Rattle.xp_core.specs.Changes.{Change, Connects, IsCleared}
-use Rattle.xp_core.specs.Kept.{call_of_kept, entry_of}
-use Rattle.xp_core.specs.Plan.{IsPlainPlan, IsPlan, IsToldOn, PlansAnswer, PlansClear}
-use Rattle.xp_core.specs.Carried.{terms_of}
-use Rattle.xp_core.specs.Does.{answers as answered_by, confirms, leaves}
-use Rattle.xp_core.specs.Relays.{IsRelayed, RelaysFor}
-use Rattle.xp_core.specs.Setting.{Setting}
+use Rattle.xp_machine.specs.Changes.{Change, Connects, IsCleared}
+use Rattle.xp_machine.specs.StoredState.{call_of_stored, entry_of}
+use Rattle.xp_core.specs.steps.Plan.{IsPlainPlan, IsPlan, IsToldOn, PlansAnswer, PlansClear}
+use Rattle.xp_machine.specs.RelayTerms.{terms_of}
+use Rattle.xp_core.specs.Effects.{answers as answered_by, confirms, leaves}
+use Rattle.xp_core.specs.steps.Relays.{IsRelayed, RelaysFor}
+use Rattle.xp_core.specs.StepContext.{StepContext}
 use Rattle.xp_core.specs.Table.{CallAccepted, ClearRequest}
-use Rattle.xp_core.specs.Told.{Told, nothing_told}
-use Rattle.xp_core.specs.World.{Call, World, call_on}
-use Rattle.xp_core.proofs.InCall.{shown_on}
+use Rattle.xp_core.specs.EventOutputs.{EventOutputs, no_outputs}
+use Rattle.xp_machine.specs.World.{Call, World, call_on}
+use Rattle.xp_machine.proofs.InCall.{shown_on}
 use Rattle.xp_core.proofs.Quiet.{leaves_quiet}
 
-module _ {A : Type 0} (at : Setting A) (clear : ClearRequest A) (plan : Plan A) (far : List (Output A)) where
-  confirms_as : (found : Option (ℕ × Call)) → plan.outcome ≡ Plain → IsToldOn at clear found far → IsConfirmed at clear found plan.outcome (told_confirmed at found far)
-  confirms_as None plain told = (plain, ap (told_confirmed at None) told)
-  confirms_as (Some found) plain told = record { plain = plain; packet = told.0; carried = told.1; told_is = ap (told_confirmed at (Some found)) told.2 }
+module _ {A : Type 0} (at : StepContext A) (clear : ClearRequest A) (plan : Plan A) (far : List (Output A)) where
+  confirms_as : (found : Option (ℕ × Call)) → plan.outcome ≡ Plain → IsToldOn at clear found far → IsConfirmed at clear found plan.outcome (outputs_of_clear at found far)
+  confirms_as None plain told = (plain, ap (outputs_of_clear at None) told)
+  confirms_as (Some found) plain told = record { plain = plain; packet = told.0; carried = told.1; told_is = ap (outputs_of_clear at (Some found)) told.2 }
 
-  pub confirmed : plan.outcome ≡ Plain → plan.carriage ≡ None → IsToldOn at clear (call_on at.world at.line) far
-      → IsPlan plan at (told_confirmed at (call_on at.world at.line) far) (confirms at.line (Some clear) (call_on at.world at.line)) → PlansClear at clear plan
+  pub confirmed : plan.outcome ≡ Plain → plan.relay_update ≡ None → IsToldOn at clear (call_on at.world at.line) far
+      → IsPlan plan at (outputs_of_clear at (call_on at.world at.line) far) (confirms at.line (Some clear) (call_on at.world at.line)) → PlansClear at clear plan
   confirmed plain quiet told planned = record {
-    told = told_confirmed at (call_on at.world at.line) far;
+    told = outputs_of_clear at (call_on at.world at.line) far;
     acts = confirms_as (call_on at.world at.line) plain told;
-    relays = leaves_quiet at.tables at.line _ _ _ (call_on at.world at.line) plan.carriage quiet;
+    relays = leaves_quiet at.tables at.line _ _ _ (call_on at.world at.line) plan.relay_update quiet;
     planned = planned;
   }
 
-module _ {A : Type 0} (at : Setting A) (answer : CallAccepted A) (plan : Plan A) where
-  abbrev Acts : Told A → Option (ℕ × Call) → Outcome → Type 0
+module _ {A : Type 0} (at : StepContext A) (answer : CallAccepted A) (plan : Plan A) where
+  abbrev Acts : EventOutputs A → Option (ℕ × Call) → Outcome → Type 0
   Acts told found outcome = Answers at (Some answer) found outcome told
 
-  abbrev Planned : Told A → Option (ℕ × Call) → Outcome → Type 0
+  abbrev Planned : EventOutputs A → Option (ℕ × Call) → Outcome → Type 0
   Planned told found outcome = IsPlan plan at told (answered_by at.line found outcome)
 
-  -- the relay that an answer asks for
+  -- the relay that an answer needs
   abbrev Settled : Option (ℕ × Call) → Outcome → Type 0
-  Settled found outcome = RelaysFor at.tables (answered_by at.line found outcome) plan.carriage
+  Settled found outcome = RelaysFor at.tables (answered_by at.line found outcome) plan.relay_update
 
-  pub not_called : None ≡ call_on at.world at.line → plan.outcome ≡ Plain → plan.carriage ≡ None → IsPlan plan at nothing_told [] → PlansAnswer at answer plan
+  pub not_called : None ≡ call_on at.world at.line → plan.outcome ≡ Plain → plan.relay_update ≡ None → IsPlan plan at no_outputs [] → PlansAnswer at answer plan
   not_called is plain quiet planned = record {
     relays = subst (λ found. Settled found plan.outcome) is quiet;
-    told = nothing_told;
-    acts = subst (λ found. Acts nothing_told found plan.outcome) is (plain, refl);
-    planned = subst (λ found. Planned nothing_told found plan.outcome) is planned;
+    told = no_outputs;
+    acts = subst (λ found. Acts no_outputs found plan.outcome) is (plain, refl);
+    planned = subst (λ found. Planned no_outputs found plan.outcome) is planned;
   }
 
   module _ (call : LiveCall) (is : Some (entry_of call) ≡ call_on at.world at.line) (address : List ℕ) (address_is : address ≡ address_of at.tables at.line)
@@ -74,11 +74,11 @@ module _ {A : Type 0} (at : Setting A) (answer : CallAccepted A) (plan : Plan A)
         subst IsGiven same (subst P address_is answered)
 
     pub connected : (connection : Connection A) → given ≡ answers.Connected connection → plan.outcome ≡ Connected (agreement_of connection)
-        → IsRelayed (call_of_kept call) (coupled (terms_of (agreement_of connection))) (opening at.tables.segment_limit) plan.carriage
-        → IsPlan plan at (told_connected at.world call.caller connection.packet) (Connects call.number (call_of_kept call) (agreement_of connection) ∷ [])
+        → IsRelayed (call_of_stored call) (coupled (terms_of (agreement_of connection))) (opening at.tables.segment_limit) plan.relay_update
+        → IsPlan plan at (outputs_of_answer at.world call.caller connection.packet) (Connects call.number (call_of_stored call) (agreement_of connection) ∷ [])
         → PlansAnswer at answer plan
     connected connection same outcome relayed planned =
-        let told = told_connected at.world call.caller connection.packet in
+        let told = outputs_of_answer at.world call.caller connection.packet in
         record {
           relays = subst (λ found. Settled found plan.outcome) is (subst (Settled (Some (entry_of call))) (sym outcome) relayed);
           told = told;
@@ -91,11 +91,11 @@ module _ {A : Type 0} (at : Setting A) (answer : CallAccepted A) (plan : Plan A)
           planned = subst (λ found. Planned told found plan.outcome) is (subst (Planned told (Some (entry_of call))) (sym outcome) planned);
         }
 
-    pub declined : (diagnostic : ℕ) → given ≡ answers.Refused diagnostic → plan.outcome ≡ Declined diagnostic → plan.carriage ≡ None
-        → IsPlan plan at (told_of_error at diagnostic) (leaves at.line IsCleared REMOTE_PROCEDURE_ERROR diagnostic (call_on at.world at.line) ∷ [])
+    pub declined : (diagnostic : ℕ) → given ≡ answers.Refused diagnostic → plan.outcome ≡ Declined diagnostic → plan.relay_update ≡ None
+        → IsPlan plan at (outputs_of_error at diagnostic) (leaves at.line IsCleared REMOTE_PROCEDURE_ERROR diagnostic (call_on at.world at.line) ∷ [])
         → PlansAnswer at answer plan
     declined diagnostic same outcome quiet planned =
-        let told : Told A = told_of_error at diagnostic in
+        let told : EventOutputs A = outputs_of_error at diagnostic in
         let Q : Option (ℕ × Call) → Type 0 = λ found. IsPlan plan at told (leaves at.line IsCleared REMOTE_PROCEDURE_ERROR diagnostic found ∷ []) in
         record {
           relays = subst (λ found. Settled found plan.outcome) is (subst (Settled (Some (entry_of call))) (sym outcome) quiet);
@@ -109,23 +109,23 @@ module _ {A : Type 0} (at : Setting A) (answer : CallAccepted A) (plan : Plan A)
 
 -- the sizes that the line's call indicated are in their ranges
 pub indicated : (world : World) (line : ℕ) (call : LiveCall) → Some (entry_of call) ≡ call_on world line → AllHaveTerms world → AreTerms call.setup.indicated
-indicated world line call is terms = (terms call.number (call_of_kept call) (shown_on world line (entry_of call) (sym is)).1).indicated
+indicated world line call is terms = (terms call.number (call_of_stored call) (shown_on world line (entry_of call) (sym is)).1).indicated
 
 -- with another outcome the rest of a plan is the same
-pub settled_otherwise : {A : Type 0} (plan : Plan A) (outcome : Outcome) (next : Plan A) (at : Setting A) (told : Told A) (changes : List Change)
+pub settled_otherwise : {A : Type 0} (plan : Plan A) (outcome : Outcome) (next : Plan A) (at : StepContext A) (told : EventOutputs A) (changes : List Change)
     → next ≡ record plan { outcome = outcome } → IsPlainPlan plan at told changes → IsPlan next at told changes
 settled_otherwise {A} plan outcome next at told changes is planned =
     let P : Plan A → Type 0 = λ p. IsPlan p at told changes in
     subst P (sym is) (record { outputs = planned.planned.outputs; records = planned.planned.records; does = planned.planned.does })
 
--- and it asks for no relay
-pub quiet_otherwise : {A : Type 0} (plan : Plan A) (outcome : Outcome) (next : Plan A) (at : Setting A) (told : Told A) (changes : List Change)
-    → next ≡ record plan { outcome = outcome } → IsPlainPlan plan at told changes → next.carriage ≡ None
-quiet_otherwise plan outcome next at told changes is planned = ap (λ p. p.carriage) is ∙ planned.quiet
+-- and it needs no relay
+pub quiet_otherwise : {A : Type 0} (plan : Plan A) (outcome : Outcome) (next : Plan A) (at : StepContext A) (told : EventOutputs A) (changes : List Change)
+    → next ≡ record plan { outcome = outcome } → IsPlainPlan plan at told changes → next.relay_update ≡ None
+quiet_otherwise plan outcome next at told changes is planned = ap (λ p. p.relay_update) is ∙ planned.quiet
 
 -- with another relay too
-pub carried_otherwise : {A : Type 0} (plan : Plan A) (carriage : Option (Carriage A)) (next : Plan A) (at : Setting A) (told : Told A) (changes : List Change)
-    → next ≡ record plan { carriage = carriage } → IsPlan plan at told changes → IsPlan next at told changes
-carried_otherwise {A} plan carriage next at told changes is planned =
+pub carried_otherwise : {A : Type 0} (plan : Plan A) (relay_update : Option (RelayUpdate A)) (next : Plan A) (at : StepContext A) (told : EventOutputs A) (changes : List Change)
+    → next ≡ record plan { relay_update = relay_update } → IsPlan plan at told changes → IsPlan next at told changes
+carried_otherwise {A} plan relay_update next at told changes is planned =
     let P : Plan A → Type 0 = λ p. IsPlan p at told changes in
     subst P (sym is) (record { outputs = planned.outputs; records = planned.records; does = planned.does })

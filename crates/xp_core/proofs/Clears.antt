@@ -1,9 +1,9 @@
 -- The clear packets among what is put out.
 use Rattle.std.proofs.Common.{◌≡◌, ◌≢◌, ℕ, cond, eqb, Bool, List, [], ◌∷◌, ◌++◌, Option, None, Some, refl, ap, ◌∙◌}
 use Rattle.std.proofs.lemmas.Bool.{eq-eqb, ne_eqb}
-use Rattle.xp_answer.specs.CarriedOn.{CarriedOn, block_with}
+use Rattle.xp_answer.specs.ForwardedClear.{ForwardedClear, block_with}
 use Rattle.xp_answer.specs.Information.{information_field}
-use Rattle.xp_causes.specs.Told.{cause_told, diagnostic_told}
+use Rattle.xp_causes.specs.Indicated.{indicated_cause, indicated_diagnostic}
 use Rattle.xp_causes.specs.declared.clearing_cause.TheConstants.{NUMBER_BUSY, OUT_OF_ORDER}
 use Rattle.xp_causes.specs.declared.diagnostic.TheConstants.{CALL_COLLISION, NO_ADDITIONAL_INFORMATION}
 use Rattle.xp_causes.specs.declared.refusal.Refusal.{Refusal}
@@ -15,13 +15,13 @@ use Rattle.xp_core.specs.declared.event.What.{What}
 use Rattle.xp_core.specs.declared.event.What.TheVariants.{Up, Down, Frame, WrongFrame, Expire, Stall}
 use Rattle.xp_core.specs.declared.output.Output.{Output}
 use Rattle.xp_core.specs.declared.output.Put.TheVariants.{Send}
-use Rattle.xp_core.specs.Acts.{cancelled_told, closed, told_both, told_confirmed, told_of_fall}
-use Rattle.xp_core.specs.Channel.{INITIAL_IDENTIFIER}
+use Rattle.xp_core.specs.Acts.{outputs_of_cancel, closed, outputs_to_both, outputs_of_clear, outputs_of_fall}
+use Rattle.xp_machine.specs.Channel.{INITIAL_IDENTIFIER}
 use Rattle.xp_core.specs.Records.{clear_to, clears_to}
-use Rattle.xp_core.specs.Setting.{Setting}
+use Rattle.xp_core.specs.StepContext.{StepContext}
 use Rattle.xp_core.specs.Table.{ClearRequest}
-use Rattle.xp_core.specs.Told.{clear_far, clear_indication, clear_own, confirm_own, far_information, outputs_of, own_information, refused_told, send_as, send_far, taken_told}
-use Rattle.xp_core.specs.World.{Call, World, call_on, far_end}
+use Rattle.xp_core.specs.EventOutputs.{clear_far, clear_indication, clear_own, confirm_own, far_information, outputs_of, own_information, outputs_of_refusal, send_as, send_far, outputs_of_incoming_call}
+use Rattle.xp_machine.specs.World.{Call, World, call_on, far_end}
 
 module _ {X : Type 0} where
   mine : (line : ℕ) (x : X) → cond (eqb line line) (x ∷ []) [] ++ [] ≡ x ∷ []
@@ -41,18 +41,18 @@ module _ {X : Type 0} where
 abbrev pub told_in : {A : Type 0} → Option SegmentCounts → Option (Block A)
 told_in information = block_with (information_field information) []
 
-module _ {A : Type 0} (at : Setting A) (found : ℕ × Call) (is : call_on at.world at.line ≡ Some found) where
+module _ {A : Type 0} (at : StepContext A) (found : ℕ × Call) (is : call_on at.world at.line ≡ Some found) where
   abbrev far_line : ℕ
   far_line = far_end found.1 at.line
 
   abbrev information : Option (Block A)
   information = told_in (far_information at (Some found))
 
-  -- what the far end is told, with these before it
+  -- what the far end is told, after these outputs
   abbrev cleared_by : List (Output A) → List (Output A) → List (Packet A)
   cleared_by own far = clears_to far_line (own ++ far ++ [])
 
-  pub fall_told : (what : What A) → clears_to far_line (outputs_of (told_of_fall at what)) ≡ Clear OUT_OF_ORDER (Some NO_ADDITIONAL_INFORMATION) information ∷ []
+  pub fall_told : (what : What A) → clears_to far_line (outputs_of (outputs_of_fall at what)) ≡ Clear OUT_OF_ORDER (Some NO_ADDITIONAL_INFORMATION) information ∷ []
   fall_told what = ap (λ call. cleared_by (closed at.world at.line what) (clear_far at call OUT_OF_ORDER NO_ADDITIONAL_INFORMATION)) is ∙ by what where
     by : (w : What A) → cleared_by (closed at.world at.line w) (clear_far at (Some found) OUT_OF_ORDER NO_ADDITIONAL_INFORMATION) ≡ Clear OUT_OF_ORDER (Some NO_ADDITIONAL_INFORMATION) information ∷ []
     by Stall = mine far_line (Clear OUT_OF_ORDER (Some NO_ADDITIONAL_INFORMATION) information)
@@ -62,19 +62,19 @@ module _ {A : Type 0} (at : Setting A) (found : ℕ × Call) (is : call_on at.wo
     by (WrongFrame wrong) = mine far_line (Clear OUT_OF_ORDER (Some NO_ADDITIONAL_INFORMATION) information)
     by Expire = mine far_line (Clear OUT_OF_ORDER (Some NO_ADDITIONAL_INFORMATION) information)
 
-  pub both_told : (near far diagnostic : ℕ) → at.line ≢ far_line → clears_to far_line (outputs_of (told_both at near far diagnostic)) ≡ Clear far (Some diagnostic) information ∷ []
+  pub both_told : (near far diagnostic : ℕ) → at.line ≢ far_line → clears_to far_line (outputs_of (outputs_to_both at near far diagnostic)) ≡ Clear far (Some diagnostic) information ∷ []
   both_told near far diagnostic differ =
       ap (λ call. cleared_by (clear_own at call near diagnostic ∷ []) (clear_far at call far diagnostic)) is
       ∙ second at.line far_line (Clear near (Some diagnostic) (told_in (own_information at (Some found)))) (Clear far (Some diagnostic) information) differ
 
   -- with its confirmation before it
   pub confirmed_told : (clear : ClearRequest A) (packet : Packet A)
-      (carried : CarriedOn found.1.setup.fast clear.cause clear.diagnostic clear.block (far_information at (Some found)) packet)
-      → clears_to far_line (outputs_of (told_confirmed at (Some found) (send_far at.world at.line (Some found) packet)))
-      ≡ Clear (cause_told clear.cause) (Some (diagnostic_told clear.diagnostic)) (block_with carried.field carried.user) ∷ []
+      (carried : ForwardedClear found.1.setup.fast clear.cause clear.diagnostic clear.block (far_information at (Some found)) packet)
+      → clears_to far_line (outputs_of (outputs_of_clear at (Some found) (send_far at.world at.line (Some found) packet)))
+      ≡ Clear (indicated_cause clear.cause) (Some (indicated_diagnostic clear.diagnostic)) (block_with carried.field carried.user) ∷ []
   confirmed_told clear packet carried =
       ap (λ p. cleared_by (confirm_own at (Some found) ∷ []) (send_far at.world at.line (Some found) p)) carried.whole
-      ∙ mine far_line (Clear (cause_told clear.cause) (Some (diagnostic_told clear.diagnostic)) (block_with carried.field carried.user))
+      ∙ mine far_line (Clear (indicated_cause clear.cause) (Some (indicated_diagnostic clear.diagnostic)) (block_with carried.field carried.user))
 
 module _ {A : Type 0} (world : World) (line : ℕ) (found : ℕ × Call) (is : call_on world line ≡ Some found) where
   -- ---- a collision: the caller of the cancelled call, and the colliding line
@@ -87,26 +87,26 @@ module _ {A : Type 0} (world : World) (line : ℕ) (found : ℕ × Call) (is : c
   far_by own taken call = clears_to (far_end found.1 line) (own ++ send_far world line call indication ++ taken)
 
   pub collision_refused : (identifier : ℕ) (why : Refusal) → line ≢ far_end found.1 line
-      → clears_to {A = A} (far_end found.1 line) (outputs_of (refused_told world (cancelled_told world line) line identifier why)) ≡ Clear NUMBER_BUSY (Some CALL_COLLISION) None ∷ []
+      → clears_to {A = A} (far_end found.1 line) (outputs_of (outputs_of_refusal world (outputs_of_cancel world line) line identifier why)) ≡ Clear NUMBER_BUSY (Some CALL_COLLISION) None ∷ []
   collision_refused identifier why differ =
       ap (far_by (send_as world line identifier (clear_indication why.cause why.diagnostic) ∷ []) []) is
       ∙ second line (far_end found.1 line) (Clear why.cause (Some why.diagnostic) None) (Clear NUMBER_BUSY (Some CALL_COLLISION) None) differ
 
   pub collision_turned_down : (identifier : ℕ) (why : Refusal) → far_end found.1 line ≢ line
-      → clears_to {A = A} line (outputs_of (refused_told world (cancelled_told world line) line identifier why)) ≡ Clear why.cause (Some why.diagnostic) None ∷ []
+      → clears_to {A = A} line (outputs_of (outputs_of_refusal world (outputs_of_cancel world line) line identifier why)) ≡ Clear why.cause (Some why.diagnostic) None ∷ []
   collision_turned_down identifier why differ =
       ap (λ call. clears_to line (send_as world line identifier (clear_indication why.cause why.diagnostic) ∷ [] ++ send_far world line call indication ++ [])) is
       ∙ first line (far_end found.1 line) (Clear why.cause (Some why.diagnostic) None) (Clear NUMBER_BUSY (Some CALL_COLLISION) None) differ
 
   pub collision_taken : (called : ℕ) (packet : Packet A) → clear_to (far_end found.1 line) called (Send INITIAL_IDENTIFIER packet) ≡ []
-      → clears_to {A = A} (far_end found.1 line) (outputs_of (taken_told world (cancelled_told world line) called packet)) ≡ Clear NUMBER_BUSY (Some CALL_COLLISION) None ∷ []
+      → clears_to {A = A} (far_end found.1 line) (outputs_of (outputs_of_incoming_call world (outputs_of_cancel world line) called packet)) ≡ Clear NUMBER_BUSY (Some CALL_COLLISION) None ∷ []
   collision_taken called packet none =
       ap (far_by [] (send_as world called INITIAL_IDENTIFIER packet ∷ [])) is
       ∙ ap (λ more. cond (eqb (far_end found.1 line) (far_end found.1 line)) (Clear NUMBER_BUSY (Some CALL_COLLISION) None ∷ []) [] ++ (more ++ [])) none
       ∙ mine (far_end found.1 line) (Clear NUMBER_BUSY (Some CALL_COLLISION) None)
 
 pub turned_down : {A : Type 0} (world : World) (line identifier : ℕ) (why : Refusal)
-    → clears_to {A = A} line (outputs_of (refused_told world [] line identifier why)) ≡ Clear why.cause (Some why.diagnostic) None ∷ []
+    → clears_to {A = A} line (outputs_of (outputs_of_refusal world [] line identifier why)) ≡ Clear why.cause (Some why.diagnostic) None ∷ []
 turned_down world line identifier why = mine line (Clear why.cause (Some why.diagnostic) None)
 
 -- an incoming call is no clear packet

@@ -1,7 +1,7 @@
 -- The segments of the calls, as a history grows.
 use Rattle.std.proofs.Common.{◌≡◌, ◌≢◌, ◌∙◌, ℕ, ◌+◌, ◌≤◌, leb, ltb, cond, false, Option, Some, None, option_to_list, List, [], ◌∷◌, ◌++◌, refl, ap, sym, arith, append_assoc, append-nil}
 use Rattle.std.proofs.lemmas.Bool.{cond_both, cond-true, le-leb, leb-true, ltb-false}
-use Rattle.xp_answer.specs.CarriedOn.{AreCounts}
+use Rattle.xp_answer.specs.ForwardedClear.{AreCounts}
 use Rattle.xp_charge.specs.Counted.{Counted}
 use Rattle.xp_charge.specs.Meter.{counted_from, far_end as other_end, opening}
 use Rattle.xp_facilities.specs.declared.segment_counts.SegmentCounts.{SegmentCounts}
@@ -12,15 +12,19 @@ use Rattle.xp_relay.specs.Runs.{Arrival, run, same_end, turn_on}
 use Rattle.xp_subs.specs.Sound.{IsSound}
 use Rattle.xp_subs.specs.Tables.{Tables}
 use Rattle.xp_core.specs.declared.entry.Entry.{Entry}
-use Rattle.xp_core.specs.declared.outcome.Agreement.{Agreement}
-use Rattle.xp_core.specs.Carried.{Carried, arrivals, carried_in, directions, terms_of}
-use Rattle.xp_core.specs.Relays.{counted_by, counted_with, counting}
-use Rattle.xp_core.specs.Segments.{all_judged_from, goes_past, information_as, information_for, is_past_limit, judged_at, judged_from, segments_from, segments_of, sum_within}
-use Rattle.xp_core.specs.Setting.{Setting}
-use Rattle.xp_core.specs.Told.{far_information, own_information}
-use Rattle.xp_core.specs.World.{Call, World}
+use Rattle.xp_machine.specs.declared.agreement.Agreement.{Agreement}
+use Rattle.xp_core.specs.RelayedPackets.{RelayedPacket, arrivals, relayed_in, directions}
+use Rattle.xp_machine.specs.RelayTerms.{terms_of}
+use Rattle.xp_core.specs.steps.Relays.{counted_by, counted_with}
+use Rattle.xp_machine.specs.Relays.{counting}
+use Rattle.xp_core.specs.Segments.{all_judged_from, is_past_limit, judged_at, judged_from, segments_from, segments_of, sum_within}
+use Rattle.xp_machine.specs.Segments.{goes_past}
+use Rattle.xp_machine.specs.Information.{information_as, information_for}
+use Rattle.xp_core.specs.StepContext.{StepContext}
+use Rattle.xp_core.specs.EventOutputs.{far_information, own_information}
+use Rattle.xp_machine.specs.World.{Call, World}
 use Rattle.xp_core.specs.Worlds.{world_after}
-use Rattle.xp_core.proofs.Carried.{arrivals_on, arrivals_still}
+use Rattle.xp_core.proofs.RelayedPackets.{arrivals_on, arrivals_still}
 
 -- ---- sums
 
@@ -70,11 +74,11 @@ module _ {A : Type 0} where
       told_counts call (segments_of tables history number call) end call.agreed
       (λ e. omega (arith, segments_few tables history number call.agreed e, sound.limits.eight_digits))
 
-  pub own_counts : (at : Setting A) → IsSound at.tables → (found : Option (ℕ × Call)) → AreCounts (own_information at found)
+  pub own_counts : (at : StepContext A) → IsSound at.tables → (found : Option (ℕ × Call)) → AreCounts (own_information at found)
   own_counts at sound None = tt
   own_counts at sound (Some found) = information_counts at.tables sound at.before found.0 found.1 _
 
-  pub far_counts : (at : Setting A) → IsSound at.tables → (found : Option (ℕ × Call)) → AreCounts (far_information at found)
+  pub far_counts : (at : StepContext A) → IsSound at.tables → (found : Option (ℕ × Call)) → AreCounts (far_information at found)
   far_counts at sound None = tt
   far_counts at sound (Some found) = information_counts at.tables sound at.before found.0 found.1 _
 
@@ -108,13 +112,13 @@ module _ {A : Type 0} where
 
   module _ (tables : Tables) (before : List (Entry A)) (world : World) (entry : Entry A) (led : world ≡ world_after tables before) where
     -- no packet for a call of this number
-    pub counted_still : (number : ℕ) (agreement : Agreement) → ((carried : Carried A) → carried_in world entry.event ≡ Some carried → number ≢ carried.number)
+    pub counted_still : (number : ℕ) (agreement : Agreement) → ((carried : RelayedPacket A) → relayed_in world entry.event ≡ Some carried → number ≢ carried.number)
         → counted_by tables (before ++ entry ∷ []) number (Some agreement) ≡ counted_by tables before number (Some agreement)
     counted_still number agreement other =
         ap (count_of tables agreement) (arrivals_still tables before world entry number led other)
 
     -- one for it that is within the limit
-    module _ (c : Carried A) (by : carried_in world entry.event ≡ Some c) where
+    module _ (c : RelayedPacket A) (by : relayed_in world entry.event ≡ Some c) where
       abbrev start : Coupled A
       start = coupled (terms_of c.agreement)
 

@@ -4,14 +4,15 @@ use Rattle.xp_answer.specs.Terms.{AreSettled, AreTerms}
 use Rattle.xp_relay.proofs.Deliveries.{everything_is_delivered}
 use Rattle.xp_subs.specs.Tables.{Tables}
 use Rattle.xp_core.specs.declared.entry.Entry.{Entry}
-use Rattle.xp_core.specs.declared.outcome.Agreement.{Agreement}
+use Rattle.xp_machine.specs.declared.agreement.Agreement.{Agreement}
 use Rattle.xp_core.specs.Agreed.{HasTerms}
-use Rattle.xp_core.specs.Carried.{arrivals, terms_of}
+use Rattle.xp_core.specs.RelayedPackets.{arrivals}
+use Rattle.xp_machine.specs.RelayTerms.{terms_of}
 use Rattle.xp_core.specs.Delivered.{AreDelivered}
 use Rattle.xp_core.specs.Run.{Run}
-use Rattle.xp_core.specs.World.{Call, World}
+use Rattle.xp_machine.specs.World.{Call, World}
 use Rattle.xp_core.proofs.Agreed.{run_agreed}
-use Rattle.xp_core.proofs.Terms.{terms_within}
+use Rattle.xp_machine.proofs.Terms.{terms_within}
 
 -- the terms of a connected call
 pub agreed_terms : (call : Call) (agreement : Agreement) → call.agreed ≡ Some agreement → HasTerms call → AreTerms agreement.terms

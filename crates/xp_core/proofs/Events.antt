@@ -6,59 +6,59 @@ use Rattle.xp_channel.specs.declared.action.Action.{Action}
 use Rattle.xp_channel.specs.declared.action.Action.TheVariants.{Nothing, Rise, Fall, NewCall, Collision, Answer as Accepting, Confirm, Free, Error, Relayed, Expired}
 use Rattle.xp_core.specs.declared.event.What.{What}
 use Rattle.xp_core.specs.declared.plan.Plan.{Plan}
-use Rattle.xp_core.specs.Acts.{Answers, Confirms, IsPlain, Requests, cancelled_told, told_of_error, told_of_fall}
-use Rattle.xp_core.specs.Changes.{Change, GoesOut, IsCleared, IsFree, Leaves, Rises}
-use Rattle.xp_core.specs.Plan.{IsPlainPlan, IsPlan, Plans, PlansAnswer, PlansCarried, PlansClear, PlansRequest}
-use Rattle.xp_core.specs.Relays.{RelaysFor}
-use Rattle.xp_core.specs.Setting.{Setting}
-use Rattle.xp_core.specs.Does.{cancels, collides, confirms, leaves, requests}
+use Rattle.xp_core.specs.Acts.{Answers, Confirms, IsPlain, Requests, outputs_of_cancel, outputs_of_error, outputs_of_fall}
+use Rattle.xp_machine.specs.Changes.{Change, GoesOut, IsCleared, IsFree, Leaves, Rises}
+use Rattle.xp_core.specs.steps.Plan.{IsPlainPlan, IsPlan, Plans, PlansAnswer, PlansRelayed, PlansClear, PlansRequest}
+use Rattle.xp_core.specs.steps.Relays.{RelaysFor}
+use Rattle.xp_core.specs.StepContext.{StepContext}
+use Rattle.xp_core.specs.Effects.{cancels, collides, confirms, leaves, requests}
 use Rattle.xp_core.specs.Table.{CallAccepted, CallRequest, ClearRequest, accepted_in, clear_in, request_in}
-use Rattle.xp_core.specs.Told.{Told, nothing_told}
-use Rattle.xp_core.specs.World.{call_on}
+use Rattle.xp_core.specs.EventOutputs.{EventOutputs, no_outputs}
+use Rattle.xp_machine.specs.World.{call_on}
 use Rattle.xp_core.proofs.Quiet.{collides_quiet, leaves_quiet, requests_quiet}
 
 if_ok : {X E : Type 0} (result : Result X E) (P Q : X → Type 0) → ((x : X) → P x → Q x) → IfOk result P → IfOk result Q
 if_ok (Ok x) P Q leads holds = leads x holds
 if_ok (Err fault) P Q leads holds = tt
 
-module _ {A E : Type 0} (at : Setting A) (what : What A) (action : Action) (result : Result (Plan A) E) where
+module _ {A E : Type 0} (at : StepContext A) (what : What A) (action : Action) (result : Result (Plan A) E) where
   abbrev pub ArePlanned : Action → Type 0
   ArePlanned act = IfOk result (Plans at what act)
 
-  abbrev PlainOf : Told A → List Change → Type 0
+  abbrev PlainOf : EventOutputs A → List Change → Type 0
   PlainOf told changes = IfOk result (λ plan. IsPlainPlan plan at told changes)
 
-  plain : (told : Told A) (plan : Plan A) (changes : List Change) → IsPlainPlan plan at told changes → IsPlain told plan.outcome told
+  plain : (told : EventOutputs A) (plan : Plan A) (changes : List Change) → IsPlainPlan plan at told changes → IsPlain told plan.outcome told
   plain told plan changes planned = (planned.plain, refl)
 
-  pub nothing_planned : Nothing ≡ action → PlainOf nothing_told [] → ArePlanned action
-  nothing_planned is planned = subst ArePlanned is (if_ok result _ _ (λ plan p. record { told = nothing_told; acts = plain nothing_told plan [] p; relays = p.quiet; planned = p.planned }) planned)
+  pub nothing_planned : Nothing ≡ action → PlainOf no_outputs [] → ArePlanned action
+  nothing_planned is planned = subst ArePlanned is (if_ok result _ _ (λ plan p. record { told = no_outputs; acts = plain no_outputs plan [] p; relays = p.quiet; planned = p.planned }) planned)
 
-  pub relayed_planned : Relayed ≡ action → IfOk result (PlansCarried at what) → ArePlanned action
+  pub relayed_planned : Relayed ≡ action → IfOk result (PlansRelayed at what) → ArePlanned action
   relayed_planned is planned = subst ArePlanned is (if_ok result _ _ (λ plan p.
       record { told = p.told; acts = p.acts; relays = p.relays; planned = p.planned }) planned)
 
-  pub rise_planned : Rise ≡ action → PlainOf nothing_told (Rises at.line ∷ []) → ArePlanned action
-  rise_planned is planned = subst ArePlanned is (if_ok result _ _ (λ plan p. record { told = nothing_told; acts = plain nothing_told plan _ p; relays = p.quiet; planned = p.planned }) planned)
+  pub rise_planned : Rise ≡ action → PlainOf no_outputs (Rises at.line ∷ []) → ArePlanned action
+  rise_planned is planned = subst ArePlanned is (if_ok result _ _ (λ plan p. record { told = no_outputs; acts = plain no_outputs plan _ p; relays = p.quiet; planned = p.planned }) planned)
 
-  pub free_planned : Free ≡ action → PlainOf nothing_told (Leaves at.line IsFree ∷ []) → ArePlanned action
-  free_planned is planned = subst ArePlanned is (if_ok result _ _ (λ plan p. record { told = nothing_told; acts = plain nothing_told plan _ p; relays = p.quiet; planned = p.planned }) planned)
+  pub free_planned : Free ≡ action → PlainOf no_outputs (Leaves at.line IsFree ∷ []) → ArePlanned action
+  free_planned is planned = subst ArePlanned is (if_ok result _ _ (λ plan p. record { told = no_outputs; acts = plain no_outputs plan _ p; relays = p.quiet; planned = p.planned }) planned)
 
   pub fall_planned : Fall ≡ action
-      → PlainOf (told_of_fall at what) (leaves at.line GoesOut OUT_OF_ORDER NO_ADDITIONAL_INFORMATION (call_on at.world at.line) ∷ []) → ArePlanned action
+      → PlainOf (outputs_of_fall at what) (leaves at.line GoesOut OUT_OF_ORDER NO_ADDITIONAL_INFORMATION (call_on at.world at.line) ∷ []) → ArePlanned action
   fall_planned is planned = subst ArePlanned is (if_ok result _ _
-      (λ plan p. record { told = told_of_fall at what; acts = plain (told_of_fall at what) plan _ p; relays = leaves_quiet at.tables at.line _ _ _ (call_on at.world at.line) plan.carriage p.quiet; planned = p.planned }) planned)
+      (λ plan p. record { told = outputs_of_fall at what; acts = plain (outputs_of_fall at what) plan _ p; relays = leaves_quiet at.tables at.line _ _ _ (call_on at.world at.line) plan.relay_update p.quiet; planned = p.planned }) planned)
 
   pub error_planned : (diagnostic : ℕ) → Error diagnostic ≡ action
-      → PlainOf (told_of_error at diagnostic) (leaves at.line IsCleared REMOTE_PROCEDURE_ERROR diagnostic (call_on at.world at.line) ∷ []) → ArePlanned action
+      → PlainOf (outputs_of_error at diagnostic) (leaves at.line IsCleared REMOTE_PROCEDURE_ERROR diagnostic (call_on at.world at.line) ∷ []) → ArePlanned action
   error_planned diagnostic is planned = subst ArePlanned is (if_ok result _ _
-      (λ plan p. record { told = told_of_error at diagnostic; acts = plain (told_of_error at diagnostic) plan _ p; relays = leaves_quiet at.tables at.line _ _ _ (call_on at.world at.line) plan.carriage p.quiet; planned = p.planned }) planned)
+      (λ plan p. record { told = outputs_of_error at diagnostic; acts = plain (outputs_of_error at diagnostic) plan _ p; relays = leaves_quiet at.tables at.line _ _ _ (call_on at.world at.line) plan.relay_update p.quiet; planned = p.planned }) planned)
 
   pub expired_planned : Expired ≡ action
-      → PlainOf (told_of_error at TIMER_EXPIRED_FOR_INCOMING_CALL) (leaves at.line IsCleared REMOTE_PROCEDURE_ERROR TIMER_EXPIRED_FOR_INCOMING_CALL (call_on at.world at.line) ∷ [])
+      → PlainOf (outputs_of_error at TIMER_EXPIRED_FOR_INCOMING_CALL) (leaves at.line IsCleared REMOTE_PROCEDURE_ERROR TIMER_EXPIRED_FOR_INCOMING_CALL (call_on at.world at.line) ∷ [])
       → ArePlanned action
   expired_planned is planned = subst ArePlanned is (if_ok result _ _
-      (λ plan p. record { told = told_of_error at TIMER_EXPIRED_FOR_INCOMING_CALL; acts = plain (told_of_error at TIMER_EXPIRED_FOR_INCOMING_CALL) plan _ p; relays = leaves_quiet at.tables at.line _ _ _ (call_on at.world at.line) plan.carriage p.quiet; planned = p.planned }) planned)
+      (λ plan p. record { told = outputs_of_error at TIMER_EXPIRED_FOR_INCOMING_CALL; acts = plain (outputs_of_error at TIMER_EXPIRED_FOR_INCOMING_CALL) plan _ p; relays = leaves_quiet at.tables at.line _ _ _ (call_on at.world at.line) plan.relay_update p.quiet; planned = p.planned }) planned)
 
   pub answer_planned : (answer : CallAccepted A) → Accepting ≡ action → Some answer ≡ accepted_in what → IfOk result (PlansAnswer at answer) → ArePlanned action
   answer_planned answer is asks planned = subst ArePlanned is (if_ok result _ _ (λ plan p.
@@ -68,7 +68,7 @@ module _ {A E : Type 0} (at : Setting A) (what : What A) (action : Action) (resu
   pub confirm_planned : (clear : ClearRequest A) → Confirm ≡ action → Some clear ≡ clear_in what → IfOk result (PlansClear at clear) → ArePlanned action
   confirm_planned clear is asks planned = subst ArePlanned is (if_ok result _ _ (λ plan p.
       let P : Option (ClearRequest A) → Type 0 = λ asked. Confirms at asked (call_on at.world at.line) plan.outcome p.told in
-      let R : Option (ClearRequest A) → Type 0 = λ asked. RelaysFor at.tables (confirms at.line asked (call_on at.world at.line)) plan.carriage in
+      let R : Option (ClearRequest A) → Type 0 = λ asked. RelaysFor at.tables (confirms at.line asked (call_on at.world at.line)) plan.relay_update in
       let Q : Option (ClearRequest A) → Type 0 = λ asked. IsPlan plan at p.told (confirms at.line asked (call_on at.world at.line)) in
       record { told = p.told; acts = subst P asks p.acts; relays = subst R asks p.relays; planned = subst Q asks p.planned }) planned)
 
@@ -77,11 +77,11 @@ module _ {A E : Type 0} (at : Setting A) (what : What A) (action : Action) (resu
   request_planned request is asks planned = subst ArePlanned is (if_ok result _ _ (λ plan p.
       let P : Option (CallRequest A) → Type 0 = λ asked. Requests at.tables at.world at.line [] asked plan.outcome p.told in
       let Q : Option (CallRequest A) → Type 0 = λ asked. IsPlan plan at p.told (requests at.line asked plan.outcome) in
-      record { told = p.told; acts = subst P asks p.acts; relays = requests_quiet at.tables at.line (request_in what) plan.outcome plan.carriage p.quiet; planned = subst Q asks p.planned }) planned)
+      record { told = p.told; acts = subst P asks p.acts; relays = requests_quiet at.tables at.line (request_in what) plan.outcome plan.relay_update p.quiet; planned = subst Q asks p.planned }) planned)
 
   pub collision_planned : (request : CallRequest A) → Collision ≡ action → Some request ≡ request_in what
-      → IfOk result (PlansRequest at request (cancels at.line (call_on at.world at.line)) (cancelled_told at.world at.line)) → ArePlanned action
+      → IfOk result (PlansRequest at request (cancels at.line (call_on at.world at.line)) (outputs_of_cancel at.world at.line)) → ArePlanned action
   collision_planned request is asks planned = subst ArePlanned is (if_ok result _ _ (λ plan p.
-      let P : Option (CallRequest A) → Type 0 = λ asked. Requests at.tables at.world at.line (cancelled_told at.world at.line) asked plan.outcome p.told in
+      let P : Option (CallRequest A) → Type 0 = λ asked. Requests at.tables at.world at.line (outputs_of_cancel at.world at.line) asked plan.outcome p.told in
       let Q : Option (CallRequest A) → Type 0 = λ asked. IsPlan plan at p.told (collides at.line asked (call_on at.world at.line) plan.outcome) in
-      record { told = p.told; acts = subst P asks p.acts; relays = collides_quiet at.tables at.line (request_in what) (call_on at.world at.line) plan.outcome plan.carriage p.quiet; planned = subst Q asks p.planned }) planned)
+      record { told = p.told; acts = subst P asks p.acts; relays = collides_quiet at.tables at.line (request_in what) (call_on at.world at.line) plan.outcome plan.relay_update p.quiet; planned = subst Q asks p.planned }) planned)

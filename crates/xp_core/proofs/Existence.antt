@@ -23,42 +23,42 @@ use Rattle.xp_core.specs.declared.event.What.{What}
 use Rattle.xp_core.specs.declared.outcome.Outcome.{Outcome}
 use Rattle.xp_core.specs.declared.outcome.Outcome.TheVariants.{Plain, Put, Refused, Connected, Declined, Exceeded}
 use Rattle.xp_core.specs.declared.output.Output.{Output}
-use Rattle.xp_core.specs.Acts.{Acts, Answers, CarriesAs, Confirms, IsRequested, Requests, agreement_of, cancelled_told, lines_seen}
+use Rattle.xp_core.specs.Acts.{Acts, Answers, CarriesAs, Confirms, IsRequested, Requests, agreement_of, outputs_of_cancel}
+use Rattle.xp_machine.specs.World.{line_states, Call, World, call_on}
 use Rattle.xp_core.specs.Agreed.{AllHaveTerms}
-use Rattle.xp_core.specs.Carried.{Carried, carried_by}
-use Rattle.xp_core.specs.Changes.{recorded_by}
+use Rattle.xp_core.specs.RelayedPackets.{RelayedPacket, relayed_by}
+use Rattle.xp_machine.specs.Changes.{recorded_by}
 use Rattle.xp_core.specs.Exchange.{IsReadable}
 use Rattle.xp_core.specs.Existence.{HasStep}
 use Rattle.xp_core.specs.Run.{Run}
 use Rattle.xp_core.specs.Worlds.{world_next}
 use Rattle.xp_core.specs.Segments.{segments_of}
-use Rattle.xp_core.specs.Setting.{Setting, setting}
-use Rattle.xp_core.specs.Does.{changes_of}
+use Rattle.xp_core.specs.StepContext.{StepContext, step_context}
+use Rattle.xp_core.specs.Effects.{changes_of}
 use Rattle.xp_core.specs.Table.{CallAccepted, CallRequest, ClearRequest, accepted_in, action_at, clear_in, packet_in, request_in}
-use Rattle.xp_core.specs.Told.{Told, far_information, outputs_of}
-use Rattle.xp_core.specs.World.{Call, World, call_on}
+use Rattle.xp_core.specs.EventOutputs.{EventOutputs, far_information, outputs_of}
 use Rattle.xp_core.proofs.Agreed.{run_agreed}
 use Rattle.xp_core.proofs.Counting.{far_counts}
 use Rattle.xp_core.proofs.Fitting.{request_few}
-use Rattle.xp_core.proofs.InCall.{shown_on}
+use Rattle.xp_machine.proofs.InCall.{shown_on}
 use Rattle.xp_core.proofs.Sounds.{run_right}
 
 module _ {A : Type 0} where
   -- something is settled and put out
-  record HasActs (Does : Outcome → Told A → Type 0) : Type 0 where
+  record HasActs (Does : Outcome → EventOutputs A → Type 0) : Type 0 where
     outcome : Outcome
-    told : Told A
+    told : EventOutputs A
     acts : Does outcome told
 
-  module _ (at : Setting A) (what : What A) (sound : IsSound at.tables) (terms : AllHaveTerms at.world) (readable : IsReadable what) where
+  module _ (at : StepContext A) (what : What A) (sound : IsSound at.tables) (terms : AllHaveTerms at.world) (readable : IsReadable what) where
     verdict_acts : (far : List (Output A)) (request : CallRequest A) → request_in what ≡ Some request
-        → (verdict : Verdict A) → Decided at.tables (lines_seen at.world) at.line request.block verdict
+        → (verdict : Verdict A) → Decided at.tables (line_states at.world) at.line request.block verdict
         → HasActs (IsRequested at.tables at.world at.line far request)
     verdict_acts far request asks (Refuse why) decided =
         record { outcome = Refused why; told = _; acts = record { decided = decided; told_is = refl } }
     verdict_acts far request asks (Take ring) decided =
         let written : CanBeWritten ring.told =
-        told_can_be_written at.tables (lines_seen at.world) at.line request.block sound (request_few what request asks readable) ring decided in
+        told_can_be_written at.tables (line_states at.world) at.line request.block sound (request_few what request asks readable) ring decided in
         record {
           outcome = Put ring.line (setup_of ring);
           told = _;
@@ -81,7 +81,7 @@ module _ {A : Type 0} where
     request_acts : (far : List (Output A)) (asked : Option (CallRequest A)) → request_in what ≡ asked → HasActs (Requests at.tables at.world at.line far asked)
     request_acts far None asks = record { outcome = Plain; told = _; acts = (refl, refl) }
     request_acts far (Some request) asks =
-        let it = has_verdict at.tables (lines_seen at.world) at.line request.block in
+        let it = has_verdict at.tables (line_states at.world) at.line request.block in
         verdict_acts far request asks it.verdict it.decided
 
     answered_acts : (accepted : CallAccepted A) (found : ℕ × Call) (answer : Answer A)
@@ -115,22 +115,22 @@ module _ {A : Type 0} where
           acts = record { plain = refl; packet = it.some.0; carried = it.some.1; told_is = refl };
         }
 
-    carry_acts : (carried : Option (Carried A)) (past : Bool) → HasActs (CarriesAs at carried past)
+    carry_acts : (carried : Option (RelayedPacket A)) (past : Bool) → HasActs (CarriesAs at carried past)
     carry_acts carried false = record { outcome = Plain; told = _; acts = (refl, refl) }
     carry_acts carried true = record { outcome = Exceeded; told = _; acts = (refl, refl) }
 
     has_acts : (action : Action) → HasActs (Acts at what action)
     has_acts NewCall = request_acts [] (request_in what) refl
-    has_acts Collision = request_acts (cancelled_told at.world at.line) (request_in what) refl
+    has_acts Collision = request_acts (outputs_of_cancel at.world at.line) (request_in what) refl
     has_acts Accepting = answer_acts (accepted_in what) (call_on at.world at.line) refl
     has_acts Confirm = clear_acts (clear_in what) (call_on at.world at.line)
-    has_acts Relayed = carry_acts (carried_by at.line (call_on at.world at.line) (packet_in what)) _
+    has_acts Relayed = carry_acts (relayed_by at.line (call_on at.world at.line) (packet_in what)) _
     has_acts action = record { outcome = Plain; told = _; acts = (refl, refl) }
 
   pub has_step : (tables : Tables) (history : List (Entry A)) (world : World) (event : Event A) → IsSound tables → Run tables history world
       → event.line < line_count tables → IsReadable event.what → HasStep tables history world event
   has_step tables history world event sound run line readable =
-      let at : Setting A = setting tables history world event.line in
+      let at : StepContext A = step_context tables history world event.line in
       let it = has_acts at event.what sound (run_agreed tables history world run) readable (action_at world event) in
       let entry : Entry A = record {
         number = length history + 1;

@@ -9,30 +9,30 @@ use Rattle.xp_answer.specs.Blocks.{user_in}
 use Rattle.xp_answer.specs.Fields.{CanBeSent}
 use Rattle.xp_decide.proofs.Written.{told_can_be_written}
 use Rattle.xp_packets.specs.declared.block.Block.{Block}
-use Rattle.xp_packets.specs.declared.fault.Wrong.TheVariants.{Format, Facilities, Long}
+use Rattle.xp_packets.specs.declared.fault.Malformed.TheVariants.{Format, Facilities, Long}
 use Rattle.xp_packets.specs.declared.packet.Packet.{Packet}
 use Rattle.xp_packets.specs.declared.packet.Packet.TheVariants as packets
-use Rattle.xp_packets.specs.Fitness.{unfit}
+use Rattle.xp_packets.specs.Encodability.{encoding_fault}
 use Rattle.xp_subs.specs.Sound.{IsSound}
 use Rattle.xp_subs.specs.Tables.{Tables, address_of, line_count}
 use Rattle.xp_core.specs.declared.entry.Entry.{Entry}
 use Rattle.xp_core.specs.declared.event.What.{What}
 use Rattle.xp_core.specs.declared.event.What.TheVariants.{Frame}
 use Rattle.xp_core.specs.declared.output.Output.{Output}
-use Rattle.xp_core.specs.Acts.{lines_seen}
-use Rattle.xp_core.specs.Carried.{line_at_end}
-use Rattle.xp_core.specs.Changes.{Change, Rises, Leaves, Begins, IsRefused, Connects, Ends, all_changed, changed}
+use Rattle.xp_machine.specs.World.{line_states, Line, World, far_end, line_at, off_line, opening}
+use Rattle.xp_machine.specs.CallEnds.{line_at_end}
+use Rattle.xp_machine.specs.Changes.{Change, Rises, Leaves, Begins, IsRefused, Connects, Ends, all_changed, changed}
 use Rattle.xp_core.specs.Exchange.{IsReadable}
 use Rattle.xp_core.specs.Run.{Run}
-use Rattle.xp_core.specs.Setting.{Setting, setting}
+use Rattle.xp_core.specs.StepContext.{StepContext, step_context}
 use Rattle.xp_core.specs.Step.{Step}
-use Rattle.xp_core.specs.Does.{changes_of}
+use Rattle.xp_core.specs.Effects.{changes_of}
 use Rattle.xp_core.specs.Table.{CallAccepted, CallRequest, ClearRequest, accepted_in, action_at, clear_in, request_in}
-use Rattle.xp_core.specs.Told.{clear_indication, outputs_of, send, send_as}
-use Rattle.xp_core.specs.World.{Line, World, far_end, line_at, off_line, opening}
-use Rattle.xp_core.specs.Writable.{AreReadable, AreWritable, IsWritable}
+use Rattle.xp_core.specs.EventOutputs.{clear_indication, outputs_of, send, send_as}
+use Rattle.xp_core.specs.Writable.{AreWritable, IsWritable}
+use Rattle.xp_core.specs.steps.Writable.{AreReadable}
 use Rattle.xp_core.proofs.Handed.{move_can}
-use Rattle.xp_core.proofs.Lines.{get_or-set, line_at-opening}
+use Rattle.xp_machine.proofs.Lines.{get_or-set, line_at-opening}
 use Rattle.xp_core.proofs.Origins.{ComesOf, IsAsked, IsSent, all_come, all_sent, closing, confirming, clearing, refusing, clearing_far, carrying_on, connecting, ringing, carrying}
 use Rattle.xp_core.proofs.RunLemmas.{run_keeps}
 
@@ -47,7 +47,7 @@ set_narrow : (lines : List Line) (at : ℕ) (becomes : Line) (line : ℕ) → be
     → (get_or (set lines at becomes) line off_line).identifier < 4096
 set_narrow lines at becomes line new old = get_or-set (λ l. l.identifier < 4096) lines at becomes line off_line new old
 
-clear_fits : (A : Type 0) (identifier cause diagnostic : ℕ) → identifier < 4096 → unfit {A = A} identifier (clear_indication cause diagnostic) ≡ None
+clear_fits : (A : Type 0) (identifier cause diagnostic : ℕ) → identifier < 4096 → encoding_fault {A = A} identifier (clear_indication cause diagnostic) ≡ None
 clear_fits A identifier cause diagnostic narrow = ap (λ b. cond b (Some Format) None) (le-ltb 4095 identifier (omega (arith, narrow)))
 
 module _ {A : Type 0} where
@@ -79,7 +79,7 @@ module _ {A : Type 0} where
       subst P same readable.few
   request_few what request is readable = absurd (cc)
 
-  accepted_user : (identifier : ℕ) (d : Bool) (block : Option (Block A)) → unfit identifier (packets.Accepted d block) ≡ None → length (user_in block) ≤ 128
+  accepted_user : (identifier : ℕ) (d : Bool) (block : Option (Block A)) → encoding_fault identifier (packets.Accepted d block) ≡ None → length (user_in block) ≤ 128
   accepted_user identifier d None fit = omega arith
   accepted_user identifier d (Some block) fit = (block_short identifier block fit).1
 
@@ -90,7 +90,7 @@ module _ {A : Type 0} where
       subst P same (accepted_user identifier d block readable.encodable)
   answer_short what answer is readable = absurd (cc)
 
-  cleared_user : (identifier cause : ℕ) (diagnostic : Option ℕ) (block : Option (Block A)) → unfit identifier (packets.Clear cause diagnostic block) ≡ None
+  cleared_user : (identifier cause : ℕ) (diagnostic : Option ℕ) (block : Option (Block A)) → encoding_fault identifier (packets.Clear cause diagnostic block) ≡ None
       → length (user_in block) ≤ 128
   cleared_user identifier cause diagnostic None fit = omega arith
   cleared_user identifier cause None (Some block) fit = absurd (cc)
@@ -105,12 +105,12 @@ module _ {A : Type 0} where
 
   -- ---- what is put out
 
-  module _ (at : Setting A) (what : What A) (sound : IsSound at.tables) (readable : IsReadable what) (narrow : IsNarrow at.world)
+  module _ (at : StepContext A) (what : What A) (sound : IsSound at.tables) (readable : IsReadable what) (narrow : IsNarrow at.world)
       (before : AreReadable at.before) where
     abbrev Written : Output A → Type 0
     Written output = IsWritable output.outgoing.put
 
-    sent_as : (line identifier : ℕ) (packet : Packet A) (output : Output A) → output ≡ send_as at.world line identifier packet → unfit identifier packet ≡ None → Written output
+    sent_as : (line identifier : ℕ) (packet : Packet A) (output : Output A) → output ≡ send_as at.world line identifier packet → encoding_fault identifier packet ≡ None → Written output
     sent_as line identifier packet output is fit = let W : Output A → Type 0 = λ o. Written o in subst W (sym is) fit
 
     sent : (line : ℕ) (packet : Packet A) (output : Output A) → output ≡ send at.world line packet → CanBeSent packet → Written output
@@ -131,7 +131,7 @@ module _ {A : Type 0} where
         sent found.1.caller connection.packet output is
         (connected_sent found.1.setup (address_of at.tables at.line) found.1.dialled answer.d answer.block answered.0 connection (answer_short what answer accepts readable) answered.2)
     sent_fits output (ringing request ring packet asks decided incoming is) =
-        let written = told_can_be_written at.tables (lines_seen at.world) at.line request.block sound (request_few what request asks readable) ring decided in
+        let written = told_can_be_written at.tables (line_states at.world) at.line request.block sound (request_few what request asks readable) ring decided in
         let can = incoming_call_sent ring (address_of at.tables ring.line) (address_of at.tables at.line) request.d request.block packet written
         (request_short what request asks readable).1 incoming in
         sent_as ring.line 1 packet output is (can.fit 1 (omega arith))
@@ -141,7 +141,7 @@ module _ {A : Type 0} where
 
   -- ---- identifiers
 
-  module _ (at : Setting A) (what : What A) (readable : IsReadable what) where
+  module _ (at : StepContext A) (what : What A) (readable : IsReadable what) where
     asked_narrow : (line identifier : ℕ) (dialled : List ℕ) → IsAsked at what line identifier dialled → identifier < 4096
     asked_narrow line identifier dialled asked = omega (arith, asked.identifier_is, (request_short what asked.request asked.asks readable).0)
 
@@ -170,7 +170,7 @@ module _ {A : Type 0} where
   step_fits : (tables : Tables) (sound : IsSound tables) (before : List (Entry A)) (world : World) (entry : Entry A) (next : World)
       → Fits before world → Step tables before world entry next → Fits (before ++ entry ∷ []) next
   step_fits tables sound before world entry next fits step = λ readable.
-      let at : Setting A = setting tables before world entry.event.line in
+      let at : StepContext A = step_context tables before world entry.event.line in
       let parts = All-pop (λ e. IsReadable e.event.what) (before ++ entry ∷ []) before (Some entry) refl readable in
       let old : IsNarrow world × All (λ e. AreWritable e.outputs) before = fits parts.0 in
       let N : World → Type 0 = λ w. IsNarrow w in

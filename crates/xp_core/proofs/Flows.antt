@@ -1,18 +1,20 @@
 -- The state of flow control that is seen of a line.
 use Rattle.std.proofs.Common.{◌≡◌, ◌∙◌, ℕ, Option, Some, None, option_map, List, ap, sym, subst}
-use Rattle.xp_relay.specs.Coupled.{Coupled, ShowsCall, state_at}
+use Rattle.xp_relay.specs.Coupled.{Coupled, RepresentsCall, state_at}
 use Rattle.xp_relay.specs.declared.state.FlowState.{FlowState}
 use Rattle.xp_subs.specs.Tables.{Tables}
-use Rattle.xp_core.specs.declared.call.LiveCall.{LiveCall}
+use Rattle.xp_machine.specs.declared.call.LiveCall.{LiveCall}
 use Rattle.xp_core.specs.declared.entry.Entry.{Entry}
-use Rattle.xp_core.specs.declared.outcome.Agreement.{Agreement}
-use Rattle.xp_core.specs.declared.relays.Metered.{Metered}
-use Rattle.xp_core.specs.Carried.{directions, end_of}
-use Rattle.xp_core.specs.Kept.{call_of_kept, entry_of}
-use Rattle.xp_core.specs.Relays.{AreCarried, IsShownBy, counted_by, relay_under}
+use Rattle.xp_machine.specs.declared.agreement.Agreement.{Agreement}
+use Rattle.xp_machine.specs.declared.relays.MeteredRelay.{MeteredRelay}
+use Rattle.xp_core.specs.RelayedPackets.{directions}
+use Rattle.xp_machine.specs.CallEnds.{end_of}
+use Rattle.xp_machine.specs.StoredState.{call_of_stored, entry_of}
+use Rattle.xp_core.specs.steps.Relays.{RelaysRepresentCalls, IsRepresentedBy, counted_by}
+use Rattle.xp_machine.specs.Relays.{relay_under}
 use Rattle.xp_core.specs.View.{flow_at, flow_in}
-use Rattle.xp_core.specs.World.{World, call_on}
-use Rattle.xp_core.proofs.InCall.{shown_on}
+use Rattle.xp_machine.specs.World.{World, call_on}
+use Rattle.xp_machine.proofs.InCall.{shown_on}
 
 module _ {A : Type 0} (tables : Tables) (history : List (Entry A)) (world : World) (line : ℕ) where
   pub in_no_call : None ≡ call_on world line → None ≡ flow_at tables history world line
@@ -20,7 +22,7 @@ module _ {A : Type 0} (tables : Tables) (history : List (Entry A)) (world : Worl
 
   module _ (call : LiveCall) (on : Some (entry_of call) ≡ call_on world line) where
     abbrev its : Agreement → FlowState
-    its agreement = state_at (end_of (call_of_kept call) line) (directions tables history call.number agreement)
+    its agreement = state_at (end_of (call_of_stored call) line) (directions tables history call.number agreement)
 
     seen : option_map its call.agreed ≡ flow_at tables history world line
     seen = ap (flow_in tables history line) on
@@ -28,16 +30,16 @@ module _ {A : Type 0} (tables : Tables) (history : List (Entry A)) (world : Worl
     pub unconnected : None ≡ call.agreed → None ≡ flow_at tables history world line
     unconnected none = ap (option_map its) none ∙ seen
 
-    module _ (agreement : Agreement) (agreed : Some agreement ≡ call.agreed) (relays : List (Option (Metered A))) (carried : AreCarried tables history world relays) where
-      is_kept : IsShownBy (relay_under relays call.caller) (directions tables history call.number agreement) (counted_by tables history call.number (Some agreement))
-      is_kept = carried call.number (call_of_kept call) agreement (shown_on world line (entry_of call) (sym on)).1 (sym agreed)
+    module _ (agreement : Agreement) (agreed : Some agreement ≡ call.agreed) (relays : List (Option (MeteredRelay A))) (carried : RelaysRepresentCalls tables history world relays) where
+      is_kept : IsRepresentedBy (relay_under relays call.caller) (directions tables history call.number agreement) (counted_by tables history call.number (Some agreement))
+      is_kept = carried call.number (call_of_stored call) agreement (shown_on world line (entry_of call) (sym on)).1 (sym agreed)
 
       pub never_lost : None ≡ relay_under relays call.caller → ⊥
-      never_lost none = let P : Option (Metered A) → Type 0 = λ r. IsShownBy r (directions tables history call.number agreement) (counted_by tables history call.number (Some agreement)) in subst P (sym none) is_kept
+      never_lost none = let P : Option (MeteredRelay A) → Type 0 = λ r. IsRepresentedBy r (directions tables history call.number agreement) (counted_by tables history call.number (Some agreement)) in subst P (sym none) is_kept
 
-      pub connected : (kept : Metered A) (state : FlowState) → Some kept ≡ relay_under relays call.caller
-          → ((shown : Coupled A) → ShowsCall kept.relay shown → state ≡ state_at (end_of (call_of_kept call) line) shown)
+      pub connected : (kept : MeteredRelay A) (state : FlowState) → Some kept ≡ relay_under relays call.caller
+          → ((shown : Coupled A) → RepresentsCall kept.relay shown → state ≡ state_at (end_of (call_of_stored call) line) shown)
           → Some state ≡ flow_at tables history world line
       connected kept state under is =
-          let P : Option (Metered A) → Type 0 = λ r. IsShownBy r (directions tables history call.number agreement) (counted_by tables history call.number (Some agreement)) in
+          let P : Option (MeteredRelay A) → Type 0 = λ r. IsRepresentedBy r (directions tables history call.number agreement) (counted_by tables history call.number (Some agreement)) in
           ap (λ s. Some s) (is (directions tables history call.number agreement) (subst P (sym under) is_kept).0) ∙ ap (option_map its) agreed ∙ seen

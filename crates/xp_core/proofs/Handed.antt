@@ -1,9 +1,9 @@
--- The packets that a readable history handed in can be encoded, and so can those that are carried on.
+-- The packets that a readable history brought can be encoded, and so can those that are carried on.
 use Rattle.std.proofs.Common.{◌≡◌, ℕ, ◌<◌, eqb, Option, Some, None, List, [], ◌∷◌, ◌++◌, All, arith, refl, subst}
 use Rattle.std.proofs.lemmas.Bool.{cond_both}
 use Rattle.std.proofs.lemmas.List.Elements.{All-append, All-contains, All-cons, All-head, All-nil, All-tail}
 use Rattle.std.specs.List.{Contains}
-use Rattle.xp_packets.specs.Fitness.{CanBeEncoded}
+use Rattle.xp_packets.specs.Encodability.{CanBeEncoded}
 use Rattle.xp_packets.specs.declared.packet.Packet.{Packet}
 use Rattle.xp_relay.proofs.Encodable.{puts_out_encodable}
 use Rattle.xp_relay.specs.Encodable.{CameEncoded}
@@ -12,14 +12,15 @@ use Rattle.xp_subs.specs.Tables.{Tables, line_count}
 use Rattle.xp_core.specs.declared.entry.Entry.{Entry}
 use Rattle.xp_core.specs.declared.event.What.{What}
 use Rattle.xp_core.specs.declared.event.What.TheVariants as events
-use Rattle.xp_core.specs.Carried.{Carried, arrival_for, arrivals, arrivals_from, carried_by, carried_in, terms_of, turn_of_carried}
+use Rattle.xp_core.specs.RelayedPackets.{RelayedPacket, arrival_for, arrivals, arrivals_from, relayed_by, relayed_in, turn_of_relayed}
+use Rattle.xp_machine.specs.RelayTerms.{terms_of}
 use Rattle.xp_core.specs.Exchange.{IsReadable}
-use Rattle.xp_core.specs.Setting.{Setting}
+use Rattle.xp_core.specs.StepContext.{StepContext}
 use Rattle.xp_core.specs.Table.{action_at, packet_in}
-use Rattle.xp_core.specs.World.{World, call_on, opening}
+use Rattle.xp_machine.specs.World.{World, call_on, opening}
 use Rattle.xp_core.specs.Worlds.{world_next}
-use Rattle.xp_core.specs.Writable.{AreReadable}
-use Rattle.xp_core.proofs.Carried.{is_relayed, of_carried}
+use Rattle.xp_core.specs.steps.Writable.{AreReadable}
+use Rattle.xp_core.proofs.RelayedPackets.{is_relayed, of_carried}
 
 module _ {A : Type 0} where
   packet_can : (what : What A) (packet : Packet A) → packet_in what ≡ Some packet → IsReadable what → (identifier : ℕ) × CanBeEncoded identifier packet
@@ -29,10 +30,10 @@ module _ {A : Type 0} where
       (identifier, subst P same readable.encodable)
   packet_can what packet is readable = absurd (cc)
 
-  pub carried_can : (line : ℕ) (found : Option (ℕ × _)) (what : What A) (carried : Carried A) → carried_by line found (packet_in what) ≡ Some carried → IsReadable what → CameEncoded carried.arrival
+  pub carried_can : (line : ℕ) (found : Option (ℕ × _)) (what : What A) (carried : RelayedPacket A) → relayed_by line found (packet_in what) ≡ Some carried → IsReadable what → CameEncoded carried.arrival
   carried_can line found what carried is readable = packet_can what carried.arrival.packet (of_carried line found (packet_in what) carried is).arrives readable
 
-  arrival_can : (world : World) (entry : Entry A) (number : ℕ) (carried : Option (Carried A)) → carried_in world entry.event ≡ carried → IsReadable entry.event.what
+  arrival_can : (world : World) (entry : Entry A) (number : ℕ) (carried : Option (RelayedPacket A)) → relayed_in world entry.event ≡ carried → IsReadable entry.event.what
       → All CameEncoded (arrival_for number carried)
   arrival_can world entry number None is readable = All-nil CameEncoded
   arrival_can world entry number (Some carried) is readable =
@@ -44,16 +45,16 @@ module _ {A : Type 0} where
       → All CameEncoded (arrivals_from number tables before world entries)
   came_from number tables before world [] readable = All-nil CameEncoded
   came_from number tables before world (entry ∷ entries) readable =
-      All-append CameEncoded (arrival_for number (carried_in world entry.event)) _
-      (arrival_can world entry number (carried_in world entry.event) refl (All-head (λ e. IsReadable e.event.what) entry entries readable))
+      All-append CameEncoded (arrival_for number (relayed_in world entry.event)) _
+      (arrival_can world entry number (relayed_in world entry.event) refl (All-head (λ e. IsReadable e.event.what) entry entries readable))
       (came_from number tables (before ++ entry ∷ []) (world_next tables before world entry) entries (All-tail (λ e. IsReadable e.event.what) entry entries readable))
 
   -- each move that a packet leads to can be encoded
-  pub move_can : (at : Setting A) (what : What A) (carried : Carried A) (move : Move A) → AreReadable at.before → IsReadable what
-      → carried_by at.line (call_on at.world at.line) (packet_in what) ≡ Some carried → Contains (turn_of_carried at.tables at.before carried).moves move
+  pub move_can : (at : StepContext A) (what : What A) (carried : RelayedPacket A) (move : Move A) → AreReadable at.before → IsReadable what
+      → relayed_by at.line (call_on at.world at.line) (packet_in what) ≡ Some carried → Contains (turn_of_relayed at.tables at.before carried).moves move
       → (identifier : ℕ) → identifier < 4096 → CanBeEncoded identifier move.packet
   move_can at what carried move before readable by in_it identifier narrow =
-      All-contains (λ (m : Move A). CanBeEncoded identifier m.packet) (turn_of_carried at.tables at.before carried).moves move
+      All-contains (λ (m : Move A). CanBeEncoded identifier m.packet) (turn_of_relayed at.tables at.before carried).moves move
       (puts_out_encodable (terms_of carried.agreement) (record { caller = refl; called = refl }) (arrivals at.tables at.before carried.number) carried.arrival
       (came_from carried.number at.tables [] (opening (line_count at.tables)) at.before before)
       (carried_can at.line (call_on at.world at.line) what carried by readable) identifier (omega (arith, narrow))) in_it

@@ -15,20 +15,20 @@ use Rattle.xp_core.specs.declared.event.What.{What}
 use Rattle.xp_core.specs.declared.outcome.Outcome.{Outcome}
 use Rattle.xp_core.specs.declared.outcome.Outcome.TheVariants.{Plain, Put, Refused, Connected, Declined, Exceeded}
 use Rattle.xp_core.specs.declared.output.Output.{Output}
-use Rattle.xp_core.specs.Acts.{Acts, Answers, CarriesAs, Confirms, Requests, cancelled_told, lines_seen}
-use Rattle.xp_core.specs.Carried.{Carried, carried_by}
-use Rattle.xp_core.specs.Changes.{Change, Rises, Leaves, Begins, IsRefused, Connects, Ends, all_changed, changed}
+use Rattle.xp_core.specs.Acts.{Acts, Answers, CarriesAs, Confirms, Requests, outputs_of_cancel}
+use Rattle.xp_machine.specs.World.{line_states, Call, World, call_numbered, call_on, opening}
+use Rattle.xp_core.specs.RelayedPackets.{RelayedPacket, relayed_by}
+use Rattle.xp_machine.specs.Changes.{Change, Rises, Leaves, Begins, IsRefused, Connects, Ends, all_changed, changed}
 use Rattle.xp_core.specs.Joined.{AreJoined, MayTalk}
 use Rattle.xp_core.specs.Outcomes.{taken_by}
 use Rattle.xp_core.specs.Run.{Run}
 use Rattle.xp_core.specs.Segments.{is_past_limit}
-use Rattle.xp_core.specs.Setting.{Setting, setting}
+use Rattle.xp_core.specs.StepContext.{StepContext, step_context}
 use Rattle.xp_core.specs.Step.{Step}
-use Rattle.xp_core.specs.Does.{changes_of}
+use Rattle.xp_core.specs.Effects.{changes_of}
 use Rattle.xp_core.specs.Table.{CallAccepted, CallRequest, ClearRequest, accepted_in, action_at, clear_in, packet_in, request_in}
-use Rattle.xp_core.specs.Told.{Told}
-use Rattle.xp_core.specs.World.{Call, World, call_numbered, call_on, opening}
-use Rattle.xp_core.proofs.Maps.{new_or_old, was_there}
+use Rattle.xp_core.specs.EventOutputs.{EventOutputs}
+use Rattle.xp_machine.proofs.Maps.{new_or_old, was_there}
 use Rattle.xp_core.proofs.Origins.{ComesOf, IsBegun, all_come}
 use Rattle.xp_core.proofs.RunLemmas.{run_keeps}
 
@@ -36,7 +36,7 @@ use Rattle.xp_core.proofs.RunLemmas.{run_keeps}
 abbrev MayAllTalk : Tables → World → Type 0
 MayAllTalk tables world = (number : ℕ) (call : Call) → call_numbered world number ≡ Some call → MayTalk tables call.caller call.called
 
-module _ {A : Type 0} (at : Setting A) (what : What A) (sound : IsSound at.tables) where
+module _ {A : Type 0} (at : StepContext A) (what : What A) (sound : IsSound at.tables) where
   -- ---- the live calls
 
   begun_joined : (line identifier called : ℕ) (dialled : List ℕ) (setup : Setup) → IsBegun at what line identifier called dialled setup → MayTalk at.tables line called
@@ -44,7 +44,7 @@ module _ {A : Type 0} (at : Setting A) (what : What A) (sound : IsSound at.table
       let P : ℕ → Type 0 = λ l. MayTalk at.tables l called in
       let Q : ℕ → Type 0 = λ l. MayTalk at.tables at.line l in
       subst P (sym from.asked.line_is) (subst Q (sym from.called_is)
-      (taken_may_join at.tables (lines_seen at.world) at.line from.asked.request.block from.ring sound from.decided))
+      (taken_may_join at.tables (line_states at.world) at.line from.asked.request.block from.ring sound from.decided))
 
   module _ (here : MayAllTalk at.tables at.world) where
     changed_joined : (change : Change) (world : World) → ComesOf at what change → MayAllTalk at.tables world → MayAllTalk at.tables (changed change world)
@@ -81,19 +81,19 @@ module _ {A : Type 0} (at : Setting A) (what : What A) (sound : IsSound at.table
   plain_taken : (outcome : Outcome) → outcome ≡ Plain → IsTakenWell outcome
   plain_taken outcome is = let P : Outcome → Type 0 = λ o. IsTakenWell o in subst P (sym is) tt
 
-  request_taken : (far : List (Output A)) (asked : Option (CallRequest A)) (outcome : Outcome) (told : Told A)
+  request_taken : (far : List (Output A)) (asked : Option (CallRequest A)) (outcome : Outcome) (told : EventOutputs A)
       → Requests at.tables at.world at.line far asked outcome told → IsTakenWell outcome
   request_taken far None outcome told acts = plain_taken outcome acts.0
   request_taken far (Some request) (Put called setup) told acts =
       let Q : ℕ → Type 0 = λ l. MayTalk at.tables at.line l in
-      subst Q (sym acts.called_is) (taken_may_join at.tables (lines_seen at.world) at.line request.block acts.ring sound acts.decided)
+      subst Q (sym acts.called_is) (taken_may_join at.tables (line_states at.world) at.line request.block acts.ring sound acts.decided)
   request_taken far (Some request) (Refused why) told acts = tt
   request_taken far (Some request) Plain told acts = tt
   request_taken far (Some request) (Connected agreement) told acts = tt
   request_taken far (Some request) (Declined diagnostic) told acts = tt
   request_taken far (Some request) Exceeded told acts = tt
 
-  answer_taken : (accepted : Option (CallAccepted A)) (found : Option (ℕ × Call)) (outcome : Outcome) (told : Told A)
+  answer_taken : (accepted : Option (CallAccepted A)) (found : Option (ℕ × Call)) (outcome : Outcome) (told : EventOutputs A)
       → Answers at accepted found outcome told → IsTakenWell outcome
   answer_taken None found outcome told acts = plain_taken outcome acts.0
   answer_taken (Some answer) None outcome told acts = plain_taken outcome acts.0
@@ -104,23 +104,23 @@ module _ {A : Type 0} (at : Setting A) (what : What A) (sound : IsSound at.table
   answer_taken (Some answer) (Some found) (Declined diagnostic) told acts = tt
   answer_taken (Some answer) (Some found) Exceeded told acts = tt
 
-  clear_taken : (clear : Option (ClearRequest A)) (found : Option (ℕ × Call)) (outcome : Outcome) (told : Told A)
+  clear_taken : (clear : Option (ClearRequest A)) (found : Option (ℕ × Call)) (outcome : Outcome) (told : EventOutputs A)
       → Confirms at clear found outcome told → IsTakenWell outcome
   clear_taken None found outcome told acts = plain_taken outcome acts.0
   clear_taken (Some clear) None outcome told acts = plain_taken outcome acts.0
   clear_taken (Some clear) (Some found) outcome told acts = plain_taken outcome acts.plain
 
-  carry_taken : (carried : Option (Carried A)) (past : Bool) (outcome : Outcome) (told : Told A) → CarriesAs at carried past outcome told → IsTakenWell outcome
+  carry_taken : (carried : Option (RelayedPacket A)) (past : Bool) (outcome : Outcome) (told : EventOutputs A) → CarriesAs at carried past outcome told → IsTakenWell outcome
   carry_taken carried false outcome told acts = plain_taken outcome acts.0
   carry_taken carried true outcome told acts = let P : Outcome → Type 0 = λ o. IsTakenWell o in subst P (sym acts.0) tt
 
-  taken_joined : (action : Action) (outcome : Outcome) (told : Told A) → Acts at what action outcome told → IsTakenWell outcome
+  taken_joined : (action : Action) (outcome : Outcome) (told : EventOutputs A) → Acts at what action outcome told → IsTakenWell outcome
   taken_joined NewCall outcome told acts = request_taken [] (request_in what) outcome told acts
-  taken_joined Collision outcome told acts = request_taken (cancelled_told at.world at.line) (request_in what) outcome told acts
+  taken_joined Collision outcome told acts = request_taken (outputs_of_cancel at.world at.line) (request_in what) outcome told acts
   taken_joined Accepting outcome told acts = answer_taken (accepted_in what) (call_on at.world at.line) outcome told acts
   taken_joined Confirm outcome told acts = clear_taken (clear_in what) (call_on at.world at.line) outcome told acts
   taken_joined Relayed outcome told acts =
-      let carried = carried_by at.line (call_on at.world at.line) (packet_in what) in
+      let carried = relayed_by at.line (call_on at.world at.line) (packet_in what) in
       carry_taken carried (is_past_limit at.tables at.before carried) outcome told acts
   taken_joined action outcome told acts = plain_taken outcome acts.0
 
@@ -131,7 +131,7 @@ module _ {A : Type 0} where
   step_joined : (tables : Tables) (sound : IsSound tables) (before : List (Entry A)) (world : World) (entry : Entry A) (next : World)
       → AreJoined tables before world → Step tables before world entry next → AreJoined tables (before ++ entry ∷ []) next
   step_joined tables sound before world entry next joined step =
-      let at : Setting A = setting tables before world entry.event.line in
+      let at : StepContext A = step_context tables before world entry.event.line in
       let P : World → Type 0 = λ w. MayAllTalk tables w in
       record {
         live = subst P (sym step.leads)

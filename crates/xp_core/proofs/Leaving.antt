@@ -5,28 +5,32 @@ use Rattle.xp_charge.specs.declared.record.Record.{Record}
 use Rattle.xp_facilities.specs.declared.segment_counts.SegmentCounts.{SegmentCounts}
 use Rattle.xp_packets.specs.declared.end.End.{End}
 use Rattle.xp_subs.specs.Tables.{Tables}
-use Rattle.xp_core.specs.declared.call.LiveCall.{LiveCall}
-use Rattle.xp_core.specs.declared.change.Change.TheVariants as kept
-use Rattle.xp_core.specs.declared.change.Way.{Way}
+use Rattle.xp_machine.specs.declared.call.LiveCall.{LiveCall}
+use Rattle.xp_machine.specs.declared.change.Change.TheVariants as kept
+use Rattle.xp_machine.specs.declared.change.NoCallState.{NoCallState}
 use Rattle.xp_core.specs.declared.entry.Entry.{Entry}
 use Rattle.xp_core.specs.declared.outcome.Outcome.TheVariants.{Plain}
 use Rattle.xp_core.specs.declared.output.Output.{Output}
 use Rattle.xp_core.specs.declared.plan.Plan.{Plan}
-use Rattle.xp_core.specs.declared.plan.found.Charged.{Charged}
-use Rattle.xp_core.specs.declared.plan.found.Withdrawal.{Withdrawal}
-use Rattle.xp_core.specs.declared.relays.Metered.{Metered}
-use Rattle.xp_core.specs.Carried.{directions, end_of}
-use Rattle.xp_core.specs.Changes.{Change}
-use Rattle.xp_core.specs.Clearing.{record_of}
-use Rattle.xp_core.specs.Does.{leaves}
-use Rattle.xp_core.specs.Found.{IsCharged}
-use Rattle.xp_core.specs.Kept.{call_of_kept, entry_of, way_of}
-use Rattle.xp_core.specs.Plan.{IsPlainPlan, IsWithdrawal, applied, applied_if_any, freed_if_any, left}
-use Rattle.xp_core.specs.Relays.{AreCarried, IsShownBy, counted_by, relay_under}
-use Rattle.xp_core.specs.Segments.{information_for, segments_of}
-use Rattle.xp_core.specs.Setting.{Setting}
-use Rattle.xp_core.specs.Told.{Told, far_information, own_information}
-use Rattle.xp_core.specs.World.{Call, World, call_numbered, call_on}
+use Rattle.xp_core.specs.declared.plan.event_line.MeteredCall.{MeteredCall}
+use Rattle.xp_core.specs.declared.plan.event_line.Withdrawal.{Withdrawal}
+use Rattle.xp_machine.specs.declared.relays.MeteredRelay.{MeteredRelay}
+use Rattle.xp_core.specs.RelayedPackets.{directions}
+use Rattle.xp_machine.specs.CallEnds.{end_of}
+use Rattle.xp_machine.specs.Changes.{Change}
+use Rattle.xp_machine.specs.Clearing.{record_of}
+use Rattle.xp_core.specs.Effects.{leaves}
+use Rattle.xp_core.specs.steps.EventLine.{IsMeteredCall}
+use Rattle.xp_machine.specs.StoredState.{call_of_stored, entry_of, no_call_state_of}
+use Rattle.xp_core.specs.steps.Plan.{IsPlainPlan, IsWithdrawal}
+use Rattle.xp_machine.specs.AppliedChange.{applied, applied_if_any, freed_if_any, left}
+use Rattle.xp_core.specs.steps.Relays.{RelaysRepresentCalls, IsRepresentedBy, counted_by}
+use Rattle.xp_machine.specs.Relays.{relay_under}
+use Rattle.xp_machine.specs.Information.{information_for}
+use Rattle.xp_core.specs.Segments.{segments_of}
+use Rattle.xp_core.specs.StepContext.{StepContext}
+use Rattle.xp_core.specs.EventOutputs.{EventOutputs, far_information, own_information}
+use Rattle.xp_machine.specs.World.{Call, World, call_numbered, call_on}
 use Rattle.xp_core.proofs.Carrying.{some_of}
 use Rattle.xp_core.proofs.Counting.{counted_here}
 
@@ -37,39 +41,39 @@ module _ {A : Type 0} where
     pub meter_of_none : call.agreed ≡ None → opening tables.segment_limit ≡ counted_by tables before call.number call.agreed
     meter_of_none none = ap (counted_by tables before call.number) (sym none)
 
-    module _ (world : World) (relays : List (Option (Metered A))) (carried : AreCarried tables before world relays) (live : call_numbered world call.number ≡ Some (call_of_kept call))
+    module _ (world : World) (relays : List (Option (MeteredRelay A))) (carried : RelaysRepresentCalls tables before world relays) (live : call_numbered world call.number ≡ Some (call_of_stored call))
         (some : is_none call.agreed ≡ false) where
-      abbrev Shows : Option (Metered A) → Type 0
+      abbrev Shows : Option (MeteredRelay A) → Type 0
       Shows r =
           let agreement = (some_of call.agreed some).0 in
-          IsShownBy r (directions tables before call.number agreement) (counted_by tables before call.number (Some agreement))
+          IsRepresentedBy r (directions tables before call.number agreement) (counted_by tables before call.number (Some agreement))
 
       shows : Shows (relay_under relays call.caller)
-      shows = let it = some_of call.agreed some in carried call.number (call_of_kept call) it.0 live it.1
+      shows = let it = some_of call.agreed some in carried call.number (call_of_stored call) it.0 live it.1
 
       pub meter_not_lost : None ≡ relay_under relays call.caller → ⊥
       meter_not_lost none = subst Shows (sym none) shows
 
-      pub meter_kept : (metered : Metered A) → Some metered ≡ relay_under relays call.caller → metered.meter ≡ counted_by tables before call.number call.agreed
+      pub meter_kept : (metered : MeteredRelay A) → Some metered ≡ relay_under relays call.caller → metered.meter ≡ counted_by tables before call.number call.agreed
       meter_kept metered under =
           let it = some_of call.agreed some in
           (subst Shows (sym under) shows).1 ∙ ap (counted_by tables before call.number) (sym it.1)
 
   -- ---- what is told and recorded of it
 
-  module _ (at : Setting A) (charged : Option Charged) (is : IsCharged at charged) where
+  module _ (at : StepContext A) (charged : Option MeteredCall) (is : IsMeteredCall at charged) where
     pub not_in_call : charged ≡ None → call_on at.world at.line ≡ None
-    not_in_call none = let P : Option Charged → Type 0 = λ c. IsCharged at c in subst P none is
+    not_in_call none = let P : Option MeteredCall → Type 0 = λ c. IsMeteredCall at c in subst P none is
 
-    module _ (it : Charged) (some : charged ≡ Some it) where
-      in_it : IsCharged at (Some it)
-      in_it = let P : Option Charged → Type 0 = λ c. IsCharged at c in subst P some is
+    module _ (it : MeteredCall) (some : charged ≡ Some it) where
+      in_it : IsMeteredCall at (Some it)
+      in_it = let P : Option MeteredCall → Type 0 = λ c. IsMeteredCall at c in subst P some is
 
       pub in_call : call_on at.world at.line ≡ Some (entry_of it.call.now)
       in_call = in_it.0
 
       abbrev call : Call
-      call = call_of_kept it.call.now
+      call = call_of_stored it.call.now
 
       counts_are : (λ end. counted_from end it.meter) ≡ segments_of at.tables at.before it.call.now.number call
       counts_are =
@@ -86,13 +90,13 @@ module _ {A : Type 0} where
       told_far told is_told =
           is_told ∙ ap (λ counted. information_for call counted (other_end (end_of call at.line))) counts_are ∙ ap (far_information at) (sym in_call)
 
-      pub withdrawn : (way : Way) (cause diagnostic : ℕ) (charge : Record) → charge ≡ record_of it.call.now.number call (λ end. counted_from end it.meter) cause diagnostic
-          → IsWithdrawal (record { change = kept.Leave at.line way; charged = Some charge }) at (leaves at.line (way_of way) cause diagnostic (call_on at.world at.line))
+      pub withdrawn : (way : NoCallState) (cause diagnostic : ℕ) (charge : Record) → charge ≡ record_of it.call.now.number call (λ end. counted_from end it.meter) cause diagnostic
+          → IsWithdrawal (record { change = kept.Leave at.line way; charged = Some charge }) at (leaves at.line (no_call_state_of way) cause diagnostic (call_on at.world at.line))
       withdrawn way cause diagnostic charge is_charge =
           let W : Option (ℕ × Call) → Type 0 =
-          λ found. IsWithdrawal (record { change = kept.Leave at.line way; charged = Some charge }) at (leaves at.line (way_of way) cause diagnostic found) in
+          λ found. IsWithdrawal (record { change = kept.Leave at.line way; charged = Some charge }) at (leaves at.line (no_call_state_of way) cause diagnostic found) in
           subst W (sym in_call) (record {
-            does = ap (λ found. left at.line (way_of way) found at.world) in_call;
+            does = ap (λ found. left at.line (no_call_state_of way) found at.world) in_call;
             records = ap (λ r. r ∷ []) (is_charge ∙ ap (λ counted. record_of it.call.now.number call counted cause diagnostic) counts_are);
           })
 
@@ -102,25 +106,25 @@ module _ {A : Type 0} where
     pub told_none_far : charged ≡ None → None ≡ far_information at (call_on at.world at.line)
     told_none_far none = ap (far_information at) (sym (not_in_call none))
 
-    pub withdrawn_alone : charged ≡ None → (way : Way) (cause diagnostic : ℕ)
-        → IsWithdrawal (record { change = kept.Leave at.line way; charged = None }) at (leaves at.line (way_of way) cause diagnostic (call_on at.world at.line))
+    pub withdrawn_alone : charged ≡ None → (way : NoCallState) (cause diagnostic : ℕ)
+        → IsWithdrawal (record { change = kept.Leave at.line way; charged = None }) at (leaves at.line (no_call_state_of way) cause diagnostic (call_on at.world at.line))
     withdrawn_alone none way cause diagnostic =
         let W : Option (ℕ × Call) → Type 0 =
-        λ found. IsWithdrawal (record { change = kept.Leave at.line way; charged = None }) at (leaves at.line (way_of way) cause diagnostic found) in
+        λ found. IsWithdrawal (record { change = kept.Leave at.line way; charged = None }) at (leaves at.line (no_call_state_of way) cause diagnostic found) in
         subst W (sym (not_in_call none)) (record {
-          does = ap (λ found. left at.line (way_of way) found at.world) (not_in_call none);
+          does = ap (λ found. left at.line (no_call_state_of way) found at.world) (not_in_call none);
           records = refl;
         })
 
   -- ---- a plan by which a line leaves its call
 
-  module _ (plan : Plan A) (at : Setting A) (own far : List (Output A)) (withdrawal : Withdrawal) (change : Change) (is : IsWithdrawal withdrawal at change)
+  module _ (plan : Plan A) (at : StepContext A) (own far : List (Output A)) (withdrawal : Withdrawal) (change : Change) (is : IsWithdrawal withdrawal at change)
       (outputs : plan.outputs.outputs ≡ own ++ far) (uncancelled : plan.cancelled ≡ None) (changes : plan.change ≡ Some withdrawal.change)
       (records : plan.records.items ≡ option_to_list withdrawal.charged) where
-    abbrev told : Told A
+    abbrev told : EventOutputs A
     told = record { carried = []; own = own; far = far; taken = [] }
 
-    pub leaving : plan.outcome ≡ Plain → plan.carriage ≡ None → IsPlainPlan plan at told (change ∷ [])
+    pub leaving : plan.outcome ≡ Plain → plan.relay_update ≡ None → IsPlainPlan plan at told (change ∷ [])
     leaving plain quiet = record {
       plain = plain;
       quiet = quiet;

@@ -8,20 +8,20 @@ use Rattle.xp_packets.specs.declared.end.End.{End}
 use Rattle.xp_subs.specs.Tables.{Tables, line_count}
 use Rattle.xp_core.specs.declared.entry.Entry.{Entry}
 use Rattle.xp_charge.specs.declared.record.Record.{Record}
-use Rattle.xp_core.specs.Changes.{Change, Rises, Leaves, Begins, IsRefused, Connects, Ends, all_changed, changed, recorded, recorded_by}
-use Rattle.xp_core.specs.Clearing.{record_of, refused_record}
+use Rattle.xp_machine.specs.Changes.{Change, Rises, Leaves, Begins, IsRefused, Connects, Ends, all_changed, changed, recorded, recorded_by}
+use Rattle.xp_machine.specs.Clearing.{record_of, refused_record}
 use Rattle.xp_core.specs.Records.{Begins as HasBegun, Moment, count_of, holders, records_of}
 use Rattle.xp_core.specs.Outcomes.{payer_of, taken_by}
 use Rattle.xp_core.specs.Run.{Run}
 use Rattle.xp_core.specs.Segments.{segments_of}
-use Rattle.xp_core.specs.Setting.{setting}
+use Rattle.xp_core.specs.StepContext.{step_context}
 use Rattle.xp_core.specs.Step.{Step}
-use Rattle.xp_core.specs.Does.{changes_of}
+use Rattle.xp_core.specs.Effects.{changes_of}
 use Rattle.xp_core.specs.Table.{CallRequest, action_at}
-use Rattle.xp_core.specs.World.{Call, World, call_numbered, opening}
+use Rattle.xp_machine.specs.World.{Call, World, call_numbered, opening}
 use Rattle.xp_core.proofs.Counts.{count_by-append, count_by-cons}
-use Rattle.xp_core.proofs.Coupled.{CanBe}
-use Rattle.xp_core.proofs.Maps.{get_gone, get_left, get_new, get_other, new_or_old, was_there}
+use Rattle.xp_machine.proofs.Coupled.{CanBe}
+use Rattle.xp_machine.proofs.Maps.{get_gone, get_left, get_new, get_other, new_or_old, was_there}
 use Rattle.xp_core.proofs.RunLemmas.{run_keeps, run_push}
 use Rattle.xp_core.proofs.Shapes.{none, one, two, ComesOf, cancelled_by}
 use Rattle.xp_core.proofs.Sounds.{IsRight, cancel_right, run_right, shape_of}
@@ -222,7 +222,7 @@ module _ {A : Type 0} where
     Begun w = (number : ℕ) (call : Call) → call_numbered w number ≡ Some call → IsBegun tables (before ++ entry ∷ []) number call
 
     begun_changed : (change : Change) (w : World) → w.next ≡ world.next → Begun w → CanBe w change
-        → ComesOf (setting tables before world entry.event.line) entry.event.what (action_at world entry.event) entry.outcome step.told change
+        → ComesOf (step_context tables before world entry.event.line) entry.event.what (action_at world entry.event) entry.outcome step.told change
         → Begun (changed change w)
     begun_changed (Rises line) w same old can from = old
     begun_changed (Leaves line way) w same old can from = old

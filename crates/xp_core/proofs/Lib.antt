@@ -1,12 +1,11 @@
 pub mod Agreed
-pub mod Carried
+pub mod RelayedPackets
 pub mod Carrying
 pub mod Cells
 pub mod Clearings
 pub mod Clears
 pub mod Counting
 pub mod Counts
-pub mod Coupled
 pub mod Delivered
 pub mod Endings
 pub mod Events
@@ -17,15 +16,10 @@ pub mod Flows
 pub mod Fronts
 pub mod Handed
 pub mod Idle
-pub mod InCall
 pub mod Joined
-pub mod Kept
-pub mod Keyed
 pub mod Leaving
 pub mod Ledger
-pub mod Lines
 pub mod Live
-pub mod Maps
 pub mod Names
 pub mod Origins
 pub mod Outcomes
@@ -38,5 +32,4 @@ pub mod Shapes
 pub mod Showing
 pub mod Sounds
 pub mod Stalls
-pub mod Terms
 pub mod Worlds

@@ -4,19 +4,19 @@ use Rattle.xp_channel.specs.declared.action.Action.{Action}
 use Rattle.xp_channel.specs.declared.action.Action.TheVariants.{Answer}
 use Rattle.xp_subs.specs.Tables.{Tables}
 use Rattle.xp_core.specs.declared.entry.Entry.{Entry}
-use Rattle.xp_core.specs.declared.outcome.Agreement.{Agreement}
-use Rattle.xp_core.specs.Changes.{Change, Rises, Leaves, Begins, IsRefused, Connects, Ends, all_changed, changed}
-use Rattle.xp_core.specs.Channel.{Ringing, Talking}
-use Rattle.xp_core.specs.Coupling.{IsHeld}
-use Rattle.xp_core.specs.Does.{changes_of}
-use Rattle.xp_core.specs.Setting.{setting}
+use Rattle.xp_machine.specs.declared.agreement.Agreement.{Agreement}
+use Rattle.xp_machine.specs.Changes.{Change, Rises, Leaves, Begins, IsRefused, Connects, Ends, all_changed, changed}
+use Rattle.xp_machine.specs.Channel.{Ringing, Talking}
+use Rattle.xp_machine.specs.Coupling.{IsHeld}
+use Rattle.xp_core.specs.Effects.{changes_of}
+use Rattle.xp_core.specs.StepContext.{step_context}
 use Rattle.xp_core.specs.Step.{Step}
 use Rattle.xp_core.specs.Table.{action_at, kind_of}
-use Rattle.xp_core.specs.World.{Call, World, call_numbered, call_on, state_at}
+use Rattle.xp_machine.specs.World.{Call, World, call_numbered, call_on, state_at}
 use Rattle.xp_core.proofs.Cells.{Suits, suits}
-use Rattle.xp_core.proofs.Coupled.{CanBe}
-use Rattle.xp_core.proofs.InCall.{end_of, shown_on}
-use Rattle.xp_core.proofs.Maps.{new_or_old, was_there}
+use Rattle.xp_machine.proofs.Coupled.{CanBe}
+use Rattle.xp_machine.proofs.InCall.{end_of, shown_on}
+use Rattle.xp_machine.proofs.Maps.{new_or_old, was_there}
 use Rattle.xp_core.proofs.Shapes.{ComesOf, IsNew, cancelled_by, none, one, two}
 use Rattle.xp_core.proofs.Sounds.{IsRight, shape_of}
 
@@ -50,7 +50,7 @@ not_connected changes change number first other connects =
 module _ {A : Type 0} (tables : Tables) (before : List (Entry A)) (world : World) (entry : Entry A) (next : World) (entries : ℕ)
     (right : IsRight tables entries world) (step : Step tables before world entry next) where
   abbrev Comes : Change → Type 0
-  Comes change = ComesOf (setting tables before world entry.event.line) entry.event.what (action_at world entry.event) entry.outcome step.told change
+  Comes change = ComesOf (step_context tables before world entry.event.line) entry.event.what (action_at world entry.event) entry.outcome step.told change
 
   -- a call that is answered was not connected
   unagreed : (number : ℕ) (call : Call) → action_at world entry.event ≡ Answer → call_on world entry.event.line ≡ Some (number, call) → call.agreed ≡ None

@@ -13,27 +13,26 @@ use Rattle.xp_subs.specs.Tables.{Tables, line_count}
 use Rattle.xp_core.specs.declared.entry.Entry.{Entry}
 use Rattle.xp_core.specs.declared.event.What.{What}
 use Rattle.xp_core.specs.declared.output.Output.{Output}
-use Rattle.xp_core.specs.Acts.{lines_seen}
-use Rattle.xp_core.specs.Carried.{line_at_end}
-use Rattle.xp_core.specs.Changes.{Change, Rises, Leaves, Begins, IsRefused, Connects, Ends, changed, recorded, recorded_by}
-use Rattle.xp_core.specs.Clearing.{record_of, refused_record}
-use Rattle.xp_core.specs.Coupling.{AreCoupled, IsHeld}
+use Rattle.xp_machine.specs.World.{line_states, Call, World, call_numbered, call_on, far_end, opening}
+use Rattle.xp_machine.specs.CallEnds.{line_at_end}
+use Rattle.xp_machine.specs.Changes.{Change, Rises, Leaves, Begins, IsRefused, Connects, Ends, changed, recorded, recorded_by}
+use Rattle.xp_machine.specs.Clearing.{record_of, refused_record}
+use Rattle.xp_machine.specs.Coupling.{AreCoupled, IsHeld}
 use Rattle.xp_core.specs.Lines.{HasLines}
 use Rattle.xp_core.specs.Run.{Run}
 use Rattle.xp_core.specs.Segments.{segments_of}
-use Rattle.xp_core.specs.Setting.{Setting, setting}
+use Rattle.xp_core.specs.StepContext.{StepContext, step_context}
 use Rattle.xp_core.specs.Step.{Step}
-use Rattle.xp_core.specs.Does.{changes_of}
+use Rattle.xp_core.specs.Effects.{changes_of}
 use Rattle.xp_core.specs.Table.{action_at, packet_in}
-use Rattle.xp_core.specs.Told.{outputs_of}
-use Rattle.xp_core.specs.World.{Call, World, call_numbered, call_on, far_end, opening}
-use Rattle.xp_core.proofs.Carried.{of_carried}
-use Rattle.xp_core.proofs.InCall.{shown_on}
+use Rattle.xp_core.specs.EventOutputs.{outputs_of}
+use Rattle.xp_core.proofs.RelayedPackets.{of_carried}
+use Rattle.xp_machine.proofs.InCall.{shown_on}
 use Rattle.xp_core.proofs.Origins.{ComesOf, IsSent, all_come, all_sent, closing, confirming, clearing, refusing, clearing_far, carrying_on, connecting, ringing, carrying}
 use Rattle.xp_core.proofs.RunLemmas.{run_keeps, run_push}
 use Rattle.xp_core.proofs.Sounds.{IsRight, run_right}
 
-module _ {A : Type 0} (at : Setting A) (what : What A) (sound : IsSound at.tables) (coupled : AreCoupled at.tables at.world) (within : at.line < line_count at.tables) where
+module _ {A : Type 0} (at : StepContext A) (what : What A) (sound : IsSound at.tables) (coupled : AreCoupled at.tables at.world) (within : at.line < line_count at.tables) where
   -- ---- what is put out
 
   abbrev IsNamed : Output A → Type 0
@@ -63,7 +62,7 @@ module _ {A : Type 0} (at : Setting A) (what : What A) (sound : IsSound at.table
   sent_named output (connecting found answer connection live accepts answered is) =
       to found.1.caller output (ap (λ o. o.line) is) (coupled.held found.0 found.1 live).caller
   sent_named output (ringing request ring packet asks decided incoming is) =
-      to ring.line output (ap (λ o. o.line) is) (taken_is_free at.tables (lines_seen at.world) at.line request.block ring sound decided).known
+      to ring.line output (ap (λ o. o.line) is) (taken_is_free at.tables (line_states at.world) at.line request.block ring sound decided).known
   sent_named output (carrying carried move by in_it is) =
       let it = of_carried at.line (call_on at.world at.line) (packet_in what) carried by in
       let live = (shown_on at.world at.line (carried.number, carried.call) it.on).1 in
@@ -100,7 +99,7 @@ module _ {A : Type 0} where
   entry_named : (tables : Tables) (before : List (Entry A)) (world : World) (entry : Entry A) (next : World) → IsSound tables → IsRight tables (length before) world
       → Step tables before world entry next → HasLines (line_count tables) entry
   entry_named tables before world entry next sound right step =
-      let at : Setting A = setting tables before world entry.event.line in
+      let at : StepContext A = step_context tables before world entry.event.line in
       let within : entry.event.line < line_count tables = omega (arith, step.line, right.sound.lines) in
       let N : Output A → Type 0 = λ output. output.line < line_count tables in
       record {

@@ -10,7 +10,7 @@ use Rattle.xp_channel.specs.declared.action.Action.{Action}
 use Rattle.xp_channel.specs.declared.action.Action.TheVariants.{NewCall, Collision, Answer as Answers_it, Confirm, Relayed}
 use Rattle.xp_decide.proofs.Once.{decided_same}
 use Rattle.xp_decide.specs.Laws.{IsSameRing}
-use Rattle.xp_decide.specs.declared.verdict.Ring.{Ring}
+use Rattle.xp_decide.specs.declared.verdict.IncomingCall.{IncomingCall}
 use Rattle.xp_decide.specs.declared.verdict.Verdict.TheVariants.{Take, Refuse}
 use Rattle.xp_packets.specs.declared.end.End.{End}
 use Rattle.xp_packets.specs.declared.packet.Packet.{Packet}
@@ -21,18 +21,18 @@ use Rattle.xp_core.specs.declared.event.What.{What}
 use Rattle.xp_core.specs.declared.outcome.Outcome.{Outcome}
 use Rattle.xp_core.specs.declared.outcome.Outcome.TheVariants.{Plain, Put, Refused, Connected, Declined, Exceeded}
 use Rattle.xp_core.specs.declared.output.Output.{Output}
-use Rattle.xp_core.specs.Acts.{Acts, Answers, CarriesAs, Confirms, IsAnswered, IsPlain, IsRequested, Requests, agreement_of, cancelled_told, told_confirmed, told_connected, told_of_error}
-use Rattle.xp_core.specs.Carried.{Carried, carried_by}
-use Rattle.xp_core.specs.Changes.{Change, all_changed, recorded_by}
+use Rattle.xp_core.specs.Acts.{Acts, Answers, CarriesAs, Confirms, IsAnswered, IsPlain, IsRequested, Requests, agreement_of, outputs_of_cancel, outputs_of_clear, outputs_of_answer, outputs_of_error}
+use Rattle.xp_core.specs.RelayedPackets.{RelayedPacket, relayed_by}
+use Rattle.xp_machine.specs.Changes.{Change, all_changed, recorded_by}
 use Rattle.xp_core.specs.Determined.{IsSameButLine}
 use Rattle.xp_core.specs.Outcomes.{taken_by, with_line}
 use Rattle.xp_core.specs.Segments.{segments_of}
-use Rattle.xp_core.specs.Setting.{Setting, setting}
+use Rattle.xp_core.specs.StepContext.{StepContext, step_context}
 use Rattle.xp_core.specs.Step.{Step}
-use Rattle.xp_core.specs.Does.{answers, carries, collides, does, requests}
+use Rattle.xp_core.specs.Effects.{answers, carries, collides, effects_of, requests}
 use Rattle.xp_core.specs.Table.{CallAccepted, CallRequest, ClearRequest, accepted_in, action_at, clear_in, packet_in, request_in}
-use Rattle.xp_core.specs.Told.{Told, far_information, outputs_of, refused_told, send_far, taken_told}
-use Rattle.xp_core.specs.World.{Call, World, call_on}
+use Rattle.xp_core.specs.EventOutputs.{EventOutputs, far_information, outputs_of, outputs_of_refusal, send_far, outputs_of_incoming_call}
+use Rattle.xp_machine.specs.World.{Call, World, call_on}
 
 -- what is recorded of an answer, whichever line a call is put to
 answer_recorded : (counted : ℕ → Call → End → ℕ) (world : World) (line : ℕ) (found : Option (ℕ × Call)) (outcome : Outcome)
@@ -57,36 +57,36 @@ carry_recorded counted world line found Exceeded = refl
 
 module _ {A : Type 0} where
   -- two outcomes with what they put out: the same, but for the line
-  record IsAlike (one : Outcome) (told : Told A) (other : Outcome) (told' : Told A) : Type 0 where
+  record IsAlike (one : Outcome) (told : EventOutputs A) (other : Outcome) (told' : EventOutputs A) : Type 0 where
     outcome : with_line 0 one ≡ with_line 0 other
     whole : taken_by one ≡ taken_by other → one ≡ other
     put_out : taken_by one ≡ taken_by other → told ≡ told'
 
   -- the same in all
-  same : (one other : Outcome) (told told' : Told A) → one ≡ other → told ≡ told' → IsAlike one told other told'
+  same : (one other : Outcome) (told told' : EventOutputs A) → one ≡ other → told ≡ told' → IsAlike one told other told'
   same one other told told' is also = record { outcome = ap (with_line 0) is; whole = λ line. is; put_out = λ line. also }
 
-  plain_alike : (this : Told A) (one other : Outcome) (told told' : Told A) → IsPlain this one told → IsPlain this other told' → IsAlike one told other told'
+  plain_alike : (this : EventOutputs A) (one other : Outcome) (told told' : EventOutputs A) → IsPlain this one told → IsPlain this other told' → IsAlike one told other told'
   plain_alike this one other told told' first second = same one other told told' (first.0 ∙ sym second.0) (first.1 ∙ sym second.1)
 
   -- ---- a call request
 
-  ring_same : (one other : Ring A) → IsSameRing one other → one.line ≡ other.line → one ≡ other
+  ring_same : (one other : IncomingCall A) → IsSameRing one other → one.line ≡ other.line → one ≡ other
   ring_same one other is line = λ i. record { line = line i; told = is.told i; asked = is.asked i; reason = is.reason i }
 
-  setup_same : (one other : Ring A) → IsSameRing one other → setup_of one ≡ setup_of other
+  setup_same : (one other : IncomingCall A) → IsSameRing one other → setup_of one ≡ setup_of other
   setup_same one other is =
-      let to : Ring A → Ring A = λ ring. record ring { line = 0 } in
+      let to : IncomingCall A → IncomingCall A = λ ring. record ring { line = 0 } in
       let stripped : to one ≡ to other = ring_same (to one) (to other) (record { told = is.told; asked = is.asked; reason = is.reason }) refl in
       ap setup_of stripped
 
   module _ (tables : Tables) (world : World) (line : ℕ) (far : List (Output A)) (request : CallRequest A) where
-    requested_alike : (one other : Outcome) (told told' : Told A)
+    requested_alike : (one other : Outcome) (told told' : EventOutputs A)
         → IsRequested tables world line far request one told → IsRequested tables world line far request other told' → IsAlike one told other told'
     requested_alike (Put called setup) (Put called' setup') told told' first second =
         let rings : IsSameRing first.ring second.ring = decided_same tables _ line request.block (Take first.ring) (Take second.ring) first.decided second.decided in
         let setups : setup ≡ setup' = first.setup_is ∙ setup_same first.ring second.ring rings ∙ sym second.setup_is in
-        let I : ℕ → Ring A → Packet A → Type 0 = λ at ring packet. IsIncomingCall ring (address_of tables at) (address_of tables line) request.d request.block packet in
+        let I : ℕ → IncomingCall A → Packet A → Type 0 = λ at ring packet. IsIncomingCall ring (address_of tables at) (address_of tables line) request.d request.block packet in
         let packets : called ≡ called' → first.packet ≡ second.packet = λ at.
         let ring : first.ring ≡ second.ring = ring_same first.ring second.ring rings (sym first.called_is ∙ at ∙ second.called_is) in
         let moved : I called' second.ring first.packet = subst (λ c. I c second.ring first.packet) at (subst (λ r. I called r first.packet) ring first.incoming) in
@@ -96,7 +96,7 @@ module _ {A : Type 0} where
           whole = λ taken. let at : called ≡ called' = cc in ap (λ c. Put c setup) at ∙ ap (Put called') setups;
           put_out = λ taken.
               let at : called ≡ called' = cc in
-              first.told_is ∙ ap (λ c. taken_told world far c first.packet) at ∙ ap (taken_told world far called') (packets at) ∙ sym second.told_is;
+              first.told_is ∙ ap (λ c. outputs_of_incoming_call world far c first.packet) at ∙ ap (outputs_of_incoming_call world far called') (packets at) ∙ sym second.told_is;
         }
     requested_alike (Put called setup) (Refused why) told told' first second =
         absurd (decided_same tables _ line request.block (Take first.ring) (Refuse why) first.decided second.decided)
@@ -104,7 +104,7 @@ module _ {A : Type 0} where
         absurd (decided_same tables _ line request.block (Refuse why) (Take second.ring) first.decided second.decided)
     requested_alike (Refused why) (Refused why') told told' first second =
         let is : why ≡ why' = decided_same tables _ line request.block (Refuse why) (Refuse why') first.decided second.decided in
-        same (Refused why) (Refused why') told told' (ap Refused is) (first.told_is ∙ ap (refused_told world far line request.identifier) is ∙ sym second.told_is)
+        same (Refused why) (Refused why') told told' (ap Refused is) (first.told_is ∙ ap (outputs_of_refusal world far line request.identifier) is ∙ sym second.told_is)
     requested_alike (Put called setup) Plain told told' first second = absurd second
     requested_alike (Put called setup) (Connected agreement) told told' first second = absurd second
     requested_alike (Put called setup) (Declined diagnostic) told told' first second = absurd second
@@ -118,7 +118,7 @@ module _ {A : Type 0} where
     requested_alike (Declined diagnostic) other told told' first second = absurd first
     requested_alike Exceeded other told told' first second = absurd first
 
-  requests_alike : (tables : Tables) (world : World) (line : ℕ) (far : List (Output A)) (asked : Option (CallRequest A)) (one other : Outcome) (told told' : Told A)
+  requests_alike : (tables : Tables) (world : World) (line : ℕ) (far : List (Output A)) (asked : Option (CallRequest A)) (one other : Outcome) (told told' : EventOutputs A)
       → Requests tables world line far asked one told → Requests tables world line far asked other told' → IsAlike one told other told'
   requests_alike tables world line far None one other told told' first second = plain_alike _ one other told told' first second
   requests_alike tables world line far (Some request) one other told told' first second =
@@ -126,8 +126,8 @@ module _ {A : Type 0} where
 
   -- ---- an answer
 
-  module _ (at : Setting A) (answer : CallAccepted A) (call : Call) where
-    answered_alike : (one other : Outcome) (told told' : Told A)
+  module _ (at : StepContext A) (answer : CallAccepted A) (call : Call) where
+    answered_alike : (one other : Outcome) (told told' : EventOutputs A)
         → IsAnswered at answer call one told → IsAnswered at answer call other told' → IsAlike one told other told'
     answered_alike (Connected agreement) (Connected agreement') told told' first second =
         let answers : answered.Connected first.connection ≡ answered.Connected second.connection =
@@ -135,7 +135,7 @@ module _ {A : Type 0} where
         let is : first.connection ≡ second.connection = cc in
         same (Connected agreement) (Connected agreement') told told'
         (ap Connected (first.agreement_is ∙ ap agreement_of is ∙ sym second.agreement_is))
-        (first.told_is ∙ ap (λ c. told_connected at.world call.caller c.packet) is ∙ sym second.told_is)
+        (first.told_is ∙ ap (λ c. outputs_of_answer at.world call.caller c.packet) is ∙ sym second.told_is)
     answered_alike (Connected agreement) (Declined diagnostic) told told' first second =
         let answers : answered.Connected first.connection ≡ answered.Refused diagnostic =
         answers_same call.setup (address_of at.tables at.line) call.dialled answer.d answer.block _ _ first.answered second.answered in cc
@@ -146,7 +146,7 @@ module _ {A : Type 0} where
         let answers : ◌≡◌ {A = Answer A} (answered.Refused diagnostic) (answered.Refused diagnostic') =
         answers_same call.setup (address_of at.tables at.line) call.dialled answer.d answer.block _ _ first.answered second.answered in
         let is : diagnostic ≡ diagnostic' = cc in
-        same (Declined diagnostic) (Declined diagnostic') told told' (ap Declined is) (first.told_is ∙ ap (told_of_error at) is ∙ sym second.told_is)
+        same (Declined diagnostic) (Declined diagnostic') told told' (ap Declined is) (first.told_is ∙ ap (outputs_of_error at) is ∙ sym second.told_is)
     answered_alike (Connected agreement) Plain told told' first second = absurd second
     answered_alike (Connected agreement) (Put called setup) told told' first second = absurd second
     answered_alike (Connected agreement) (Refused why) told told' first second = absurd second
@@ -160,7 +160,7 @@ module _ {A : Type 0} where
     answered_alike (Refused why) other told told' first second = absurd first
     answered_alike Exceeded other told told' first second = absurd first
 
-  answers_alike : (at : Setting A) (accepted : Option (CallAccepted A)) (found : Option (ℕ × Call)) (one other : Outcome) (told told' : Told A)
+  answers_alike : (at : StepContext A) (accepted : Option (CallAccepted A)) (found : Option (ℕ × Call)) (one other : Outcome) (told told' : EventOutputs A)
       → Answers at accepted found one told → Answers at accepted found other told' → IsAlike one told other told'
   answers_alike at None found one other told told' first second = plain_alike _ one other told told' first second
   answers_alike at (Some answer) None one other told told' first second = plain_alike _ one other told told' first second
@@ -169,7 +169,7 @@ module _ {A : Type 0} where
 
   -- ---- a clear request
 
-  confirms_alike : (at : Setting A) (asked : Option (ClearRequest A)) (found : Option (ℕ × Call)) (one other : Outcome) (told told' : Told A)
+  confirms_alike : (at : StepContext A) (asked : Option (ClearRequest A)) (found : Option (ℕ × Call)) (one other : Outcome) (told told' : EventOutputs A)
       → Confirms at asked found one told → Confirms at asked found other told' → IsAlike one told other told'
   confirms_alike at None found one other told told' first second = plain_alike _ one other told told' first second
   confirms_alike at (Some clear) None one other told told' first second = plain_alike _ one other told told' first second
@@ -177,11 +177,11 @@ module _ {A : Type 0} where
       let packets : first.packet ≡ second.packet =
       indications_same found.1.setup.fast clear.cause clear.diagnostic clear.block (far_information at (Some found)) first.packet second.packet first.carried second.carried in
       same one other told told' (first.plain ∙ sym second.plain)
-      (first.told_is ∙ ap (λ packet. told_confirmed at (Some found) (send_far at.world at.line (Some found) packet)) packets ∙ sym second.told_is)
+      (first.told_is ∙ ap (λ packet. outputs_of_clear at (Some found) (send_far at.world at.line (Some found) packet)) packets ∙ sym second.told_is)
 
   -- ---- a packet of a line in data transfer
 
-  carries_alike : (at : Setting A) (carried : Option (Carried A)) (past : Bool) (one other : Outcome) (told told' : Told A)
+  carries_alike : (at : StepContext A) (carried : Option (RelayedPacket A)) (past : Bool) (one other : Outcome) (told told' : EventOutputs A)
       → CarriesAs at carried past one told → CarriesAs at carried past other told' → IsAlike one told other told'
   carries_alike at carried false one other told told' first second = plain_alike _ one other told told' first second
   carries_alike at carried true one other told told' first second =
@@ -189,18 +189,18 @@ module _ {A : Type 0} where
 
   -- ---- all cells of the table
 
-  acts_alike : (at : Setting A) (what : What A) (action : Action) (one other : Outcome) (told told' : Told A)
+  acts_alike : (at : StepContext A) (what : What A) (action : Action) (one other : Outcome) (told told' : EventOutputs A)
       → Acts at what action one told → Acts at what action other told' → IsAlike one told other told'
   acts_alike at what NewCall one other told told' first second =
       requests_alike at.tables at.world at.line [] (request_in what) one other told told' first second
   acts_alike at what Collision one other told told' first second =
-      requests_alike at.tables at.world at.line (cancelled_told at.world at.line) (request_in what) one other told told' first second
+      requests_alike at.tables at.world at.line (outputs_of_cancel at.world at.line) (request_in what) one other told told' first second
   acts_alike at what Answers_it one other told told' first second =
       answers_alike at (accepted_in what) (call_on at.world at.line) one other told told' first second
   acts_alike at what Confirm one other told told' first second =
       confirms_alike at (clear_in what) (call_on at.world at.line) one other told told' first second
   acts_alike at what Relayed one other told told' first second =
-      carries_alike at (carried_by at.line (call_on at.world at.line) (packet_in what)) _ one other told told' first second
+      carries_alike at (relayed_by at.line (call_on at.world at.line) (packet_in what)) _ one other told told' first second
   acts_alike at what action one other told told' first second = plain_alike _ one other told told' first second
 
   -- ---- what is recorded
@@ -227,8 +227,8 @@ module _ {A : Type 0} where
   collision_recorded counted world line (Some request) (Some found) Exceeded = refl
 
   -- what is recorded is the same, whichever line is taken
-  recorded_alike : (counted : ℕ → Call → End → ℕ) (at : Setting A) (what : What A) (action : Action) (outcome : Outcome)
-      → recorded_by counted at.world (does at what action outcome) ≡ recorded_by counted at.world (does at what action (with_line 0 outcome))
+  recorded_alike : (counted : ℕ → Call → End → ℕ) (at : StepContext A) (what : What A) (action : Action) (outcome : Outcome)
+      → recorded_by counted at.world (effects_of at what action outcome) ≡ recorded_by counted at.world (effects_of at what action (with_line 0 outcome))
   recorded_alike counted at what NewCall outcome = request_recorded counted at.world at.line (request_in what) outcome
   recorded_alike counted at what Collision outcome = collision_recorded counted at.world at.line (request_in what) (call_on at.world at.line) outcome
   recorded_alike counted at what Relayed outcome = carry_recorded counted at.world at.line (call_on at.world at.line) outcome
@@ -239,13 +239,13 @@ module _ {A : Type 0} where
       → Step tables history world one next → Step tables history world other next' → one.event ≡ other.event
       → IsSameButLine one next other next'
   steps_same tables history world one next other next' first second event =
-      let D : Event A → Outcome → List Change = λ e o. does (setting tables history world e.line) e.what (action_at world e) o in
-      let C : Event A → Type 0 = λ e. Acts (setting tables history world e.line) e.what (action_at world e) one.outcome first.told in
+      let D : Event A → Outcome → List Change = λ e o. effects_of (step_context tables history world e.line) e.what (action_at world e) o in
+      let C : Event A → Type 0 = λ e. Acts (step_context tables history world e.line) e.what (action_at world e) one.outcome first.told in
       let alike : IsAlike one.outcome first.told other.outcome second.told =
-      acts_alike (setting tables history world other.event.line) other.event.what (action_at world other.event) one.outcome other.outcome first.told second.told
+      acts_alike (step_context tables history world other.event.line) other.event.what (action_at world other.event) one.outcome other.outcome first.told second.told
       (subst C event first.acts) second.acts in
       let S : Outcome → List Record = λ o. recorded_by (segments_of tables history) world (D other.event o) in
-      let recorded : (o : Outcome) → S o ≡ S (with_line 0 o) = recorded_alike (segments_of tables history) (setting tables history world other.event.line) other.event.what (action_at world other.event) in
+      let recorded : (o : Outcome) → S o ≡ S (with_line 0 o) = recorded_alike (segments_of tables history) (step_context tables history world other.event.line) other.event.what (action_at world other.event) in
       let changes : taken_by one.outcome ≡ taken_by other.outcome → D one.event one.outcome ≡ D other.event other.outcome = λ line.
       ap (λ e. D e one.outcome) event ∙ ap (D other.event) (alike.whole line) in
       record {

@@ -6,20 +6,21 @@ use Rattle.xp_charge.specs.Counted.{Counted}
 use Rattle.xp_charge.specs.Meter.{counted_from}
 use Rattle.xp_charge.specs.declared.record.Record.{Record}
 use Rattle.xp_packets.specs.declared.end.End.{End}
-use Rattle.xp_core.specs.declared.change.Change.{Change as KeptChange}
+use Rattle.xp_machine.specs.declared.change.Change.{Change as KeptChange}
 use Rattle.xp_core.specs.declared.output.Output.{Output}
 use Rattle.xp_core.specs.declared.plan.Plan.{Plan}
 use Rattle.xp_core.specs.declared.plan.request.Cancelled.{Cancelled}
-use Rattle.xp_core.specs.Acts.{cancelled_told}
-use Rattle.xp_core.specs.Changes.{Change, IsFree, all_changed, changed, recorded, recorded_by}
-use Rattle.xp_core.specs.Clearing.{record_of}
-use Rattle.xp_core.specs.Plan.{IsCancelled, IsPlan, applied, applied_if_any, freed_if_any, left, recorded_at}
-use Rattle.xp_core.specs.Does.{cancels}
-use Rattle.xp_core.specs.Relays.{counted_by}
+use Rattle.xp_core.specs.Acts.{outputs_of_cancel}
+use Rattle.xp_machine.specs.Changes.{Change, IsFree, all_changed, changed, recorded, recorded_by}
+use Rattle.xp_machine.specs.Clearing.{record_of}
+use Rattle.xp_core.specs.steps.Plan.{IsCancelled, IsPlan, recorded_at}
+use Rattle.xp_machine.specs.AppliedChange.{applied, applied_if_any, freed_if_any, left}
+use Rattle.xp_core.specs.Effects.{cancels}
+use Rattle.xp_core.specs.steps.Relays.{counted_by}
 use Rattle.xp_core.specs.Segments.{segments_of}
-use Rattle.xp_core.specs.Setting.{Setting}
-use Rattle.xp_core.specs.Told.{clear_indication, send_far}
-use Rattle.xp_core.specs.World.{Call, World, call_on}
+use Rattle.xp_core.specs.StepContext.{StepContext}
+use Rattle.xp_core.specs.EventOutputs.{clear_indication, send_far}
+use Rattle.xp_machine.specs.World.{Call, World, call_on}
 
 all_changed-append : (changes more : List Change) (world : World) → all_changed (changes ++ more) world ≡ all_changed more (all_changed changes world)
 all_changed-append [] more world = refl
@@ -32,7 +33,7 @@ recorded_by-append counted (change ∷ changes) more world =
     ap (λ records. recorded counted world change ++ records) (recorded_by-append counted changes more (changed change world))
     ∙ sym (append_assoc (recorded counted world change) (recorded_by counted (changed change world) changes) (recorded_by counted (all_changed changes (changed change world)) more))
 
-pub planned : {A : Type 0} (plan : Plan A) (at : Setting A) (cancelled : Cancelled A) (ended : List Change) (far : List (Output A)) (kept : KeptChange) (change : Change)
+pub planned : {A : Type 0} (plan : Plan A) (at : StepContext A) (cancelled : Cancelled A) (ended : List Change) (far : List (Output A)) (kept : KeptChange) (change : Change)
     (own taken : List (Output A)) (records : List Record)
     → IsCancelled cancelled at ended far
     → plan.outputs.outputs ≡ own ++ option_to_list cancelled.told ++ taken
@@ -52,20 +53,20 @@ planned plan at cancelled ended far kept change own taken records ends outputs c
       ∙ sym (all_changed-append ended (change ∷ []) at.world);
 }
 
-module _ {A : Type 0} (cancelled : Cancelled A) (at : Setting A) where
+module _ {A : Type 0} (cancelled : Cancelled A) (at : StepContext A) where
   abbrev cancels_it : Option (ℕ × Call) → Type 0
   cancels_it found = IsCancelled cancelled at (cancels at.line found) (send_far at.world at.line found (clear_indication NUMBER_BUSY CALL_COLLISION))
 
-  pub none_cancelled : ((a : Setting A) → IsCancelled cancelled a [] []) → call_on at.world at.line ≡ None
-      → IsCancelled cancelled at (cancels at.line (call_on at.world at.line)) (cancelled_told at.world at.line)
+  pub none_cancelled : ((a : StepContext A) → IsCancelled cancelled a [] []) → call_on at.world at.line ≡ None
+      → IsCancelled cancelled at (cancels at.line (call_on at.world at.line)) (outputs_of_cancel at.world at.line)
   none_cancelled none is = subst cancels_it (sym is) (none at)
 
   pub call_cancelled : (found : ℕ × Call) (counted : Counted) → call_on at.world at.line ≡ Some found → counted ≡ counted_by at.tables at.before found.0 found.1.agreed
       → cancelled.line ≡ Some at.line → option_to_list cancelled.charged ≡ record_of found.0 found.1 (λ end. counted_from end counted) NUMBER_BUSY CALL_COLLISION ∷ []
-      → option_to_list cancelled.told ≡ cancelled_told at.world at.line
-      → IsCancelled cancelled at (cancels at.line (call_on at.world at.line)) (cancelled_told at.world at.line)
+      → option_to_list cancelled.told ≡ outputs_of_cancel at.world at.line
+      → IsCancelled cancelled at (cancels at.line (call_on at.world at.line)) (outputs_of_cancel at.world at.line)
   call_cancelled found counted is counted_is line charged told =
-      let P : Option (ℕ × Call) → Type 0 = λ f. IsCancelled cancelled at (cancels at.line f) (cancelled_told at.world at.line) in
+      let P : Option (ℕ × Call) → Type 0 = λ f. IsCancelled cancelled at (cancels at.line f) (outputs_of_cancel at.world at.line) in
       subst P (sym is) (record {
         does = ap (λ l. freed_if_any l at.world) line ∙ ap (λ f. left at.line IsFree f at.world) is;
         next = refl;

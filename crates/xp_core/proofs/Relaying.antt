@@ -1,4 +1,4 @@
--- The relays go on to show where the packets of their calls led.
+-- The relays go on to show what the packets of their calls led to.
 use Rattle.std.proofs.Common.{◌≡◌, ◌≢◌, ◌∙◌, ◌<◌, ◌≤◌, ◌⊎◌, ℕ, Bool, true, false, Option, Some, None, List, [], ◌∷◌, ◌++◌, length, set, get_or-set_other, refl, ap, sym, subst, inl, inr, arith}
 use Rattle.std.proofs.lemmas.Bool.{cases_eq}
 use Rattle.std.proofs.lemmas.Grind.{get_or-set_at}
@@ -9,28 +9,30 @@ use Rattle.xp_relay.specs.Coupled.{Coupled, after, coupled}
 use Rattle.xp_relay.specs.Runs.{run as run_of}
 use Rattle.xp_subs.specs.Tables.{Tables, line_count}
 use Rattle.xp_core.specs.declared.entry.Entry.{Entry}
-use Rattle.xp_core.specs.declared.outcome.Agreement.{Agreement}
+use Rattle.xp_machine.specs.declared.agreement.Agreement.{Agreement}
 use Rattle.xp_core.specs.declared.outcome.Outcome.TheVariants.{Exceeded}
-use Rattle.xp_core.specs.declared.relays.Carriage.{Carriage}
-use Rattle.xp_core.specs.declared.relays.Metered.{Metered}
+use Rattle.xp_machine.specs.declared.relays.RelayUpdate.{RelayUpdate}
+use Rattle.xp_machine.specs.declared.relays.MeteredRelay.{MeteredRelay}
 use Rattle.xp_core.specs.Acts.{Acts, Carries, CarriesAs}
-use Rattle.xp_core.specs.Carried.{Carried, arrivals, carried_in, directions, terms_of, turn_of_carried}
-use Rattle.xp_core.specs.Changes.{Change, Rises, Leaves, Begins, IsRefused, Connects, Ends, all_changed}
-use Rattle.xp_core.specs.Does.{carries, changes_of, does}
-use Rattle.xp_core.specs.Relays.{AreCarried, IsRelayed, IsShownBy, Relays, RelaysFor, RelaysOn, counted_by, counted_with, relay_under, relays_with}
+use Rattle.xp_core.specs.RelayedPackets.{RelayedPacket, arrivals, relayed_in, directions, turn_of_relayed}
+use Rattle.xp_machine.specs.RelayTerms.{terms_of}
+use Rattle.xp_machine.specs.Changes.{Change, Rises, Leaves, Begins, IsRefused, Connects, Ends, all_changed}
+use Rattle.xp_core.specs.Effects.{carries, changes_of, effects_of}
+use Rattle.xp_core.specs.steps.Relays.{RelaysRepresentCalls, IsRelayed, IsRepresentedBy, Relays, RelaysFor, RelaysOn, counted_by, counted_with}
+use Rattle.xp_machine.specs.Relays.{relay_under, relays_with}
 use Rattle.xp_core.specs.Run.{Run}
 use Rattle.xp_core.specs.Segments.{is_past_limit}
-use Rattle.xp_core.specs.Setting.{Setting, setting}
+use Rattle.xp_core.specs.StepContext.{StepContext, step_context}
 use Rattle.xp_core.specs.Step.{Step}
 use Rattle.xp_core.specs.Table.{action_at}
-use Rattle.xp_core.specs.Work.{GoOn}
-use Rattle.xp_core.specs.World.{Call, World, call_numbered, call_on, opening}
+use Rattle.xp_core.specs.steps.PreparedEntry.{RelaysAdvance}
+use Rattle.xp_machine.specs.World.{Call, World, call_numbered, call_on, opening}
 use Rattle.xp_core.specs.Worlds.{world_after}
-use Rattle.xp_core.proofs.Carried.{arrivals_still, directions_on, directions_still, is_relayed, of_carried}
+use Rattle.xp_core.proofs.RelayedPackets.{arrivals_still, directions_on, directions_still, is_relayed, of_carried}
 use Rattle.xp_core.proofs.Counting.{counted_none, counted_on, counted_still}
-use Rattle.xp_core.proofs.InCall.{caller_shows, same_number, shown_on}
+use Rattle.xp_machine.proofs.InCall.{caller_shows, same_number, shown_on}
 use Rattle.xp_core.proofs.Live.{Connected, same, begun, connects_live, joined, next_grows, was}
-use Rattle.xp_core.proofs.Maps.{get_gone}
+use Rattle.xp_machine.proofs.Maps.{get_gone}
 use Rattle.xp_core.proofs.RunLemmas.{run_keeps, run_push}
 use Rattle.xp_core.proofs.Sounds.{IsRight, run_right}
 use Rattle.xp_core.proofs.Worlds.{run_world}
@@ -43,17 +45,17 @@ one_caller tables entries world right number other call its is is' at =
     (caller_shows tables world other its (right.coupled.held other its is'))
     (caller_shows tables world number call (right.coupled.held number call is))
 
--- changes that ask for a relay connect a call
-asks : {A : Type 0} (tables : Tables) (changes : List Change) (carriage : Option (Carriage A)) → RelaysFor tables changes carriage
-    → (carriage ≡ None) ⊎ ((number : ℕ) × (call : Call) × (agreement : Agreement) × (rest : List Change) × (changes ≡ Connects number call agreement ∷ rest)
-    × IsRelayed call (coupled (terms_of agreement)) (opening_meter tables.segment_limit) carriage)
-asks tables [] carriage none = inl none
-asks tables (Connects number call agreement ∷ changes) carriage relayed = inr (number, call, agreement, changes, refl, relayed)
-asks tables (Rises line ∷ changes) carriage none = inl none
-asks tables (Leaves line way ∷ changes) carriage none = inl none
-asks tables (Begins line identifier called dialled setup ∷ changes) carriage none = inl none
-asks tables (IsRefused line identifier dialled why ∷ changes) carriage none = inl none
-asks tables (Ends number call line way cause diagnostic ∷ changes) carriage none = inl none
+-- changes that need a relay connect a call
+asks : {A : Type 0} (tables : Tables) (changes : List Change) (relay_update : Option (RelayUpdate A)) → RelaysFor tables changes relay_update
+    → (relay_update ≡ None) ⊎ ((number : ℕ) × (call : Call) × (agreement : Agreement) × (rest : List Change) × (changes ≡ Connects number call agreement ∷ rest)
+    × IsRelayed call (coupled (terms_of agreement)) (opening_meter tables.segment_limit) relay_update)
+asks tables [] relay_update none = inl none
+asks tables (Connects number call agreement ∷ changes) relay_update relayed = inr (number, call, agreement, changes, refl, relayed)
+asks tables (Rises line ∷ changes) relay_update none = inl none
+asks tables (Leaves line way ∷ changes) relay_update none = inl none
+asks tables (Begins line identifier called dialled setup ∷ changes) relay_update none = inl none
+asks tables (IsRefused line identifier dialled why ∷ changes) relay_update none = inl none
+asks tables (Ends number call line way cause diagnostic ∷ changes) relay_update none = inl none
 
 module _ {A : Type 0} where
   -- ---- no packet comes for a call that is not connected
@@ -63,7 +65,7 @@ module _ {A : Type 0} where
     pub fresh : (number : ℕ) → world.next ≤ number → arrivals tables history number ≡ []
 
   -- the call of a packet is live and connected
-  pub carried_live : (world : World) (entry : Entry A) (carried : Carried A) → carried_in world entry.event ≡ Some carried
+  pub carried_live : (world : World) (entry : Entry A) (carried : RelayedPacket A) → relayed_in world entry.event ≡ Some carried
       → (call_numbered world carried.number ≡ Some carried.call) × (carried.call.agreed ≡ Some carried.agreement)
       × ((tables : Tables) (before : List (Entry A)) → changes_of tables before world entry ≡ carries entry.event.line (Some (carried.number, carried.call)) entry.outcome)
   carried_live world entry carried is =
@@ -72,7 +74,7 @@ module _ {A : Type 0} where
         (shown_on world entry.event.line (carried.number, carried.call) it.on).1,
         it.agreed,
         λ tables before.
-            ap (λ action. does (setting tables before world entry.event.line) entry.event.what action entry.outcome) relayed.0
+            ap (λ action. effects_of (step_context tables before world entry.event.line) entry.event.what action entry.outcome) relayed.0
             ∙ ap (λ found. carries entry.event.line found entry.outcome) it.on,
       )
 
@@ -119,34 +121,34 @@ module _ {A : Type 0} where
 
   -- ---- the relays
 
-  under_new : (relays : List (Option (Metered A))) (caller : ℕ) (kept : Metered A) → caller < length relays
+  under_new : (relays : List (Option (MeteredRelay A))) (caller : ℕ) (kept : MeteredRelay A) → caller < length relays
       → relay_under (set relays caller (Some kept)) caller ≡ Some kept
   under_new relays caller kept within = get_or-set_at relays caller caller (Some kept) None refl within
 
-  under_other : (relays : List (Option (Metered A))) (caller line : ℕ) (kept : Metered A) → line ≢ caller
+  under_other : (relays : List (Option (MeteredRelay A))) (caller line : ℕ) (kept : MeteredRelay A) → line ≢ caller
       → relay_under (set relays caller (Some kept)) line ≡ relay_under relays line
   under_other relays caller line kept other = get_or-set_other relays caller line (Some kept) None other
 
   -- a relay that a call has from now on
-  module _ (relays later : List (Option (Metered A))) (call : Call) (shown : Coupled A) (counted : Counted) (carriage : Option (Carriage A))
-      (become : later ≡ relays_with carriage relays) (relayed : IsRelayed call shown counted carriage) where
-    abbrev set_relays : List (Option (Metered A))
+  module _ (relays later : List (Option (MeteredRelay A))) (call : Call) (shown : Coupled A) (counted : Counted) (relay_update : Option (RelayUpdate A))
+      (become : later ≡ relays_with relay_update relays) (relayed : IsRelayed call shown counted relay_update) where
+    abbrev set_relays : List (Option (MeteredRelay A))
     set_relays = set relays call.caller (Some relayed.metered)
 
     becomes : later ≡ set_relays
     becomes = become ∙ ap (λ c. relays_with c relays) relayed.kept
 
-    shown_now : call.caller < length relays → IsShownBy (relay_under later call.caller) shown counted
+    shown_now : call.caller < length relays → IsRepresentedBy (relay_under later call.caller) shown counted
     shown_now within =
-        let P : Option (Metered A) → Type 0 = λ r. IsShownBy r shown counted in
+        let P : Option (MeteredRelay A) → Type 0 = λ r. IsRepresentedBy r shown counted in
         subst P (sym (ap (λ rs. relay_under rs call.caller) becomes ∙ under_new relays call.caller relayed.metered within)) relayed.shows
 
     still_under : (line : ℕ) → line ≢ call.caller → relay_under later line ≡ relay_under relays line
     still_under line other = ap (λ rs. relay_under rs line) becomes ∙ under_other relays call.caller line relayed.metered other
 
   module _ (tables : Tables) (before : List (Entry A)) (world : World) (entry : Entry A) (next : World) (run : Run tables before world)
-      (step : Step tables before world entry next) (relays later : List (Option (Metered A))) (carried : AreCarried tables before world relays)
-      (places : length relays ≡ line_count tables) (on : GoOn tables before world entry.event entry.outcome relays later) where
+      (step : Step tables before world entry next) (relays later : List (Option (MeteredRelay A))) (carried : RelaysRepresentCalls tables before world relays)
+      (places : length relays ≡ line_count tables) (on : RelaysAdvance tables before world entry.event entry.outcome relays later) where
     here : world ≡ world_after tables before
     here = run_world tables before world run
 
@@ -158,32 +160,32 @@ module _ {A : Type 0} where
 
     abbrev ShownAs : ℕ → ℕ → Agreement → Type 0
     ShownAs line number agreement =
-        IsShownBy (relay_under later line) (directions tables (before ++ entry ∷ []) number agreement) (counted_by tables (before ++ entry ∷ []) number (Some agreement))
+        IsRepresentedBy (relay_under later line) (directions tables (before ++ entry ∷ []) number agreement) (counted_by tables (before ++ entry ∷ []) number (Some agreement))
 
     abbrev Shown : ℕ → Call → Agreement → Type 0
     Shown number call agreement = ShownAs call.caller number agreement
 
     -- a call whose relay and packets stay
     stays : (number : ℕ) (call : Call) (agreement : Agreement) → call_numbered world number ≡ Some call → call.agreed ≡ Some agreement
-        → ((c : Carried A) → carried_in world entry.event ≡ Some c → number ≢ c.number) → relay_under later call.caller ≡ relay_under relays call.caller → Shown number call agreement
+        → ((c : RelayedPacket A) → relayed_in world entry.event ≡ Some c → number ≢ c.number) → relay_under later call.caller ≡ relay_under relays call.caller → Shown number call agreement
     stays number call agreement live agreed other under =
-        let P : Option (Metered A) → Type 0 =
-        λ r. IsShownBy r (directions tables (before ++ entry ∷ []) number agreement) (counted_by tables (before ++ entry ∷ []) number (Some agreement)) in
-        let Q : Coupled A → Type 0 = λ d. IsShownBy (relay_under relays call.caller) d (counted_by tables (before ++ entry ∷ []) number (Some agreement)) in
-        let R : Counted → Type 0 = λ m. IsShownBy (relay_under relays call.caller) (directions tables before number agreement) m in
+        let P : Option (MeteredRelay A) → Type 0 =
+        λ r. IsRepresentedBy r (directions tables (before ++ entry ∷ []) number agreement) (counted_by tables (before ++ entry ∷ []) number (Some agreement)) in
+        let Q : Coupled A → Type 0 = λ d. IsRepresentedBy (relay_under relays call.caller) d (counted_by tables (before ++ entry ∷ []) number (Some agreement)) in
+        let R : Counted → Type 0 = λ m. IsRepresentedBy (relay_under relays call.caller) (directions tables before number agreement) m in
         subst P (sym under) (subst Q (sym (directions_still tables before world entry number agreement here other))
         (subst R (sym (counted_still tables before world entry here number agreement other)) (carried number call agreement live agreed)))
 
     -- a packet came for a call
-    module _ (c : Carried A) (by : carried_in world entry.event ≡ Some c) where
-      abbrev at : Setting A
-      at = setting tables before world entry.event.line
+    module _ (c : RelayedPacket A) (by : relayed_in world entry.event ≡ Some c) where
+      abbrev at : StepContext A
+      at = step_context tables before world entry.event.line
 
       its_acts : CarriesAs at (Some c) (is_past_limit tables before (Some c)) entry.outcome step.told
       its_acts =
           let relayed = is_relayed (action_at world entry.event) _ c by in
           let P : Action → Type 0 = λ action. Acts at entry.event.what action entry.outcome step.told in
-          let Q : Option (Carried A) → Type 0 = λ k. Carries at k entry.outcome step.told in
+          let Q : Option (RelayedPacket A) → Type 0 = λ k. Carries at k entry.outcome step.told in
           subst Q relayed.1 (subst P relayed.0 step.acts)
 
       connects_none : (past : Bool) → CarriesAs at (Some c) past entry.outcome step.told → (number : ℕ) (call : Call) (agreement : Agreement)
@@ -197,7 +199,7 @@ module _ {A : Type 0} where
 
       -- that is within the limit
       module _ (past : is_past_limit tables before (Some c) ≡ false)
-          (relayed : IsRelayed c.call (after c.arrival.here (turn_of_carried tables before c)) (counted_with tables before c) on.carriage) where
+          (relayed : IsRelayed c.call (after c.arrival.here (turn_of_relayed tables before c)) (counted_with tables before c) on.relay_update) where
         led_on : (number : ℕ) (call : Call) (agreement : Agreement) → call_numbered world number ≡ Some call → call.agreed ≡ Some agreement → Shown number call agreement
         led_on number call agreement live agreed = elim (cases_eq number c.number) [
           | inl is ↦
@@ -207,10 +209,10 @@ module _ {A : Type 0} where
               let one : c.call ≡ call = cc in
               let some : call.agreed ≡ Some c.agreement = ap (λ k. k.agreed) (sym one) ∙ it.1 in
               let agreement_is : c.agreement ≡ agreement = cc in
-              let shows = shown_now relays later c.call (after c.arrival.here (turn_of_carried tables before c)) (counted_with tables before c) on.carriage on.become relayed
+              let shows = shown_now relays later c.call (after c.arrival.here (turn_of_relayed tables before c)) (counted_with tables before c) on.relay_update on.become relayed
               (caller_within c.number c.call it.0) in
-              let D : Coupled A → Type 0 = λ d. IsShownBy (relay_under later c.call.caller) d (counted_with tables before c) in
-              let M : Counted → Type 0 = λ m. IsShownBy (relay_under later c.call.caller) (directions tables (before ++ entry ∷ []) c.number c.agreement) m in
+              let D : Coupled A → Type 0 = λ d. IsRepresentedBy (relay_under later c.call.caller) d (counted_with tables before c) in
+              let M : Counted → Type 0 = λ m. IsRepresentedBy (relay_under later c.call.caller) (directions tables (before ++ entry ∷ []) c.number c.agreement) m in
               let P : Call → Type 0 = λ k. Shown c.number k c.agreement in
               let Q : ℕ → Type 0 = λ n. Shown n call c.agreement in
               let R : Agreement → Type 0 = λ a. Shown number call a in
@@ -221,7 +223,7 @@ module _ {A : Type 0} where
               stays number call agreement live agreed (λ c' by' number_is.
               let both : Some c ≡ Some c' = sym by ∙ by' in
               let one : c ≡ c' = cc in other (number_is ∙ ap (λ k. k.number) (sym one)))
-              (still_under relays later c.call (after c.arrival.here (turn_of_carried tables before c)) (counted_with tables before c) on.carriage on.become relayed call.caller
+              (still_under relays later c.call (after c.arrival.here (turn_of_relayed tables before c)) (counted_with tables before c) on.relay_update on.become relayed call.caller
               (λ same_line. other (one_caller tables (length before) world its number c.number call c.call live it.0 same_line)))
         ]
 
@@ -233,7 +235,7 @@ module _ {A : Type 0} where
           ap (λ w. call_numbered w c.number) (step.leads ∙ ap (λ changes. all_changed changes world) ends)
           ∙ get_gone world.calls c.number c.number refl
 
-      others_on : entry.outcome ≡ Exceeded → on.carriage ≡ None → (number : ℕ) (call : Call) (agreement : Agreement) → call_numbered next number ≡ Some call
+      others_on : entry.outcome ≡ Exceeded → on.relay_update ≡ None → (number : ℕ) (call : Call) (agreement : Agreement) → call_numbered next number ≡ Some call
           → call_numbered world number ≡ Some call → call.agreed ≡ Some agreement → Shown number call agreement
       others_on outcome none number call agreement still live agreed =
           stays number call agreement live agreed (λ c' by' number_is.
@@ -243,13 +245,13 @@ module _ {A : Type 0} where
           (ap (λ rs. relay_under rs call.caller) (on.become ∙ ap (λ k. relays_with k relays) none))
 
     -- no packet came for a call
-    module _ (nothing : carried_in world entry.event ≡ None) (relays_for : RelaysFor tables (changes_of tables before world entry) on.carriage) where
-      none_came : (number : ℕ) (c : Carried A) → carried_in world entry.event ≡ Some c → number ≢ c.number
+    module _ (nothing : relayed_in world entry.event ≡ None) (relays_for : RelaysFor tables (changes_of tables before world entry) on.relay_update) where
+      none_came : (number : ℕ) (c : RelayedPacket A) → relayed_in world entry.event ≡ Some c → number ≢ c.number
       none_came number c by = absurd (cc)
 
       kept_on : (number : ℕ) (call : Call) (agreement : Agreement) → call_numbered world number ≡ Some call → call.agreed ≡ Some agreement
           → (Connected (changes_of tables before world entry) number → ⊥) → Shown number call agreement
-      kept_on number call agreement live agreed other = elim (asks tables (changes_of tables before world entry) on.carriage relays_for) [
+      kept_on number call agreement live agreed other = elim (asks tables (changes_of tables before world entry) on.relay_update relays_for) [
         | inl none ↦ stays number call agreement live agreed (none_came number)
             (ap (λ rs. relay_under rs call.caller) (on.become ∙ ap (λ c. relays_with c relays) none))
         | inr asked ↦
@@ -261,32 +263,32 @@ module _ {A : Type 0} where
                   let C : ℕ → Type 0 = λ n. Connected (changes_of tables before world entry) n in
                   absurd (other (subst C (sym is) (record { call = asked.1; agreement = asked.2; rest = asked.3; is = asked.4 })))
               | inr differs ↦ stays number call agreement live agreed (none_came number)
-                  (still_under relays later asked.1 (coupled (terms_of asked.2)) (opening_meter tables.segment_limit) on.carriage on.become relayed call.caller differs)
+                  (still_under relays later asked.1 (coupled (terms_of asked.2)) (opening_meter tables.segment_limit) on.relay_update on.become relayed call.caller differs)
             ]
       ]
 
       joined_on : (number : ℕ) (call c : Call) (agreement a : Agreement) → call_numbered world number ≡ Some c → c.agreed ≡ None
           → changes_of tables before world entry ≡ Connects number c a ∷ [] → call ≡ record c { agreed = Some a } → call.agreed ≡ Some agreement → Shown number call agreement
       joined_on number call c agreement a live none connects becomes agreed =
-          let P : List Change → Type 0 = λ cs. RelaysFor tables cs on.carriage in
+          let P : List Change → Type 0 = λ cs. RelaysFor tables cs on.relay_update in
           let relayed = subst P connects relays_for in
           let some : call.agreed ≡ Some a = ap (λ k. k.agreed) becomes in
           let agreement_is : a ≡ agreement = cc in
           let nothing_yet : arrivals tables (before ++ entry ∷ []) number ≡ [] =
           arrivals_still tables before world entry number here (none_came number) ∙ (run_unused tables before world run).unconnected number c live none in
-          let shows = shown_now relays later c (coupled (terms_of a)) (opening_meter tables.segment_limit) on.carriage on.become relayed (caller_within number c live) in
-          let D : Coupled A → Type 0 = λ d. IsShownBy (relay_under later c.caller) d (opening_meter tables.segment_limit) in
-          let M : Counted → Type 0 = λ m. IsShownBy (relay_under later c.caller) (directions tables (before ++ entry ∷ []) number a) m in
+          let shows = shown_now relays later c (coupled (terms_of a)) (opening_meter tables.segment_limit) on.relay_update on.become relayed (caller_within number c live) in
+          let D : Coupled A → Type 0 = λ d. IsRepresentedBy (relay_under later c.caller) d (opening_meter tables.segment_limit) in
+          let M : Counted → Type 0 = λ m. IsRepresentedBy (relay_under later c.caller) (directions tables (before ++ entry ∷ []) number a) m in
           let K : ℕ → Type 0 = λ line. ShownAs line number a in
           let R : Agreement → Type 0 = λ b. Shown number call b in
           subst R agreement_is (subst K (sym (ap (λ k. k.caller) becomes)) (subst M (sym (counted_none tables (before ++ entry ∷ []) number a nothing_yet))
           (subst D (sym (ap (run_of (coupled (terms_of a))) nothing_yet)) shows)))
 
-    pub carried_next : AreCarried tables (before ++ entry ∷ []) next later
-    carried_next number call agreement live agreed = by (carried_in world entry.event) refl on.is
+    pub carried_next : RelaysRepresentCalls tables (before ++ entry ∷ []) next later
+    carried_next number call agreement live agreed = by (relayed_in world entry.event) refl on.is
       where
-        by_limit : (c : Carried A) → carried_in world entry.event ≡ Some c → (past : Bool) → is_past_limit tables before (Some c) ≡ past
-            → RelaysOn tables before c past on.carriage → CarriesAs (setting tables before world entry.event.line) (Some c) past entry.outcome step.told → Shown number call agreement
+        by_limit : (c : RelayedPacket A) → relayed_in world entry.event ≡ Some c → (past : Bool) → is_past_limit tables before (Some c) ≡ past
+            → RelaysOn tables before c past on.relay_update → CarriesAs (step_context tables before world entry.event.line) (Some c) past entry.outcome step.told → Shown number call agreement
         by_limit c is false past relayed acts = elim (was tables before world entry next (length before) its step number call live) [
           | same there other ↦ led_on c is past relayed number call agreement there agreed
           | begun number_is none ↦ absurd (cc)
@@ -298,7 +300,7 @@ module _ {A : Type 0} where
           | joined k a there none' connects becomes ↦ absurd (connects_none c is true acts number k a connects)
         ]
 
-        by : (c : Option (Carried A)) → carried_in world entry.event ≡ c → Relays tables before c (changes_of tables before world entry) on.carriage → Shown number call agreement
+        by : (c : Option (RelayedPacket A)) → relayed_in world entry.event ≡ c → Relays tables before c (changes_of tables before world entry) on.relay_update → Shown number call agreement
         by (Some c) is relayed = by_limit c is (is_past_limit tables before (Some c)) refl relayed (its_acts c is)
         by None is relays_for = elim (was tables before world entry next (length before) its step number call live) [
           | same there other ↦ kept_on is relays_for number call agreement there agreed other

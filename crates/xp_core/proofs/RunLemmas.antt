@@ -4,7 +4,7 @@ use Rattle.xp_subs.specs.Tables.{Tables}
 use Rattle.xp_core.specs.declared.entry.Entry.{Entry}
 use Rattle.xp_core.specs.Run.{RunFrom}
 use Rattle.xp_core.specs.Step.{Step}
-use Rattle.xp_core.specs.World.{World}
+use Rattle.xp_machine.specs.World.{World}
 
 module _ {A : Type 0} where
   -- one entry more, after the last

@@ -1,9 +1,9 @@
 -- What a step does: nothing, one change that can be made, or, in a collision, the end of the incoming call and then one.
 use Rattle.std.proofs.Common.{◌≡◌, ◌≢◌, ◌⊎◌, ℕ, ◌<◌, eqb, Bool, true, false, Option, Some, None, List, [], ◌∷◌, length, refl, ap, sym, subst, ◌∙◌, inl, inr, arith, length-set}
 use Rattle.std.proofs.lemmas.Bool.{eq-eqb, ne_eqb, cond-true, cond-false}
-use Rattle.xp_answer.specs.CarriedOn.{block_with}
+use Rattle.xp_answer.specs.ForwardedClear.{block_with}
 use Rattle.xp_answer.specs.declared.setup.Setup.{Setup}
-use Rattle.xp_causes.specs.Told.{cause_told, diagnostic_told}
+use Rattle.xp_causes.specs.Indicated.{indicated_cause, indicated_diagnostic}
 use Rattle.xp_causes.specs.declared.clearing_cause.TheConstants.{LOCAL_PROCEDURE_ERROR, NETWORK_CONGESTION, NUMBER_BUSY, OUT_OF_ORDER, REMOTE_PROCEDURE_ERROR}
 use Rattle.xp_causes.specs.declared.diagnostic.TheConstants.{CALL_COLLISION, NO_ADDITIONAL_INFORMATION, TIMER_EXPIRED_FOR_INCOMING_CALL}
 use Rattle.xp_causes.specs.declared.refusal.Refusal.{Refusal}
@@ -14,28 +14,28 @@ use Rattle.xp_packets.specs.declared.packet.Packet.TheVariants.{Clear}
 use Rattle.xp_subs.specs.Tables.{Tables, line_count}
 use Rattle.xp_core.specs.declared.entry.Entry.{Entry}
 use Rattle.xp_core.specs.declared.event.What.{What}
-use Rattle.xp_core.specs.declared.outcome.Agreement.{Agreement}
+use Rattle.xp_machine.specs.declared.agreement.Agreement.{Agreement}
 use Rattle.xp_core.specs.declared.outcome.Outcome.{Outcome}
 use Rattle.xp_core.specs.declared.outcome.Outcome.TheVariants.{Plain, Put, Refused, Connected, Declined, Exceeded}
 use Rattle.xp_core.specs.declared.output.Output.{Output}
-use Rattle.xp_core.specs.Acts.{Acts, Answers, CarriesAs, Confirms, IsAnswered, IsConnected, IsPut, IsRequested, Requests, cancelled_told, told_both, told_of_error, told_of_fall}
-use Rattle.xp_core.specs.Carried.{Carried, carried_by}
-use Rattle.xp_core.specs.Changes.{Change, Rises, Leaves, Begins, IsRefused, Connects, Ends, Way, GoesOut, IsFree, IsCleared, changed}
-use Rattle.xp_core.specs.Channel.{Cleared, INITIAL_IDENTIFIER, Ready, Ringing, call_of}
-use Rattle.xp_core.specs.Coupling.{AreCoupled, IsHeld}
+use Rattle.xp_core.specs.Acts.{Acts, Answers, CarriesAs, Confirms, IsAnswered, IsConnected, IsPut, IsRequested, Requests, outputs_of_cancel, outputs_to_both, outputs_of_error, outputs_of_fall}
+use Rattle.xp_core.specs.RelayedPackets.{RelayedPacket, relayed_by}
+use Rattle.xp_machine.specs.Changes.{Change, Rises, Leaves, Begins, IsRefused, Connects, Ends, NoCallState, GoesOut, IsFree, IsCleared, changed}
+use Rattle.xp_machine.specs.Channel.{Cleared, INITIAL_IDENTIFIER, Ready, Ringing, call_of}
+use Rattle.xp_machine.specs.Coupling.{AreCoupled, IsHeld}
 use Rattle.xp_core.specs.Records.{clears_to}
-use Rattle.xp_core.specs.Setting.{Setting, setting}
+use Rattle.xp_core.specs.StepContext.{StepContext, step_context}
 use Rattle.xp_core.specs.Step.{Step}
-use Rattle.xp_core.specs.Does.{answers, carries, changes_of, collides, confirms, does, leaves, requests}
+use Rattle.xp_core.specs.Effects.{answers, carries, changes_of, collides, confirms, effects_of, leaves, requests}
 use Rattle.xp_core.specs.Table.{CallAccepted, CallRequest, ClearRequest, accepted_in, action_at, clear_in, kind_of, packet_in, request_in}
-use Rattle.xp_core.specs.Told.{Told, outputs_of}
-use Rattle.xp_core.specs.World.{Call, Line, World, call_on, far_end, line_at, state_at}
+use Rattle.xp_core.specs.EventOutputs.{EventOutputs, outputs_of}
+use Rattle.xp_machine.specs.World.{Call, Line, World, call_on, far_end, line_at, state_at}
 use Rattle.xp_core.proofs.Cells.{Suits, suits}
 use Rattle.xp_core.proofs.Clears.{both_told, collision_refused, collision_taken, collision_turned_down, confirmed_told, fall_told, put_told, turned_down}
-use Rattle.xp_core.proofs.Coupled.{CanBe, IsIn, IsOut, far_shows, far_within, line_within}
+use Rattle.xp_machine.proofs.Coupled.{CanBe, IsIn, IsOut, far_shows, far_within, line_within}
 use Rattle.xp_core.proofs.Idle.{IsReadyFor, taken_ready}
-use Rattle.xp_core.proofs.InCall.{end_of, none_on, shown_on}
-use Rattle.xp_core.proofs.Lines.{Twice, late, early, never, twice}
+use Rattle.xp_machine.proofs.InCall.{end_of, none_on, shown_on}
+use Rattle.xp_machine.proofs.Lines.{Twice, late, early, never, twice}
 
 -- a call request is decided
 abbrev pub IsNew : Action → Type 0
@@ -47,7 +47,7 @@ cancelled_by number call line = Ends number call line IsFree NUMBER_BUSY CALL_CO
 
 module _ {A : Type 0} where
   -- the call request that a new call or a refusal comes of
-  pub record IsAsked (at : Setting A) (what : What A) (action : Action) (line identifier : ℕ) (dialled : List ℕ) : Type 0 where
+  pub record IsAsked (at : StepContext A) (what : What A) (action : Action) (line identifier : ℕ) (dialled : List ℕ) : Type 0 where
     pub request : CallRequest A
     pub asks : request_in what ≡ Some request
     pub new : IsNew action
@@ -55,18 +55,18 @@ module _ {A : Type 0} where
     pub identifier_is : identifier ≡ request.identifier
     pub dialled_is : dialled ≡ request.block.called
 
-  pub record IsTaken (at : Setting A) (what : What A) (action : Action) (outcome : Outcome) (told : Told A) (line identifier called : ℕ) (dialled : List ℕ) (setup : Setup) : Type 0 where
+  pub record IsTaken (at : StepContext A) (what : What A) (action : Action) (outcome : Outcome) (told : EventOutputs A) (line identifier called : ℕ) (dialled : List ℕ) (setup : Setup) : Type 0 where
     pub asked : IsAsked at what action line identifier dialled
     pub took : outcome ≡ Put called setup
     pub far : List (Output A)
     pub put : IsPut at.tables at.world at.line far asked.request called setup told
 
-  pub record IsTurned (at : Setting A) (what : What A) (action : Action) (outcome : Outcome) (told : Told A) (line identifier : ℕ) (dialled : List ℕ) (why : Refusal) : Type 0 where
+  pub record IsTurned (at : StepContext A) (what : What A) (action : Action) (outcome : Outcome) (told : EventOutputs A) (line identifier : ℕ) (dialled : List ℕ) (why : Refusal) : Type 0 where
     pub asked : IsAsked at what action line identifier dialled
     pub turned : outcome ≡ Refused why
     pub tells : clears_to line (outputs_of told) ≡ Clear why.cause (Some why.diagnostic) None ∷ []
 
-  pub record IsJoined (at : Setting A) (action : Action) (outcome : Outcome) (told : Told A) (number : ℕ) (call : Call) (agreement : Agreement) : Type 0 where
+  pub record IsJoined (at : StepContext A) (action : Action) (outcome : Outcome) (told : EventOutputs A) (number : ℕ) (call : Call) (agreement : Agreement) : Type 0 where
     pub old : IsNew action → ⊥
     pub answers : action ≡ Answer
     pub settled : outcome ≡ Connected agreement
@@ -74,14 +74,14 @@ module _ {A : Type 0} where
     pub answer : CallAccepted A
     pub connected : IsConnected at.tables at.world at.line answer call agreement told
 
-  pub record IsEnded (at : Setting A) (action : Action) (told : Told A) (call : Call) (line cause diagnostic : ℕ) : Type 0 where
+  pub record IsEnded (at : StepContext A) (action : Action) (told : EventOutputs A) (call : Call) (line cause diagnostic : ℕ) : Type 0 where
     pub old : IsNew action → ⊥
     pub line_is : line ≡ at.line
     pub block : Option (Block A)
     pub tells : clears_to (far_end call line) (outputs_of told) ≡ Clear cause (Some diagnostic) block ∷ []
 
   -- where a change comes from
-  abbrev pub ComesOf : Setting A → What A → Action → Outcome → Told A → Change → Type 0
+  abbrev pub ComesOf : StepContext A → What A → Action → Outcome → EventOutputs A → Change → Type 0
   ComesOf at what action outcome told (Rises line) = IsNew action → ⊥
   ComesOf at what action outcome told (Leaves line way) = IsNew action → ⊥
   ComesOf at what action outcome told (Begins line identifier called dialled setup) = IsTaken at what action outcome told line identifier called dialled setup
@@ -89,7 +89,7 @@ module _ {A : Type 0} where
   ComesOf at what action outcome told (Connects number call agreement) = IsJoined at action outcome told number call agreement
   ComesOf at what action outcome told (Ends number call line way cause diagnostic) = IsEnded at action told call line cause diagnostic
 
-  pub data Shape (at : Setting A) (what : What A) (action : Action) (outcome : Outcome) (told : Told A) (changes : List Change) : Type 0 where
+  pub data Shape (at : StepContext A) (what : What A) (action : Action) (outcome : Outcome) (told : EventOutputs A) (changes : List Change) : Type 0 where
     none : changes ≡ [] → ((request : CallRequest A) → request_in what ≡ Some request → IsNew action → ⊥)
         → Shape at what action outcome told changes
     one : (change : Change) → changes ≡ change ∷ [] → CanBe at.world change → ComesOf at what action outcome told change
@@ -101,8 +101,8 @@ module _ {A : Type 0} where
         → Shape at what action outcome told changes
 
 module _ {A : Type 0} (tables : Tables) (before : List (Entry A)) (world : World) (line : ℕ) (coupled : AreCoupled tables world) (lines : length world.lines ≡ line_count tables) (within : line < length world.lines) where
-  abbrev here : Setting A
-  here = setting tables before world line
+  abbrev here : StepContext A
+  here = step_context tables before world line
 
   -- the far end of the line's call is another line
   module _ (found : ℕ × Call) (is : call_on world line ≡ Some found) where
@@ -124,7 +124,7 @@ module _ {A : Type 0} (tables : Tables) (before : List (Entry A)) (world : World
     near_differs : line ≢ far_end found.1 line
     near_differs same = far_differs (sym same)
 
-  leaving : (what : What A) (action : Action) (outcome : Outcome) (told : Told A) (way : Way) (cause diagnostic : ℕ) (found : Option (ℕ × Call)) → call_on world line ≡ found
+  leaving : (what : What A) (action : Action) (outcome : Outcome) (told : EventOutputs A) (way : NoCallState) (cause diagnostic : ℕ) (found : Option (ℕ × Call)) → call_on world line ≡ found
       → (IsNew action → ⊥)
       → ((call : ℕ × Call) → found ≡ Some call → (block : Option (Block A)) × (clears_to (far_end call.1 line) (outputs_of told) ≡ Clear cause (Some diagnostic) block ∷ []))
       → Shape here what action outcome told (leaves line way cause diagnostic found ∷ [])
@@ -135,17 +135,17 @@ module _ {A : Type 0} (tables : Tables) (before : List (Entry A)) (world : World
       (record { old = old; line_is = refl; block = (tells found refl).0; tells = (tells found refl).1 })
 
   -- what is told, by what the event is
-  clearing : (what : What A) (action : Action) (outcome : Outcome) (told : Told A) (near far diagnostic : ℕ) → (IsNew action → ⊥) → told ≡ told_both here near far diagnostic
+  clearing : (what : What A) (action : Action) (outcome : Outcome) (told : EventOutputs A) (near far diagnostic : ℕ) → (IsNew action → ⊥) → told ≡ outputs_to_both here near far diagnostic
       → Shape here what action outcome told (leaves line IsCleared far diagnostic (call_on world line) ∷ [])
   clearing what action outcome told near far diagnostic old is =
       leaving what action outcome told IsCleared far diagnostic (call_on world line) refl old (λ found shows.
       (_, ap (λ t. clears_to (far_end found.1 line) (outputs_of t)) is ∙ both_told here found shows near far diagnostic (near_differs found shows)))
 
-  erring : (what : What A) (action : Action) (outcome : Outcome) (told : Told A) (diagnostic : ℕ) → (IsNew action → ⊥) → told ≡ told_of_error here diagnostic
+  erring : (what : What A) (action : Action) (outcome : Outcome) (told : EventOutputs A) (diagnostic : ℕ) → (IsNew action → ⊥) → told ≡ outputs_of_error here diagnostic
       → Shape here what action outcome told (leaves line IsCleared REMOTE_PROCEDURE_ERROR diagnostic (call_on world line) ∷ [])
   erring what action outcome told diagnostic old is = clearing what action outcome told LOCAL_PROCEDURE_ERROR REMOTE_PROCEDURE_ERROR diagnostic old is
 
-  falling : (what : What A) (outcome : Outcome) (told : Told A) → told ≡ told_of_fall here what
+  falling : (what : What A) (outcome : Outcome) (told : EventOutputs A) → told ≡ outputs_of_fall here what
       → Shape here what Fall outcome told (leaves line GoesOut OUT_OF_ORDER NO_ADDITIONAL_INFORMATION (call_on world line) ∷ [])
   falling what outcome told is =
       leaving what Fall outcome told GoesOut OUT_OF_ORDER NO_ADDITIONAL_INFORMATION (call_on world line) refl not_new (λ found shows.
@@ -154,7 +154,7 @@ module _ {A : Type 0} (tables : Tables) (before : List (Entry A)) (world : World
         not_new (inl e) = absurd (cc)
         not_new (inr e) = absurd (cc)
 
-  answering_one : (what : What A) (outcome : Outcome) (told : Told A) (answer : CallAccepted A) (found : ℕ × Call) → call_on world line ≡ Some found
+  answering_one : (what : What A) (outcome : Outcome) (told : EventOutputs A) (answer : CallAccepted A) (found : ℕ × Call) → call_on world line ≡ Some found
       → IsAnswered here answer found.1 outcome told → Shape here what Answer outcome told (answers line (Some found) outcome)
   answering_one what (Connected agreement) told answer found is acts =
       one (Connects found.0 found.1 agreement) refl (shown_on world line found is).1
@@ -173,7 +173,7 @@ module _ {A : Type 0} (tables : Tables) (before : List (Entry A)) (world : World
   answering_one what (Refused why) told answer found is acts = absurd acts
   answering_one what Exceeded told answer found is acts = absurd acts
 
-  answering : (what : What A) (outcome : Outcome) (told : Told A) (accepted : Option (CallAccepted A)) (found : Option (ℕ × Call)) → call_on world line ≡ found
+  answering : (what : What A) (outcome : Outcome) (told : EventOutputs A) (accepted : Option (CallAccepted A)) (found : Option (ℕ × Call)) → call_on world line ≡ found
       → Answers here accepted found outcome told → Shape here what Answer outcome told (answers line found outcome)
   answering what outcome told accepted None is acts = none refl (λ request asks new. not_new new) where
     not_new : IsNew Answer → ⊥
@@ -188,19 +188,19 @@ module _ {A : Type 0} (tables : Tables) (before : List (Entry A)) (world : World
     not_new (inr e) = absurd (cc)
   answering what outcome told (Some answer) (Some found) is acts = answering_one what outcome told answer found is acts
 
-  confirming : (what : What A) (outcome : Outcome) (told : Told A) (clear : Option (ClearRequest A)) (found : Option (ℕ × Call)) → call_on world line ≡ found
+  confirming : (what : What A) (outcome : Outcome) (told : EventOutputs A) (clear : Option (ClearRequest A)) (found : Option (ℕ × Call)) → call_on world line ≡ found
       → Confirms here clear found outcome told → Shape here what Confirm outcome told (confirms line clear found)
   confirming what outcome told None found is acts = none refl (λ request asks new. not_new new) where
     not_new : IsNew Confirm → ⊥
     not_new (inl e) = absurd (cc)
     not_new (inr e) = absurd (cc)
   confirming what outcome told (Some clear) None is acts =
-      leaving what Confirm outcome told IsFree (cause_told clear.cause) (diagnostic_told clear.diagnostic) None is not_new (λ found shows. absurd (cc)) where
+      leaving what Confirm outcome told IsFree (indicated_cause clear.cause) (indicated_diagnostic clear.diagnostic) None is not_new (λ found shows. absurd (cc)) where
         not_new : IsNew Confirm → ⊥
         not_new (inl e) = absurd (cc)
         not_new (inr e) = absurd (cc)
   confirming what outcome told (Some clear) (Some found) is acts =
-      one (Ends found.0 found.1 line IsFree (cause_told clear.cause) (diagnostic_told clear.diagnostic)) refl (in_call found is) (record {
+      one (Ends found.0 found.1 line IsFree (indicated_cause clear.cause) (indicated_diagnostic clear.diagnostic)) refl (in_call found is) (record {
         old = not_new;
         line_is = refl;
         block = block_with acts.carried.field acts.carried.user;
@@ -212,7 +212,7 @@ module _ {A : Type 0} (tables : Tables) (before : List (Entry A)) (world : World
 
   -- ---- a call request
 
-  taking : (what : What A) (action : Action) (told : Told A) (request : CallRequest A) (called : ℕ) (setup : Setup) (far : List (Output A)) → request_in what ≡ Some request → IsNew action
+  taking : (what : What A) (action : Action) (told : EventOutputs A) (request : CallRequest A) (called : ℕ) (setup : Setup) (far : List (Output A)) → request_in what ≡ Some request → IsNew action
       → IsPut tables world line far request called setup told
       → ComesOf here what action (Put called setup) told (Begins line request.identifier called request.block.called setup)
   taking what action told request called setup far asks new put = record {
@@ -222,12 +222,12 @@ module _ {A : Type 0} (tables : Tables) (before : List (Entry A)) (world : World
     put = put;
   }
 
-  ready_for : (request : CallRequest A) (called : ℕ) (setup : Setup) (far : List (Output A)) (told : Told A) → IsPut tables world line far request called setup told → IsReadyFor world line called
+  ready_for : (request : CallRequest A) (called : ℕ) (setup : Setup) (far : List (Output A)) (told : EventOutputs A) → IsPut tables world line far request called setup told → IsReadyFor world line called
   ready_for request called setup far told put =
       let P : ℕ → Type 0 = λ l. IsReadyFor world line l in
       subst P (sym put.called_is) (taken_ready tables world line request.block put.ring put.decided)
 
-  requesting : (what : What A) (outcome : Outcome) (told : Told A) (asked : Option (CallRequest A)) → request_in what ≡ asked
+  requesting : (what : What A) (outcome : Outcome) (told : EventOutputs A) (asked : Option (CallRequest A)) → request_in what ≡ asked
       → call_of (state_at world line) ≡ None → Requests tables world line [] asked outcome told → Shape here what NewCall outcome told (requests line asked outcome)
   requesting what outcome told None asks out acts = none refl (λ request is new. absurd (cc))
   requesting what (Put called setup) told (Some request) asks out acts =
@@ -292,15 +292,15 @@ module _ {A : Type 0} (tables : Tables) (before : List (Entry A)) (world : World
       ];
     }
 
-    colliding_in : (what : What A) (outcome : Outcome) (told : Told A) (request : CallRequest A) → request_in what ≡ Some request
-        → IsRequested tables world line (cancelled_told world line) request outcome told → Shape here what Collision outcome told (collides line (Some request) (Some found) outcome)
+    colliding_in : (what : What A) (outcome : Outcome) (told : EventOutputs A) (request : CallRequest A) → request_in what ≡ Some request
+        → IsRequested tables world line (outputs_of_cancel world line) request outcome told → Shape here what Collision outcome told (collides line (Some request) (Some found) outcome)
     colliding_in what (Put called setup) told request asks acts =
-        let ready = ready_for request called setup (cancelled_told world line) told acts in
+        let ready = ready_for request called setup (outputs_of_cancel world line) told acts in
         two found.0 found.1 (Begins line request.identifier called request.block.called setup) (inr refl) refl (in_call found is)
         (record { one = line_out; second = other_out called ready; differ = ready.differ })
         (ap (λ t. clears_to (far_end found.1 line) (outputs_of t)) acts.told_is
         ∙ collision_taken world line found is called acts.packet (put_told (far_end found.1 line) called INITIAL_IDENTIFIER _ _ acts.packet acts.incoming.whole))
-        (taking what Collision told request called setup (cancelled_told world line) asks (inr refl) acts)
+        (taking what Collision told request called setup (outputs_of_cancel world line) asks (inr refl) acts)
     colliding_in what (Refused why) told request asks acts =
         two found.0 found.1 (IsRefused line request.identifier request.block.called why) (inr refl) refl (in_call found is) line_out
         (ap (λ t. clears_to (far_end found.1 line) (outputs_of t)) acts.told_is ∙ collision_refused world line found is request.identifier why (near_differs found is))
@@ -314,9 +314,9 @@ module _ {A : Type 0} (tables : Tables) (before : List (Entry A)) (world : World
     colliding_in what (Declined diagnostic) told request asks acts = absurd acts
     colliding_in what Exceeded told request asks acts = absurd acts
 
-  colliding : (what : What A) (outcome : Outcome) (told : Told A) (asked : Option (CallRequest A)) (found : Option (ℕ × Call)) → request_in what ≡ asked → call_on world line ≡ found
+  colliding : (what : What A) (outcome : Outcome) (told : EventOutputs A) (asked : Option (CallRequest A)) (found : Option (ℕ × Call)) → request_in what ≡ asked → call_on world line ≡ found
       → (number : ℕ) × (state_at world line ≡ Ringing number)
-      → Requests tables world line (cancelled_told world line) asked outcome told → Shape here what Collision outcome told (collides line asked found outcome)
+      → Requests tables world line (outputs_of_cancel world line) asked outcome told → Shape here what Collision outcome told (collides line asked found outcome)
   colliding what outcome told None found asks is rings acts = none refl (λ request asked new. absurd (cc))
   colliding what outcome told (Some request) None asks is rings acts =
       let none : call_of (state_at world line) ≡ None = none_on tables world coupled line is in
@@ -326,7 +326,7 @@ module _ {A : Type 0} (tables : Tables) (before : List (Entry A)) (world : World
 
   -- ---- a packet of a line in data transfer
 
-  relaying : (what : What A) (carried : Option (Carried A)) (past : Bool) (outcome : Outcome) (told : Told A) → CarriesAs here carried past outcome told
+  relaying : (what : What A) (carried : Option (RelayedPacket A)) (past : Bool) (outcome : Outcome) (told : EventOutputs A) → CarriesAs here carried past outcome told
       → Shape here what Relayed outcome told (carries line (call_on world line) outcome)
   relaying what carried false outcome told acts =
       none (ap (carries line (call_on world line)) acts.0) (λ request asks new. elim new [ inl e ↦ absurd (cc) | inr e ↦ absurd (cc) ])
@@ -337,10 +337,10 @@ module _ {A : Type 0} (tables : Tables) (before : List (Entry A)) (world : World
 
   -- ---- the cells
 
-  shape : (what : What A) (action : Action) (outcome : Outcome) (told : Told A) → Suits action (state_at world line) → Acts here what action outcome told
-      → Shape here what action outcome told (does here what action outcome)
+  shape : (what : What A) (action : Action) (outcome : Outcome) (told : EventOutputs A) → Suits action (state_at world line) → Acts here what action outcome told
+      → Shape here what action outcome told (effects_of here what action outcome)
   shape what Nothing outcome told suit acts = none refl (λ request asks new. elim new [ inl e ↦ absurd (cc) | inr e ↦ absurd (cc) ])
-  shape what Relayed outcome told suit acts = relaying what (carried_by line (call_on world line) (packet_in what)) _ outcome told acts
+  shape what Relayed outcome told suit acts = relaying what (relayed_by line (call_on world line) (packet_in what)) _ outcome told acts
   shape what Rise outcome told suit acts = one (Rises line) refl (record { within = within; none = suit }) (λ new. elim new [ inl e ↦ absurd (cc) | inr e ↦ absurd (cc) ])
   shape what Free outcome told suit acts = one (Leaves line IsFree) refl (record { within = within; none = suit }) (λ new. elim new [ inl e ↦ absurd (cc) | inr e ↦ absurd (cc) ])
   shape what Fall outcome told suit acts = falling what outcome told acts.1
@@ -353,7 +353,7 @@ module _ {A : Type 0} (tables : Tables) (before : List (Entry A)) (world : World
 
 pub step_shape : {A : Type 0} (tables : Tables) (before : List (Entry A)) (world : World) (entry : Entry A) (next : World) → AreCoupled tables world
     → length world.lines ≡ line_count tables → (step : Step tables before world entry next)
-    → Shape (setting tables before world entry.event.line) entry.event.what (action_at world entry.event) entry.outcome step.told (changes_of tables before world entry)
+    → Shape (step_context tables before world entry.event.line) entry.event.what (action_at world entry.event) entry.outcome step.told (changes_of tables before world entry)
 step_shape tables before world entry next coupled lines step =
     shape tables before world entry.event.line coupled lines step.line entry.event.what (action_at world entry.event) entry.outcome step.told
     (suits (state_at world entry.event.line) (kind_of entry.event.what)) step.acts

@@ -8,19 +8,19 @@ use Rattle.xp_causes.specs.declared.clearing_cause.TheConstants.{NUMBER_BUSY}
 use Rattle.xp_causes.specs.declared.diagnostic.TheConstants.{CALL_COLLISION}
 use Rattle.xp_subs.specs.Tables.{Tables, line_count}
 use Rattle.xp_core.specs.declared.entry.Entry.{Entry}
-use Rattle.xp_core.specs.Changes.{Change, Rises, Leaves, Begins, IsRefused, Connects, Ends, Way, IsFree, all_changed, changed}
-use Rattle.xp_core.specs.Channel.{call_of}
-use Rattle.xp_core.specs.Coupling.{AreCoupled}
+use Rattle.xp_machine.specs.Changes.{Change, Rises, Leaves, Begins, IsRefused, Connects, Ends, NoCallState, IsFree, all_changed, changed}
+use Rattle.xp_machine.specs.Channel.{call_of}
+use Rattle.xp_machine.specs.Coupling.{AreCoupled}
 use Rattle.xp_core.specs.Run.{Run}
-use Rattle.xp_core.specs.Sound.{IsSound}
-use Rattle.xp_core.specs.Setting.{setting}
+use Rattle.xp_core.specs.steps.Sound.{IsSound}
+use Rattle.xp_core.specs.StepContext.{step_context}
 use Rattle.xp_core.specs.Step.{Step}
-use Rattle.xp_core.specs.Does.{changes_of}
+use Rattle.xp_core.specs.Effects.{changes_of}
 use Rattle.xp_core.specs.Table.{action_at}
-use Rattle.xp_core.specs.World.{Call, Line, World, call_numbered, far_end, off_line, opening, state_at}
-use Rattle.xp_core.proofs.Coupled.{CanBe, changed_coupled}
-use Rattle.xp_core.proofs.Lines.{get_or-set, line_at-opening}
-use Rattle.xp_core.proofs.Maps.{get_gone, get_left, get_other}
+use Rattle.xp_machine.specs.World.{Call, Line, World, call_numbered, far_end, off_line, opening, state_at}
+use Rattle.xp_machine.proofs.Coupled.{CanBe, changed_coupled}
+use Rattle.xp_machine.proofs.Lines.{get_or-set, line_at-opening}
+use Rattle.xp_machine.proofs.Maps.{get_gone, get_left, get_other}
 use Rattle.xp_core.proofs.RunLemmas.{run_keeps}
 use Rattle.xp_core.proofs.Shapes.{Shape, none, one, two, cancelled_by, step_shape}
 
@@ -39,7 +39,7 @@ set_within : (world : World) (bound at : ℕ) (becomes : Line) (lines : List Lin
 set_within world bound at becomes lines line new old = get_or-set (λ l. l.connection ≤ bound) lines at becomes line off_line new old
 
 -- the end of a call brings no connection and uses no number
-pub ended_sound : (tables : Tables) (entries : ℕ) (world : World) (number : ℕ) (call : Call) (line : ℕ) (way : Way) (cause diagnostic : ℕ) → IsSound tables entries world
+pub ended_sound : (tables : Tables) (entries : ℕ) (world : World) (number : ℕ) (call : Call) (line : ℕ) (way : NoCallState) (cause diagnostic : ℕ) → IsSound tables entries world
     → IsSound tables entries (changed (Ends number call line way cause diagnostic) world)
 ended_sound tables entries world number call line way cause diagnostic sound = record {
   lines = length-set _ line _ ∙ length-set world.lines (far_end call line) _ ∙ sound.lines;
@@ -133,7 +133,7 @@ cancel_right tables entries world number call line right can = record {
 module _ {A : Type 0} where
   pub shape_of : (tables : Tables) (before : List (Entry A)) (world : World) (entry : Entry A) (next : World) (entries : ℕ)
       → IsRight tables entries world → (step : Step tables before world entry next)
-      → Shape (setting tables before world entry.event.line) entry.event.what (action_at world entry.event) entry.outcome step.told (changes_of tables before world entry)
+      → Shape (step_context tables before world entry.event.line) entry.event.what (action_at world entry.event) entry.outcome step.told (changes_of tables before world entry)
   shape_of tables before world entry next entries right step = step_shape tables before world entry next right.coupled right.sound.lines step
 
   pub step_right : (tables : Tables) (before : List (Entry A)) (world : World) (entry : Entry A) (next : World)

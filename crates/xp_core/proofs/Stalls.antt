@@ -1,33 +1,35 @@
--- What is made of a stall.
+-- What a stall leads to.
 use Rattle.std.proofs.Common.{◌≡◌, ◌∙◌, ℕ, true, false, Option, Some, None, [], ◌∷◌, refl, ap, sym, subst}
 use Rattle.xp_causes.specs.declared.clearing_cause.TheConstants.{OUT_OF_ORDER}
 use Rattle.xp_causes.specs.declared.diagnostic.TheConstants.{NO_ADDITIONAL_INFORMATION}
 use Rattle.xp_channel.specs.declared.action.Action.{Action}
 use Rattle.xp_channel.specs.declared.action.Action.TheVariants.{Nothing, Fall}
-use Rattle.xp_channel.specs.declared.kind.Kind.TheVariants as kinds
+use Rattle.xp_channel.specs.declared.kind.EventKind.TheVariants as kinds
 use Rattle.xp_channel.specs.Table.{cell}
-use Rattle.xp_core.specs.declared.advance.Work.{Work}
+use Rattle.xp_core.specs.declared.advance.PreparedEntry.{PreparedEntry}
 use Rattle.xp_core.specs.declared.event.Event.{Event}
 use Rattle.xp_core.specs.declared.event.What.{What}
 use Rattle.xp_core.specs.declared.event.What.TheVariants.{Up, Down, Frame, WrongFrame, Expire, Stall}
 use Rattle.xp_core.specs.declared.outcome.Outcome.TheVariants.{Plain}
 use Rattle.xp_core.specs.Acts.{Acts}
-use Rattle.xp_core.specs.Carried.{carried_as, carried_by}
-use Rattle.xp_core.specs.Changes.{GoesOut, Way, all_changed, changed}
-use Rattle.xp_core.specs.Channel.{State, Off, Ready, Waiting, Ringing, Talking, Cleared, channel_of, is_off}
-use Rattle.xp_core.specs.Does.{does, leaves}
-use Rattle.xp_core.specs.Plan.{left, recorded_at}
-use Rattle.xp_core.specs.Relays.{Relays}
-use Rattle.xp_core.specs.Setting.{Setting}
-use Rattle.xp_core.specs.Stalling.{MakesStall, told_of_stall}
-use Rattle.xp_core.specs.Stalls.{is_stall, places_for, stall_of}
+use Rattle.xp_core.specs.RelayedPackets.{relayed_as, relayed_by}
+use Rattle.xp_machine.specs.Changes.{GoesOut, NoCallState, all_changed, changed}
+use Rattle.xp_machine.specs.Channel.{State, Off, Ready, Waiting, Ringing, Talking, Cleared, channel_of, is_off}
+use Rattle.xp_core.specs.Effects.{effects_of, leaves}
+use Rattle.xp_machine.specs.AppliedChange.{left}
+use Rattle.xp_core.specs.steps.Plan.{recorded_at}
+use Rattle.xp_core.specs.steps.Relays.{Relays}
+use Rattle.xp_core.specs.StepContext.{StepContext}
+use Rattle.xp_core.specs.steps.Stalling.{MakesStall, outputs_of_stall}
+use Rattle.xp_core.specs.Stalls.{is_stall, places_for}
+use Rattle.xp_core.specs.steps.Stalls.{stall_of}
 use Rattle.xp_core.specs.Table.{action_at, packet_in}
-use Rattle.xp_core.specs.Told.{Told, nothing_told, outputs_of}
-use Rattle.xp_core.specs.World.{Call, World, call_on, state_at}
+use Rattle.xp_core.specs.EventOutputs.{EventOutputs, no_outputs, outputs_of}
+use Rattle.xp_machine.specs.World.{Call, World, call_on, state_at}
 use Rattle.xp_core.proofs.Quiet.{leaves_quiet}
 
 -- a line that leaves its call
-left_changed : (line : ℕ) (way : Way) (cause diagnostic : ℕ) (found : Option (ℕ × Call)) (world : World)
+left_changed : (line : ℕ) (way : NoCallState) (cause diagnostic : ℕ) (found : Option (ℕ × Call)) (world : World)
     → left line way found world ≡ changed (leaves line way cause diagnostic found) world
 left_changed line way cause diagnostic None world = refl
 left_changed line way cause diagnostic (Some found) world = refl
@@ -49,39 +51,39 @@ when_on (Ringing number) on = refl
 when_on (Talking number) on = refl
 when_on Cleared on = refl
 
-module _ {A : Type 0} (at : Setting A) (work : Work A) (next : World) (plain : work.outcome ≡ Plain) where
+module _ {A : Type 0} (at : StepContext A) (work : PreparedEntry A) (next : World) (plain : work.outcome ≡ Plain) where
   -- by what the table of actions has for it
-  makes : (action : Action) (told : Told A) → action_at {A = A} at.world (stall_of at.line) ≡ action
+  makes : (action : Action) (told : EventOutputs A) → action_at {A = A} at.world (stall_of at.line) ≡ action
       → Acts at Stall action work.outcome told
       → work.outputs ≡ outputs_of told
-      → work.records.items ≡ recorded_at at (does at Stall action work.outcome)
-      → Relays at.tables at.before (carried_as action (carried_by at.line (call_on at.world at.line) (packet_in Stall))) (does at Stall action work.outcome) None
-      → next ≡ all_changed (does at Stall action work.outcome) at.world
+      → work.records.items ≡ recorded_at at (effects_of at Stall action work.outcome)
+      → Relays at.tables at.before (relayed_as action (relayed_by at.line (call_on at.world at.line) (packet_in Stall))) (effects_of at Stall action work.outcome) None
+      → next ≡ all_changed (effects_of at Stall action work.outcome) at.world
       → MakesStall at work next
   makes action told is acts outputs records relays leads kept =
       let P : Action → Type 0 = λ a. Acts at Stall a work.outcome told in
-      let Q : Action → Type 0 = λ a. work.records.items ≡ recorded_at at (does at Stall a work.outcome) in
-      let R : Action → Type 0 = λ a. Relays at.tables at.before (carried_as a (carried_by at.line (call_on at.world at.line) (packet_in Stall))) (does at Stall a work.outcome) None in
-      let W : Action → Type 0 = λ a. next ≡ all_changed (does at Stall a work.outcome) at.world in
+      let Q : Action → Type 0 = λ a. work.records.items ≡ recorded_at at (effects_of at Stall a work.outcome) in
+      let R : Action → Type 0 = λ a. Relays at.tables at.before (relayed_as a (relayed_by at.line (call_on at.world at.line) (packet_in Stall))) (effects_of at Stall a work.outcome) None in
+      let W : Action → Type 0 = λ a. next ≡ all_changed (effects_of at Stall a work.outcome) at.world in
       record {
         told = told;
         acts = subst P (sym is) acts;
         outputs = outputs;
         records = subst Q (sym is) records;
-        relays_on = record { carriage = None; is = subst R (sym is) relays; become = refl };
+        relays_on = record { relay_update = None; is = subst R (sym is) relays; become = refl };
         leads = subst W (sym is) leads;
       }
 
   -- of a line out of service
   pub makes_nothing : is_off (state_at at.world at.line) ≡ true → work.outputs ≡ [] → work.records.items ≡ [] → next ≡ at.world → MakesStall at work next
-  makes_nothing off outputs records stays = makes Nothing nothing_told (when_off (state_at at.world at.line) off) (plain, refl) outputs records refl stays
+  makes_nothing off outputs records stays = makes Nothing no_outputs (when_off (state_at at.world at.line) off) (plain, refl) outputs records refl stays
 
   -- of one in service
-  pub makes_fall : is_off (state_at at.world at.line) ≡ false → work.outputs ≡ outputs_of (told_of_stall at)
+  pub makes_fall : is_off (state_at at.world at.line) ≡ false → work.outputs ≡ outputs_of (outputs_of_stall at)
       → work.records.items ≡ recorded_at at (leaves at.line GoesOut OUT_OF_ORDER NO_ADDITIONAL_INFORMATION (call_on at.world at.line) ∷ [])
       → next ≡ left at.line GoesOut (call_on at.world at.line) at.world → MakesStall at work next
   makes_fall on outputs records out =
-      makes Fall (told_of_stall at) (when_on (state_at at.world at.line) on) (plain, refl) outputs records
+      makes Fall (outputs_of_stall at) (when_on (state_at at.world at.line) on) (plain, refl) outputs records
       (leaves_quiet at.tables at.line _ _ _ (call_on at.world at.line) None refl)
       (out ∙ left_changed at.line GoesOut OUT_OF_ORDER NO_ADDITIONAL_INFORMATION (call_on at.world at.line) at.world)
 

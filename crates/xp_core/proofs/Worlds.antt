@@ -4,7 +4,7 @@ use Rattle.xp_subs.specs.Tables.{Tables, line_count}
 use Rattle.xp_core.specs.declared.entry.Entry.{Entry}
 use Rattle.xp_core.specs.Run.{Run, RunFrom}
 use Rattle.xp_core.specs.Worlds.{world_after, world_from}
-use Rattle.xp_core.specs.World.{World, opening}
+use Rattle.xp_machine.specs.World.{World, opening}
 
 module _ {A : Type 0} where
   run_from_world : (tables : Tables) (before : List (Entry A)) (world : World) (entries : List (Entry A)) (last : World)

@@ -2,17 +2,19 @@
 use Rattle.std.specs.Prelude.{◌≡◌, ℕ, Some, List}
 use Rattle.xp_packets.specs.declared.end.End.{End}
 use Rattle.xp_relay.specs.Coupled.{coupled}
-use Rattle.xp_relay.specs.Runs.{IsDelivered, nothing_seen, seen_over}
+use Rattle.xp_relay.specs.Runs.{IsDelivered, nothing_observed, observed_over}
 use Rattle.xp_subs.specs.Tables.{Tables}
 use Rattle.xp_core.specs.declared.entry.Entry.{Entry}
-use Rattle.xp_core.specs.declared.outcome.Agreement.{Agreement}
-use Rattle.xp_core.specs.Carried.{arrivals, directions, terms_of}
-use Rattle.xp_core.specs.World.{Call, World, call_numbered}
+use Rattle.xp_machine.specs.declared.agreement.Agreement.{Agreement}
+use Rattle.xp_core.specs.RelayedPackets.{arrivals, directions}
+use Rattle.xp_machine.specs.RelayTerms.{terms_of}
+use Rattle.xp_machine.specs.World.{Call, World, call_numbered}
 
--- What the packets of a live call had put out to a receiver since the last reset is a front of what was accepted from the
--- sender, numbered from 0, and no more than a window is unacknowledged.
+-- The receiver received a front of what was accepted from the sender since the last reset: each packet once, in order,
+-- unchanged, numbered from 0. If the receiver is ready, by its own RR and RNR, and owes no reset confirmation, it
+-- received all of it. No more than a window is unacknowledged.
 abbrev pub AreDelivered : {A : Type 0} → Tables → List (Entry A) → World → Type 0
 AreDelivered tables history world =
     (number : ℕ) (call : Call) (agreement : Agreement) → call_numbered world number ≡ Some call → call.agreed ≡ Some agreement
     → (sender : End) → IsDelivered (terms_of agreement) sender (directions tables history number agreement)
-    (seen_over sender (coupled (terms_of agreement)) nothing_seen (arrivals tables history number))
+    (observed_over sender (coupled (terms_of agreement)) nothing_observed (arrivals tables history number))

@@ -1,6 +1,6 @@
 -- What a serial exchange shows, and what one step of it does.
 use Rattle.std.specs.Prelude.{◌≡◌, ℕ, ◌≤◌, List, [], ◌∷◌, ◌++◌, length}
-use Rattle.xp_packets.specs.Fitness.{CanBeEncoded}
+use Rattle.xp_packets.specs.Encodability.{CanBeEncoded}
 use Rattle.xp_packets.specs.declared.packet.Packet.{Packet}
 use Rattle.xp_packets.specs.declared.packet.Packet.TheVariants.{Call}
 use Rattle.xp_subs.specs.Tables.{Tables}
@@ -12,7 +12,7 @@ use Rattle.xp_core.specs.declared.output.Output.{Output}
 use Rattle.xp_core.specs.declared.stepped.Stepped.{Stepped}
 use Rattle.xp_core.specs.Worlds.{world_after}
 use Rattle.xp_core.specs.Step.{Step}
-use Rattle.xp_core.specs.World.{World}
+use Rattle.xp_machine.specs.World.{World}
 
 pub record Exchange (A : Type 0) : Type 0 where
   pub subs : Tables
@@ -21,7 +21,7 @@ pub record Exchange (A : Type 0) : Type 0 where
   pub stalls : ℕ
 
 module _ {A : Type 0} where
-  -- where its history led it
+  -- the state that its history leads to
   abbrev pub world_of : Exchange A → World
   world_of exchange = world_after exchange.subs exchange.history
 
@@ -30,12 +30,12 @@ module _ {A : Type 0} where
   DialsFew (Call d block) = length block.called ≤ 15
   DialsFew packet = Unit {0}
 
-  -- some octets spell the identifier and the packet; that few digits are dialled is a fact of their type
+  -- some octets encode the identifier and the packet. That few digits are dialled follows from their type.
   pub record CanBeRead (identifier : ℕ) (packet : Packet A) : Type 0 where
     pub encodable : CanBeEncoded identifier packet
     pub few : DialsFew packet
 
-  -- a frame is one that can be read
+  -- the packet of a frame can be read
   abbrev pub IsReadable : What A → Type 0
   IsReadable (Frame identifier packet) = CanBeRead identifier packet
   IsReadable Up = Unit {0}
@@ -44,7 +44,7 @@ module _ {A : Type 0} where
   IsReadable Expire = Unit {0}
   IsReadable Stall = Unit {0}
 
-  -- the history grows by one entry, of this event, which is a step; its number and its outputs are told
+  -- the history grows by one entry of this event, which is a step. The entry's number and its outputs are returned.
   pub record Advances (old : Exchange A) (event : Event A) (new : Exchange A) (told : Stepped A) : Type 0 where
     pub entry : Entry A
     pub event_is : entry.event ≡ event
@@ -54,6 +54,6 @@ module _ {A : Type 0} where
     pub number : told.entry ≡ entry.number
     pub outputs : told.outputs ≡ entry.outputs
 
-  -- the same, where only the entry's number is told
+  -- the same, where only the entry's number is returned
   abbrev pub AdvancesUntold : Exchange A → Event A → Exchange A → ℕ → Type 0
   AdvancesUntold old event new number = (outputs : List (Output A)) × Advances old event new (record { entry = number; outputs = outputs })

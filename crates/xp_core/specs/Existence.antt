@@ -7,9 +7,9 @@ use Rattle.xp_core.specs.declared.event.Event.{Event}
 use Rattle.xp_core.specs.Exchange.{IsReadable}
 use Rattle.xp_core.specs.Run.{Run}
 use Rattle.xp_core.specs.Step.{Step}
-use Rattle.xp_core.specs.World.{World}
+use Rattle.xp_machine.specs.World.{World}
 
--- an entry of this event, and where it leads
+-- there is an entry of this event that is a step, and a state that it leads to
 pub record HasStep {A : Type 0} (tables : Tables) (history : List (Entry A)) (world : World) (event : Event A) : Type 0 where
   pub entry : Entry A
   pub next : World

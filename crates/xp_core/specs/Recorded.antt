@@ -4,5 +4,5 @@ use Rattle.xp_charge.specs.declared.record.Record.{Record}
 
 pub record Recorded : Type 0 where
   pub items : List Record
-  -- for how many more there is room
+  -- how many more there is room for
   pub room : ℕ

@@ -16,7 +16,7 @@ use Rattle.xp_core.specs.Outcomes.{payer_of, taken_by}
 use Rattle.xp_core.specs.Segments.{segments_if_live}
 use Rattle.xp_core.specs.Step.{Step}
 use Rattle.xp_core.specs.Table.{CallRequest, action_at, request_in}
-use Rattle.xp_core.specs.World.{Call, World, call_numbered}
+use Rattle.xp_machine.specs.World.{Call, World, call_numbered}
 
 -- a live call has this number
 abbrev pub IsLive : World → ℕ → Type 0
@@ -26,12 +26,13 @@ IsLive world number = (call : Call) × (call_numbered world number ≡ Some call
 abbrev pub count_of : ℕ → List Record → ℕ
 count_of number records = count_by (λ charged. charged.number == number) records
 
--- the line that is told how the call ended: its end other than this line, or the caller where it was put to no line
+-- the line that is told how the call ended: the end of the call that is not this line, or the caller if the call was
+-- put to no line
 abbrev pub told_end : ℕ → Option ℕ → ℕ → ℕ
 told_end caller None line = caller
 told_end caller (Some called) line = if caller == line then called else caller
 
--- a place of a history: its entry, what stands before and after it, and the worlds between which it is a step
+-- a place of a history: its entry, the entries before and after it, and the two states between which it is a step
 pub record Moment {A : Type 0} (tables : Tables) (history : List (Entry A)) : Type 0 where
   pub before : List (Entry A)
   pub entry : Entry A
@@ -43,7 +44,7 @@ pub record Moment {A : Type 0} (tables : Tables) (history : List (Entry A)) : Ty
   pub step : Step tables before world entry next
 
 module _ {A : Type 0} where
-  -- the clear packet in what is put out, if it is for this line
+  -- the clear packet in what is put out, if there is one and it is for this line
   abbrev pub clear_to : ℕ → ℕ → Put A → List (Packet A)
   clear_to line to (Send identifier (Clear cause diagnostic block)) = if to == line then Clear cause diagnostic block ∷ [] else []
   clear_to line to put = []
@@ -62,19 +63,19 @@ module _ {A : Type 0} where
       count_of number (records_of history) + (if is_some (call_numbered world number) then 1 else 0)
 
 module _ {A : Type 0} {tables : Tables} {history : List (Entry A)} where
-  -- the entry's call request is a new call, or one that collides with an incoming call, and got this number
+  -- the entry's call request is a new call, or collides with an incoming call, and its call got this number
   pub record Begins (moment : Moment tables history) (number : ℕ) (request : CallRequest A) : Type 0 where
     pub asks : request_in moment.entry.event.what ≡ Some request
     pub new : (action_at moment.world moment.entry.event ≡ NewCall) ⊎ (action_at moment.world moment.entry.event ≡ Collision)
     pub numbered : number ≡ moment.world.next
 
-  -- the call of this number was live or is begun here, and is not live afterwards
+  -- the call of this number was live before, or begins here, and is not live afterwards
   pub record Ends (moment : Moment tables history) (number : ℕ) : Type 0 where
     pub was : IsLive moment.world number ⊎ ((request : CallRequest A) × Begins moment number request)
     pub gone : IsLive moment.next number → ⊥
 
-  -- the record of a call that this entry ends: of the entry that began it, and of the one clear indication in which
-  -- this entry tells how it ended. Its segments are those of the entries before
+  -- This is the record of a call that this entry ends. It tells of the entry that began the call, and of the one clear
+  -- indication in which this entry tells how the call ended. Its segments are those of the entries before.
   pub record IsRecordOf (ending : Moment tables history) (charged : Record) : Type 0 where
     pub ends : Ends ending charged.number
     pub beginning : Moment tables history
@@ -103,7 +104,8 @@ pub record OneRecordEach {A : Type 0} (tables : Tables) (history : List (Entry A
   pub once : (number : ℕ) → holders history world number ≤ 1
   -- each number given so far has a record or a live call
   pub kept : (number : ℕ) → 1 ≤ number → number < world.next → holders history world number ≡ 1
-  -- none from the next on has any, so no number is given twice
+  -- no number from the next one on has a record or a live call, so no number is given twice
   pub fresh : (number : ℕ) → world.next ≤ number → holders history world number ≡ 0
-  -- an entry has two at most: that of a call that was cancelled in a collision, and then that of the call refused there
+  -- an entry has at most two: that of a call that was cancelled in a collision, and then that of the call that was
+  -- refused there
   pub few : (moment : Moment tables history) → length moment.entry.records.items ≤ 2

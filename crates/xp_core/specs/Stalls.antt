@@ -1,6 +1,5 @@
 -- Stalls: a line that takes its packets too slowly is given up.
 use Rattle.std.specs.Prelude.{ℕ, ◌-◌, Bool, true, false}
-use Rattle.xp_core.specs.declared.event.Event.{Event}
 use Rattle.xp_core.specs.declared.event.What.{What}
 use Rattle.xp_core.specs.declared.event.What.TheVariants.{Stall}
 
@@ -9,8 +8,8 @@ module _ {A : Type 0} where
   is_stall Stall = true
   is_stall what = false
 
-  -- how many places of the history have to be left for an event: one for its entry, and behind one that is no stall three
-  -- for stalls that may follow it
+  -- how many places of the history must be left for an event: one for its entry, and, unless it is a stall, three for
+  -- the stalls that may follow it
   abbrev pub places_for : What A → ℕ
   places_for Stall = 1
   places_for what = 4
@@ -19,6 +18,3 @@ module _ {A : Type 0} where
   abbrev pub left_after : What A → ℕ → ℕ
   left_after Stall stalls = stalls - 1
   left_after what stalls = stalls
-
-  abbrev pub stall_of : ℕ → Event A
-  stall_of line = record { line = line; what = Stall }

@@ -3,20 +3,20 @@ use Rattle.std.specs.Prelude.{◌≡◌, ◌+◌, ◌<◌, List, length}
 use Rattle.xp_subs.specs.Tables.{Tables}
 use Rattle.xp_core.specs.declared.entry.Entry.{Entry}
 use Rattle.xp_core.specs.Acts.{Acts}
-use Rattle.xp_core.specs.Changes.{all_changed, recorded_by}
-use Rattle.xp_core.specs.Does.{changes_of}
+use Rattle.xp_machine.specs.Changes.{all_changed, recorded_by}
+use Rattle.xp_core.specs.Effects.{changes_of}
 use Rattle.xp_core.specs.Segments.{segments_of}
-use Rattle.xp_core.specs.Setting.{setting}
+use Rattle.xp_core.specs.StepContext.{step_context}
 use Rattle.xp_core.specs.Table.{action_at}
-use Rattle.xp_core.specs.Told.{Told, outputs_of}
-use Rattle.xp_core.specs.World.{World}
+use Rattle.xp_core.specs.EventOutputs.{EventOutputs, outputs_of}
+use Rattle.xp_machine.specs.World.{World}
 
 module _ {A : Type 0} where
   pub record Step (tables : Tables) (before : List (Entry A)) (world : World) (entry : Entry A) (next : World) : Type 0 where
     pub number : entry.number ≡ length before + 1
     pub line : entry.event.line < length world.lines
-    pub told : Told A
-    pub acts : Acts (setting tables before world entry.event.line) entry.event.what (action_at world entry.event) entry.outcome told
+    pub told : EventOutputs A
+    pub acts : Acts (step_context tables before world entry.event.line) entry.event.what (action_at world entry.event) entry.outcome told
     pub outputs : entry.outputs ≡ outputs_of told
     pub records : entry.records.items ≡ recorded_by (segments_of tables before) world (changes_of tables before world entry)
     pub leads : next ≡ all_changed (changes_of tables before world entry) world

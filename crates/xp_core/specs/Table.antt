@@ -1,9 +1,9 @@
--- The kinds of events that the table of actions tells apart, and what it asks of their packets.
+-- The kinds of events that the table of actions tells apart, and what the actions need from their packets.
 use Rattle.std.specs.Prelude.{ℕ, Bool, Option, None, Some}
 use Rattle.xp_channel.specs.declared.action.Action.{Action}
-use Rattle.xp_channel.specs.declared.kind.Kind.{Kind}
-use Rattle.xp_channel.specs.declared.kind.Kind.TheVariants as kinds
-use Rattle.xp_channel.specs.Kinds.{kind_of as packet_kind, kind_of_wrong}
+use Rattle.xp_channel.specs.declared.kind.EventKind.{EventKind}
+use Rattle.xp_channel.specs.declared.kind.EventKind.TheVariants as kinds
+use Rattle.xp_channel.specs.Kinds.{kind_of as packet_kind, kind_of_malformed}
 use Rattle.xp_channel.specs.Table.{cell}
 use Rattle.xp_packets.specs.declared.block.Block.{Block}
 use Rattle.xp_packets.specs.declared.packet.Packet.{Packet}
@@ -11,8 +11,8 @@ use Rattle.xp_packets.specs.declared.packet.Packet.TheVariants as packets
 use Rattle.xp_core.specs.declared.event.Event.{Event}
 use Rattle.xp_core.specs.declared.event.What.{What}
 use Rattle.xp_core.specs.declared.event.What.TheVariants as events
-use Rattle.xp_core.specs.Channel.{channel_of}
-use Rattle.xp_core.specs.World.{World, state_at}
+use Rattle.xp_machine.specs.Channel.{channel_of}
+use Rattle.xp_machine.specs.World.{World, state_at}
 
 pub record CallRequest (A : Type 0) : Type 0 where
   pub identifier : ℕ
@@ -29,36 +29,36 @@ pub record ClearRequest (A : Type 0) : Type 0 where
   pub block : Option (Block A)
 
 module _ {A : Type 0} where
-  -- a line that is given up as too slow goes out of service as one whose connection goes
-  abbrev pub kind_of : What A → Kind
+  -- a line that is given up as too slow goes out of service like one whose connection is lost
+  abbrev pub kind_of : What A → EventKind
   kind_of events.Up = kinds.Up
   kind_of events.Down = kinds.Down
   kind_of (events.Frame identifier packet) = packet_kind packet
-  kind_of (events.WrongFrame wrong) = kind_of_wrong wrong
+  kind_of (events.WrongFrame wrong) = kind_of_malformed wrong
   kind_of events.Expire = kinds.Expire
   kind_of events.Stall = kinds.Down
 
-  -- what the table of actions (Annex C) has for an event
+  -- the action of the table (Annex C) for an event
   abbrev pub action_at : World → Event A → Action
   action_at world event = cell (channel_of (state_at world event.line)) (kind_of event.what)
 
-  -- the call request in an event
+  -- the call request in an event, if it is one
   abbrev pub request_in : What A → Option (CallRequest A)
   request_in (events.Frame identifier (packets.Call d block)) = Some (record { identifier = identifier; d = d; block = block })
   request_in what = None
 
-  -- the call accepted packet in it
+  -- the call accepted packet in an event, if it is one
   abbrev pub accepted_in : What A → Option (CallAccepted A)
   accepted_in (events.Frame identifier (packets.Accepted d block)) = Some (record { d = d; block = block })
   accepted_in what = None
 
-  -- the clear request in it
+  -- the clear request in an event, if it is one
   abbrev pub clear_in : What A → Option (ClearRequest A)
   clear_in (events.Frame identifier (packets.Clear cause diagnostic block)) =
       Some (record { cause = cause; diagnostic = diagnostic; block = block })
   clear_in what = None
 
-  -- the packet in it, if it is one
+  -- the packet in an event, if it is one
   abbrev pub packet_in : What A → Option (Packet A)
   packet_in (events.Frame identifier packet) = Some packet
   packet_in events.Up = None

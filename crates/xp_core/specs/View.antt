@@ -4,10 +4,9 @@ use Rattle.xp_relay.specs.Coupled.{state_at}
 use Rattle.xp_relay.specs.declared.state.FlowState.{FlowState}
 use Rattle.xp_subs.specs.Tables.{Tables}
 use Rattle.xp_core.specs.declared.entry.Entry.{Entry}
-use Rattle.xp_core.specs.declared.view.LineView.{LineView}
-use Rattle.xp_core.specs.Carried.{directions, end_of}
-use Rattle.xp_core.specs.Channel.{call_of, channel_of}
-use Rattle.xp_core.specs.World.{Call, Line, World, call_on}
+use Rattle.xp_core.specs.RelayedPackets.{directions}
+use Rattle.xp_machine.specs.CallEnds.{end_of}
+use Rattle.xp_machine.specs.World.{Call, World, call_on}
 
 -- the state of flow control of a line of this call, where it is connected (X.25 clause 4.4.3)
 abbrev pub flow_in : {A : Type 0} → Tables → List (Entry A) → ℕ → Option (ℕ × Call) → Option FlowState
@@ -17,12 +16,3 @@ flow_in tables history line (Some found) =
 
 abbrev pub flow_at : {A : Type 0} → Tables → List (Entry A) → World → ℕ → Option FlowState
 flow_at tables history world line = flow_in tables history line (call_on world line)
-
-abbrev pub view_of : Line → Option FlowState → LineView
-view_of line flow = record {
-  channel = channel_of line.state;
-  identifier = line.identifier;
-  call = call_of line.state;
-  flow = flow;
-  connection = line.connection;
-}

@@ -1,42 +1,40 @@
-//! Entering one event.
+//! Enters one event.
 
 ghost use Rattle.std.specs.Prelude.{◌≡◌, ◌+◌, ◌<◌, ◌≤◌, ◌^◌, true, IfNone, IfSome, IfOk, IfErr, IsOk, OnOk, OnErr, length};
 ghost use Rattle.xp_subs.specs.Sound.{IsSound as IsSubs};
 ghost use Rattle.xp_subs.specs.Tables.{line_count};
 ghost use Rattle.xp_core.specs.Agreed.{AllHaveTerms};
-ghost use Rattle.xp_core.specs.Journal.{IsSpent};
-ghost use Rattle.xp_core.specs.Relays.{AreCarried};
-ghost use Rattle.xp_core.specs.Sound.{IsSound};
+ghost use Rattle.xp_core.specs.steps.Journal.{IsSpent};
+ghost use Rattle.xp_core.specs.steps.Relays.{RelaysRepresentCalls};
+ghost use Rattle.xp_core.specs.steps.Sound.{IsSound};
 ghost use Rattle.xp_core.specs.Stalls.{is_stall, left_after};
-ghost use Rattle.xp_core.specs.Work.{Enters, Works};
+ghost use Rattle.xp_core.specs.steps.PreparedEntry.{Enters, IsPreparedEntry};
 
 use crate::event::{Event, What};
 use crate::fault::StepFault;
 use crate::journal::Journal;
-use crate::machine::Machine;
 use crate::outcome::Outcome;
 use crate::output::Outputs;
 use crate::plan::{Plan, plan_of};
 use crate::records::Records;
-use crate::relays::Relays;
 use crate::stalling::{Spare, give_up};
 use crate::stepped::Stepped;
-use crate::workspace::Workspace;
 use std::alloc::{AllocError, Allocator};
+use xp_machine::{Machine, Relays, Workspace};
 use xp_subs::Subs;
 
-/// What is made of an event before it is entered.
+/// What an event leads to, before it is entered.
 #[derive(Drop)]
-pub struct Work<A: Allocator> {
+pub struct PreparedEntry<A: Allocator> {
     pub outcome: Outcome,
     pub outputs: Outputs<A>,
-    /// The copy that is told, if one is.
+    /// The copy of the outputs that is returned, if the caller asks for one.
     pub told: Outputs<A>,
     pub records: Records<A>,
 }
 
-/// Enters one event: makes all growths, and then changes the state, the history and the records. A stall that is prepared
-/// takes no memory. What is put out is told only where that is asked.
+/// Enters one event. It allocates first, and then changes the state, the history and the records. A prepared stall
+/// allocates nothing. The outputs are returned only if `tells` is true.
 #[inline(always)]
 pub fn advance<A: Allocator + Copy>(
     alloc: A,
@@ -52,7 +50,7 @@ pub fn advance<A: Allocator + Copy>(
     requires line { event.line < line_count subs.now }
     requires sound { IsSound subs.now (length journal.old.history) machine.old }
     requires terms { AllHaveTerms machine.old }
-    requires carried { AreCarried subs.now journal.old.history machine.old relays.old }
+    requires carried { RelaysRepresentCalls subs.now journal.old.history machine.old relays.old }
     requires few { length journal.old.history < 2 ^ 32 }
     ensures ok { IfOk result (λ told. Enters subs.now machine.old relays.old journal.old.history journal.old.records event machine.new relays.new journal.new.history journal.new.records tells told) }
     ensures memory { IfErr result (λ fault. fault ≡ StepFault.Memory event) }
@@ -64,7 +62,7 @@ pub fn advance<A: Allocator + Copy>(
     ensures history { OnErr result (journal.new.history ≡ journal.old.history) }
     ensures records { OnErr result (journal.new.records ≡ journal.old.records) }
 {
-    match work_out(
+    match prepare_entry(
         alloc, subs, machine, relays, journal, workspace, &event, tells,
     ) {
         Ok(work) => Ok(journal.enter(event, work)),
@@ -72,9 +70,9 @@ pub fn advance<A: Allocator + Copy>(
     }
 }
 
-/// Makes all that an event needs, and changes the state last.
+/// Prepares all that an event needs, and changes the state last.
 #[inline(always)]
-fn work_out<A: Allocator + Copy>(
+fn prepare_entry<A: Allocator + Copy>(
     alloc: A,
     subs: &Subs,
     machine: &mut Machine<A>,
@@ -83,14 +81,14 @@ fn work_out<A: Allocator + Copy>(
     workspace: &mut Workspace<A>,
     event: &Event<A>,
     tells: bool,
-) -> Result<Work<A>, AllocError>
+) -> Result<PreparedEntry<A>, AllocError>
     requires subs { IsSubs subs.now }
     requires line { event.now.line < line_count subs.now }
     requires sound { IsSound subs.now (length journal.old.history) machine.old }
     requires terms { AllHaveTerms machine.old }
-    requires carried { AreCarried subs.now journal.old.history machine.old relays.old }
+    requires carried { RelaysRepresentCalls subs.now journal.old.history machine.old relays.old }
     requires few { length journal.old.history < 2 ^ 32 }
-    ensures ok { IfOk result (λ work. Works subs.now journal.old.history machine.old relays.old event.now work machine.new relays.new) }
+    ensures ok { IfOk result (λ work. IsPreparedEntry subs.now journal.old.history machine.old relays.old event.now work machine.new relays.new) }
     ensures told { IfOk result (λ work. tells ≡ true → work.told ≡ work.outputs) }
     ensures prepared { is_stall event.now.what ≡ true → 0 < journal.old.stalls → IsOk result }
     ensures stalls { OnOk result (journal.new.stalls ≡ left_after event.now.what journal.old.stalls) }
@@ -112,7 +110,7 @@ fn work_out<A: Allocator + Copy>(
         cancelled,
         change,
         records,
-        carriage,
+        relay_update,
     } = plan_of(
         alloc,
         subs,
@@ -130,8 +128,8 @@ fn work_out<A: Allocator + Copy>(
     };
     journal.reserve(records.as_slice())?;
     machine.apply(cancelled, change)?;
-    relays.put_if_any(carriage, workspace);
-    Ok(Work {
+    relays.put_if_any(relay_update, workspace);
+    Ok(PreparedEntry {
         outcome,
         outputs,
         told,
@@ -139,7 +137,7 @@ fn work_out<A: Allocator + Copy>(
     })
 }
 
-/// The spare of a stall, if the event is one, and one is prepared.
+/// Takes the spare of a stall, if the event is a stall and one is prepared.
 fn prepared<A: Allocator>(journal: &mut Journal<A>, event: &Event<A>) -> Option<Spare<A>>
     ensures some { IfSome result (λ _. (is_stall event.now.what ≡ true) × IsSpent journal.old journal.new) }
     ensures none { IfNone result ((journal.new ≡ journal.old) × (left_after event.now.what journal.old.stalls ≡ journal.old.stalls) × (is_stall event.now.what ≡ true → journal.old.stalls ≡ 0)) }

@@ -1,11 +1,11 @@
 ghost use Rattle.std.specs.Prelude.{◌≡◌, IfOk};
-ghost use Rattle.xp_packets.specs.Fitness.{CanBeEncoded};
+ghost use Rattle.xp_packets.specs.Encodability.{CanBeEncoded};
 ghost use Rattle.xp_core.specs.Exchange.{DialsFew, IsReadable};
 ghost use Rattle.xp_core.specs.Stalls.{places_for};
 
 use crate::journal::MOST_STALLS;
 use std::alloc::{AllocError, Allocator, Global};
-use xp_packets::{Packet, Wrong};
+use xp_packets::{Malformed, Packet};
 use xp_subs::LineNo;
 
 /// What happened on one line.
@@ -22,21 +22,21 @@ pub struct Event<A: Allocator = Global> {
 pub enum What<A: Allocator = Global> {
     /// A connection came.
     Up,
-    /// The connection went, or broke the framing.
+    /// The connection was lost, or what came over it broke the framing.
     Down,
     /// A packet came, under this logical channel identifier, 0 to 4,095 (X.25 clauses 5.1.2 and 5.1.3).
     Frame { identifier: u16, packet: Packet<A> },
-    /// A frame came that is no packet.
-    WrongFrame(Wrong),
+    /// A frame came that holds no packet.
+    WrongFrame(Malformed),
     /// The line did not answer an incoming call in time (T11, X.25 Annex D).
     Expire,
     /// The line takes its packets too slowly, and is given up: its connection is closed. The exchange under its lock
-    /// raises it, and no line.
+    /// raises this event, and no line does.
     Stall,
 }
 
 impl<A: Allocator + Copy> Event<A> {
-    /// An equal event, by the same allocator.
+    /// Returns an equal event, in memory of the same allocator.
     pub fn copy(&self) -> Result<Event<A>, AllocError>
         ensures { IfOk result (λ copied. copied ≡ self.now) }
     {
@@ -45,7 +45,8 @@ impl<A: Allocator + Copy> Event<A> {
 }
 
 impl<A: Allocator> What<A> {
-    /// A packet came that can be encoded under this identifier, as every one that is read.
+    /// Returns the event that a packet came. The packet can be encoded with this identifier, as can every packet that
+    /// is read.
     pub fn frame(identifier: u16, packet: Packet<A>) -> What<A>
         requires { CanBeEncoded identifier packet }
         ensures frame { result ≡ What.Frame identifier packet }
@@ -55,8 +56,8 @@ impl<A: Allocator> What<A> {
         What::Frame { identifier, packet }
     }
 
-    /// How many places of the history have to be left for the event: one for its entry, and behind one that is no stall
-    /// three for stalls that may follow it.
+    /// Returns how many places of the history must be left for the event: one for its entry, and, unless the event is a
+    /// stall, three for the stalls that may follow it.
     pub(crate) fn places(&self) -> usize
         ensures { result ≡ places_for self.now }
     {
@@ -68,7 +69,7 @@ impl<A: Allocator> What<A> {
     }
 }
 
-/// No address has more than 15 digits: that comes with their count.
+/// Counts the digits of a called address. This shows that they are at most 15.
 fn measure<A: Allocator>(packet: &Packet<A>)
     ensures { DialsFew packet.now }
 {

@@ -2,7 +2,7 @@ use crate::event::Event;
 use std::alloc::{Allocator, Global};
 use thiserror::Error;
 
-/// Why an event made no entry. It comes back, and nothing changed.
+/// Why an event made no entry. The event comes back, and nothing has changed.
 #[derive(Debug, Drop, Error)]
 pub enum StepFault<A: Allocator = Global> {
     #[error("the journal is full")]

@@ -1,10 +1,10 @@
-//! What is entered: the history, and the records of the ended calls.
+//! The journal: the history, and the records of the ended calls.
 
 ghost use Rattle.std.specs.Prelude.{◌≡◌, ◌+◌, ◌<◌, ◌≤◌, ◌^◌, [], ◌∷◌, ◌++◌, IfNone, IfSome, OnOk, length, vec_len, vec_capacity};
-ghost use Rattle.xp_core.specs.Journal.{AreSame, IsSpent, next_entry};
+ghost use Rattle.xp_core.specs.steps.Journal.{AreSame, IsSpent, next_entry};
 ghost use Rattle.xp_core.specs.declared.journal.TheConstants.{MOST_STALLS};
 
-use crate::advance::Work;
+use crate::advance::PreparedEntry;
 use crate::entry::Entry;
 use crate::event::Event;
 use crate::stalling::Spare;
@@ -16,7 +16,8 @@ use xp_charge::Record;
 /// How many stalls may follow one event.
 pub const MOST_STALLS: usize = 3;
 
-/// The history and the records. For each stall that is prepared there is a spare, and a place in both.
+/// The history and the records. For each prepared stall there is a spare, a place in the history and a place in the
+/// records.
 #[derive(Drop)]
 pub struct Journal<A: Allocator> {
     history: Vec<Entry<A>, A>,
@@ -26,7 +27,7 @@ pub struct Journal<A: Allocator> {
 
 impl<A: Allocator> Model for Journal<A> {
     ghost use Rattle.std.specs.Prelude.{◌+◌, ◌-◌, ◌≤◌, vec_len, vec_capacity};
-    ghost use Rattle.xp_core.specs.Journal.{Journaled};
+    ghost use Rattle.xp_core.specs.steps.Journal.{Journaled};
 
     ghost Value = { Journaled A };
 
@@ -36,7 +37,7 @@ impl<A: Allocator> Model for Journal<A> {
 }
 
 impl<A: Allocator + Copy> Journal<A> {
-    /// Nothing is entered, and no stall prepared.
+    /// Returns an empty journal, with no stall prepared.
     pub fn new(alloc: A) -> Journal<A>
         ensures history { result.history ≡ [] }
         ensures records { result.records ≡ [] }
@@ -49,7 +50,8 @@ impl<A: Allocator + Copy> Journal<A> {
         }
     }
 
-    /// Prepares all the stalls that may follow one event. Where memory is wanting, some of them may be prepared.
+    /// Prepares all the stalls that may follow one event. If memory is wanting, some of them may be prepared all the
+    /// same.
     pub fn prepare_stalls(&mut self, alloc: A) -> Result<(), AllocError>
         ensures ok { OnOk result (MOST_STALLS ≤ self.new.stalls) }
         ensures more { self.old.stalls ≤ self.new.stalls }
@@ -78,7 +80,7 @@ impl<A: Allocator> Journal<A> {
         self.records.as_slice()
     }
 
-    /// Makes room for one more entry with these records, beside those of the stalls that are prepared.
+    /// Makes room for one more entry with these records, besides the room of the prepared stalls.
     pub fn reserve(&mut self, records: &[Record]) -> Result<(), AllocError>
         ensures same { AreSame self.old self.new }
         ensures entry { OnOk result (self.new.stalls < self.new.entry_room) }
@@ -90,7 +92,7 @@ impl<A: Allocator> Journal<A> {
         Ok(())
     }
 
-    /// The spare of a stall, if one is prepared. Its places are free then.
+    /// Takes the spare of a stall, if one is prepared. The places of that stall are then free.
     pub fn take_spare(&mut self) -> Option<Spare<A>>
         ensures some { IfSome result (λ _. IsSpent self.old self.new) }
         ensures none { IfNone result ((self.old.stalls ≡ 0) × (self.new ≡ self.old)) }
@@ -98,8 +100,8 @@ impl<A: Allocator> Journal<A> {
         self.spares.pop()
     }
 
-    /// Enters an event of which this was made. It takes no memory.
-    pub fn enter(&mut self, event: Event<A>, work: Work<A>) -> Stepped<A>
+    /// Enters an event that leads to this. It allocates nothing.
+    pub fn enter(&mut self, event: Event<A>, work: PreparedEntry<A>) -> Stepped<A>
         requires entry { self.old.stalls < self.old.entry_room }
         requires records { self.old.stalls + length work.records.items ≤ self.old.record_room }
         requires few { length self.old.history < 2 ^ 32 }
@@ -109,7 +111,7 @@ impl<A: Allocator> Journal<A> {
         ensures number { result.entry ≡ length self.old.history + 1 }
         ensures told { result.outputs ≡ work.told }
     {
-        let Work {
+        let PreparedEntry {
             outcome,
             outputs,
             told,

@@ -1,20 +1,10 @@
 ghost use Rattle.std.specs.Prelude.{◌≡◌};
-ghost use Rattle.xp_core.specs.Carried.{terms_of};
 ghost use Rattle.xp_core.specs.Outcomes.{taken_by};
 
-use xp_answer::{Setup, Terms};
+use xp_answer::Setup;
 use xp_causes::Refusal;
-use xp_relay::{Agreed, Modulus};
+use xp_machine::Agreement;
 use xp_subs::LineNo;
-
-/// What the answer to an incoming call settles.
-#[derive(Clone, Copy, Debug, Default, PartialEq, Eq)]
-pub struct Agreement {
-    /// The packet and window sizes of the call.
-    pub terms: Terms,
-    /// The called line asks for charging information.
-    pub charging: bool,
-}
 
 /// What an event settled that the table of actions leaves open.
 #[derive(Clone, Copy, Debug, Default, PartialEq, Eq)]
@@ -28,35 +18,14 @@ pub enum Outcome {
     Refused(Refusal),
     /// An answer: the call is connected.
     Connected(Agreement),
-    /// An answer: it is a procedure error with this diagnostic (X.25 Annex E).
+    /// An answer: it is faulty, which is a procedure error with this diagnostic (X.25 Annex E).
     Declined(u8),
-    /// Data: it would take its direction past the segment limit, and the call is cleared.
+    /// Data: it would take its direction past the segment limit, so the call is cleared.
     Exceeded,
 }
 
-impl Agreement {
-    /// What was agreed for the data of each end. The packets of all lines are numbered modulo 8.
-    pub(crate) fn relay_terms(self) -> xp_relay::Terms
-        ensures { result ≡ terms_of self }
-    {
-        let Terms { packet, window } = self.terms;
-        xp_relay::Terms {
-            from_caller: Agreed {
-                size: packet.from_calling,
-                window: window.from_calling,
-            },
-            from_called: Agreed {
-                size: packet.from_called,
-                window: window.from_called,
-            },
-            caller: Modulus::Eight,
-            called: Modulus::Eight,
-        }
-    }
-}
-
 impl Outcome {
-    /// The line that a new call was put to.
+    /// Returns the line that a new call was put to, if the event put one to a line.
     pub fn taken(self) -> Option<LineNo>
         ensures { result ≡ taken_by self }
     {

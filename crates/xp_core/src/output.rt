@@ -5,7 +5,7 @@ use std::marker::Model;
 use xp_packets::Packet;
 use xp_subs::LineNo;
 
-/// What is put out to a line: over its connection, or about it.
+/// What is put out to a line: a packet over its connection, or the end of the connection.
 #[derive(Clone, Debug, Drop, PartialEq)]
 pub enum Put<A: Allocator = Global> {
     /// A packet, under this logical channel identifier, 0 to 4,095 (X.25 clauses 5.1.2 and 5.1.3).
@@ -14,21 +14,21 @@ pub enum Put<A: Allocator = Global> {
     Close,
 }
 
-/// Something for the connection of this number of a line.
+/// Something that is put out to one connection of a line.
 #[derive(Clone, Debug, Drop, PartialEq)]
 pub struct Outgoing<A: Allocator = Global> {
-    /// How often the line has come into service: 1 for its first connection.
+    /// The number of the connection. It is how often the line has come into service: 1 for its first connection.
     pub connection: u64,
     /// What is put out.
     pub put: Put<A>,
 }
 
-/// Something put out to a line.
+/// Something that is put out to a line.
 #[derive(Clone, Debug, Drop, PartialEq)]
 pub struct Output<A: Allocator = Global> {
     /// The line, one of the subscriptions'.
     pub line: LineNo,
-    /// What is put out to it, and for which connection.
+    /// What is put out to the line, and to which connection of it.
     pub outgoing: Outgoing<A>,
 }
 
@@ -57,7 +57,7 @@ impl<A: Allocator> Model for Outputs<A> {
 }
 
 impl<A: Allocator> Outputs<A> {
-    /// No outputs.
+    /// Returns no outputs.
     pub fn new(alloc: A) -> Outputs<A>
         ensures { result ≡ [] }
     {
@@ -66,14 +66,14 @@ impl<A: Allocator> Outputs<A> {
         }
     }
 
-    /// The outputs in order.
+    /// Returns the outputs in order.
     pub fn as_slice(&self) -> &[Output<A>]
         ensures { result.now ≡ self.now }
     {
         self.outputs.as_slice()
     }
 
-    /// The outputs in order, to be put out.
+    /// Returns the vector of the outputs, in order.
     pub fn into_items(self) -> Vec<Output<A>, A>
         ensures { result.items ≡ self }
     {
@@ -96,7 +96,7 @@ impl<A: Allocator + Copy> Outputs<A> {
     }
 }
 
-/// Outputs in the making, with room for more: to put one more takes no memory.
+/// Outputs that are being collected, with room for more. To add one within this room allocates nothing.
 #[derive(Debug, Drop)]
 pub struct Buffer<A: Allocator = Global> {
     outputs: Vec<Output<A>, A>,
@@ -105,7 +105,7 @@ pub struct Buffer<A: Allocator = Global> {
 
 impl<A: Allocator> Model for Buffer<A> {
     ghost use Rattle.std.specs.Prelude.{◌+◌, ◌≤◌, vec_len, vec_capacity};
-    ghost use Rattle.xp_core.specs.Buffered.{Buffered};
+    ghost use Rattle.xp_core.specs.steps.Buffered.{Buffered};
 
     ghost Value = { Buffered A };
 
@@ -115,7 +115,7 @@ impl<A: Allocator> Model for Buffer<A> {
 }
 
 impl<A: Allocator> Buffer<A> {
-    /// No outputs, and no room for any.
+    /// Returns no outputs, and no room for any.
     pub fn none(alloc: A) -> Buffer<A>
         ensures { result ≡ record { outputs = []; room = 0 } }
     {
@@ -125,7 +125,7 @@ impl<A: Allocator> Buffer<A> {
         }
     }
 
-    /// No outputs, and room for so many.
+    /// Returns no outputs, with room for this many.
     pub fn with_room(alloc: A, room: usize) -> Result<Buffer<A>, AllocError>
         ensures { IfOk result (λ buffer. buffer ≡ record { outputs = []; room = room }) }
     {
@@ -133,7 +133,7 @@ impl<A: Allocator> Buffer<A> {
         Ok(Buffer { outputs, room })
     }
 
-    /// The buffer with one more output.
+    /// Returns the buffer with one more output.
     pub fn with(mut self, output: Output<A>) -> Buffer<A>
         requires { 0 < self.room }
         ensures { result ≡ record { outputs = self.outputs ++ output ∷ []; room = self.room - 1 } }
@@ -143,7 +143,7 @@ impl<A: Allocator> Buffer<A> {
         self
     }
 
-    /// The buffer with this output, if there is one.
+    /// Returns the buffer with this output added, if there is one.
     pub fn with_some(self, output: Option<Output<A>>) -> Buffer<A>
         requires { length (option_to_list output) ≤ self.room }
         ensures outputs { result.outputs ≡ self.outputs ++ option_to_list output }
@@ -155,7 +155,7 @@ impl<A: Allocator> Buffer<A> {
         }
     }
 
-    /// The outputs put so far.
+    /// Returns the outputs that were added.
     pub fn into_outputs(self) -> Outputs<A>
         ensures { result ≡ self.outputs }
     {

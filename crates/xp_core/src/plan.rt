@@ -1,45 +1,44 @@
-//! What an event will do, worked out before anything changes.
+//! What an event will do. A plan is made before anything changes.
 //!
-//! The hints on inlining are for speed alone: what a branch keeps in its frame is cleared as its function begins, so the
-//! longer branches stay out of their caller, and the steps by which a plan is made, which move it whole, go into it.
+//! The hints on inlining are for speed alone. A function clears its frame as it begins, so the longer branches are kept
+//! out of their caller. The steps that make a plan would move it whole, so they are made part of their caller.
 
 mod answer;
-mod asked;
-mod carrying;
 mod clearing;
 mod event;
-mod found;
+mod event_line;
+mod received_packets;
+mod relaying;
 mod request;
 mod send;
 
 ghost use Rattle.std.specs.Prelude.{◌≡◌, [], None, Some};
 
-use crate::change::Change;
 use crate::outcome::Outcome;
 use crate::output::Buffer;
 use crate::records::Records;
-use crate::relays::Carriage;
 pub use event::plan_of;
-pub use found::{Found, charged_on};
+pub use event_line::{EventLine, charged_on};
 pub use send::close;
 use std::alloc::{Allocator, Global};
+use xp_machine::{Change, RelayUpdate};
 use xp_subs::LineNo;
 
-/// What is settled, put out, changed and recorded, in order.
+/// What an event settles, puts out, changes and records.
 #[derive(Drop)]
 pub struct Plan<A: Allocator = Global> {
     pub outcome: Outcome,
     pub outputs: Buffer<A>,
-    /// The line whose call a collision cancels, before the change.
+    /// The line whose call a collision cancels before the change, if there is one.
     pub cancelled: Option<LineNo>,
     pub change: Option<Change>,
     pub records: Records<A>,
-    /// The relay that a call has from now on, if another.
-    pub carriage: Option<Carriage<A>>,
+    /// The relay that a call has from now on, if it gets another.
+    pub relay_update: Option<RelayUpdate<A>>,
 }
 
 impl<A: Allocator + Copy> Plan<A> {
-    /// Nothing. It takes no memory.
+    /// Returns the plan to do nothing. It allocates nothing.
     #[inline(always)]
     pub fn none(alloc: A) -> Plan<A>
         ensures outcome { result.outcome ≡ Outcome.Plain }
@@ -47,14 +46,14 @@ impl<A: Allocator + Copy> Plan<A> {
         ensures cancelled { result.cancelled ≡ None }
         ensures change { result.change ≡ None }
         ensures records { result.records.items ≡ [] }
-        ensures carriage { result.carriage ≡ None }
+        ensures relay_update { result.relay_update ≡ None }
     {
         Plan::of(Buffer::none(alloc), Records::none(alloc))
     }
 }
 
 impl<A: Allocator> Plan<A> {
-    /// These outputs and records alone.
+    /// Returns the plan of these outputs and records alone.
     #[inline(always)]
     pub fn of(outputs: Buffer<A>, records: Records<A>) -> Plan<A>
         ensures outcome { result.outcome ≡ Outcome.Plain }
@@ -62,7 +61,7 @@ impl<A: Allocator> Plan<A> {
         ensures cancelled { result.cancelled ≡ None }
         ensures change { result.change ≡ None }
         ensures records { result.records ≡ records }
-        ensures carriage { result.carriage ≡ None }
+        ensures relay_update { result.relay_update ≡ None }
     {
         Plan {
             outcome: Outcome::Plain,
@@ -70,11 +69,11 @@ impl<A: Allocator> Plan<A> {
             cancelled: None,
             change: None,
             records,
-            carriage: None,
+            relay_update: None,
         }
     }
 
-    /// The plan with this outcome.
+    /// Returns the plan with this outcome.
     #[inline(always)]
     pub fn settling(self, outcome: Outcome) -> Plan<A>
         ensures { result ≡ record self { outcome = outcome } }
@@ -82,7 +81,7 @@ impl<A: Allocator> Plan<A> {
         Plan { outcome, ..self }
     }
 
-    /// The plan with a line whose call is cancelled, if there is one.
+    /// Returns the plan with a line whose call is cancelled, if one is given.
     #[inline(always)]
     pub fn cancelling(self, cancelled: Option<LineNo>) -> Plan<A>
         ensures { result ≡ record self { cancelled = cancelled } }
@@ -90,7 +89,7 @@ impl<A: Allocator> Plan<A> {
         Plan { cancelled, ..self }
     }
 
-    /// The plan with this change.
+    /// Returns the plan with this change.
     #[inline(always)]
     pub fn changing(self, change: Change) -> Plan<A>
         ensures { result ≡ record self { change = Some change } }
@@ -101,13 +100,13 @@ impl<A: Allocator> Plan<A> {
         }
     }
 
-    /// The plan with this relay of a call.
+    /// Returns the plan with this relay of a call.
     #[inline(always)]
-    pub fn carrying(self, carriage: Carriage<A>) -> Plan<A>
-        ensures { result ≡ record self { carriage = Some carriage } }
+    pub fn carrying(self, relay_update: RelayUpdate<A>) -> Plan<A>
+        ensures { result ≡ record self { relay_update = Some relay_update } }
     {
         Plan {
-            carriage: Some(carriage),
+            relay_update: Some(relay_update),
             ..self
         }
     }

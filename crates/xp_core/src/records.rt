@@ -4,8 +4,8 @@ use std::alloc::{AllocError, Allocator, Global};
 use std::marker::Model;
 use xp_charge::Record;
 
-/// The records of one entry. Most entries have none, and then they take no memory; they are two at most, in a call
-/// collision (X.25 clause 4.1.6) that of the call that is cancelled, and that of the line's own where it is refused.
+/// The records of one entry. Most entries have none, and then they allocate nothing. An entry has two at most, in a
+/// call collision (X.25 clause 4.1.6): that of the cancelled call, and that of the line's own call if it is refused.
 #[derive(Debug, Drop)]
 pub struct Records<A: Allocator = Global> {
     records: Vec<Record, A>,
@@ -21,7 +21,7 @@ impl<A: Allocator> Model for Records<A> {
 }
 
 impl<A: Allocator> Records<A> {
-    /// No records.
+    /// Returns no records.
     pub(crate) fn none(alloc: A) -> Records<A>
         ensures { result.items ≡ [] }
     {
@@ -30,7 +30,7 @@ impl<A: Allocator> Records<A> {
         }
     }
 
-    /// No records, and room for so many.
+    /// Returns no records, with room for this many.
     pub(crate) fn with_room(alloc: A, room: usize) -> Result<Records<A>, AllocError>
         ensures { IfOk result (λ records. (records.items ≡ []) × (room ≤ records.room)) }
     {
@@ -38,7 +38,7 @@ impl<A: Allocator> Records<A> {
         Ok(Records { records })
     }
 
-    /// This record, if there is one.
+    /// Returns this record alone, if there is one.
     pub(crate) fn of(alloc: A, charged: Option<Record>) -> Result<Records<A>, AllocError>
         ensures { IfOk result (λ records. records.items ≡ option_to_list charged) }
     {
@@ -48,7 +48,7 @@ impl<A: Allocator> Records<A> {
         }
     }
 
-    /// The records with one more, after the others.
+    /// Returns the records with one more, after the others.
     pub(crate) fn with(mut self, charged: Record) -> Records<A>
         requires { 0 < self.room }
         ensures { result ≡ record { items = self.items ++ charged ∷ []; room = self.room - 1 } }
@@ -57,7 +57,7 @@ impl<A: Allocator> Records<A> {
         self
     }
 
-    /// The records with this one, if there is one.
+    /// Returns the records with this one added, if there is one.
     pub(crate) fn with_some(self, charged: Option<Record>) -> Records<A>
         requires { length (option_to_list charged) ≤ self.room }
         ensures items { result.items ≡ self.items ++ option_to_list charged }
@@ -70,7 +70,7 @@ impl<A: Allocator> Records<A> {
         }
     }
 
-    /// The records in order.
+    /// Returns the records in order.
     pub fn as_slice(&self) -> &[Record]
         ensures { result.now ≡ self.now.items }
     {

@@ -1,43 +1,40 @@
-//! A stall: a line takes its packets too slowly, and is given up. What that needs is found beforehand, so that the stall
-//! itself takes no memory.
+//! A stall: a line takes its packets too slowly, and is given up. What that needs is allocated beforehand, so that the
+//! stall itself allocates nothing.
 
 ghost use Rattle.std.specs.Prelude.{◌≡◌, ◌<◌, ◌≤◌, [], ◌∷◌, List, length};
 ghost use Rattle.xp_causes.specs.declared.clearing_cause.TheConstants.{OUT_OF_ORDER as GONE_OUT};
 ghost use Rattle.xp_causes.specs.declared.diagnostic.TheConstants.{NO_ADDITIONAL_INFORMATION as NO_INFORMATION};
-ghost use Rattle.xp_core.specs.Changes.{GoesOut};
-ghost use Rattle.xp_core.specs.Channel.{is_off as is_off_at};
+ghost use Rattle.xp_machine.specs.Changes.{GoesOut};
+ghost use Rattle.xp_machine.specs.Channel.{is_off as is_off_at};
 ghost use Rattle.xp_core.specs.declared.entry.Entry.{Entry as Entered};
-ghost use Rattle.xp_core.specs.Does.{leaves};
-ghost use Rattle.xp_core.specs.Found.{IsFound, IsShort, at_found};
-ghost use Rattle.xp_core.specs.Kept.{state_of};
-ghost use Rattle.xp_core.specs.Plan.{recorded_at};
-ghost use Rattle.xp_core.specs.Relays.{AreCarried};
-ghost use Rattle.xp_core.specs.Setting.{setting};
-ghost use Rattle.xp_core.specs.Stalling.{IsFallen, MakesStall, told_of_stall};
-ghost use Rattle.xp_core.specs.Told.{outputs_of};
-ghost use Rattle.xp_core.specs.World.{call_on};
+ghost use Rattle.xp_core.specs.Effects.{leaves};
+ghost use Rattle.xp_core.specs.steps.EventLine.{IsEventLine, IsShort, event_line_context};
+ghost use Rattle.xp_machine.specs.StoredState.{state_of};
+ghost use Rattle.xp_core.specs.steps.Plan.{recorded_at};
+ghost use Rattle.xp_core.specs.steps.Relays.{RelaysRepresentCalls};
+ghost use Rattle.xp_core.specs.StepContext.{step_context};
+ghost use Rattle.xp_core.specs.steps.Stalling.{IsFallen, MakesStall, outputs_of_stall};
+ghost use Rattle.xp_core.specs.EventOutputs.{outputs_of};
+ghost use Rattle.xp_machine.specs.World.{call_on};
 ghost use Rattle.xp_subs.specs.Sound.{IsSound};
 
-use crate::advance::Work;
-use crate::change::Way;
-use crate::channel::ChannelState;
+use crate::advance::PreparedEntry;
 use crate::entry::Entry;
-use crate::machine::Machine;
 use crate::outcome::Outcome;
 use crate::output::{Buffer, Outputs};
-use crate::plan::{Found, charged_on, close};
+use crate::plan::{EventLine, charged_on, close};
 use crate::records::Records;
-use crate::relays::Relays;
 use std::alloc::{AllocError, Allocator};
 use std::marker::Model;
 use xp_causes::clearing_cause::OUT_OF_ORDER;
 use xp_causes::diagnostic::NO_ADDITIONAL_INFORMATION;
+use xp_machine::{ChannelState, Machine, NoCallState, Relays};
 use xp_subs::{LineNo, Subs};
 
-/// How much a stall puts out at most: the line's connection is to be closed, and the far end of its call is told.
+/// How many outputs a stall has at most: one closes the line's connection, and one clears the far end of its call.
 const MOST_OUTPUTS: usize = 2;
 
-/// Room for what one stall puts out, for the copy that is told, and for the record of the call that ends.
+/// Room for what one stall puts out, for the copy that is returned, and for the record of the call that ends.
 #[derive(Debug, Drop)]
 pub struct Spare<A: Allocator> {
     outputs: Buffer<A>,
@@ -65,7 +62,7 @@ impl<A: Allocator + Copy> Spare<A> {
     }
 }
 
-/// Gives a line up. One out of service stays as it is, and nothing is put out.
+/// Gives a line up. If the line is out of service already, it stays so, and nothing is put out.
 #[cold]
 #[inline(never)]
 pub fn give_up<A: Allocator + Copy>(
@@ -76,10 +73,10 @@ pub fn give_up<A: Allocator + Copy>(
     before: &[Entry<A>],
     spare: Spare<A>,
     line: LineNo,
-) -> Work<A>
+) -> PreparedEntry<A>
     requires sound { IsSound subs.now }
-    requires carried { AreCarried subs.now before.now machine.old relays.now }
-    ensures makes { MakesStall (setting subs.now before.now machine.old line) result machine.new }
+    requires carried { RelaysRepresentCalls subs.now before.now machine.old relays.now }
+    ensures makes { MakesStall (step_context subs.now before.now machine.old line) result machine.new }
     ensures copied { result.told ≡ result.outputs }
     ensures one { length result.records.items ≤ 1 }
 {
@@ -91,15 +88,15 @@ pub fn give_up<A: Allocator + Copy>(
     work
 }
 
-/// Whether a line in this state is out of service.
+/// Returns whether a line in this state is out of service.
 pub fn is_off(state: ChannelState) -> bool
     ensures { result ≡ is_off_at (state_of state) }
 {
     matches!(state, ChannelState::Off)
 }
 
-/// Nothing is put out.
-fn unused<A: Allocator>(spare: Spare<A>) -> Work<A>
+/// Prepares an entry that puts nothing out.
+fn unused<A: Allocator>(spare: Spare<A>) -> PreparedEntry<A>
     ensures outcome { result.outcome ≡ Outcome.Plain }
     ensures outputs { result.outputs ≡ [] }
     ensures told { result.told ≡ [] }
@@ -110,7 +107,7 @@ fn unused<A: Allocator>(spare: Spare<A>) -> Work<A>
         told,
         records,
     } = spare;
-    Work {
+    PreparedEntry {
         outcome: Outcome::Plain,
         outputs: outputs.into_outputs(),
         told: told.into_outputs(),
@@ -118,7 +115,7 @@ fn unused<A: Allocator>(spare: Spare<A>) -> Work<A>
     }
 }
 
-/// What is put out and recorded as a line in service goes out of it.
+/// Prepares the entry of a line in service that goes out of it.
 fn fall<A: Allocator + Copy>(
     alloc: A,
     subs: &Subs,
@@ -127,14 +124,14 @@ fn fall<A: Allocator + Copy>(
     before: &[Entry<A>],
     spare: Spare<A>,
     line: LineNo,
-) -> Work<A>
+) -> PreparedEntry<A>
     requires sound { IsSound subs.now }
-    requires carried { AreCarried subs.now before.now machine.now relays.now }
-    ensures fallen { IsFallen (setting subs.now before.now machine.now line) result }
+    requires carried { RelaysRepresentCalls subs.now before.now machine.now relays.now }
+    ensures fallen { IsFallen (step_context subs.now before.now machine.now line) result }
     ensures one { length result.records.items ≤ 1 }
 {
     let charged = charged_on(subs, machine, relays, before, line);
-    let found = Found {
+    let found = EventLine {
         subs,
         machine,
         line,
@@ -148,7 +145,7 @@ fn fall<A: Allocator + Copy>(
     let outputs = tell(alloc, outputs, &found);
     let told = tell(alloc, told, &found);
     let records = charge(records, &found);
-    Work {
+    PreparedEntry {
         outcome: Outcome::Plain,
         outputs,
         told,
@@ -156,11 +153,11 @@ fn fall<A: Allocator + Copy>(
     }
 }
 
-/// The line's connection is to be closed, and the far end of its call, if it is in one, is told.
-fn tell<A: Allocator + Copy>(alloc: A, buffer: Buffer<A>, found: &Found<'_, A>) -> Outputs<A>
+/// Puts out that the line's connection is closed, and that the far end of its call, if it is in one, is cleared.
+fn tell<A: Allocator + Copy>(alloc: A, buffer: Buffer<A>, found: &EventLine<'_, A>) -> Outputs<A>
     requires short { IsShort found.now.charged }
     requires buffer { buffer ≡ record { outputs = []; room = 2 } }
-    ensures { (before : List (Entered A)) → IsFound found.now before → result ≡ outputs_of (told_of_stall (at_found found.now before)) }
+    ensures { (before : List (Entered A)) → IsEventLine found.now before → result ≡ outputs_of (outputs_of_stall (event_line_context found.now before)) }
 {
     let far = found.clear_far(alloc, OUT_OF_ORDER, NO_ADDITIONAL_INFORMATION);
     buffer
@@ -169,13 +166,17 @@ fn tell<A: Allocator + Copy>(alloc: A, buffer: Buffer<A>, found: &Found<'_, A>) 
         .into_outputs()
 }
 
-/// The record of the call that the line is in, if it is in one.
-fn charge<A: Allocator>(room: Records<A>, found: &Found<'_, A>) -> Records<A>
+/// Returns the record of the call that the line is in, if it is in one.
+fn charge<A: Allocator>(room: Records<A>, found: &EventLine<'_, A>) -> Records<A>
     requires none { room.items ≡ [] }
     requires room { 0 < room.room }
-    ensures records { (before : List (Entered A)) → IsFound found.now before → result.items ≡ recorded_at (at_found found.now before) (leaves found.now.line GoesOut GONE_OUT NO_INFORMATION (call_on found.now.machine.now found.now.line) ∷ []) }
+    ensures records { (before : List (Entered A)) → IsEventLine found.now before → result.items ≡ recorded_at (event_line_context found.now before) (leaves found.now.line GoesOut GONE_OUT NO_INFORMATION (call_on found.now.machine.now found.now.line) ∷ []) }
     ensures one { length result.items ≤ 1 }
 {
-    let withdrawal = found.withdraw(Way::GoesOut, OUT_OF_ORDER, NO_ADDITIONAL_INFORMATION);
+    let withdrawal = found.withdraw(
+        NoCallState::GoesOut,
+        OUT_OF_ORDER,
+        NO_ADDITIONAL_INFORMATION,
+    );
     room.with_some(withdrawal.charged)
 }

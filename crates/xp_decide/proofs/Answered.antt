@@ -4,18 +4,20 @@ use Rattle.xp_causes.specs.declared.refusal.Refusal.{Refusal}
 use Rattle.xp_hunt.specs.declared.lines.LineState.{LineState}
 use Rattle.xp_packets.specs.declared.block.Block.{Block}
 use Rattle.xp_subs.specs.Tables.{Tables}
-use Rattle.xp_decide.specs.Asks.{Asks, Opens, wanted_of}
-use Rattle.xp_decide.specs.Decided.{Decided, PutsThrough}
+use Rattle.xp_decide.specs.Asks.{Asks, wanted_of}
+use Rattle.xp_decide.specs.steps.Asks.{Opens}
+use Rattle.xp_decide.specs.Decided.{Decided}
+use Rattle.xp_decide.specs.steps.Decided.{PutsThrough}
 use Rattle.xp_decide.specs.Decided as decided
-use Rattle.xp_decide.specs.Rings.{ring_of}
+use Rattle.xp_decide.specs.IncomingCalls.{incoming_call_of}
 use Rattle.xp_decide.specs.Routes.{Reaches}
-use Rattle.xp_decide.specs.Seen.{seen_by}
+use Rattle.xp_decide.specs.LinesForCaller.{state_for_caller}
 use Rattle.xp_decide.specs.declared.acceptance.Wanted.{Wanted}
 use Rattle.xp_decide.specs.declared.fault.CallFault.{CallFault}
 use Rattle.xp_decide.specs.declared.fault.CallFault.TheVariants as faults
 use Rattle.xp_decide.specs.declared.request.Request.{Request}
-use Rattle.xp_decide.specs.declared.route.Reached.{Reached}
-use Rattle.xp_decide.specs.declared.verdict.Ring.{Ring}
+use Rattle.xp_decide.specs.declared.route.Destination.{Destination}
+use Rattle.xp_decide.specs.declared.verdict.IncomingCall.{IncomingCall}
 use Rattle.xp_decide.specs.declared.verdict.Verdict.TheVariants.{Take, Refuse}
 use Rattle.std.proofs.Common.{refl}
 
@@ -27,15 +29,15 @@ stops tables states from block faults.Memory _ = record {}
 
 module _ {A : Type 0} (tables : Tables) (states : ℕ → LineState) (from : ℕ) (block : Block A) (request : Request A) (wanted : Wanted)
     (same : wanted ≡ wanted_of request) (asked : Asks tables from block request) where
-  reaches : (result : Result Reached Refusal) → Reaches tables (seen_by from states) wanted block.called result
-      → Reaches tables (seen_by from states) (wanted_of request) block.called result
+  reaches : (result : Result Destination Refusal) → Reaches tables (state_for_caller from states) wanted block.called result
+      → Reaches tables (state_for_caller from states) (wanted_of request) block.called result
   reaches result way =
-      let P : Wanted → Type 0 = λ w. Reaches tables (seen_by from states) w block.called result in subst P same way
+      let P : Wanted → Type 0 = λ w. Reaches tables (state_for_caller from states) w block.called result in subst P same way
 
-  pub takes : (end : Reached) (ring : Ring A) → Reaches tables (seen_by from states) wanted block.called (Ok end)
-      → ring ≡ ring_of request.asked end block.called → Decided tables states from block (Take ring)
+  pub takes : (end : Destination) (ring : IncomingCall A) → Reaches tables (state_for_caller from states) wanted block.called (Ok end)
+      → ring ≡ incoming_call_of request.asked end block.called → Decided tables states from block (Take ring)
   takes end ring way is = decided.reached request end asked (reaches (Ok end) way) (ap Take is)
 
-  pub refuses : (refusal : Refusal) → Reaches tables (seen_by from states) wanted block.called (Err refusal)
+  pub refuses : (refusal : Refusal) → Reaches tables (state_for_caller from states) wanted block.called (Err refusal)
       → Decided tables states from block (Refuse refusal)
   refuses refusal way = decided.not_reached request refusal asked (reaches (Err refusal) way) refl

@@ -9,8 +9,8 @@ use Rattle.xp_causes.specs.declared.refusal.Refusal.{Refusal}
 use Rattle.xp_causes.specs.declared.refusal.TheConstants.Refusal.{INCOMING_CALLS_BARRED, REVERSE_CHARGING_NOT_ACCEPTED, FAST_SELECT_NOT_ACCEPTED, ADDRESS_NOT_KNOWN, OUT_OF_ORDER, NUMBER_BUSY}
 use Rattle.xp_hunt.proofs.Exists.{picked_some}
 use Rattle.xp_hunt.specs.Picks.{Picks}
-use Rattle.xp_hunt.specs.declared.choice.Picked.{Picked}
-use Rattle.xp_hunt.specs.declared.choice.Picked.TheVariants as picked
+use Rattle.xp_hunt.specs.declared.choice.HuntOutcome.{HuntOutcome}
+use Rattle.xp_hunt.specs.declared.choice.HuntOutcome.TheVariants as picked
 use Rattle.xp_hunt.specs.declared.lines.LineState.{LineState}
 use Rattle.xp_subs.specs.Tables.{Tables}
 use Rattle.xp_subs.specs.declared.station.Station.{Station}
@@ -83,7 +83,7 @@ module _ (tables : Tables) (states : ℕ → LineState) (wanted : Wanted) (addre
         (routes.refused place known (routes.none_idle admission accepting none_idle has_busy refl))
 
     hunts : (admission : Admission) → alternate place.station Systematic ≡ None → Accepts wanted place.station admission
-        → (found : Picked) → Picks states place.lines found → Answers
+        → (found : HuntOutcome) → Picks states place.lines found → Answers
     hunts admission none accepting (picked.Take line) idle =
         takes line admission
         (is_last tables states wanted address place known (idle_keeps states wanted place line none idle))

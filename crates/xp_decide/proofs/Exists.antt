@@ -2,8 +2,8 @@
 use Rattle.std.proofs.Common.{◌≡◌, ℕ, zero, suc, ◌<◌, ◌≤◌, Bool, true, false, List, [], ◌∷◌, length, Result, Ok, Err, ◌⊎◌, inl, inr, refl, arith}
 use Rattle.std.proofs.lemmas.Bool.{cases_lt}
 use Rattle.xp_facilities.proofs.OneReading.{some_reading}
-use Rattle.xp_facilities.specs.Asked.{Means, IsFaulty}
-use Rattle.xp_facilities.specs.declared.asked.Asked.{Asked}
+use Rattle.xp_facilities.specs.Requested.{Means, IsFaulty}
+use Rattle.xp_facilities.specs.declared.requested.RequestedFacilities.{RequestedFacilities}
 use Rattle.xp_facilities.specs.declared.fault.FacilityFault.{FacilityFault}
 use Rattle.xp_facilities.specs.declared.fault.FacilityFault.TheVariants.{Length, Code, Param, Memory}
 use Rattle.xp_facilities.specs.declared.redirection.Reason.{Reason}
@@ -22,13 +22,13 @@ use Rattle.xp_decide.specs.Asks.{station_of_line, is_fast, HasRoom, HasNoRoom, A
 use Rattle.xp_decide.specs.Asks as asks
 use Rattle.xp_decide.specs.Decided as decided
 use Rattle.xp_decide.specs.Laws.{HasVerdict}
-use Rattle.xp_decide.specs.Rings.{ring_of}
+use Rattle.xp_decide.specs.IncomingCalls.{incoming_call_of}
 use Rattle.xp_decide.specs.Routes.{Hop, first_reason, Follows, IsLast, LeavesAt, Reaches, RefusesAt, TakesAt}
 use Rattle.xp_decide.specs.Routes as routes
-use Rattle.xp_decide.specs.Seen.{seen_by}
+use Rattle.xp_decide.specs.LinesForCaller.{state_for_caller}
 use Rattle.xp_decide.specs.declared.acceptance.Wanted.{Wanted}
 use Rattle.xp_decide.specs.declared.request.Request.{Request}
-use Rattle.xp_decide.specs.declared.route.Reached.{Reached}
+use Rattle.xp_decide.specs.declared.route.Destination.{Destination}
 use Rattle.xp_decide.specs.declared.verdict.Verdict.TheVariants.{Take, Refuse}
 
 -- the way along the redirections ends, or goes on past the last that is followed
@@ -72,7 +72,7 @@ module _ (tables : Tables) (states : ℕ → LineState) (wanted : Wanted) where
       (λ reason to leaves. follow most address to reason leaves (way most to))
       (answered tables states wanted address)
 
-  reached_some : (dialled : List ℕ) → (result : Result Reached Refusal) × Reaches tables states wanted dialled result
+  reached_some : (dialled : List ℕ) → (result : Result Destination Refusal) × Reaches tables states wanted dialled result
   reached_some dialled = elim (way 4 dialled) [
     | taken hops last line admission follows few end takes ↦
         (Ok (record { line = line; admission = admission; reason = first_reason hops }), routes.taken hops last line admission follows few end takes refl)
@@ -87,21 +87,21 @@ module _ {A : Type 0} (tables : Tables) (from : ℕ) (block : Block A) where
     may : (request : Request A) → Asks tables from block request → Opened
     may_not : (refusal : Refusal) → MayNotAsk tables from block refusal → Opened
 
-  room_or_none : (asked : Asked A) → HasRoom block asked ⊎ HasNoRoom block asked
+  room_or_none : (asked : RequestedFacilities A) → HasRoom block asked ⊎ HasNoRoom block asked
   room_or_none asked = by (cases_lt 16 (length block.user)) (is_fast asked.fast) refl where
     by : (16 < length block.user) ⊎ (length block.user ≤ 16) → (fast : Bool) → is_fast asked.fast ≡ fast → HasRoom block asked ⊎ HasNoRoom block asked
     by (inr few) fast is = inl (inl few)
     by (inl many) true is = inl (inr is)
     by (inl many) false is = inr (many, is)
 
-  intended : (asked : Asked A) → Means block.facilities asked → HasRoom block asked
+  intended : (asked : RequestedFacilities A) → Means block.facilities asked → HasRoom block asked
       → (station_of_line tables from).facilities.outgoing_barred ≡ false
       → (result : Result Intent Refusal) → Intends (station_of_line tables from) asked.selection result → Opened
   intended asked means room not_barred (Ok intent) intends =
       may (record { asked = asked; intent = intent }) (record { means = means; room = room; outgoing = not_barred; intends = intends })
   intended asked means room not_barred (Err refusal) intends = may_not refusal (asks.not_intended asked means room not_barred intends)
 
-  with_room : (asked : Asked A) → Means block.facilities asked → HasRoom block asked
+  with_room : (asked : RequestedFacilities A) → Means block.facilities asked → HasRoom block asked
       → (barred : Bool) → (station_of_line tables from).facilities.outgoing_barred ≡ barred → Opened
   with_room asked means room true barred = may_not ACCESS_BARRED (asks.outgoing_barred asked means room barred refl)
   with_room asked means room false not_barred =
@@ -115,27 +115,27 @@ module _ {A : Type 0} (tables : Tables) (from : ℕ) (block : Block A) where
 
   opened : Opened
   opened = by (some_reading block.facilities) where
-    read : (asked : Asked A) → Means block.facilities asked → HasRoom block asked ⊎ HasNoRoom block asked → Opened
+    read : (asked : RequestedFacilities A) → Means block.facilities asked → HasRoom block asked ⊎ HasNoRoom block asked → Opened
     read asked means (inl room) = with_room asked means room (station_of_line tables from).facilities.outgoing_barred refl
     read asked means (inr none) = may_not USER_DATA_TOO_LONG (asks.user_data asked means none refl)
 
-    by : ((asked : Asked A) × Means block.facilities asked) ⊎ ((fault : FacilityFault) × IsFaulty block.facilities fault) → Opened
+    by : ((asked : RequestedFacilities A) × Means block.facilities asked) ⊎ ((fault : FacilityFault) × IsFaulty block.facilities fault) → Opened
     by (inl (asked, means)) = read asked means (room_or_none asked)
     by (inr (fault, is)) = faulty fault is
 
 -- the decision
 
 module _ {A : Type 0} (tables : Tables) (states : ℕ → LineState) (from : ℕ) (block : Block A) where
-  ended : (request : Request A) → Asks tables from block request → (result : Result Reached Refusal)
-      → Reaches tables (seen_by from states) (wanted_of request) block.called result → HasVerdict tables states from block
+  ended : (request : Request A) → Asks tables from block request → (result : Result Destination Refusal)
+      → Reaches tables (state_for_caller from states) (wanted_of request) block.called result → HasVerdict tables states from block
   ended request asked (Ok end) reaches =
-      record { verdict = Take (ring_of request.asked end block.called); decided = decided.reached request end asked reaches refl }
+      record { verdict = Take (incoming_call_of request.asked end block.called); decided = decided.reached request end asked reaches refl }
   ended request asked (Err refusal) reaches =
       record { verdict = Refuse refusal; decided = decided.not_reached request refusal asked reaches refl }
 
   pub has_verdict : HasVerdict tables states from block
   has_verdict = elim (opened tables from block) [
     | may request asked ↦
-        let some = reached_some tables (seen_by from states) (wanted_of request) block.called in ended request asked some.0 some.1
+        let some = reached_some tables (state_for_caller from states) (wanted_of request) block.called in ended request asked some.0 some.1
     | may_not refusal not_asked ↦ record { verdict = Refuse refusal; decided = decided.not_asked refusal not_asked refl }
   ]

@@ -14,13 +14,13 @@ use Rattle.xp_decide.specs.Asks.{station_of_line, Asks, wanted_of}
 use Rattle.xp_decide.specs.Decided.{Decided}
 use Rattle.xp_decide.specs.Decided as decided
 use Rattle.xp_decide.specs.Laws.{IsFree}
-use Rattle.xp_decide.specs.Rings.{ring_of}
+use Rattle.xp_decide.specs.IncomingCalls.{incoming_call_of}
 use Rattle.xp_decide.specs.Routes.{Place, place_of, place_at, lines_of, Reaches, TakesAt}
 use Rattle.xp_decide.specs.Routes as routes
-use Rattle.xp_decide.specs.Seen.{seen_by}
+use Rattle.xp_decide.specs.LinesForCaller.{state_for_caller}
 use Rattle.xp_decide.specs.declared.request.Request.{Request}
-use Rattle.xp_decide.specs.declared.route.Reached.{Reached}
-use Rattle.xp_decide.specs.declared.verdict.Ring.{Ring}
+use Rattle.xp_decide.specs.declared.route.Destination.{Destination}
+use Rattle.xp_decide.specs.declared.verdict.IncomingCall.{IncomingCall}
 use Rattle.xp_decide.specs.declared.verdict.Verdict.TheVariants.{Take}
 
 -- the target of a place
@@ -64,7 +64,7 @@ is_placed tables address place line sound known contains =
     }
 
 -- a line that counts as idle is idle, and not the caller's
-seen_idle : (caller : ℕ) (states : ℕ → LineState) (line : ℕ) → seen_by caller states line ≡ Idle
+seen_idle : (caller : ℕ) (states : ℕ → LineState) (line : ℕ) → state_for_caller caller states line ≡ Idle
     → (states line ≡ Idle) × (line ≡ caller → ⊥)
 seen_idle caller states line idle = by (nat_eq line caller) refl idle where
   by : (same : Bool) → nat_eq line caller ≡ same → (if same then Busy else states line) ≡ Idle
@@ -77,9 +77,9 @@ record EndsAt (tables : Tables) (states : ℕ → LineState) (from : ℕ) (calle
   joined : MayJoin caller (station_of_line tables line)
   free : IsFree tables states from line
 
-module _ {A : Type 0} (tables : Tables) (states : ℕ → LineState) (from : ℕ) (block : Block A) (ring : Ring A) (sound : IsSound tables) where
-  by_way : (request : Request A) (end : Reached) → Asks tables from block request
-      → Reaches tables (seen_by from states) (wanted_of request) block.called (Ok end)
+module _ {A : Type 0} (tables : Tables) (states : ℕ → LineState) (from : ℕ) (block : Block A) (ring : IncomingCall A) (sound : IsSound tables) where
+  by_way : (request : Request A) (end : Destination) → Asks tables from block request
+      → Reaches tables (state_for_caller from states) (wanted_of request) block.called (Ok end)
       → EndsAt tables states from (station_of_line tables from) end.line
   by_way request end asked (routes.taken hops last line admission _ _ _ takes e) =
       let same : end ≡ record { line = line; admission = admission; reason = routes.first_reason hops } = cc in
@@ -88,7 +88,7 @@ module _ {A : Type 0} (tables : Tables) (states : ℕ → LineState) (from : ℕ
       let J : Station → Type 0 = λ s. MayJoin (station_of_line tables from) s in
       let joined = subst J here.station (may_join (station_of_line tables from) takes.place.station request.asked.selection request.intent admission asked.intends takes.accepts.admitted) in
       let P : ℕ → Type 0 = λ l. EndsAt tables states from (station_of_line tables from) l in
-      subst P (sym (ap (λ (r : Reached). r.line) same)) (record {
+      subst P (sym (ap (λ (r : Destination). r.line) same)) (record {
         joined = joined;
         free = record { known = here.known; idle = seen.0; others = seen.1 };
       })
@@ -99,9 +99,9 @@ module _ {A : Type 0} (tables : Tables) (states : ℕ → LineState) (from : ℕ
   ends_at (decided.not_asked _ _ e) = cc
   ends_at (decided.not_reached _ _ _ _ e) = cc
   ends_at (decided.reached request end asked way e) =
-      let same : ring ≡ ring_of request.asked end block.called = cc in
+      let same : ring ≡ incoming_call_of request.asked end block.called = cc in
       let P : ℕ → Type 0 = λ l. EndsAt tables states from (station_of_line tables from) l in
-      subst P (sym (ap (λ (r : Ring A). r.line) same)) (by_way request end asked way)
+      subst P (sym (ap (λ (r : IncomingCall A). r.line) same)) (by_way request end asked way)
 
   pub taken_may_join : Decided tables states from block (Take ring) → MayJoin (station_of_line tables from) (station_of_line tables ring.line)
   taken_may_join taken = (ends_at taken).joined

@@ -1,8 +1,8 @@
 -- A call request has one answer, but for the line: the whole decision.
 use Rattle.std.proofs.Common.{◌≡◌, ℕ, ◌≤◌, true, false, List, length, Result, Ok, Err, ◌⊎◌, inl, inr, refl, sym, ◌∙◌, ap, arith, subst}
 use Rattle.xp_facilities.proofs.OneReading.{Means-unique, Means-faultless, IsFaulty-unique}
-use Rattle.xp_facilities.specs.Asked.{Means, IsFaulty}
-use Rattle.xp_facilities.specs.declared.asked.Asked.{Asked}
+use Rattle.xp_facilities.specs.Requested.{Means, IsFaulty}
+use Rattle.xp_facilities.specs.declared.requested.RequestedFacilities.{RequestedFacilities}
 use Rattle.xp_facilities.specs.declared.fault.FacilityFault.{FacilityFault}
 use Rattle.xp_facilities.specs.declared.fault.FacilityFault.TheVariants.{Length, Code, Param, Memory}
 use Rattle.xp_groups.proofs.Determined.{intent_determined}
@@ -19,13 +19,13 @@ use Rattle.xp_decide.specs.Asks as asks
 use Rattle.xp_decide.specs.Decided.{Decided}
 use Rattle.xp_decide.specs.Decided as decided
 use Rattle.xp_decide.specs.Laws.{IsSameButLine}
-use Rattle.xp_decide.specs.Rings.{ring_of}
+use Rattle.xp_decide.specs.IncomingCalls.{incoming_call_of}
 use Rattle.xp_decide.specs.Routes.{Hop, first_reason, IsLast, Reaches, RefusesAt, TakesAt, Follows}
 use Rattle.xp_decide.specs.Routes as routes
-use Rattle.xp_decide.specs.Seen.{seen_by}
+use Rattle.xp_decide.specs.LinesForCaller.{state_for_caller}
 use Rattle.xp_decide.specs.declared.acceptance.Wanted.{Wanted}
 use Rattle.xp_decide.specs.declared.request.Request.{Request}
-use Rattle.xp_decide.specs.declared.route.Reached.{Reached}
+use Rattle.xp_decide.specs.declared.route.Destination.{Destination}
 use Rattle.xp_decide.specs.declared.verdict.Verdict.{Verdict}
 use Rattle.xp_decide.specs.declared.verdict.Verdict.TheVariants.{Take}
 
@@ -36,7 +36,7 @@ along {X} R one other a b is also holds =
 
 -- two ends of the way
 
-abbrev pub IsSameEnd : Result Reached Refusal → Result Reached Refusal → Type 0
+abbrev pub IsSameEnd : Result Destination Refusal → Result Destination Refusal → Type 0
 IsSameEnd (Ok end) (Ok other) = (end.admission ≡ other.admission) × (end.reason ≡ other.reason)
 IsSameEnd (Err refusal) (Err other) = refusal ≡ other
 IsSameEnd (Ok end) (Err other) = ⊥
@@ -49,7 +49,7 @@ module _ (tables : Tables) (states : ℕ → LineState) (wanted : Wanted) (diall
   too_far hops hops' last last' way few end way' five =
       let longer = follows_longer tables states wanted dialled hops hops' last last' way end way' in omega arith
 
-  pub reaches_same : (one other : Result Reached Refusal)
+  pub reaches_same : (one other : Result Destination Refusal)
       → Reaches tables states wanted dialled one → Reaches tables states wanted dialled other → IsSameEnd one other
   reaches_same one other (routes.taken hops last line admission way few end takes is) (routes.taken hops' last' line' admission' way' few' end' takes' also) =
       let same = follows_same tables states wanted dialled hops hops' last last' way end way' end' in
@@ -87,7 +87,7 @@ fault_refusal Param = FACILITY_PARAMETER
 fault_refusal Memory = FACILITY_LENGTH
 
 module _ {A : Type 0} (tables : Tables) (from : ℕ) (block : Block A) where
-  abbrev request_of : Asked A → Intent → Request A
+  abbrev request_of : RequestedFacilities A → Intent → Request A
   request_of asked intent = record { asked = asked; intent = intent }
 
   -- a fault of the field, or what stands against what it means
@@ -96,7 +96,7 @@ module _ {A : Type 0} (tables : Tables) (from : ℕ) (block : Block A) where
     faulty : IsFaulty block.facilities fault
     told : refusal ≡ fault_refusal fault
 
-  data StandsAgainst (asked : Asked A) (refusal : Refusal) : Type 0 where
+  data StandsAgainst (asked : RequestedFacilities A) (refusal : Refusal) : Type 0 where
     no_room : HasNoRoom block asked → refusal ≡ USER_DATA_TOO_LONG → StandsAgainst asked refusal
     outgoing_barred : HasRoom block asked → (station_of_line tables from).facilities.outgoing_barred ≡ true → refusal ≡ ACCESS_BARRED
         → StandsAgainst asked refusal
@@ -104,7 +104,7 @@ module _ {A : Type 0} (tables : Tables) (from : ℕ) (block : Block A) where
         → Intends (station_of_line tables from) asked.selection (Err refusal) → StandsAgainst asked refusal
 
   record IsAgainst (refusal : Refusal) : Type 0 where
-    asked : Asked A
+    asked : RequestedFacilities A
     means : Means block.facilities asked
     against : StandsAgainst asked refusal
 
@@ -116,11 +116,11 @@ module _ {A : Type 0} (tables : Tables) (from : ℕ) (block : Block A) where
   kind refusal (asks.outgoing_barred asked means room barred is) = inr (record { asked = asked; means = means; against = outgoing_barred room barred is })
   kind refusal (asks.not_intended asked means room not_barred intends) = inr (record { asked = asked; means = means; against = not_intended room not_barred intends })
 
-  room_or_none : (asked : Asked A) → HasRoom block asked → HasNoRoom block asked → ⊥
+  room_or_none : (asked : RequestedFacilities A) → HasRoom block asked → HasNoRoom block asked → ⊥
   room_or_none asked (inl few) none = omega arith
   room_or_none asked (inr fast) none = cc
 
-  against_same : (asked : Asked A) (one other : Refusal) → StandsAgainst asked one → StandsAgainst asked other → one ≡ other
+  against_same : (asked : RequestedFacilities A) (one other : Refusal) → StandsAgainst asked one → StandsAgainst asked other → one ≡ other
   against_same asked one other (no_room _ is) (no_room _ also) = is ∙ sym also
   against_same asked one other (no_room none _) (outgoing_barred room _ _) = absurd (room_or_none asked room none)
   against_same asked one other (no_room none _) (not_intended room _ _) = absurd (room_or_none asked room none)
@@ -140,7 +140,7 @@ module _ {A : Type 0} (tables : Tables) (from : ℕ) (block : Block A) where
     by (inl f) (inr g) = absurd (Means-faultless block.facilities g.asked f.fault g.means f.faulty)
     by (inr f) (inl g) = absurd (Means-faultless block.facilities f.asked g.fault f.means g.faulty)
     by (inr f) (inr g) =
-        let P : Asked A → Type 0 = λ a. StandsAgainst a one in
+        let P : RequestedFacilities A → Type 0 = λ a. StandsAgainst a one in
         against_same g.asked one other (subst P (Means-unique block.facilities f.asked g.asked f.means g.means) f.against) g.against
 
   asked_or_not : (request : Request A) (refusal : Refusal) → Asks tables from block request → MayNotAsk tables from block refusal → ⊥
@@ -155,34 +155,34 @@ module _ {A : Type 0} (tables : Tables) (from : ℕ) (block : Block A) where
     by : IsFault refusal ⊎ IsAgainst refusal → ⊥
     by (inl f) = Means-faultless block.facilities request.asked f.fault may.means f.faulty
     by (inr f) =
-        let P : Asked A → Type 0 = λ a. StandsAgainst a refusal in
+        let P : RequestedFacilities A → Type 0 = λ a. StandsAgainst a refusal in
         at (subst P (Means-unique block.facilities f.asked request.asked f.means may.means) f.against)
 
   asks_same : (one other : Request A) → Asks tables from block one → Asks tables from block other → one ≡ other
   asks_same one other first second =
       let asked : one.asked ≡ other.asked = Means-unique block.facilities one.asked other.asked first.means second.means in
-      let P : Asked A → Type 0 = λ a. Intends (station_of_line tables from) a.selection (Ok one.intent) in
+      let P : RequestedFacilities A → Type 0 = λ a. Intends (station_of_line tables from) a.selection (Ok one.intent) in
       let intents : ◌≡◌ {A = Result Intent Refusal} (Ok one.intent) (Ok other.intent) =
       intent_determined (station_of_line tables from) other.asked.selection (Ok one.intent) (Ok other.intent) (subst P asked first.intends) second.intends in
       let intent : one.intent ≡ other.intent = cc in
-      ap (λ (a : Asked A). request_of a one.intent) asked ∙ ap (request_of other.asked) intent
+      ap (λ (a : RequestedFacilities A). request_of a one.intent) asked ∙ ap (request_of other.asked) intent
 
 -- the decision
 
 module _ {A : Type 0} (tables : Tables) (states : ℕ → LineState) (from : ℕ) (block : Block A) where
-  ends_same : (request : Request A) (end end' : Reached) → (end.admission ≡ end'.admission) × (end.reason ≡ end'.reason)
-      → IsSameButLine (Take (ring_of request.asked end block.called)) (Take (ring_of request.asked end' block.called))
+  ends_same : (request : Request A) (end end' : Destination) → (end.admission ≡ end'.admission) × (end.reason ≡ end'.reason)
+      → IsSameButLine (Take (incoming_call_of request.asked end block.called)) (Take (incoming_call_of request.asked end' block.called))
   ends_same request end end' same = record {
     told = cc (same.0, same.1);
     asked = refl;
     reason = same.1;
   }
 
-  way : (request request' : Request A) (result : Result Reached Refusal) → request ≡ request'
-      → Reaches tables (seen_by from states) (wanted_of request) block.called result
-      → Reaches tables (seen_by from states) (wanted_of request') block.called result
+  way : (request request' : Request A) (result : Result Destination Refusal) → request ≡ request'
+      → Reaches tables (state_for_caller from states) (wanted_of request) block.called result
+      → Reaches tables (state_for_caller from states) (wanted_of request') block.called result
   way request request' result same reaches =
-      let P : Request A → Type 0 = λ r. Reaches tables (seen_by from states) (wanted_of r) block.called result in subst P same reaches
+      let P : Request A → Type 0 = λ r. Reaches tables (state_for_caller from states) (wanted_of r) block.called result in subst P same reaches
 
   pub decided_same : (one other : Verdict A) → Decided tables states from block one → Decided tables states from block other → IsSameButLine one other
   decided_same one other (decided.not_asked refusal may_not is) (decided.not_asked refusal' may_not' also) =
@@ -196,17 +196,17 @@ module _ {A : Type 0} (tables : Tables) (states : ℕ → LineState) (from : ℕ
   decided_same one other (decided.not_reached request refusal may reaches is) (decided.not_reached request' refusal' may' reaches' also) =
       let same = asks_same tables from block request request' may may' in
       along IsSameButLine _ _ _ _ is also
-      (reaches_same tables (seen_by from states) (wanted_of request') block.called (Err refusal) (Err refusal') (way request request' _ same reaches) reaches')
+      (reaches_same tables (state_for_caller from states) (wanted_of request') block.called (Err refusal) (Err refusal') (way request request' _ same reaches) reaches')
   decided_same one other (decided.not_reached request refusal may reaches _) (decided.reached request' end may' reaches' _) =
       let same = asks_same tables from block request request' may may' in
-      absurd (reaches_same tables (seen_by from states) (wanted_of request') block.called (Err refusal) (Ok end) (way request request' _ same reaches) reaches')
+      absurd (reaches_same tables (state_for_caller from states) (wanted_of request') block.called (Err refusal) (Ok end) (way request request' _ same reaches) reaches')
   decided_same one other (decided.reached request _ may _ _) (decided.not_asked refusal may_not _) =
       absurd (asked_or_not tables from block request refusal may may_not)
   decided_same one other (decided.reached request end may reaches _) (decided.not_reached request' refusal may' reaches' _) =
       let same = asks_same tables from block request request' may may' in
-      absurd (reaches_same tables (seen_by from states) (wanted_of request') block.called (Ok end) (Err refusal) (way request request' _ same reaches) reaches')
+      absurd (reaches_same tables (state_for_caller from states) (wanted_of request') block.called (Ok end) (Err refusal) (way request request' _ same reaches) reaches')
   decided_same one other (decided.reached request end may reaches is) (decided.reached request' end' may' reaches' also) =
       let same = asks_same tables from block request request' may may' in
-      let ends = reaches_same tables (seen_by from states) (wanted_of request') block.called (Ok end) (Ok end') (way request request' _ same reaches) reaches' in
-      let R : Request A → Type 0 = λ r. one ≡ Take (ring_of r.asked end block.called) in
+      let ends = reaches_same tables (state_for_caller from states) (wanted_of request') block.called (Ok end) (Ok end') (way request request' _ same reaches) reaches' in
+      let R : Request A → Type 0 = λ r. one ≡ Take (incoming_call_of r.asked end block.called) in
       along IsSameButLine _ _ _ _ (subst R same is) also (ends_same request' end end' ends)

@@ -1,7 +1,7 @@
 -- What the caller's station keeps from being asked.
 use Rattle.std.proofs.Common.{◌≡◌, ℕ, List, true, false, Err, refl, sym, ◌∙◌, ap, subst}
-use Rattle.xp_facilities.specs.Asked.{Means}
-use Rattle.xp_facilities.specs.declared.asked.Asked.{Asked}
+use Rattle.xp_facilities.specs.Requested.{Means}
+use Rattle.xp_facilities.specs.declared.requested.RequestedFacilities.{RequestedFacilities}
 use Rattle.xp_groups.specs.Intends.{Intends}
 use Rattle.xp_causes.specs.declared.refusal.Refusal.{Refusal}
 use Rattle.xp_causes.specs.declared.refusal.TheConstants.Refusal.{ACCESS_BARRED}
@@ -16,10 +16,10 @@ pub caller_is : (tables : Tables) (from number : ℕ) (station : Station)
 caller_is tables from number station numbered same = same ∙ ap (station_at tables) numbered
 
 -- what a copy of the field means, the field means
-pub means_of : {A : Type 0} (block : Block A) (field : List ℕ) (asked : Asked A) → field ≡ block.facilities → Means field asked → Means block.facilities asked
+pub means_of : {A : Type 0} (block : Block A) (field : List ℕ) (asked : RequestedFacilities A) → field ≡ block.facilities → Means field asked → Means block.facilities asked
 means_of block field asked same means = let P : List ℕ → Type 0 = λ f. Means f asked in subst P same means
 
-module _ {A : Type 0} (tables : Tables) (from : ℕ) (block : Block A) (asked : Asked A) (station : Station)
+module _ {A : Type 0} (tables : Tables) (from : ℕ) (block : Block A) (asked : RequestedFacilities A) (station : Station)
     (same : station ≡ station_of_line tables from) (means : Means block.facilities asked) (room : HasRoom block asked) where
   pub barred : station.facilities.outgoing_barred ≡ true → MayNotAsk tables from block ACCESS_BARRED
   barred is = asks.outgoing_barred asked means room (sym (ap (λ (s : Station). s.facilities.outgoing_barred) same) ∙ is) refl

@@ -21,7 +21,7 @@ use Rattle.xp_decide.specs.Decided as decided
 use Rattle.xp_decide.specs.Laws.{IsWantOfLine, EndsWithoutLine}
 use Rattle.xp_decide.specs.Routes.{Place, Refuses, Reaches}
 use Rattle.xp_decide.specs.Routes as routes
-use Rattle.xp_decide.specs.Seen.{seen_by}
+use Rattle.xp_decide.specs.LinesForCaller.{state_for_caller}
 use Rattle.xp_decide.specs.declared.acceptance.Wanted.{Wanted}
 use Rattle.xp_decide.specs.declared.request.Request.{Request}
 use Rattle.xp_decide.specs.declared.verdict.Verdict.TheVariants.{Refuse}
@@ -67,16 +67,16 @@ module _ {A : Type 0} (tables : Tables) (states : ℕ → LineState) (from : ℕ
   want : (name : Refusal) → refusal ≡ name → Contains call_refusals name → EndsWithoutLine tables states from block → IsWithoutLine
   want name is at ends = record { known = subst (Contains call_refusals) (sym is) at; ends = ends }
 
-  at_place : (place : Place) → (HasNoneIdle (seen_by from states) place.lines → EndsWithoutLine tables states from block)
-      → (wanted : Wanted) → Refuses (seen_by from states) wanted place refusal → IsOther refusal ⊎ IsWithoutLine
+  at_place : (place : Place) → (HasNoneIdle (state_for_caller from states) place.lines → EndsWithoutLine tables states from block)
+      → (wanted : Wanted) → Refuses (state_for_caller from states) wanted place refusal → IsOther refusal ⊎ IsWithoutLine
   at_place place ends wanted (routes.declined declines) = inl (declined wanted place.station refusal declines)
   at_place place ends wanted (routes.all_off _ _ off is) =
-      inr (want OUT_OF_ORDER is (10, lit< tt, refl) (ends (off_none_idle (seen_by from states) place.lines off)))
+      inr (want OUT_OF_ORDER is (10, lit< tt, refl) (ends (off_none_idle (state_for_caller from states) place.lines off)))
   at_place place ends wanted (routes.none_idle _ _ none_idle _ is) =
       inr (want NUMBER_BUSY is (11, lit< tt, refl) (ends none_idle))
 
   on_way : (request : Request A) → Asks tables from block request
-      → Reaches tables (seen_by from states) (wanted_of request) block.called (Err refusal)
+      → Reaches tables (state_for_caller from states) (wanted_of request) block.called (Err refusal)
       → IsOther refusal ⊎ IsWithoutLine
   on_way request asked (routes.taken _ _ _ _ _ _ _ _ e) = cc
   on_way request asked (routes.refused hops last told follows _ _ (routes.not_known _ is) e) =
@@ -84,7 +84,7 @@ module _ {A : Type 0} (tables : Tables) (states : ℕ → LineState) (from : ℕ
       inl (named refusal ADDRESS_NOT_KNOWN (same ∙ is) (6, lit< tt, refl) (λ h. cc) (λ h. cc))
   on_way request asked (routes.refused hops last told follows few ends (routes.refused place known refuses) e) =
       let same : told ≡ refusal = cc in
-      let P : Refusal → Type 0 = λ r. Refuses (seen_by from states) (wanted_of request) place r in
+      let P : Refusal → Type 0 = λ r. Refuses (state_for_caller from states) (wanted_of request) place r in
       at_place place
       (λ none_idle. record {
         request = request;
@@ -108,7 +108,7 @@ module _ {A : Type 0} (tables : Tables) (states : ℕ → LineState) (from : ℕ
       let same : told ≡ refusal = cc in inl (not_asked (subst (MayNotAsk tables from block) same may_not))
   by_reason (decided.not_reached request told asked way e) =
       let same : told ≡ refusal = cc in
-      let P : Refusal → Type 0 = λ r. Reaches tables (seen_by from states) (wanted_of request) block.called (Err r) in
+      let P : Refusal → Type 0 = λ r. Reaches tables (state_for_caller from states) (wanted_of request) block.called (Err r) in
       on_way request asked (subst P same way)
   by_reason (decided.reached _ _ _ _ e) = cc
 

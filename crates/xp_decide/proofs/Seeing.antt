@@ -9,19 +9,19 @@ use Rattle.xp_decide.specs.Asks.{wanted_of}
 use Rattle.xp_decide.specs.Decided.{Decided}
 use Rattle.xp_decide.specs.Decided as decided
 use Rattle.xp_decide.specs.Routes.{Reaches}
-use Rattle.xp_decide.specs.Seen.{seen_by}
+use Rattle.xp_decide.specs.LinesForCaller.{state_for_caller}
 use Rattle.xp_decide.specs.declared.verdict.Verdict.{Verdict}
 
 module _ (from : ℕ) (states others : ℕ → LineState) (agree : (line : ℕ) → line ≢ from → states line ≡ others line) where
-  seen_alike : (line : ℕ) → seen_by from states line ≡ seen_by from others line
+  seen_alike : (line : ℕ) → state_for_caller from states line ≡ state_for_caller from others line
   seen_alike line = by (nat_eq line from) refl where
-    by : (own : Bool) → nat_eq line from ≡ own → seen_by from states line ≡ seen_by from others line
+    by : (own : Bool) → nat_eq line from ≡ own → state_for_caller from states line ≡ state_for_caller from others line
     by true own =
         ap (λ o. if o then Busy else states line) own ∙ sym (ap (λ o. if o then Busy else others line) own)
     by false other =
         ap (λ o. if o then Busy else states line) other ∙ agree line (eqb-false line from other) ∙ sym (ap (λ o. if o then Busy else others line) other)
 
-  pub seen_same : seen_by from states ≡ seen_by from others
+  pub seen_same : state_for_caller from states ≡ state_for_caller from others
   seen_same = λ i line. seen_alike line i
 
 pub decided_by_the_others : {A : Type 0} (tables : Tables) (states others : ℕ → LineState) (from : ℕ) (block : Block A) (verdict : Verdict A)

@@ -12,11 +12,12 @@ use Rattle.xp_subs.specs.declared.station.Station.{Station}
 use Rattle.xp_subs.specs.declared.target.Target.{Target}
 use Rattle.xp_decide.proofs.Last.{declining_keeps, idle_keeps, off_keeps, busy_keeps, is_last}
 use Rattle.xp_decide.specs.Accepts.{Accepts, Declines}
-use Rattle.xp_decide.specs.Routes.{Place, lines_of, place_of, place_at, alternate, IsRedirected, Redirects, LeavesAt, Visits, RefusesAt}
+use Rattle.xp_decide.specs.Routes.{Place, lines_of, place_of, place_at, alternate, Redirects, LeavesAt, RefusesAt}
+use Rattle.xp_decide.specs.steps.Routes.{IsRedirected, Visits}
 use Rattle.xp_decide.specs.Routes as routes
 use Rattle.xp_decide.specs.declared.acceptance.Wanted.{Wanted}
-use Rattle.xp_decide.specs.declared.visit.Visit.{Visit}
-use Rattle.xp_decide.specs.declared.visit.Visit.TheVariants as visits
+use Rattle.xp_decide.specs.declared.visit.AddressOutcome.{AddressOutcome}
+use Rattle.xp_decide.specs.declared.visit.AddressOutcome.TheVariants as visits
 
 -- the place of a target, by its station
 abbrev pub placed : Station → Target → Place
@@ -29,9 +30,9 @@ here tables address found target station found_is some same =
     ap (option_map (place_of tables)) (sym found_is ∙ some) ∙ ap (λ (s : Station). Some (placed s target)) (sym same)
 
 module _ (tables : Tables) (states : ℕ → LineState) (wanted : Wanted) (address : List ℕ) (place : Place) (known : place_at tables address ≡ Some place) where
-  pub leaves : (visit : Visit) → IsRedirected place.station Systematic (Some visit)
+  pub leaves : (visit : AddressOutcome) → IsRedirected place.station Systematic (Some visit)
       → Visits tables states wanted address (Ok visit)
-  leaves (visits.Left reason to) (is, some) =
+  leaves (visits.RedirectedTo reason to) (is, some) =
       record { place = place; known = known; redirects = routes.systematic is some }
   leaves (visits.Taken _ _) never = absurd never
 
@@ -50,10 +51,10 @@ module _ (tables : Tables) (states : ℕ → LineState) (wanted : Wanted) (addre
     record { place = place; known = known; accepts = accepts; idle = idle },
   )
 
-  pub finds_off : (admission : Admission) (left : Option Visit) → alternate place.station Systematic ≡ None
+  pub finds_off : (admission : Admission) (left : Option AddressOutcome) → alternate place.station Systematic ≡ None
       → Accepts wanted place.station admission → AreOff states place.lines
       → IsRedirected place.station OutOfOrder left → Visits tables states wanted address (ok_or left OUT_OF_ORDER)
-  finds_off admission (Some (visits.Left reason to)) none accepts off (is, some) =
+  finds_off admission (Some (visits.RedirectedTo reason to)) none accepts off (is, some) =
       record { place = place; known = known; redirects = routes.out_of_order admission is none accepts off some }
   finds_off admission (Some (visits.Taken _ _)) none accepts off never = absurd never
   finds_off admission None none accepts off no_alternate = (
@@ -61,10 +62,10 @@ module _ (tables : Tables) (states : ℕ → LineState) (wanted : Wanted) (addre
     routes.refused place known (routes.all_off admission accepts off refl),
   )
 
-  pub finds_busy : (admission : Admission) (left : Option Visit) → alternate place.station Systematic ≡ None
+  pub finds_busy : (admission : Admission) (left : Option AddressOutcome) → alternate place.station Systematic ≡ None
       → Accepts wanted place.station admission → HasNoneIdle states place.lines → HasBusy states place.lines
       → IsRedirected place.station Busy left → Visits tables states wanted address (ok_or left NUMBER_BUSY)
-  finds_busy admission (Some (visits.Left reason to)) none accepts none_idle has_busy (is, some) =
+  finds_busy admission (Some (visits.RedirectedTo reason to)) none accepts none_idle has_busy (is, some) =
       record { place = place; known = known; redirects = routes.busy admission is none accepts none_idle has_busy some }
   finds_busy admission (Some (visits.Taken _ _)) none accepts none_idle has_busy never = absurd never
   finds_busy admission None none accepts none_idle has_busy no_alternate = (

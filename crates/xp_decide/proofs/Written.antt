@@ -9,18 +9,18 @@ use Rattle.xp_facilities.proofs.Meant.{AsksInRange, asks_in_range}
 use Rattle.xp_facilities.specs.Items.{octets_of_all}
 use Rattle.xp_facilities.specs.Limits.{largest_window}
 use Rattle.xp_facilities.specs.Octets.{is_within}
-use Rattle.xp_facilities.specs.Told.{index_fits, sizes_fit, counts_fit, is_in_range, items_told, Tells, Writes}
-use Rattle.xp_facilities.specs.declared.asked.Asked.{Asked}
+use Rattle.xp_facilities.specs.Indicated.{index_fits, sizes_fit, counts_fit, is_in_range, indicated_items, Indicates, Writes}
+use Rattle.xp_facilities.specs.declared.requested.RequestedFacilities.{RequestedFacilities}
 use Rattle.xp_facilities.specs.declared.fault.FacilityFault.{FacilityFault}
 use Rattle.xp_facilities.specs.declared.fault.FacilityFault.TheVariants.{Length, Code, Param, Memory}
-use Rattle.xp_facilities.specs.declared.pair.Pair.{Pair}
-use Rattle.xp_facilities.specs.declared.told.Told.{Told}
+use Rattle.xp_facilities.specs.declared.direction_sizes.DirectionSizes.{DirectionSizes}
+use Rattle.xp_facilities.specs.declared.indicated.IndicatedFacilities.{IndicatedFacilities}
 use Rattle.xp_facilities.specs.declared.redirection.Reason.{Reason}
-use Rattle.xp_facilities.specs.declared.selection.Selection.TheVariants.{Nothing, Closed, AlsoOpen}
+use Rattle.xp_facilities.specs.declared.selection.Selection.TheVariants.{Nothing, Closed, WithOutsideAccess}
 use Rattle.xp_groups.proofs.Joined.{part_held}
 use Rattle.xp_groups.specs.Admits.{Admits}
 use Rattle.xp_groups.specs.Admits as admits
-use Rattle.xp_groups.specs.Groups.{part_in}
+use Rattle.xp_groups.specs.Groups.{membership_in}
 use Rattle.xp_groups.specs.declared.admission.Admission.{Admission}
 use Rattle.xp_groups.specs.declared.intention.Intent.{Intent}
 use Rattle.xp_hunt.specs.declared.lines.LineState.{LineState}
@@ -33,42 +33,42 @@ use Rattle.xp_decide.proofs.Joined.{is_placed}
 use Rattle.xp_decide.specs.Asks.{Asks, wanted_of}
 use Rattle.xp_decide.specs.Decided.{Decided}
 use Rattle.xp_decide.specs.Decided as decided
-use Rattle.xp_decide.specs.Rings.{indicated_packet, indicated_window, notified, told_of, ring_of}
+use Rattle.xp_decide.specs.IncomingCalls.{indicated_packet, indicated_window, notified, told_of, incoming_call_of}
 use Rattle.xp_decide.specs.Routes.{first_reason, Reaches, TakesAt}
 use Rattle.xp_decide.specs.Routes as routes
-use Rattle.xp_decide.specs.Seen.{seen_by}
+use Rattle.xp_decide.specs.LinesForCaller.{state_for_caller}
 use Rattle.xp_decide.specs.Indicated.{TellsWithin, IndicatesSizes}
 use Rattle.xp_decide.specs.Written.{CanBeWritten}
 use Rattle.xp_decide.specs.declared.acceptance.Wanted.{Wanted}
 use Rattle.xp_decide.specs.declared.request.Request.{Request}
-use Rattle.xp_decide.specs.declared.route.Reached.{Reached}
-use Rattle.xp_decide.specs.declared.verdict.Ring.{Ring}
+use Rattle.xp_decide.specs.declared.route.Destination.{Destination}
+use Rattle.xp_decide.specs.declared.verdict.IncomingCall.{IncomingCall}
 use Rattle.xp_decide.specs.declared.verdict.Verdict.TheVariants.{Take}
 
 part_short : (station : Station) (group : Option ℕ) (held : Membership) → HasShortIndexes station
-    → part_in station group ≡ Some held → held.index ≤ 9_999
+    → membership_in station group ≡ Some held → held.index ≤ 9_999
 part_short station group held short is =
     All-contains (λ (m : Membership). m.index ≤ 9_999) station.memberships.items held short (part_held station group held is).0
 
 index_told : (intent : Intent) (station : Station) (admission : Admission) → HasShortIndexes station
-    → Admits intent station (Ok admission) → index_fits admission.told ≡ true
+    → Admits intent station (Ok admission) → index_fits admission.indicated ≡ true
 unfolding index_fits
 index_told intent station admission short (admits.no_groups _ _ e) =
-    let same : admission ≡ record { told = Nothing } = cc in ap (λ (a : Admission). index_fits a.told) same
+    let same : admission ≡ record { indicated = Nothing } = cc in ap (λ (a : Admission). index_fits a.indicated) same
 index_told intent station admission short (admits.no_groups_to_share _ _ e) = cc
 index_told intent station admission short (admits.within_group held _ enters _ e) =
-    let same : admission ≡ record { told = Closed held.index } = cc in
-    ap (λ (a : Admission). index_fits a.told) same ∙ le-leb held.index 9_999 (part_short station intent.group held short enters.0)
+    let same : admission ≡ record { indicated = Closed held.index } = cc in
+    ap (λ (a : Admission). index_fits a.indicated) same ∙ le-leb held.index 9_999 (part_short station intent.group held short enters.0)
 index_told intent station admission short (admits.within_group_open held _ enters _ e) =
-    let same : admission ≡ record { told = AlsoOpen held.index } = cc in
-    ap (λ (a : Admission). index_fits a.told) same ∙ le-leb held.index 9_999 (part_short station intent.group held short enters.0)
+    let same : admission ≡ record { indicated = WithOutsideAccess held.index } = cc in
+    ap (λ (a : Admission). index_fits a.indicated) same ∙ le-leb held.index 9_999 (part_short station intent.group held short enters.0)
 index_told intent station admission short (admits.incoming_access _ _ _ e) =
-    let same : admission ≡ record { told = Nothing } = cc in ap (λ (a : Admission). index_fits a.told) same
+    let same : admission ≡ record { indicated = Nothing } = cc in ap (λ (a : Admission). index_fits a.indicated) same
 index_told intent station admission short (admits.no_way_in _ _ _ e) = cc
 
 -- a line that takes a call is told an index of its station, which stands in the tables
 taker_short : (tables : Tables) (states : ℕ → LineState) (wanted : Wanted) (address : List ℕ) (line : ℕ) (admission : Admission) → IsSound tables
-    → TakesAt tables states wanted address line admission → index_fits admission.told ≡ true
+    → TakesAt tables states wanted address line admission → index_fits admission.indicated ≡ true
 taker_short tables states wanted address line admission sound takes =
     let placed = is_placed tables address takes.place line sound takes.known takes.idle.0 in
     let short = sound.indexes (station_of tables line) (sound.placed line placed.known) in
@@ -81,7 +81,7 @@ size_capped size fits =
     (le-leb 4 (min size 10) (le-min (leb-true 4 size (and_parts _ _ fits).0) (omega arith)))
     (le-leb (min size 10) 10 (min-le_right size 10))
 
-packet_indicated : (asked : Option Pair) → sizes_fit 4 12 asked ≡ true → is_within 4 10 (indicated_packet asked) ≡ true
+packet_indicated : (asked : Option DirectionSizes) → sizes_fit 4 12 asked ≡ true → is_within 4 10 (indicated_packet asked) ≡ true
 unfolding sizes_fit
 packet_indicated None fits = refl
 packet_indicated (Some sizes) fits =
@@ -94,13 +94,13 @@ size_told size fits =
     let parts = and_parts _ _ fits in
     and_from _ _ parts.0 (le-leb size 12 (omega (arith, leb-true size 10 parts.1)))
 
-packet_told : (asked : Option Pair) → sizes_fit 4 12 asked ≡ true → is_within 4 12 (indicated_packet asked) ≡ true
+packet_told : (asked : Option DirectionSizes) → sizes_fit 4 12 asked ≡ true → is_within 4 12 (indicated_packet asked) ≡ true
 packet_told asked fits =
     let sizes = indicated_packet asked in
     let parts = and_parts _ _ (packet_indicated asked fits) in
     and_from _ _ (size_told sizes.from_called parts.0) (size_told sizes.from_calling parts.1)
 
-window_told : (asked : Option Pair) → sizes_fit 1 largest_window asked ≡ true → is_within 1 largest_window (indicated_window asked) ≡ true
+window_told : (asked : Option DirectionSizes) → sizes_fit 1 largest_window asked ≡ true → is_within 1 largest_window (indicated_window asked) ≡ true
 unfolding sizes_fit
 window_told None fits = refl
 window_told (Some sizes) fits = fits
@@ -110,7 +110,7 @@ dialled_few None dialled few = tt
 dialled_few (Some reason) dialled few = few
 
 -- what a field tells is refused for want of memory alone
-for_memory : {A : Type 0} (told : Told A) (field : List ℕ) → Tells told field
+for_memory : {A : Type 0} (told : IndicatedFacilities A) (field : List ℕ) → Indicates told field
     → (fault : FacilityFault) → Writes told (Err fault) → fault ≡ Memory
 for_memory told field tells Length none = absurd (none tells.carried tells.dte)
 for_memory told field tells Code never = absurd never
@@ -118,7 +118,7 @@ for_memory told field tells Param (carried, items, wrong) = let is = tells.in_ra
 for_memory told field tells Memory _ = refl
 
 -- bounds of both sizes, one after the other
-within_bounds : (least most : ℕ) (sizes : Pair) → is_within least most sizes ≡ true → TellsWithin least most (Some sizes)
+within_bounds : (least most : ℕ) (sizes : DirectionSizes) → is_within least most sizes ≡ true → TellsWithin least most (Some sizes)
 within_bounds least most sizes fits =
     let parts = and_parts _ _ fits in
     let called = and_parts _ _ parts.0 in
@@ -132,19 +132,19 @@ within_bounds least most sizes fits =
       calling_most = leb-true sizes.from_calling most calling.1;
     }
 
-module _ {A : Type 0} (asked : Asked A) (admission : Admission) (reason : Option Reason) (dialled : List ℕ) where
-  told_in_range : index_fits admission.told ≡ true → AsksInRange asked → is_in_range (told_of asked admission reason dialled) ≡ true
+module _ {A : Type 0} (asked : RequestedFacilities A) (admission : Admission) (reason : Option Reason) (dialled : List ℕ) where
+  told_in_range : index_fits admission.indicated ≡ true → AsksInRange asked → is_in_range (told_of asked admission reason dialled) ≡ true
   unfolding is_in_range sizes_fit counts_fit
   told_in_range index asks =
       let few = le-leb (length asked.dte) 80 asks.dte.few in
       rw (index, packet_told asked.packet asks.packet, window_told asked.window asks.window, few) refl
 
-  told_written : index_fits admission.told ≡ true → AsksInRange asked → length dialled ≤ 15
+  told_written : index_fits admission.indicated ≡ true → AsksInRange asked → length dialled ≤ 15
       → CanBeWritten (told_of asked admission reason dialled)
   told_written index asks few =
       let told = told_of asked admission reason dialled in
-      let field = octets_of_all (items_told told asks.dte.carried) in
-      let tells : Tells told field = record {
+      let field = octets_of_all (indicated_items told asks.dte.carried) in
+      let tells : Indicates told field = record {
         carried = asks.dte.carried;
         dte = asks.dte.is_carried;
         in_range = told_in_range index asks;
@@ -158,35 +158,35 @@ module _ {A : Type 0} (asked : Asked A) (admission : Admission) (reason : Option
       }
 
 module _ {A : Type 0} (tables : Tables) (states : ℕ → LineState) (from : ℕ) (block : Block A) (sound : IsSound tables) (few : length block.called ≤ 15) where
-  by_way : (request : Request A) (end : Reached) → Asks tables from block request
-      → Reaches tables (seen_by from states) (wanted_of request) block.called (Ok end)
+  by_way : (request : Request A) (end : Destination) → Asks tables from block request
+      → Reaches tables (state_for_caller from states) (wanted_of request) block.called (Ok end)
       → CanBeWritten (told_of request.asked end.admission end.reason block.called)
   by_way request end asks (routes.taken hops last line admission _ _ _ takes e) =
       let same : end ≡ record { line = line; admission = admission; reason = first_reason hops } = cc in
-      let index = taker_short tables (seen_by from states) (wanted_of request) last line admission sound takes in
-      let P : Reached → Type 0 = λ r. CanBeWritten (told_of request.asked r.admission r.reason block.called) in
+      let index = taker_short tables (state_for_caller from states) (wanted_of request) last line admission sound takes in
+      let P : Destination → Type 0 = λ r. CanBeWritten (told_of request.asked r.admission r.reason block.called) in
       subst P (sym same) (
       told_written request.asked admission (first_reason hops) block.called index (asks_in_range block.facilities request.asked asks.means) few
       )
   by_way request end asks (routes.refused _ _ _ _ _ _ _ e) = cc
   by_way request end asks (routes.too_many _ _ _ _ e) = cc
 
-  pub told_can_be_written : (ring : Ring A) → Decided tables states from block (Take ring) → CanBeWritten ring.told
+  pub told_can_be_written : (ring : IncomingCall A) → Decided tables states from block (Take ring) → CanBeWritten ring.told
   told_can_be_written ring (decided.not_asked _ _ e) = cc
   told_can_be_written ring (decided.not_reached _ _ _ _ e) = cc
   told_can_be_written ring (decided.reached request end asks way e) =
-      let same : ring ≡ ring_of request.asked end block.called = cc in
-      let P : Ring A → Type 0 = λ r. CanBeWritten r.told in
+      let same : ring ≡ incoming_call_of request.asked end block.called = cc in
+      let P : IncomingCall A → Type 0 = λ r. CanBeWritten r.told in
       subst P (sym same) (by_way request end asks way)
 
 module _ {A : Type 0} (tables : Tables) (states : ℕ → LineState) (from : ℕ) (block : Block A) where
-  pub told_sizes : (ring : Ring A) → Decided tables states from block (Take ring) → IndicatesSizes ring.told
+  pub told_sizes : (ring : IncomingCall A) → Decided tables states from block (Take ring) → IndicatesSizes ring.told
   told_sizes ring (decided.not_asked _ _ e) = cc
   told_sizes ring (decided.not_reached _ _ _ _ e) = cc
   told_sizes ring (decided.reached request end asks way e) =
-      let same : ring ≡ ring_of request.asked end block.called = cc in
+      let same : ring ≡ incoming_call_of request.asked end block.called = cc in
       let range = asks_in_range block.facilities request.asked asks.means in
-      let P : Ring A → Type 0 = λ r. IndicatesSizes r.told in
+      let P : IncomingCall A → Type 0 = λ r. IndicatesSizes r.told in
       subst P (sym same) (record {
         packet = within_bounds 4 10 (indicated_packet request.asked.packet) (packet_indicated request.asked.packet range.packet);
         window = within_bounds 1 largest_window (indicated_window request.asked.window) (window_told request.asked.window range.window);

@@ -1,4 +1,4 @@
--- Whether a station's subscription lets it take a call (X.25 clauses 6.5, 6.14, 6.17 and 6.19).
+-- Whether a station's subscription permits it to take a call (X.25 clauses 6.5, 6.14, 6.17 and 6.19).
 use Rattle.std.specs.Prelude.{◌≡◌, true, false, Result, Ok, Err}
 use Rattle.xp_groups.specs.Admits.{Admits}
 use Rattle.xp_groups.specs.declared.admission.Admission.{Admission}
@@ -13,7 +13,7 @@ pub record Accepts (wanted : Wanted) (station : Station) (admission : Admission)
   pub reverse : wanted.reverse ≡ true → station.facilities.reverse_charging ≡ true
   pub fast : wanted.fast ≡ true → station.facilities.fast_select ≡ true
 
--- the first refusal, in order
+-- the first reason, in the order of the checks, why the station does not take the call
 pub data Declines (wanted : Wanted) (station : Station) (refusal : Refusal) : Type 0 where
   incoming_barred : station.facilities.incoming_barred ≡ true
       → refusal ≡ INCOMING_CALLS_BARRED → Declines wanted station refusal
@@ -26,7 +26,3 @@ pub data Declines (wanted : Wanted) (station : Station) (refusal : Refusal) : Ty
       → (wanted.reverse ≡ true → station.facilities.reverse_charging ≡ true)
       → wanted.fast ≡ true → station.facilities.fast_select ≡ false
       → refusal ≡ FAST_SELECT_NOT_ACCEPTED → Declines wanted station refusal
-
-abbrev pub Examines : Wanted → Station → Result Admission Refusal → Type 0
-Examines wanted station (Ok admission) = Accepts wanted station admission
-Examines wanted station (Err refusal) = Declines wanted station refusal

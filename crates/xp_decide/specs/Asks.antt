@@ -1,11 +1,10 @@
--- What a call request asks, and whether its station may ask it (X.25 clauses 5.2.2, 6.6 and 6.14).
+-- What a call request asks for, and whether the caller's station may make it (X.25 clauses 5.2.2, 6.6 and 6.14).
 use Rattle.std.specs.Prelude.{◌≡◌, ℕ, ◌<◌, ◌≤◌, length, Bool, true, false, Result, Ok, Err, ◌⊎◌}
-use Rattle.xp_facilities.specs.Asked.{Means, IsFaulty}
-use Rattle.xp_facilities.specs.declared.asked.Asked.{Asked}
+use Rattle.xp_facilities.specs.Requested.{Means, IsFaulty}
+use Rattle.xp_facilities.specs.declared.requested.RequestedFacilities.{RequestedFacilities}
 use Rattle.xp_facilities.specs.declared.fast_select.FastSelect.{FastSelect}
 use Rattle.xp_facilities.specs.declared.fast_select.FastSelect.TheVariants.{No, Unrestricted, Restricted}
-use Rattle.xp_facilities.specs.declared.fault.FacilityFault.{FacilityFault}
-use Rattle.xp_facilities.specs.declared.fault.FacilityFault.TheVariants.{Length, Code, Param, Memory}
+use Rattle.xp_facilities.specs.declared.fault.FacilityFault.TheVariants.{Length, Code, Param}
 use Rattle.xp_groups.specs.Intends.{Intends}
 use Rattle.xp_causes.specs.declared.refusal.Refusal.{Refusal}
 use Rattle.xp_causes.specs.declared.refusal.TheConstants.Refusal.{FACILITY_LENGTH, FACILITY_NOT_ALLOWED, FACILITY_PARAMETER, USER_DATA_TOO_LONG, ACCESS_BARRED}
@@ -14,8 +13,6 @@ use Rattle.xp_subs.specs.Tables.{Tables, station_at, station_of}
 use Rattle.xp_subs.specs.declared.station.Station.{Station}
 use Rattle.xp_decide.specs.declared.acceptance.Wanted.{Wanted}
 use Rattle.xp_decide.specs.declared.request.Request.{Request}
-use Rattle.xp_decide.specs.declared.fault.CallFault.{CallFault}
-use Rattle.xp_decide.specs.declared.fault.CallFault.TheVariants as faults
 
 -- the station of a line
 abbrev pub station_of_line : Tables → ℕ → Station
@@ -27,23 +24,16 @@ is_fast No = false
 is_fast Unrestricted = true
 is_fast Restricted = true
 
--- how a fault of the facilities is told
-abbrev pub fault_of : FacilityFault → CallFault
-fault_of Length = faults.Refused FACILITY_LENGTH
-fault_of Code = faults.Refused FACILITY_NOT_ALLOWED
-fault_of Param = faults.Refused FACILITY_PARAMETER
-fault_of Memory = faults.Memory
-
 module _ {A : Type 0} where
-  -- what is asked of each station on the way
+  -- what the call requests of each station that it reaches
   abbrev pub wanted_of : Request A → Wanted
   wanted_of request = record { intent = request.intent; reverse = request.asked.reverse; fast = is_fast request.asked.fast }
 
-  -- without fast select there is room for 16 octets of user data
-  abbrev pub HasRoom : Block A → Asked A → Type 0
+  -- at most 16 octets of user data, or fast select
+  abbrev pub HasRoom : Block A → RequestedFacilities A → Type 0
   HasRoom block asked = (length block.user ≤ 16) ⊎ (is_fast asked.fast ≡ true)
 
-  abbrev pub HasNoRoom : Block A → Asked A → Type 0
+  abbrev pub HasNoRoom : Block A → RequestedFacilities A → Type 0
   HasNoRoom block asked = (16 < length block.user) × (is_fast asked.fast ≡ false)
 
   pub record Asks (tables : Tables) (from : ℕ) (block : Block A) (request : Request A) : Type 0 where
@@ -52,7 +42,7 @@ module _ {A : Type 0} where
     pub outgoing : (station_of_line tables from).facilities.outgoing_barred ≡ false
     pub intends : Intends (station_of_line tables from) request.asked.selection (Ok request.intent)
 
-  -- the first refusal, in order
+  -- the first reason, in the order of the checks, why the caller may not make the call
   pub data MayNotAsk (tables : Tables) (from : ℕ) (block : Block A) (refusal : Refusal) : Type 0 where
     facility_length : IsFaulty block.facilities Length
         → refusal ≡ FACILITY_LENGTH → MayNotAsk tables from block refusal
@@ -60,16 +50,11 @@ module _ {A : Type 0} where
         → refusal ≡ FACILITY_NOT_ALLOWED → MayNotAsk tables from block refusal
     facility_parameter : IsFaulty block.facilities Param
         → refusal ≡ FACILITY_PARAMETER → MayNotAsk tables from block refusal
-    user_data : (asked : Asked A) → Means block.facilities asked → HasNoRoom block asked
+    user_data : (asked : RequestedFacilities A) → Means block.facilities asked → HasNoRoom block asked
         → refusal ≡ USER_DATA_TOO_LONG → MayNotAsk tables from block refusal
-    outgoing_barred : (asked : Asked A) → Means block.facilities asked → HasRoom block asked
+    outgoing_barred : (asked : RequestedFacilities A) → Means block.facilities asked → HasRoom block asked
         → (station_of_line tables from).facilities.outgoing_barred ≡ true
         → refusal ≡ ACCESS_BARRED → MayNotAsk tables from block refusal
-    not_intended : (asked : Asked A) → Means block.facilities asked → HasRoom block asked
+    not_intended : (asked : RequestedFacilities A) → Means block.facilities asked → HasRoom block asked
         → (station_of_line tables from).facilities.outgoing_barred ≡ false
         → Intends (station_of_line tables from) asked.selection (Err refusal) → MayNotAsk tables from block refusal
-
-  abbrev pub Opens : Tables → ℕ → Block A → Result (Request A) CallFault → Type 0
-  Opens tables from block (Ok request) = Asks tables from block request
-  Opens tables from block (Err (faults.Refused refusal)) = MayNotAsk tables from block refusal
-  Opens tables from block (Err faults.Memory) = Unit {0}

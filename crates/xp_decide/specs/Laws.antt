@@ -1,4 +1,4 @@
--- What follows from the decision of a call request.
+-- Laws of the decision on a call request.
 use Rattle.std.specs.Prelude.{◌≡◌, ◌≢◌, ℕ, ◌<◌, ◌≤◌, List, length, Some, ◌⊎◌, Contains}
 use Rattle.xp_causes.specs.Refusals.{call_refusals}
 use Rattle.xp_groups.specs.MayJoin.{MayJoin}
@@ -14,20 +14,20 @@ use Rattle.xp_decide.specs.Asks.{station_of_line, Asks, wanted_of}
 use Rattle.xp_decide.specs.Decided.{Decided}
 use Rattle.xp_decide.specs.Indicated.{IndicatesSizes}
 use Rattle.xp_decide.specs.Routes.{Place, place_at, Hop, Follows, IsLast}
-use Rattle.xp_decide.specs.Seen.{seen_by}
+use Rattle.xp_decide.specs.LinesForCaller.{state_for_caller}
 use Rattle.xp_decide.specs.Written.{CanBeWritten}
 use Rattle.xp_decide.specs.declared.request.Request.{Request}
-use Rattle.xp_decide.specs.declared.verdict.Ring.{Ring}
+use Rattle.xp_decide.specs.declared.verdict.IncomingCall.{IncomingCall}
 use Rattle.xp_decide.specs.declared.verdict.Verdict.{Verdict}
 use Rattle.xp_decide.specs.declared.verdict.Verdict.TheVariants.{Take, Refuse}
 
--- the station of the line that rings may be joined with the caller's
+-- closed user groups permit the station of the line that rings to be joined with the caller's
 abbrev pub TakenMayJoin : Type 0 → Type 0
-TakenMayJoin A = (tables : Tables) (states : ℕ → LineState) (from : ℕ) (block : Block A) (ring : Ring A)
+TakenMayJoin A = (tables : Tables) (states : ℕ → LineState) (from : ℕ) (block : Block A) (ring : IncomingCall A)
     → IsSound tables → Decided tables states from block (Take ring)
     → MayJoin (station_of_line tables from) (station_of_line tables ring.line)
 
--- a line in service with no call, which is not the caller's
+-- the line is in service, has no call and is not the caller's
 pub record IsFree (tables : Tables) (states : ℕ → LineState) (from line : ℕ) : Type 0 where
   pub known : line < line_count tables
   pub idle : states line ≡ Idle
@@ -36,53 +36,54 @@ pub record IsFree (tables : Tables) (states : ℕ → LineState) (from line : �
 -- the line that rings is free
 abbrev pub TakenIsFree : Type 0 → Type 0
 TakenIsFree A =
-    (tables : Tables) (states : ℕ → LineState) (from : ℕ) (block : Block A) (ring : Ring A)
+    (tables : Tables) (states : ℕ → LineState) (from : ℕ) (block : Block A) (ring : IncomingCall A)
     → IsSound tables → Decided tables states from block (Take ring)
     → IsFree tables states from ring.line
 
--- what the line that rings is told can be written; that no more than 15 digits are dialled is a fact of their type
+-- The facilities for the line that rings can be written. The premise of at most 15 dialled digits holds by the type
+-- of an address.
 abbrev pub ToldCanBeWritten : Type 0 → Type 0
 ToldCanBeWritten A =
-    (tables : Tables) (states : ℕ → LineState) (from : ℕ) (block : Block A) (ring : Ring A)
+    (tables : Tables) (states : ℕ → LineState) (from : ℕ) (block : Block A) (ring : IncomingCall A)
     → IsSound tables → length block.called ≤ 15 → Decided tables states from block (Take ring)
     → CanBeWritten ring.told
 
--- it is told packet and window sizes that a call may have
+-- the line that rings receives packet and window sizes that a call may have
 abbrev pub ToldSizesAreIndicated : Type 0 → Type 0
 ToldSizesAreIndicated A =
-    (tables : Tables) (states : ℕ → LineState) (from : ℕ) (block : Block A) (ring : Ring A)
+    (tables : Tables) (states : ℕ → LineState) (from : ℕ) (block : Block A) (ring : IncomingCall A)
     → Decided tables states from block (Take ring) → IndicatesSizes ring.told
 
--- a refusal is one that call requests have
+-- a refusal is one of the refusals of call requests
 abbrev pub RefusalsAreKnown : Type 0 → Type 0
 RefusalsAreKnown A =
     (tables : Tables) (states : ℕ → LineState) (from : ℕ) (block : Block A) (refusal : Refusal)
     → Decided tables states from block (Refuse refusal) → Contains call_refusals refusal
 
--- the refusals for want of a line
+-- the refusals for the lack of an idle line
 abbrev pub IsWantOfLine : Refusal → Type 0
 IsWantOfLine refusal = (refusal ≡ OUT_OF_ORDER) ⊎ (refusal ≡ NUMBER_BUSY)
 
--- the call went along the redirections to the last address, and none of its lines is idle
+-- the call followed its redirections to the last address, which has no idle line
 pub record EndsWithoutLine {A : Type 0} (tables : Tables) (states : ℕ → LineState) (from : ℕ) (block : Block A) : Type 0 where
   pub request : Request A
   pub asked : Asks tables from block request
   pub hops : List Hop
   pub last : List ℕ
-  pub follows : Follows tables (seen_by from states) (wanted_of request) block.called hops last
+  pub follows : Follows tables (state_for_caller from states) (wanted_of request) block.called hops last
   pub few : length hops ≤ 4
-  pub ends : IsLast tables (seen_by from states) (wanted_of request) last
+  pub ends : IsLast tables (state_for_caller from states) (wanted_of request) last
   pub place : Place
   pub known : place_at tables last ≡ Some place
-  pub none_idle : HasNoneIdle (seen_by from states) place.lines
+  pub none_idle : HasNoneIdle (state_for_caller from states) place.lines
 
 abbrev pub RefusesWithoutIdleLine : Type 0 → Type 0
 RefusesWithoutIdleLine A = (tables : Tables) (states : ℕ → LineState) (from : ℕ) (block : Block A) (refusal : Refusal)
     → Decided tables states from block (Refuse refusal) → IsWantOfLine refusal
     → EndsWithoutLine tables states from block
 
--- the same answer, but for the line that rings
-pub record IsSameRing {A : Type 0} (one other : Ring A) : Type 0 where
+-- the same outcome, except for the line that rings
+pub record IsSameRing {A : Type 0} (one other : IncomingCall A) : Type 0 where
   pub told : one.told ≡ other.told
   pub asked : one.asked ≡ other.asked
   pub reason : one.reason ≡ other.reason
@@ -93,23 +94,23 @@ IsSameButLine (Refuse one) (Refuse other) = one ≡ other
 IsSameButLine (Take one) (Refuse other) = ⊥
 IsSameButLine (Refuse one) (Take other) = ⊥
 
--- a call request has one answer, but for the line
+-- a call request has only one outcome, except for the line that rings
 abbrev pub IsDeterminedButLine : Type 0 → Type 0
 IsDeterminedButLine A =
     (tables : Tables) (states : ℕ → LineState) (from : ℕ) (block : Block A) (one other : Verdict A)
     → Decided tables states from block one → Decided tables states from block other → IsSameButLine one other
 
--- a verdict that the rules give
+-- a verdict that the rules permit
 pub record HasVerdict {A : Type 0} (tables : Tables) (states : ℕ → LineState) (from : ℕ) (block : Block A) : Type 0 where
   pub verdict : Verdict A
   pub decided : Decided tables states from block verdict
 
--- a call request has an answer, whatever it asks
+-- every call request has an outcome
 abbrev pub EveryRequestIsDecided : Type 0 → Type 0
 EveryRequestIsDecided A =
     (tables : Tables) (states : ℕ → LineState) (from : ℕ) (block : Block A) → HasVerdict tables states from block
 
--- the state of the caller's own line is of no account
+-- the state of the caller's own line does not matter
 abbrev pub DecisionIsByOtherLines : Type 0 → Type 0
 DecisionIsByOtherLines A =
     (tables : Tables) (states others : ℕ → LineState) (from : ℕ) (block : Block A) (verdict : Verdict A)

@@ -1,9 +1,10 @@
 pub mod Accepts
-pub mod Seen
-pub mod Routes
 pub mod Asks
-pub mod Rings
 pub mod Decided
-pub mod Written
+pub mod IncomingCalls
 pub mod Indicated
 pub mod Laws
+pub mod LinesForCaller
+pub mod Routes
+pub mod Written
+pub mod steps

@@ -1,4 +1,4 @@
--- The addresses that a call goes along (X.25 clauses 6.24 and 6.25).
+-- The addresses through which a call goes (X.25 clauses 6.24 and 6.25).
 use Rattle.std.specs.Prelude.{◌≡◌, ℕ, option_map, ◌≤◌, List, [], ◌∷◌, length, Bool, false, Option, None, Some, Result, Ok, Err, if◌then◌else◌}
 use Rattle.xp_facilities.specs.declared.redirection.Reason.{Reason}
 use Rattle.xp_facilities.specs.declared.redirection.Reason.TheVariants.{Busy, Distribution, OutOfOrder, Systematic}
@@ -13,11 +13,9 @@ use Rattle.xp_subs.specs.declared.station.Station.{Station}
 use Rattle.xp_subs.specs.declared.target.Target.{Target}
 use Rattle.xp_decide.specs.Accepts.{Accepts, Declines}
 use Rattle.xp_decide.specs.declared.acceptance.Wanted.{Wanted}
-use Rattle.xp_decide.specs.declared.route.Reached.{Reached}
-use Rattle.xp_decide.specs.declared.visit.Visit.{Visit}
-use Rattle.xp_decide.specs.declared.visit.Visit.TheVariants as visits
+use Rattle.xp_decide.specs.declared.route.Destination.{Destination}
 
--- whether calls are redirected for this reason
+-- whether the station's calls are redirected for this reason
 abbrev pub serves : Redirection → Reason → Bool
 serves redirection Systematic = redirection.systematic
 serves redirection OutOfOrder = redirection.out_of_order
@@ -28,16 +26,16 @@ abbrev pub alternate_of : Option Redirection → Reason → Option (List ℕ)
 alternate_of None reason = None
 alternate_of (Some redirection) reason = if serves redirection reason then Some redirection.to else None
 
--- where the station redirects its calls for this reason, if it does
+-- the address to which the station's calls are redirected for this reason, if it has one
 abbrev pub alternate : Station → Reason → Option (List ℕ)
 alternate station reason = alternate_of station.redirect reason
 
--- what an address leads to: a station, and the lines on which it is called
+-- the place that an address belongs to: a station, and the lines of that address
 pub record Place : Type 0 where
   pub station : Station
   pub lines : List ℕ
 
--- the line that has the address alone, or all of the station
+-- the one line that has the address, or all lines of the station
 abbrev pub lines_of : Station → Option ℕ → List ℕ
 lines_of station None = station.lines.items
 lines_of station (Some line) = line ∷ []
@@ -51,7 +49,7 @@ place_of tables target = record {
 abbrev pub place_at : Tables → List ℕ → Option Place
 place_at tables address = option_map (place_of tables) (target_of tables address)
 
--- A redirection is due: systematic, or where the station would take the call and has no line for it.
+-- A redirection is due at this place: systematic, or because the station would take the call and has no idle line.
 pub data Redirects (states : ℕ → LineState) (wanted : Wanted) (place : Place) (reason : Reason) (to : List ℕ) : Type 0 where
   systematic : reason ≡ Systematic
       → alternate place.station Systematic ≡ Some to → Redirects states wanted place reason to
@@ -64,7 +62,7 @@ pub data Redirects (states : ℕ → LineState) (wanted : Wanted) (place : Place
       → HasNoneIdle states place.lines → HasBusy states place.lines
       → alternate place.station Busy ≡ Some to → Redirects states wanted place reason to
 
--- The first refusal at a place from which no redirection is due.
+-- The first refusal at a place where no redirection is due.
 pub data Refuses (states : ℕ → LineState) (wanted : Wanted) (place : Place) (refusal : Refusal) : Type 0 where
   declined : Declines wanted place.station refusal → Refuses states wanted place refusal
   all_off : (admission : Admission) → Accepts wanted place.station admission
@@ -74,12 +72,12 @@ pub data Refuses (states : ℕ → LineState) (wanted : Wanted) (place : Place) 
       → HasNoneIdle states place.lines → HasBusy states place.lines
       → refusal ≡ NUMBER_BUSY → Refuses states wanted place refusal
 
--- an address at which a call is redirected, and why
+-- an address where a call is redirected, and the reason
 pub record Hop : Type 0 where
   pub address : List ℕ
   pub reason : Reason
 
--- why a call is first redirected, if it is
+-- why the call was first redirected, if it was
 abbrev pub first_reason : List Hop → Option Reason
 first_reason [] = None
 first_reason (hop ∷ hops) = Some hop.reason
@@ -91,7 +89,7 @@ module _ (tables : Tables) (states : ℕ → LineState) (wanted : Wanted) where
     pub known : place_at tables address ≡ Some place
     pub redirects : Redirects states wanted place reason to
 
-  -- none is
+  -- no redirection is due at this address
   abbrev pub IsLast : List ℕ → Type 0
   IsLast address = (reason : Reason) (to : List ℕ) → LeavesAt address reason to → ⊥
 
@@ -102,27 +100,21 @@ module _ (tables : Tables) (states : ℕ → LineState) (wanted : Wanted) where
     refused : (place : Place) → place_at tables address ≡ Some place → Refuses states wanted place refusal
         → RefusesAt address refusal
 
-  -- an idle line takes it
+  -- an idle line of this address takes the call
   pub record TakesAt (address : List ℕ) (line : ℕ) (admission : Admission) : Type 0 where
     pub place : Place
     pub known : place_at tables address ≡ Some place
     pub accepts : Accepts wanted place.station admission
     pub idle : IsIdleIn states place.lines line
 
-  -- what becomes of the call at one address
-  abbrev pub Visits : List ℕ → Result Visit Refusal → Type 0
-  Visits address (Ok (visits.Left reason to)) = LeavesAt address reason to.now
-  Visits address (Ok (visits.Taken line admission)) = IsLast address × TakesAt address line admission
-  Visits address (Err refusal) = IsLast address × RefusesAt address refusal
-
-  -- from an address along these hops to another
+  -- the call goes from an address through these hops to the last address
   abbrev pub Follows : List ℕ → List Hop → List ℕ → Type 0
   Follows address [] last = address ≡ last
   Follows address (hop ∷ hops) last = (address ≡ hop.address) × (to : List ℕ) × LeavesAt address hop.reason to × Follows to hops last
 
-  -- The addresses from the dialled one on, each redirected to the next, and what becomes of the call at the last.
-  -- Four redirections are followed.
-  pub data Reaches (dialled : List ℕ) (result : Result Reached Refusal) : Type 0 where
+  -- The call goes from the dialled address through its redirections to the last address, and has this outcome there.
+  -- At most four redirections are followed.
+  pub data Reaches (dialled : List ℕ) (result : Result Destination Refusal) : Type 0 where
     taken : (hops : List Hop) (last : List ℕ) (line : ℕ) (admission : Admission)
         → Follows dialled hops last → length hops ≤ 4 → IsLast last
         → TakesAt last line admission
@@ -134,9 +126,3 @@ module _ (tables : Tables) (states : ℕ → LineState) (wanted : Wanted) where
     too_many : (hops : List Hop) (last : List ℕ)
         → Follows dialled hops last → length hops ≡ 5
         → result ≡ Err TOO_MANY_REDIRECTIONS → Reaches dialled result
-
--- the redirection for this reason, if the station has one
-abbrev pub IsRedirected : Station → Reason → Option Visit → Type 0
-IsRedirected station reason None = alternate station reason ≡ None
-IsRedirected station reason (Some (visits.Left why to)) = (why ≡ reason) × (alternate station reason ≡ Some to.now)
-IsRedirected station reason (Some (visits.Taken line admission)) = ⊥

@@ -1,26 +1,26 @@
-ghost use Rattle.xp_decide.specs.Accepts.{Examines};
+ghost use Rattle.xp_decide.specs.steps.Accepts.{Examines};
 
 use xp_causes::Refusal;
 use xp_groups::{Admission, Intent, admit};
 use xp_subs::Station;
 
-/// What a call asks of each station on its way.
+/// What a call requests of each station that it reaches.
 #[derive(Clone, Copy, Debug)]
 pub struct Wanted {
-    /// Within which closed user group it is made.
+    /// The closed user group within which it is made, and its outside access.
     pub intent: Intent,
-    /// The called station is to pay.
+    /// Reverse charging: the called station is to pay.
     pub reverse: bool,
     /// Fast select of either kind.
     pub fast: bool,
 }
 
-/// How the station takes the call, where its subscription lets it.
+/// How the station takes the call, if its subscription permits this.
 ///
 /// # Errors
 ///
-/// The first refusal: the station takes no calls, closed user groups keep this one from it, or it does not accept reverse
-/// charging or fast select.
+/// The first refusal: the station has incoming calls barred, closed user groups prevent the call, or the station does
+/// not accept reverse charging or fast select.
 pub fn accept(wanted: &Wanted, station: &Station) -> Result<Admission, Refusal>
     ensures { Examines wanted.now station.now result }
 {

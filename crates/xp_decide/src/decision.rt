@@ -1,7 +1,8 @@
 ghost use Rattle.std.specs.Prelude.{◌<◌, IfOk, Contains};
 ghost use Rattle.xp_causes.specs.Refusals.{call_refusals};
 ghost use Rattle.xp_decide.specs.Asks.{station_of_line};
-ghost use Rattle.xp_decide.specs.Decided.{Decided, IfTaken, IfRefused, PutsThrough};
+ghost use Rattle.xp_decide.specs.Decided.{Decided, IfTaken, IfRefused};
+ghost use Rattle.xp_decide.specs.steps.Decided.{PutsThrough};
 ghost use Rattle.xp_decide.specs.Indicated.{IndicatesSizes};
 ghost use Rattle.xp_decide.specs.Laws.{IsFree};
 ghost use Rattle.xp_decide.specs.Written.{CanBeWritten};
@@ -9,25 +10,25 @@ ghost use Rattle.xp_groups.specs.MayJoin.{MayJoin};
 ghost use Rattle.xp_subs.specs.Tables.{line_count};
 
 use crate::fault::CallFault;
+use crate::incoming_call::incoming_call;
+use crate::lines_for_caller::LinesForCaller;
 use crate::request::open;
-use crate::ring::incoming_call;
 use crate::route::reach;
-use crate::seen::Seen;
-use crate::verdict::{Ring, Verdict};
+use crate::verdict::{IncomingCall, Verdict};
 use std::alloc::{AllocError, Allocator};
 use xp_hunt::Lines;
 use xp_packets::Block;
 use xp_subs::{LineNo, Subs};
 
-/// What becomes of the call request with this block that the line `from` makes. Which of several idle lines is taken is
-/// not promised.
+/// Decides on the call request with this block that the line `from` makes. If several lines are idle, the contract
+/// does not say which one gets the call.
 ///
-/// A call is refused for the first fault: of the facilities, of the user data, of what the caller's station may ask, and
-/// then at the address where the call ends.
+/// The first fault refuses the call: first the faults of the facilities, then of the user data, then of what the
+/// caller's station may request, and then those of the address where the call ends.
 ///
 /// # Errors
 ///
-/// Want of memory.
+/// An allocation failed.
 pub fn decide<A: Allocator + Copy, L: Lines>(
     alloc: A,
     subs: &Subs,
@@ -38,19 +39,21 @@ pub fn decide<A: Allocator + Copy, L: Lines>(
     requires { from < line_count subs.now }
     ensures decided { IfOk result (Decided subs.now (L.states lines.now) from block.now) }
 
-    // The line that rings is in service with no call, and not the caller's; closed user groups let the two be joined.
+    // The line that rings is in service, has no call and is not the caller's. Closed user groups permit the two to be
+    // joined.
     ensures free { IfOk result (λ v. IfTaken v (λ ring. IsFree subs.now (L.states lines.now) from ring.line)) }
     ensures joined { IfOk result (λ v. IfTaken v (λ ring.
         MayJoin (station_of_line subs.now from) (station_of_line subs.now ring.line))) }
 
-    // What it is told has packet and window sizes in their ranges, and can be written.
+    // The facilities that it receives have packet and window sizes within their ranges, and can be written.
     ensures indicated { IfOk result (λ v. IfTaken v (λ ring. IndicatesSizes ring.told)) }
     ensures written { IfOk result (λ v. IfTaken v (λ ring. CanBeWritten ring.told)) }
 
-    // A refusal is one of those that there are.
+    // A refusal is one of the refusals of call requests.
     ensures refused { IfOk result (λ v. IfRefused v (Contains call_refusals)) }
 {
-    // All subscriptions are sound, and no address has more than 15 digits: that comes with these counts.
+    // The contracts of these calls give two facts: all subscriptions are sound, and no address has more than 15
+    // digits.
     let _ = subs.counts();
     let _ = block.called.len();
     match put_through(alloc, subs, lines, from, block) {
@@ -60,23 +63,23 @@ pub fn decide<A: Allocator + Copy, L: Lines>(
     }
 }
 
-/// The incoming call that a line gets.
+/// The incoming call for a line.
 ///
 /// # Errors
 ///
-/// The refusal of the call, or want of memory.
+/// The refusal of the call, or a failed allocation.
 fn put_through<A: Allocator + Copy, L: Lines>(
     alloc: A,
     subs: &Subs,
     lines: &L,
     from: LineNo,
     block: &Block<A>,
-) -> Result<Ring<A>, CallFault>
+) -> Result<IncomingCall<A>, CallFault>
     requires { from < line_count subs.now }
     ensures { PutsThrough subs.now (L.states lines.now) from block.now result }
 {
     let request = open(alloc, subs, from, block)?;
-    let seen = Seen {
+    let seen = LinesForCaller {
         lines,
         caller: from,
     };

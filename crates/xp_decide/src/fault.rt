@@ -1,17 +1,17 @@
 ghost use Rattle.std.specs.Prelude.{◌≡◌};
-ghost use Rattle.xp_decide.specs.Asks.{fault_of};
+ghost use Rattle.xp_decide.specs.steps.Asks.{fault_of};
 ghost use Rattle.xp_decide.specs.declared.fault.CallFault.TheVariants.{Refused, Memory as OutOfMemory};
 
 use std::alloc::AllocError;
 use xp_causes::Refusal;
 use xp_facilities::FacilityFault;
 
-/// Why a call request rings no line.
+/// Why no line rings for a call request.
 #[derive(Clone, Copy, Debug, PartialEq, Eq)]
 pub enum CallFault {
-    /// The caller gets a clear indication.
+    /// The call is refused, and the caller receives a clear indication.
     Refused(Refusal),
-    /// Out of memory.
+    /// An allocation failed.
     Memory,
 }
 

@@ -1,14 +1,15 @@
-//! What becomes of a call request (X.25 clauses 4.1 and 6): a refusal, or the line that rings and what it is told.
+//! Deciding on a call request (X.25 clauses 4.1 and 6): a refusal, or the line that rings and the facilities that it
+//! receives.
 #![tactic(auto)]
 
 mod acceptance;
 mod decision;
 mod fault;
+mod incoming_call;
 mod laws;
+mod lines_for_caller;
 mod request;
-mod ring;
 mod route;
-mod seen;
 mod verdict;
 mod visit;
 
@@ -18,4 +19,4 @@ pub use laws::{
     refusals_are_known, refuses_without_idle_line_alone, taken_line_is_free,
     taken_stations_may_join, told_can_be_written, told_sizes_are_indicated,
 };
-pub use verdict::{Ring, Verdict};
+pub use verdict::{IncomingCall, Verdict};

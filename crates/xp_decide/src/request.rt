@@ -1,28 +1,29 @@
 ghost use Rattle.std.specs.Prelude.{◌≡◌, ◌<◌, false, IsTrue};
-ghost use Rattle.xp_decide.specs.Asks.{Opens, HasRoom, HasNoRoom, is_fast, wanted_of};
+ghost use Rattle.xp_decide.specs.Asks.{HasRoom, HasNoRoom, is_fast, wanted_of};
+ghost use Rattle.xp_decide.specs.steps.Asks.{Opens};
 ghost use Rattle.xp_subs.specs.Tables.{line_count};
 
 use crate::acceptance::Wanted;
 use crate::fault::CallFault;
 use std::alloc::{Allocator, Global};
 use xp_causes::Refusal;
-use xp_facilities::{Asked, FastSelect, parse};
+use xp_facilities::{FastSelect, RequestedFacilities, parse};
 use xp_groups::{Intent, intent};
 use xp_packets::Block;
 use xp_subs::{LineNo, Subs};
 
-/// The octets of user data that a call without fast select carries at most (X.25 clause 5.2.2).
+/// The most octets of user data in a call without fast select (X.25 clause 5.2.2).
 const MAX_USER_DATA: usize = 16;
 
-/// A call request that its station may make.
+/// A call request that the caller's station may make.
 #[derive(Drop)]
 pub struct Request<A: Allocator = Global> {
-    pub asked: Asked<A>,
+    pub asked: RequestedFacilities<A>,
     pub intent: Intent,
 }
 
 impl<A: Allocator> Request<A> {
-    /// What is asked of each station on the way.
+    /// What the call requests of each station that it reaches.
     pub fn wanted(&self) -> Wanted
         ensures { result ≡ wanted_of self.now }
     {
@@ -34,12 +35,12 @@ impl<A: Allocator> Request<A> {
     }
 }
 
-/// Reads what is asked.
+/// Reads what a call request asks for, and checks that the caller's station may make it.
 ///
 /// # Errors
 ///
-/// Want of memory, or the first refusal: the facilities are faulty, there is too much user data, or the caller's station
-/// may not make the call.
+/// A failed allocation, or the first refusal: the facilities are faulty, there is too much user data, or the caller's
+/// station may not make the call.
 pub fn open<A: Allocator + Copy>(
     alloc: A,
     subs: &Subs,
@@ -62,7 +63,7 @@ pub fn open<A: Allocator + Copy>(
 }
 
 /// Whether the call may carry its user data.
-fn has_room<A: Allocator>(block: &Block<A>, asked: &Asked<A>) -> bool
+fn has_room<A: Allocator>(block: &Block<A>, asked: &RequestedFacilities<A>) -> bool
     ensures room { IsTrue result → HasRoom block.now asked.now }
     ensures too_long { result ≡ false → HasNoRoom block.now asked.now }
 {

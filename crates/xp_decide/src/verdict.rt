@@ -1,26 +1,26 @@
 use std::alloc::{Allocator, Global};
 use xp_causes::Refusal;
-use xp_facilities::{Asked, Reason, Told};
+use xp_facilities::{IndicatedFacilities, Reason, RequestedFacilities};
 use xp_subs::LineNo;
 
-/// What becomes of a call request.
+/// The outcome of a call request.
 #[derive(Debug, Drop, PartialEq)]
 pub enum Verdict<A: Allocator = Global> {
     /// A line rings.
-    Take(Ring<A>),
-    /// The caller gets a clear indication.
+    Take(IncomingCall<A>),
+    /// The call is refused, and the caller receives a clear indication.
     Refuse(Refusal),
 }
 
-/// An incoming call that is put to a line.
+/// An incoming call for a line.
 #[derive(Debug, Drop, PartialEq)]
-pub struct Ring<A: Allocator = Global> {
+pub struct IncomingCall<A: Allocator = Global> {
     /// An idle line of the address where the call ends.
     pub line: LineNo,
     /// The facilities of the incoming call.
-    pub told: Told<A>,
+    pub told: IndicatedFacilities<A>,
     /// The facilities of the call request.
-    pub asked: Asked<A>,
+    pub asked: RequestedFacilities<A>,
     /// Why the call was first redirected, if it was.
     pub reason: Option<Reason>,
 }

@@ -1,5 +1,6 @@
 ghost use Rattle.std.specs.Prelude.{◌<◌};
-ghost use Rattle.xp_decide.specs.Routes.{Visits, IsRedirected, lines_of};
+ghost use Rattle.xp_decide.specs.Routes.{lines_of};
+ghost use Rattle.xp_decide.specs.steps.Routes.{Visits, IsRedirected};
 ghost use Rattle.xp_hunt.specs.Picks.{Picks};
 ghost use Rattle.xp_subs.specs.Tables.{station_at, station_count};
 
@@ -7,31 +8,31 @@ use crate::acceptance::{Wanted, accept};
 use xp_causes::Refusal;
 use xp_facilities::Reason;
 use xp_groups::Admission;
-use xp_hunt::{Lines, Picked, pick};
+use xp_hunt::{HuntOutcome, Lines, pick};
 use xp_packets::Digits;
 use xp_subs::{LineNo, Station, Subs, Target};
 
-/// What becomes of a call at an address that does not refuse it.
+/// The outcome of a call at an address that does not refuse it.
 #[derive(Clone, Copy)]
-pub enum Visit<'a> {
-    /// It is redirected to this address.
-    Left(Reason, &'a Digits),
-    /// This idle line takes it.
+pub enum AddressOutcome<'a> {
+    /// The call is redirected to this address, for this reason.
+    RedirectedTo(Reason, &'a Digits),
+    /// This idle line takes the call.
     Taken(LineNo, Admission),
 }
 
-/// What becomes of the call at this address.
+/// The outcome of the call at this address.
 ///
 /// # Errors
 ///
-/// The first refusal, where the call is not redirected: the address is not known, the station declines the call, or no
-/// line of the address is idle.
+/// The first refusal, if the call is not redirected: the address is not known, the station does not accept the call,
+/// or no line of the address is idle.
 pub fn call_at<'a, L: Lines>(
     subs: &'a Subs,
     lines: &L,
     wanted: &Wanted,
     address: &Digits,
-) -> Result<Visit<'a>, Refusal>
+) -> Result<AddressOutcome<'a>, Refusal>
     ensures { Visits subs.now (L.states lines.now) wanted.now address.now result }
 {
     let target = subs.find(address).ok_or(Refusal::ADDRESS_NOT_KNOWN)?;
@@ -41,14 +42,14 @@ pub fn call_at<'a, L: Lines>(
     }
     let admission = accept(wanted, station)?;
     match hunt(station, target, lines) {
-        Picked::Take(line) => Ok(Visit::Taken(line, admission)),
-        Picked::AllOff => redirected(station, Reason::OutOfOrder).ok_or(Refusal::OUT_OF_ORDER),
-        Picked::Busy => redirected(station, Reason::Busy).ok_or(Refusal::NUMBER_BUSY),
+        HuntOutcome::Take(line) => Ok(AddressOutcome::Taken(line, admission)),
+        HuntOutcome::AllOff => redirected(station, Reason::OutOfOrder).ok_or(Refusal::OUT_OF_ORDER),
+        HuntOutcome::Busy => redirected(station, Reason::Busy).ok_or(Refusal::NUMBER_BUSY),
     }
 }
 
-/// A line of the target for the call, or why there is none.
-fn hunt<L: Lines>(station: &Station, target: Target, lines: &L) -> Picked
+/// Hunts for an idle line of the target.
+fn hunt<L: Lines>(station: &Station, target: Target, lines: &L) -> HuntOutcome
     ensures { Picks (L.states lines.now) (lines_of station.now target.line) result }
 {
     match target.line {
@@ -57,8 +58,8 @@ fn hunt<L: Lines>(station: &Station, target: Target, lines: &L) -> Picked
     }
 }
 
-/// Where the station redirects its calls for this reason, if it does (X.25 clause 6.25.1).
-fn redirected(station: &Station, reason: Reason) -> Option<Visit<'_>>
+/// The redirection of the station's calls for this reason, if it has one (X.25 clause 6.25.1).
+fn redirected(station: &Station, reason: Reason) -> Option<AddressOutcome<'_>>
     ensures { IsRedirected station.now reason result }
 {
     let redirection = station.redirect.as_ref()?;
@@ -68,5 +69,5 @@ fn redirected(station: &Station, reason: Reason) -> Option<Visit<'_>>
         Reason::Busy => redirection.busy,
         Reason::Distribution => false,
     };
-    redirects.then_some(Visit::Left(reason, &redirection.to))
+    redirects.then_some(AddressOutcome::RedirectedTo(reason, &redirection.to))
 }

@@ -7,11 +7,11 @@ use Rattle.xp_core.specs.declared.event.Event.{Event}
 use Rattle.xp_core.specs.declared.stepped.Stepped.{Stepped}
 use Rattle.xp_core.specs.Exchange.{Exchange, Advances, world_of}
 use Rattle.xp_core.specs.Run.{RunFrom}
-use Rattle.xp_core.specs.World.{World}
+use Rattle.xp_machine.specs.World.{World}
 use Rattle.xp_script.specs.Text.{entry_text}
-use Rattle.xp_exchange.specs.Acting.{ActsOnFirst}
+use Rattle.xp_exchange.specs.steps.Acting.{ActsOnFirst}
 use Rattle.xp_exchange.specs.Play.{ActsOn}
-use Rattle.xp_exchange.specs.Serial.{IsTold}
+use Rattle.xp_exchange.specs.WholeScript.{IsWritten}
 
 module _ {A : Type 0} where
   run_both : (tables : Tables) (before : List (Entry A)) (world : World) (entries : List (Entry A)) (between : World) (more : List (Entry A)) (last : World)
@@ -70,7 +70,7 @@ module _ {A : Type 0} where
   }
 
   -- what is told of it is the text of its entry
-  pub told_one : (old : Exchange A) (event : Event A) (new : Exchange A) (told : Stepped A) (advances : Advances old event new told) → IsTold old new (entry_text old.subs advances.entry)
+  pub told_one : (old : Exchange A) (event : Event A) (new : Exchange A) (told : Stepped A) (advances : Advances old event new told) → IsWritten old new (entry_text old.subs advances.entry)
   told_one old event new told advances = record {
     entries = advances.entry ∷ [];
     history = advances.history;

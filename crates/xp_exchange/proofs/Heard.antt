@@ -1,14 +1,15 @@
 -- Events of frames, one more at a time.
 use Rattle.std.proofs.Common.{◌≡◌, ℕ, List, [], ◌∷◌, ◌++◌, refl, sym, ap, ◌∙◌, append_assoc, append-nil, subst, All, true, false, Some, Result, Ok, Err, IfOk, OnOk}
 use Rattle.std.proofs.lemmas.List.Elements.{All-append, All-nil, All-cons}
-use Rattle.xp_frames.specs.Held.{Held, Gives, Takes}
+use Rattle.xp_frames.specs.Deframer.{DeframerState, Gives, Takes}
 use Rattle.xp_core.specs.declared.event.What.TheVariants.{Down}
 use Rattle.xp_core.specs.declared.event.Event.{Event}
-use Rattle.xp_exchange.specs.Acting.{emptied, IsBetweenFrames, TakesWhole}
-use Rattle.xp_exchange.specs.Heard.{AreRead, CanCome, Hears, IsReadAs}
+use Rattle.xp_exchange.specs.steps.Acting.{emptied, IsBetweenFrames, TakesWhole}
+use Rattle.xp_exchange.specs.FrameEvents.{AreRead, ReadsEvents, IsReadAs}
+use Rattle.xp_exchange.specs.steps.FrameEvents.{CanCome}
 
 -- the waiting packets are those of the frames
-taken_waiting : (old between : Held) (octets : List ℕ) → IsBetweenFrames old → (takes : Takes old octets between) → between.waiting ≡ takes.packets
+taken_waiting : (old between : DeframerState) (octets : List ℕ) → IsBetweenFrames old → (takes : Takes old octets between) → between.waiting ≡ takes.packets
 taken_waiting old between octets idle takes = takes.waiting ∙ ap (λ front. front ++ takes.packets) idle.0
 
 module _ {A : Type 0} where
@@ -24,7 +25,7 @@ module _ {A : Type 0} where
   IsFit line event = (event.line ≡ line) × CanCome event.what
 
   -- The packets that were asked for so far are these events, and the others wait.
-  pub record ReadSoFar (line : ℕ) (first now : Held) (events : List (Event A)) : Type 0 where
+  pub record ReadSoFar (line : ℕ) (first now : DeframerState) (events : List (Event A)) : Type 0 where
     pub packets : List (List ℕ)
     pub waiting : first.waiting ≡ packets ++ now.waiting
     pub rest : now.rest ≡ first.rest
@@ -32,10 +33,10 @@ module _ {A : Type 0} where
     pub read : AreRead line packets events
     pub fit : All (IsFit line) events
 
-  pub read_nothing : (line : ℕ) (first : Held) → ReadSoFar line first first []
+  pub read_nothing : (line : ℕ) (first : DeframerState) → ReadSoFar line first first []
   read_nothing line first = record { packets = []; waiting = refl; rest = refl; failed = refl; read = tt; fit = All-nil (IsFit line) }
 
-  pub read_next : (line : ℕ) (first before now : Held) (events after : List (Event A)) (packet : List ℕ) (event : Event A)
+  pub read_next : (line : ℕ) (first before now : DeframerState) (events after : List (Event A)) (packet : List ℕ) (event : Event A)
       → ReadSoFar line first before events → Gives before (Some packet) now → after ≡ events ++ event ∷ []
       → event.line ≡ line → IsReadAs packet event.what → CanCome event.what → ReadSoFar line first now after
   read_next line first before now events after packet event so_far given pushed here what readable =
@@ -58,9 +59,9 @@ module _ {A : Type 0} where
       subst (All (IsFit line)) (sym pushed) (All-append (IsFit line) events (event ∷ []) each (All-cons (IsFit line) event [] one (All-nil (IsFit line))))
 
   -- octets with a bad head behind their frames
-  pub heard_bad : (line : ℕ) (old between : Held) (octets : List ℕ) (events after : List (Event A)) (kept : List ℕ)
+  pub heard_bad : (line : ℕ) (old between : DeframerState) (octets : List ℕ) (events after : List (Event A)) (kept : List ℕ)
       → IsBetweenFrames old → TakesWhole old octets true between → AreRead line between.waiting events
-      → after ≡ events ++ record { line = line; what = Down } ∷ [] → kept ≡ [] → Hears line old.rest octets after kept
+      → after ≡ events ++ record { line = line; what = Down } ∷ [] → kept ≡ [] → ReadsEvents line old.rest octets after kept
   heard_bad line old between octets events after kept idle took read pushed none = record {
     packets = took.0.packets;
     left = between.rest;
@@ -73,9 +74,9 @@ module _ {A : Type 0} where
   }
 
   -- octets with none
-  pub heard_good : (line : ℕ) (old between new : Held) (octets : List ℕ) (events : List (Event A))
+  pub heard_good : (line : ℕ) (old between new : DeframerState) (octets : List ℕ) (events : List (Event A))
       → IsBetweenFrames old → TakesWhole old octets false between → AreRead line between.waiting events → new ≡ emptied between
-      → Hears line old.rest octets events new.rest
+      → ReadsEvents line old.rest octets events new.rest
   heard_good line old between new octets events idle took read same = record {
     packets = took.0.packets;
     left = between.rest;
@@ -88,8 +89,8 @@ module _ {A : Type 0} where
   }
 
   -- the same of an answer
-  pub heard_good_of : {X E : Type 0} (items : X → List (Event A)) (result : Result X E) (line : ℕ) (old between new : Held) (octets : List ℕ)
+  pub heard_good_of : {X E : Type 0} (items : X → List (Event A)) (result : Result X E) (line : ℕ) (old between new : DeframerState) (octets : List ℕ)
       → IsBetweenFrames old → TakesWhole old octets false between → IfOk result (λ x. AreRead line between.waiting (items x)) → OnOk result (new ≡ emptied between)
-      → IfOk result (λ x. Hears line old.rest octets (items x) new.rest)
+      → IfOk result (λ x. ReadsEvents line old.rest octets (items x) new.rest)
   heard_good_of items (Ok x) line old between new octets idle took read same = heard_good line old between new octets (items x) idle took read same
   heard_good_of items (Err e) line old between new octets idle took read same = tt

@@ -3,12 +3,12 @@ use Rattle.std.proofs.Common.{◌≡◌, ℕ, ◌+◌, List, [], ◌∷◌, ◌+
 use Rattle.xp_core.specs.Exchange.{Exchange}
 use Rattle.xp_exchange.specs.declared.fault.ReplayFault.{ReplayFault}
 use Rattle.xp_exchange.specs.declared.fault.ReplayFault.TheVariants.{Script, Journal, Memory, Read, Write}
-use Rattle.xp_exchange.specs.Play.{Standing, PlaysAll}
-use Rattle.xp_exchange.specs.Playing.{Played, ReachesIn}
-use Rattle.xp_exchange.specs.Replaying.{Progress, TakesIn, Overflows}
-use Rattle.xp_exchange.specs.Serial.{IsTold, Stops, StopsAt, PlaysOut, Reaches}
+use Rattle.xp_exchange.specs.Play.{PlayState, PlaysAll}
+use Rattle.xp_exchange.specs.steps.Playing.{Played}
+use Rattle.xp_exchange.specs.steps.Replaying.{Progress, TakesIn, Overflows}
+use Rattle.xp_exchange.specs.WholeScript.{Stops, StopsAt, PlaysOut}
 use Rattle.xp_exchange.specs.Splitting.{joined, line_feed, HasNoFeed, EndsLine}
-use Rattle.xp_exchange.proofs.Tellings.{told_all_but_none, told_nothing, told_both, told_but_last, told_in_part}
+use Rattle.xp_exchange.proofs.Tellings.{told_nothing, outputs_to_both}
 
 pub no_feed_both : (octets more : List ℕ) → HasNoFeed octets → HasNoFeed more → HasNoFeed (octets ++ more)
 no_feed_both [] more none other = other
@@ -16,7 +16,7 @@ no_feed_both (first ∷ octets) more none other = (none.0, no_feed_both octets m
 
 module _ {A : Type 0} where
   -- the subscriptions stay
-  pub same_subs : (old : Standing A) (lines : List (List ℕ)) (new : Standing A) → PlaysAll old lines new → new.exchange.subs ≡ old.exchange.subs
+  pub same_subs : (old : PlayState A) (lines : List (List ℕ)) (new : PlayState A) → PlaysAll old lines new → new.exchange.subs ≡ old.exchange.subs
   same_subs old [] new same = ap (λ moment. moment.exchange.subs) same
   same_subs old (line ∷ earlier) new played = played.2.acts.subs ∙ same_subs old earlier played.0 played.1
 
@@ -64,30 +64,18 @@ module _ {A : Type 0} where
     each = (clean, took.each);
     played = (between.moment, took.played, played.0);
     number = omega (arith, took.number, next);
-    told = told_both old.moment.exchange between.moment.exchange new.moment.exchange text more (same_subs old.moment took.lines between.moment took.played) took.told played.1;
+    told = outputs_to_both old.moment.exchange between.moment.exchange new.moment.exchange text more (same_subs old.moment took.lines between.moment took.played) took.told played.1;
   }
 
-  reaches : (at : Standing A) (line more : List ℕ) (now : Exchange A) → EndsLine more → ReachesIn at line now → Reaches at line more now
-  reaches at line more now over (inl same) = inl same
-  reaches at line more now over (inr begun) = inr (over, begun)
-
   -- a line at which it stops
-  stops_at : (fault : ReplayFault) (first at new : Standing A) (line more : List ℕ) (left : Option (List ℕ)) (number there : ℕ) (text other : List ℕ) → number ≡ there → at.exchange.subs ≡ first.exchange.subs
-      → IsTold first.exchange at.exchange text → EndsLine more → Played at number line (Err fault) new other
-      → StopsAt first at line more there fault left new.exchange (text ++ other)
-  stops_at (Script found) first at new line more left number there text other here same told over played = (
-    played.0 ∙ here,
-    inl (over, played.1),
-    played.2,
-    subst (IsTold first.exchange new.exchange) (sym (ap (λ rest. text ++ rest) played.3 ∙ append-nil text)) (subst (λ after. IsTold first.exchange after text) (sym played.2) told),
-  )
-  stops_at Journal first at new line more left number there text other here same told over played =
-      (played.0, told_both first.exchange at.exchange new.exchange text other same told played.1, over, played.2, played.3)
-  stops_at Memory first at new line more left number there text other here same told over played =
-      (reaches at line more new.exchange over played.0, told_but_last first.exchange at.exchange new.exchange text other same told played.1)
-  stops_at Write first at new line more left number there text other here same told over played =
-      (reaches at line more new.exchange over played.0, told_in_part first.exchange at.exchange new.exchange text other same told played.1)
-  stops_at Read first at new line more left number there text other here same told over played = elim played [ ]
+  stops_at : (fault : ReplayFault) (at new : PlayState A) (line more : List ℕ) (left : Option (List ℕ)) (number there : ℕ) (own : List ℕ) → number ≡ there
+      → EndsLine more → Played at number line (Err fault) new own → StopsAt at line more there fault left new.exchange own
+  stops_at (Script found) at new line more left number there own here over played = (played.0 ∙ here, inl (over, played.1), played.2)
+  stops_at Journal at new line more left number there own here over played = (record { over = over; begun = played.0 }, played.1, played.2, played.3)
+  stops_at Memory at new line more left number there own here over (inl before) = inl before
+  stops_at Memory at new line more left number there own here over (inr within) = inr (record { over = over; begun = within.0 }, within.1)
+  stops_at Write at new line more left number there own here over played = (record { over = over; begun = played.0 }, played.1)
+  stops_at Read at new line more left number there own here over played = elim played [ ]
 
   -- what was read, and what follows
   onward : (old between : Progress A) (front more : List ℕ) (text : List ℕ) → (took : TakesIn old front between text)
@@ -96,7 +84,7 @@ module _ {A : Type 0} where
       sym (append_assoc old.line front more) ∙ ap (λ some. some ++ more) took.whole ∙ append_assoc (joined took.lines) between.line more
 
   -- it stops at a line that is over
-  pub took_stops : (fault : ReplayFault) (old between : Progress A) (new : Standing A) (front more : List ℕ) (left : Option (List ℕ)) (text other : List ℕ) → TakesIn old front between text
+  pub took_stops : (fault : ReplayFault) (old between : Progress A) (new : PlayState A) (front more : List ℕ) (left : Option (List ℕ)) (text other : List ℕ) → TakesIn old front between text
       → EndsLine more → HasNoFeed between.line → Played between.moment between.number between.line (Err fault) new other
       → Stops old.moment old.number (old.line ++ (front ++ more)) fault left new.exchange (text ++ other)
   took_stops fault old between new front more left text other took over clean played = record {
@@ -108,8 +96,11 @@ module _ {A : Type 0} where
     no_feed = clean;
     at = between.moment;
     played = took.played;
-    why = stops_at fault old.moment between.moment new between.line more left between.number (old.number + length took.lines) text other took.number
-        (same_subs old.moment took.lines between.moment took.played) took.told over played;
+    earlier = text;
+    own = other;
+    text_is = refl;
+    told = took.told;
+    why = stops_at fault between.moment new between.line more left between.number (old.number + length took.lines) other took.number over played;
   }
 
   -- it stops in the midst of a line
@@ -125,7 +116,11 @@ module _ {A : Type 0} where
     no_feed = no_feed_both between.line octets clean other;
     at = between.moment;
     played = took.played;
-    why = (over.0 ∙ took.number, inr over.1, refl, took.told);
+    earlier = text;
+    own = [];
+    text_is = sym (append-nil text);
+    told = took.told;
+    why = (over.0 ∙ took.number, inr over.1, (refl, refl));
   }
   took_overflows Memory old between front octets more left text took other clean over = record {
     lines = took.lines;
@@ -136,7 +131,11 @@ module _ {A : Type 0} where
     no_feed = clean;
     at = between.moment;
     played = took.played;
-    why = (inl refl, told_all_but_none old.moment.exchange between.moment.exchange text took.told);
+    earlier = text;
+    own = [];
+    text_is = sym (append-nil text);
+    told = took.told;
+    why = inl (refl, refl);
   }
   took_overflows Journal old between front octets more left text took other clean over = elim over [ ]
   took_overflows Write old between front octets more left text took other clean over = elim over [ ]
@@ -154,7 +153,11 @@ module _ {A : Type 0} where
     no_feed = clean;
     at = between.moment;
     played = took.played;
-    why = (rest, refl, took.told);
+    earlier = text;
+    own = [];
+    text_is = sym (append-nil text);
+    told = took.told;
+    why = (rest, (refl, refl));
   }
 
   -- the last line was played
@@ -168,11 +171,11 @@ module _ {A : Type 0} where
     at = new.moment;
     played = (between.moment, took.played, played.0);
     after_is = refl;
-    told = told_both old.moment.exchange between.moment.exchange new.moment.exchange text other (same_subs old.moment took.lines between.moment took.played) took.told played.1;
+    told = outputs_to_both old.moment.exchange between.moment.exchange new.moment.exchange text other (same_subs old.moment took.lines between.moment took.played) took.told played.1;
   }
 
   -- nothing was read yet
-  pub stops_first : (first : Standing A) (number : ℕ) (octets : List ℕ) (left : Option (List ℕ)) → Stops first number octets Memory left first.exchange []
+  pub stops_first : (first : PlayState A) (number : ℕ) (octets : List ℕ) (left : Option (List ℕ)) → Stops first number octets Memory left first.exchange []
   stops_first first number octets left = record {
     lines = [];
     line = [];
@@ -182,5 +185,9 @@ module _ {A : Type 0} where
     no_feed = tt;
     at = first;
     played = refl;
-    why = (inl refl, told_all_but_none first.exchange first.exchange [] (told_nothing first.exchange));
+    earlier = [];
+    own = [];
+    text_is = refl;
+    told = told_nothing first.exchange;
+    why = inl (refl, refl);
   }

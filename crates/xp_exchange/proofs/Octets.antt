@@ -5,8 +5,8 @@ use Rattle.std.proofs.lemmas.List.{drop_more, take-append-drop, take_all}
 use Rattle.std.specs.Io.KnownBytes.{Appends}
 use Rattle.memchr.specs.Find.{IsFirstByte, Nowhere, Passes, is_byte}
 use Rattle.xp_exchange.specs.declared.fault.ReplayFault.{ReplayFault}
-use Rattle.xp_exchange.specs.Replaying.{Progress, TakesIn, Took, Ended, Overflows}
-use Rattle.xp_exchange.specs.Serial.{Stops}
+use Rattle.xp_exchange.specs.steps.Replaying.{Progress, TakesIn, Took, Ended, Overflows}
+use Rattle.xp_exchange.specs.WholeScript.{Stops}
 use Rattle.xp_exchange.specs.Splitting.{line_feed, HasNoFeed}
 use Rattle.xp_exchange.proofs.Bytes.{appends_nothing, appends_both}
 use Rattle.xp_exchange.proofs.Lines.{no_feed_both, took_none, took_octets, took_line, took_stops, took_overflows}

@@ -7,14 +7,14 @@ use Rattle.xp_script.specs.declared.command.Command.{Command}
 use Rattle.xp_script.specs.Command.{said}
 use Rattle.xp_exchange.specs.declared.fault.ReplayFault.{ReplayFault}
 use Rattle.xp_exchange.specs.declared.fault.ReplayFault.TheVariants.{Script, Journal, Memory, Read, Write}
-use Rattle.xp_exchange.specs.Acting.{Acted, ActsOnFirst}
-use Rattle.xp_exchange.specs.Play.{Standing, Plays, BeginsLine}
-use Rattle.xp_exchange.specs.Playing.{Played}
+use Rattle.xp_exchange.specs.steps.Acting.{Acted, ActsOnFirst}
+use Rattle.xp_exchange.specs.Play.{PlayState, Plays, BeginsLine}
+use Rattle.xp_exchange.specs.steps.Playing.{Played}
 use Rattle.xp_exchange.proofs.Bytes.{appends_kept}
 use Rattle.xp_exchange.proofs.Tellings.{told_whole}
 
 module _ {A : Type 0} where
-  abbrev begins : (old : Standing A) (line : List ℕ) (command : Command A) (events : List (Event A)) (after : List (List ℕ)) (now : Exchange A)
+  abbrev begins : (old : PlayState A) (line : List ℕ) (command : Command A) (events : List (Event A)) (after : List (List ℕ)) (now : Exchange A)
       → said old.exchange.subs line ≡ Some command → Plays (world_of old.exchange) old.unfinished command events after
       → ActsOnFirst old.exchange events now → BeginsLine old line now
   begins old line command events after now says plays acted = record {
@@ -30,7 +30,7 @@ module _ {A : Type 0} where
   }
 
   -- what came of its events is what came of the line
-  pub played : (result : Result (Unit {0}) ReplayFault) (old new : Standing A) (number : ℕ) (line : List ℕ) (command : Command A) (events : List (Event A)) (text : List ℕ)
+  pub played : (result : Result (Unit {0}) ReplayFault) (old new : PlayState A) (number : ℕ) (line : List ℕ) (command : Command A) (events : List (Event A)) (text : List ℕ)
       → said old.exchange.subs line ≡ Some command → Plays (world_of old.exchange) old.unfinished command events new.unfinished
       → Acted old.exchange events result new.exchange text → Played old number line result new text
   played (Ok done) old new number line command events text says plays acted =
@@ -38,16 +38,16 @@ module _ {A : Type 0} where
   played (Err Journal) old new number line command events text says plays acted =
       (begins old line command events new.unfinished new.exchange says plays acted.0, acted.1, acted.2, acted.3)
   played (Err Memory) old new number line command events text says plays acted =
-      (inr (begins old line command events new.unfinished new.exchange says plays acted.0), acted.1)
+      inr (begins old line command events new.unfinished new.exchange says plays acted.0, acted.1)
   played (Err Write) old new number line command events text says plays acted =
-      (inr (begins old line command events new.unfinished new.exchange says plays acted.0), acted.1)
+      (begins old line command events new.unfinished new.exchange says plays acted.0, acted.1)
   played (Err (Script found)) old new number line command events text says plays acted = elim acted [ ]
   played (Err Read) old new number line command events text says plays acted = elim acted [ ]
 
   -- what was played to its end was also begun
-  pub played_in_part : (old new : Standing A) (number : ℕ) (line text : List ℕ) → Played old number line (Ok tt) new text → Played old number line (Err Write) new text
+  pub played_in_part : (old new : PlayState A) (number : ℕ) (line text : List ℕ) → Played old number line (Ok tt) new text → Played old number line (Err Write) new text
   played_in_part old new number line text done = (
-    inr (record {
+    record {
       command = done.0.command;
       says = done.0.says;
       events = done.0.events;
@@ -57,12 +57,12 @@ module _ {A : Type 0} where
       later = [];
       in_order = sym (append-nil done.0.events);
       acts = done.0.acts;
-    }),
+    },
     told_whole old.exchange new.exchange text done.1,
   )
 
   -- The line was played, and the writer flushed or not.
-  pub flushed : (result : Result (Unit {0}) ReplayFault) (old new : Standing A) (number : ℕ) (line : List ℕ) (first between last : Option (List ℕ))
+  pub flushed : (result : Result (Unit {0}) ReplayFault) (old new : PlayState A) (number : ℕ) (line : List ℕ) (first between last : Option (List ℕ))
       → (result ≡ Ok tt) ⊎ (result ≡ Err Write)
       → (text : List ℕ) × Appends first between text × Played old number line (Ok tt) new text → Keeps between last
       → (text : List ℕ) × Appends first last text × Played old number line result new text

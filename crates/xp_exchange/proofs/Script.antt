@@ -6,13 +6,13 @@ use Rattle.xp_subs.specs.Tables.{Tables}
 use Rattle.xp_core.specs.Exchange.{Exchange}
 use Rattle.xp_exchange.specs.declared.fault.ReplayFault.{ReplayFault}
 use Rattle.xp_exchange.specs.declared.fault.ReplayFault.TheVariants.{Script, Journal, Memory, Read, Write}
-use Rattle.xp_exchange.specs.Play.{Standing, PlaysAll, opened, start}
-use Rattle.xp_exchange.specs.Replaying.{Progress, TakesIn, Took, Finished, ReplaysFrom}
-use Rattle.xp_exchange.specs.Serial.{IsTold, StopsAt, Stops, Replays, ReplaysAlone}
+use Rattle.xp_exchange.specs.Play.{PlayState, PlaysAll, opened, start}
+use Rattle.xp_exchange.specs.steps.Replaying.{Progress, TakesIn, Took, Finished, ReplaysFrom}
+use Rattle.xp_exchange.specs.WholeScript.{StopsAt, Stops, Replays, ReplaysAlone}
 use Rattle.xp_exchange.specs.Splitting.{joined, HasNoFeed}
 use Rattle.xp_exchange.proofs.Bytes.{appends_nothing, appends_both, consumes_nothing, consumes_both, consumes_kept}
 use Rattle.xp_exchange.proofs.Lines.{same_subs, took_none, took_stops, took_unread, took_all, stops_first}
-use Rattle.xp_exchange.proofs.Tellings.{told_both, told_but_last, told_in_part}
+use Rattle.xp_exchange.proofs.Tellings.{outputs_to_both}
 
 joined-append : (late early : List (List ℕ)) → joined (late ++ early) ≡ joined early ++ joined late
 joined-append [] early = sym (append-nil (joined early))
@@ -41,7 +41,7 @@ on_whole (Some script) None taken P consumed over holds = elim consumed [ ]
 on_whole (Some script) (Some rest) taken P consumed over holds = subst P (sym (consumed ∙ ap (λ some. taken ++ some) over ∙ append-nil taken)) (holds (ap Some over))
 
 module _ {A : Type 0} where
-  plays-append : (old : Standing A) (early : List (List ℕ)) (between : Standing A) (late : List (List ℕ)) (new : Standing A)
+  plays-append : (old : PlayState A) (early : List (List ℕ)) (between : PlayState A) (late : List (List ℕ)) (new : PlayState A)
       → PlaysAll old early between → PlaysAll between late new → PlaysAll old (late ++ early) new
   plays-append old early between [] new first same = subst (PlaysAll old early) (sym same) first
   plays-append old early between (line ∷ late) new first then = (then.0, plays-append old early between late then.0 first then.1, then.2)
@@ -58,23 +58,9 @@ module _ {A : Type 0} where
     each = each-append second.lines first.lines second.each first.each;
     played = plays-append old.moment first.lines between.moment second.lines new.moment first.played second.played;
     number = omega (arith, first.number, second.number, length-append second.lines first.lines);
-    told = told_both old.moment.exchange between.moment.exchange new.moment.exchange text other
+    told = outputs_to_both old.moment.exchange between.moment.exchange new.moment.exchange text other
         (same_subs old.moment first.lines between.moment first.played) first.told second.told;
   }
-
-  stops_from : (fault : ReplayFault) (first between at : Standing A) (line more : List ℕ) (left : Option (List ℕ)) (after : Exchange A) (number there : ℕ) (text other : List ℕ) → number ≡ there
-      → between.exchange.subs ≡ first.exchange.subs → IsTold first.exchange between.exchange text
-      → StopsAt between at line more number fault left after other → StopsAt first at line more there fault left after (text ++ other)
-  stops_from (Script found) first between at line more left after number there text other here same told why =
-      (why.0 ∙ here, why.1, why.2, told_both first.exchange between.exchange after text other same told why.3)
-  stops_from Journal first between at line more left after number there text other here same told why =
-      (why.0, told_both first.exchange between.exchange after text other same told why.1, why.2, why.3, why.4)
-  stops_from Memory first between at line more left after number there text other here same told why =
-      (why.0, told_but_last first.exchange between.exchange after text other same told why.1)
-  stops_from Write first between at line more left after number there text other here same told why =
-      (why.0, told_in_part first.exchange between.exchange after text other same told why.1)
-  stops_from Read first between at line more left after number there text other here same told why =
-      (why.0, why.1, told_both first.exchange between.exchange after text other same told why.2)
 
   stops_later : (fault : ReplayFault) (old between : Progress A) (front more : List ℕ) (left : Option (List ℕ)) (after : Exchange A) (text other : List ℕ) → TakesIn old front between text
       → Stops between.moment between.number (between.line ++ more) fault left after other
@@ -92,8 +78,14 @@ module _ {A : Type 0} where
     no_feed = stops.no_feed;
     at = stops.at;
     played = plays-append old.moment first.lines between.moment stops.lines stops.at first.played stops.played;
-    why = stops_from fault old.moment between.moment stops.at stops.line stops.more left after (between.number + length stops.lines) (old.number + length (stops.lines ++ first.lines)) text other
-        (omega (arith, first.number, length-append stops.lines first.lines)) (same_subs old.moment first.lines between.moment first.played) first.told stops.why;
+    earlier = text ++ stops.earlier;
+    own = stops.own;
+    text_is = ap (λ rest. text ++ rest) stops.text_is ∙ sym (append_assoc text stops.earlier stops.own);
+    told = outputs_to_both old.moment.exchange between.moment.exchange stops.at.exchange text stops.earlier
+        (same_subs old.moment first.lines between.moment first.played) first.told stops.told;
+    why = subst (λ number. StopsAt stops.at stops.line stops.more number fault left after stops.own)
+        (let same : between.number + length stops.lines ≡ old.number + length (stops.lines ++ first.lines) = omega (arith, first.number, length-append stops.lines first.lines) in same)
+        stops.why;
   }
 
   -- A front of the script was read, from this reader on, and what it says was written.

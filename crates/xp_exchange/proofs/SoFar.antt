@@ -7,13 +7,13 @@ use Rattle.xp_core.specs.declared.event.Event.{Event}
 use Rattle.xp_core.specs.Exchange.{Exchange}
 use Rattle.xp_exchange.specs.declared.fault.ReplayFault.{ReplayFault}
 use Rattle.xp_exchange.specs.declared.fault.ReplayFault.TheVariants.{Script, Journal, Memory, Read, Write}
-use Rattle.xp_exchange.specs.Acting.{Acted, Breaks}
-use Rattle.xp_exchange.specs.Heard.{CanCome}
+use Rattle.xp_exchange.specs.steps.Acting.{Acted, Breaks}
+use Rattle.xp_exchange.specs.steps.FrameEvents.{CanCome}
 use Rattle.xp_exchange.specs.Play.{ActsOn}
-use Rattle.xp_exchange.specs.Serial.{IsTold}
+use Rattle.xp_exchange.specs.WholeScript.{IsWritten}
 use Rattle.xp_exchange.proofs.Acts.{acts_on_nothing, acts_on_both, first_after}
 use Rattle.xp_exchange.proofs.Bytes.{appends_nothing, appends_both}
-use Rattle.xp_exchange.proofs.Tellings.{told_nothing, told_both, told_but_last, told_in_part}
+use Rattle.xp_exchange.proofs.Tellings.{told_nothing, outputs_to_both, told_in_part, no_memory_after}
 
 module _ {A : Type 0} where
   -- an event that the exchange takes
@@ -26,7 +26,7 @@ module _ {A : Type 0} where
     pub acts : ActsOn first done now
     pub text : List ℕ
     pub puts : Appends old new text
-    pub told : IsTold first now text
+    pub told : IsWritten first now text
     pub fit : All (Fits first.subs) left
 
   pub so_far_none : (first : Exchange A) (events : List (Event A)) (known : Option (List ℕ)) → All (Fits first.subs) events → SoFar first events events first known known
@@ -56,7 +56,7 @@ module _ {A : Type 0} where
     acts = acts_on_both first now next so_far.done (event ∷ []) so_far.acts acted.2.0;
     text = so_far.text ++ acted.0;
     puts = appends_both old between new so_far.text acted.0 so_far.puts acted.1;
-    told = told_both first now next so_far.text acted.0 so_far.acts.subs so_far.told acted.2.1;
+    told = outputs_to_both first now next so_far.text acted.0 so_far.acts.subs so_far.told acted.2.1;
     fit = All-tail (Fits first.subs) event rest (subst (All (Fits first.subs)) cut so_far.fit);
   }
 
@@ -79,13 +79,13 @@ module _ {A : Type 0} where
       go : (fault : ReplayFault) → Breaks now (event ∷ []) fault next acted.0 → Breaks first events fault next (so_far.text ++ acted.0)
       go Journal breaks = (
         first_after first now next so_far.done (event ∷ []) events rest whole so_far.acts breaks.0,
-        told_both first now next so_far.text acted.0 so_far.acts.subs so_far.told breaks.1,
+        outputs_to_both first now next so_far.text acted.0 so_far.acts.subs so_far.told breaks.1,
         omega (arith, breaks.2, length-append breaks.0.later rest),
         breaks.3,
       )
       go Memory breaks = (
         first_after first now next so_far.done (event ∷ []) events rest whole so_far.acts breaks.0,
-        told_but_last first now next so_far.text acted.0 so_far.acts.subs so_far.told breaks.1,
+        no_memory_after first now next breaks.0.later rest so_far.text acted.0 so_far.acts.subs so_far.told breaks.1,
       )
       go Write breaks = (
         first_after first now next so_far.done (event ∷ []) events rest whole so_far.acts breaks.0,

@@ -13,10 +13,10 @@ use Rattle.xp_exchange.specs.declared.fault.ReplayFault.{ReplayFault}
 use Rattle.xp_exchange.specs.declared.fault.ReplayFault.TheVariants.{Script, Journal, Memory, Read, Write}
 use Rattle.xp_core.specs.declared.fault.StepFault.{StepFault}
 use Rattle.xp_core.specs.declared.fault.StepFault.TheVariants as steps
-use Rattle.xp_exchange.specs.Acting.{Tells, Acted, reason}
+use Rattle.xp_exchange.specs.steps.Acting.{Tells, Acted, reason}
 use Rattle.xp_exchange.proofs.Acts.{acts_on_one, first_of_all, first_of_none, told_one}
 use Rattle.xp_exchange.proofs.Bytes.{appends_nothing}
-use Rattle.xp_exchange.proofs.Tellings.{told_all_but_none, told_nothing}
+use Rattle.xp_exchange.proofs.Tellings.{told_nothing}
 
 -- the last of a list that was pushed to
 pub last_pushed : {X : Type 0} (xs : List X) (x d : X) (all : List X) (at : ℕ) → all ≡ xs ++ x ∷ [] → at ≡ length all - 1 → get_or all at d ≡ x
@@ -53,7 +53,7 @@ module _ {A : Type 0} where
         tells,
         (
           first_of_all old new (event ∷ []) (acts_on_one old event new told advances room),
-          record { entries = []; untold = advances.entry ∷ []; history = advances.history; last = omega arith; text_is = refl },
+          inr (record { entries = []; last = advances.entry; history = advances.history; text_is = refl }),
         ),
       )
       go (Err Write) tells = (
@@ -89,7 +89,7 @@ module _ {A : Type 0} where
     where
       go : (fault : StepFault A) → (length old.history + 4 ≤ old.subs.journal → fault ≡ steps.Memory event)
           → (text : List ℕ) × Appends known known text × Acted old (event ∷ []) (Err (reason fault)) old text
-      go (steps.Memory back) memory = ([], appends_nothing known, (first_of_none old (event ∷ []), told_all_but_none old old [] (told_nothing old)))
+      go (steps.Memory back) memory = ([], appends_nothing known, (first_of_none old (event ∷ []), inl (omega arith, told_nothing old)))
       go (steps.JournalFull back) memory = (
         [],
         appends_nothing known,

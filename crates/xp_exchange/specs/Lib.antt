@@ -1,7 +1,6 @@
 pub mod Acting
-pub mod Heard
+pub mod FrameEvents
 pub mod Play
-pub mod Playing
-pub mod Replaying
-pub mod Serial
 pub mod Splitting
+pub mod WholeScript
+pub mod steps

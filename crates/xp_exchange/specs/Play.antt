@@ -1,20 +1,20 @@
--- What the lines of a script do, one after the other.
+-- What the lines of a script do, in turn.
 use Rattle.std.specs.Prelude.{◌≡◌, ◌⊎◌, ◌+◌, ◌≤◌, ℕ, Bool, true, false, List, [], ◌∷◌, ◌++◌, length, map, replicate, slice_index_or, slice_set, Some}
 use Rattle.xp_subs.specs.Tables.{Tables, line_count}
 use Rattle.xp_core.specs.declared.entry.Entry.{Entry}
 use Rattle.xp_core.specs.declared.event.Event.{Event}
 use Rattle.xp_core.specs.declared.event.What.{What}
 use Rattle.xp_core.specs.declared.event.What.TheVariants.{Up, Down, Expire as TimerExpires}
-use Rattle.xp_core.specs.Channel.{is_off}
+use Rattle.xp_machine.specs.Channel.{is_off}
 use Rattle.xp_core.specs.Exchange.{Exchange, world_of}
 use Rattle.xp_core.specs.Run.{RunFrom}
-use Rattle.xp_core.specs.World.{World, state_at}
+use Rattle.xp_machine.specs.World.{World, state_at}
 use Rattle.xp_script.specs.declared.command.Command.{Command}
 use Rattle.xp_script.specs.declared.command.Command.TheVariants as commands
 use Rattle.xp_script.specs.Command.{said}
-use Rattle.xp_exchange.specs.Heard.{Hears}
+use Rattle.xp_exchange.specs.FrameEvents.{ReadsEvents}
 
--- by line, the octets of an unfinished frame on its connection
+-- the octets of an unfinished frame on the connection of a line
 abbrev pub unfinished_at : List (List ℕ) → ℕ → List ℕ
 unfinished_at unfinished line = slice_index_or unfinished line []
 
@@ -22,7 +22,7 @@ unfinished_at unfinished line = slice_index_or unfinished line []
 abbrev pub is_off_at : World → ℕ → Bool
 is_off_at world line = is_off (state_at world line)
 
--- A connection begins with nothing. A line in service keeps its connection
+-- A connection begins: no frame on it is unfinished. A line in service keeps the connection that it has
 abbrev pub risen : Bool → ℕ → List (List ℕ) → List (List ℕ)
 risen true line unfinished = slice_set unfinished line []
 risen false line unfinished = unfinished
@@ -31,14 +31,14 @@ module _ {A : Type 0} where
   abbrev pub event_of : ℕ → What A → Event A
   event_of line what = record { line = line; what = what }
 
-  -- octets for a line that is out of service are nothing
-  abbrev pub HearsAt : Bool → ℕ → List (List ℕ) → List ℕ → List (Event A) → List (List ℕ) → Type 0
-  HearsAt true line unfinished octets events after = (events ≡ []) × (after ≡ unfinished)
-  HearsAt false line unfinished octets events after =
-      (kept : List ℕ) × Hears line (unfinished_at unfinished line) octets events kept
+  -- octets that come in on a line out of service are no event
+  abbrev pub ReadsEventsAt : Bool → ℕ → List (List ℕ) → List ℕ → List (Event A) → List (List ℕ) → Type 0
+  ReadsEventsAt true line unfinished octets events after = (events ≡ []) × (after ≡ unfinished)
+  ReadsEventsAt false line unfinished octets events after =
+      (kept : List ℕ) × ReadsEvents line (unfinished_at unfinished line) octets events kept
       × (after ≡ slice_set unfinished line kept)
 
-  -- the events that a command is, and what is kept of unfinished frames
+  -- the events of a command, and the octets of unfinished frames afterwards
   abbrev pub Plays : World → List (List ℕ) → Command A → List (Event A) → List (List ℕ) → Type 0
   Plays world unfinished commands.Nothing events after = (events ≡ []) × (after ≡ unfinished)
   Plays world unfinished (commands.Up line) events after =
@@ -48,42 +48,42 @@ module _ {A : Type 0} where
   Plays world unfinished (commands.Expire line) events after =
       (events ≡ event_of line TimerExpires ∷ []) × (after ≡ unfinished)
   Plays world unfinished (commands.In line octets) events after =
-      HearsAt (is_off_at world line) line unfinished octets events after
+      ReadsEventsAt (is_off_at world line) line unfinished octets events after
 
--- A moment between two lines of a script: the exchange, and what is kept of unfinished frames.
-pub record Standing (A : Type 0) : Type 0 where
+-- The state between two lines of a script: the exchange, and for each line the octets of an unfinished frame.
+pub record PlayState (A : Type 0) : Type 0 where
   pub exchange : Exchange A
   pub unfinished : List (List ℕ)
 
 module _ {A : Type 0} where
-  -- an exchange to which nothing was done yet
+  -- a new exchange
   abbrev pub opened : Tables → Exchange A
   opened tables = record { subs = tables; history = []; stalls = 0 }
 
   -- a script begins: no frame is unfinished
-  abbrev pub start : Exchange A → Standing A
+  abbrev pub start : Exchange A → PlayState A
   start exchange = record { exchange = exchange; unfinished = replicate (line_count exchange.subs) [] }
 
-  -- The exchange acts on these events in turn: one entry for each.
+  -- The exchange acts on these events in turn, and enters one entry for each.
   pub record ActsOn (old : Exchange A) (events : List (Event A)) (new : Exchange A) : Type 0 where
     pub entries : List (Entry A)
     pub run : RunFrom old.subs old.history (world_of old) entries (world_of new)
     pub of_events : map (λ entry. entry.event) entries ≡ events
     pub history : new.history ≡ old.history ++ entries
     pub subs : new.subs ≡ old.subs
-    -- each found four places left in the history
+    -- the history had four places left for each of them
     pub room : (entries ≡ []) ⊎ (length new.history + 3 ≤ old.subs.journal)
 
   -- One line of a script is played to its end.
-  pub record PlaysLine (old : Standing A) (line : List ℕ) (new : Standing A) : Type 0 where
+  pub record PlaysLine (old : PlayState A) (line : List ℕ) (new : PlayState A) : Type 0 where
     pub command : Command A
     pub says : said old.exchange.subs line ≡ Some command
     pub events : List (Event A)
     pub plays : Plays (world_of old.exchange) old.unfinished command events new.unfinished
     pub acts : ActsOn old.exchange events new.exchange
 
-  -- At most its first events were acted on.
-  pub record BeginsLine (old : Standing A) (line : List ℕ) (new : Exchange A) : Type 0 where
+  -- One line of a script is played in part: its first events are acted on. They may be none, and they may be all.
+  pub record BeginsLine (old : PlayState A) (line : List ℕ) (new : Exchange A) : Type 0 where
     pub command : Command A
     pub says : said old.exchange.subs line ≡ Some command
     pub events : List (Event A)
@@ -94,7 +94,7 @@ module _ {A : Type 0} where
     pub in_order : events ≡ first ++ later
     pub acts : ActsOn old.exchange first new
 
-  -- The lines of a script are played in turn, here with the latest first.
-  abbrev pub PlaysAll : Standing A → List (List ℕ) → Standing A → Type 0
+  -- The lines of a script are played in turn. The list has the latest first
+  abbrev pub PlaysAll : PlayState A → List (List ℕ) → PlayState A → Type 0
   PlaysAll old [] new = new ≡ old
-  PlaysAll old (line ∷ earlier) new = (before : Standing A) × PlaysAll old earlier before × PlaysLine before line new
+  PlaysAll old (line ∷ earlier) new = (before : PlayState A) × PlaysAll old earlier before × PlaysLine before line new

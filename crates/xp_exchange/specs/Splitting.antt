@@ -8,7 +8,7 @@ line_feed = 10
 abbrev pub HasNoFeed : List ℕ → Type 0
 HasNoFeed octets = AllByRecursion (λ octet. octet ≡ line_feed → ⊥) octets
 
--- each line with its line feed, here with the latest first
+-- the octets of these lines, each with its line feed; the list has the latest line first
 abbrev pub joined : List (List ℕ) → List ℕ
 joined [] = []
 joined (line ∷ earlier) = joined earlier ++ (line ++ line_feed ∷ [])
@@ -19,7 +19,7 @@ pub record IsSplit (octets : List ℕ) (lines : List (List ℕ)) (last : List �
   pub each : AllByRecursion HasNoFeed lines
   pub no_feed : HasNoFeed last
 
--- the line is over
+-- the line is over: a line feed follows, or nothing
 abbrev pub EndsLine : List ℕ → Type 0
 EndsLine [] = Unit {0}
 EndsLine (octet ∷ octets) = octet ≡ line_feed

@@ -1,10 +1,10 @@
-//! The exchange acts on events, and what it enters is written.
+//! Acts on events, and writes the text of each entry.
 
 ghost use Rattle.std.specs.Prelude.{◌≡◌, ◌<◌, ℕ, List, [], ◌∷◌, All};
 ghost use Rattle.std.specs.Io.KnownBytes.{Appends};
 ghost use Rattle.xp_core.specs.Writable.{AreWritable};
-ghost use Rattle.xp_exchange.specs.Acting.{Acted, Tells, reason};
-ghost use Rattle.xp_exchange.specs.Heard.{CanCome};
+ghost use Rattle.xp_exchange.specs.steps.Acting.{Acted, Tells, reason};
+ghost use Rattle.xp_exchange.specs.steps.FrameEvents.{CanCome};
 ghost use Rattle.xp_script.specs.Lines.{HasLines};
 ghost use Rattle.xp_script.specs.Text.{entry_text};
 ghost use Rattle.xp_subs.specs.Tables.{line_count};
@@ -18,8 +18,8 @@ use xp_core::{Core, Entry, Event, StepFault};
 use xp_script::write_entry;
 use xp_subs::Subs;
 
-/// Takes the events off their queue and acts on them in turn, each written before the next. The octets of each frame and
-/// the text of each entry are made in this memory, whatever it holds.
+/// Takes the events off the queue and acts on them in turn. Writes the text of each entry before it acts on the next
+/// event. `memory` is for the octets of a frame, and `text` for the text of an entry. What they held is lost.
 pub fn act_on_all<A: Allocator + Copy, W: Write>(
     core: &mut Core<A>,
     events: &mut VecDeque<Event<A>, A>,
@@ -37,6 +37,7 @@ pub fn act_on_all<A: Allocator + Copy, W: Write>(
     Ok(())
 }
 
+/// Acts on one event, and writes the text of its entry.
 fn act_on<A: Allocator + Copy, W: Write>(
     core: &mut Core<A>,
     event: Event<A>,
@@ -64,7 +65,7 @@ fn act_on<A: Allocator + Copy, W: Write>(
     }
 }
 
-/// Why a step was refused, without the event.
+/// Returns why a step was refused, without the event.
 fn reason_of<A: Allocator>(fault: &StepFault<A>) -> ReplayFault
     ensures { result ≡ reason fault.now }
 {
@@ -74,7 +75,7 @@ fn reason_of<A: Allocator>(fault: &StepFault<A>) -> ReplayFault
     }
 }
 
-/// Writes the text of an entry, which is made in this memory.
+/// Makes the text of an entry in these vectors, and writes it.
 fn tell<A: Allocator, W: Write>(
     subs: &Subs,
     entry: &Entry<A>,

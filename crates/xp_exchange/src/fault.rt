@@ -7,18 +7,19 @@ use thiserror::Error;
 /// Why a script was not replayed to its end.
 #[derive(Clone, Copy, Debug, PartialEq, Eq, Error)]
 pub enum ReplayFault {
-    /// The line of this number, from 1, is not a line of a script.
+    /// The line of this number is not a line of a script. The first line has the number 1.
     #[error("script line {0}")]
     Script(u64),
-    /// Fewer than four places of the history were left.
+    /// The history had fewer than four places left.
     #[error("journal full")]
     Journal,
+    /// No memory was left.
     #[error("memory")]
     Memory,
-    /// The script could not be read on.
+    /// The reader failed, or too many reads did not end the script.
     #[error("input")]
     Read,
-    /// The text could not be written on.
+    /// The writer failed.
     #[error("output")]
     Write,
 }

@@ -1,8 +1,9 @@
-//! The events that the frames of a line are.
+//! Turns the octets of a line into events.
 
 ghost use Rattle.std.specs.Prelude.{◌≡◌, [], All, IfOk, OnOk};
-ghost use Rattle.xp_exchange.specs.Acting.{emptied, IsBetweenFrames, TakesWhole};
-ghost use Rattle.xp_exchange.specs.Heard.{AreRead, CanCome, Hears, IsReadAs};
+ghost use Rattle.xp_exchange.specs.steps.Acting.{emptied, IsBetweenFrames, TakesWhole};
+ghost use Rattle.xp_exchange.specs.FrameEvents.{AreRead, ReadsEvents, IsReadAs};
+ghost use Rattle.xp_exchange.specs.steps.FrameEvents.{CanCome};
 
 use std::alloc::{AllocError, Allocator};
 use std::collections::VecDeque;
@@ -11,9 +12,9 @@ use xp_frames::{Deframer, FrameFault};
 use xp_packets::{PacketFault, decode};
 use xp_subs::LineNo;
 
-/// Fills the queue with the events that octets of a line are: those of its frames, and that it goes down where a head is
-/// bad. Then its stream begins anew.
-pub fn hear<A: Allocator + Copy>(
+/// Fills the queue with the events of octets that come in on a line: one for each frame, and that the line goes down if a
+/// bad header follows the frames. After a bad header the stream begins anew.
+pub fn read_events<A: Allocator + Copy>(
     alloc: A,
     line: LineNo,
     stream: &mut Deframer<A>,
@@ -21,7 +22,7 @@ pub fn hear<A: Allocator + Copy>(
     events: &mut VecDeque<Event<A>, A>,
 ) -> Result<(), AllocError>
     requires { IsBetweenFrames stream.old }
-    ensures heard { OnOk result (Hears line stream.old.rest octets.now events.new.items stream.new.rest) }
+    ensures heard { OnOk result (ReadsEvents line stream.old.rest octets.now events.new.items stream.new.rest) }
     ensures between { OnOk result (IsBetweenFrames stream.new) }
     ensures fit { OnOk result (All (λ event. (event.line ≡ line) × CanCome event.what) events.new.items) }
 {
@@ -35,7 +36,7 @@ pub fn hear<A: Allocator + Copy>(
     Ok(())
 }
 
-/// Takes octets in: whether a bad head stands behind their frames.
+/// Feeds octets to the stream. Returns whether a bad header follows their frames.
 fn fails_with<A: Allocator + Copy>(
     stream: &mut Deframer<A>,
     octets: &[u8],
@@ -50,7 +51,7 @@ fn fails_with<A: Allocator + Copy>(
     }
 }
 
-/// Fills the queue with the events of the packets that wait, which wait no more.
+/// Takes the packets that wait off the stream, and fills the queue with their events.
 fn read_all<A: Allocator + Copy>(
     alloc: A,
     line: LineNo,
@@ -70,7 +71,7 @@ fn read_all<A: Allocator + Copy>(
     Ok(())
 }
 
-/// A packet, or octets that are none, come on a line.
+/// Returns the event of one frame of a line, which holds these octets. They are a packet or they are none.
 fn event_of<A: Allocator + Copy>(
     alloc: A,
     line: LineNo,
@@ -82,7 +83,7 @@ fn event_of<A: Allocator + Copy>(
 {
     let what = match decode(alloc, octets) {
         Ok((identifier, packet)) => What::frame(identifier, packet),
-        Err(PacketFault::Wrong(wrong)) => What::WrongFrame(wrong),
+        Err(PacketFault::Malformed(wrong)) => What::WrongFrame(wrong),
         Err(PacketFault::Memory) => return Err(AllocError),
     };
     Ok(Event { line, what })

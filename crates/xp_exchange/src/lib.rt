@@ -1,4 +1,4 @@
-//! Replaying a script: its lines in, the text of what the exchange puts out and records.
+//! Replays a script: reads its lines, and writes the text of what the exchange sends and records.
 #![tactic(auto)]
 
 mod acting;

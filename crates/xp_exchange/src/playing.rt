@@ -1,11 +1,11 @@
-//! Playing the lines of a script.
+//! Plays the lines of a script.
 
 ghost use Rattle.std.specs.Prelude.{◌≡◌, ◌+◌, ◌<◌, ◌^◌, ℕ, List, [], ◌∷◌, ◌++◌, All, IfErr, IfOk, OnOk, length};
 ghost use Rattle.std.specs.Io.KnownBytes.{Appends};
 ghost use Rattle.xp_core.specs.Exchange.{world_of};
-ghost use Rattle.xp_exchange.specs.Heard.{CanCome};
+ghost use Rattle.xp_exchange.specs.steps.FrameEvents.{CanCome};
 ghost use Rattle.xp_exchange.specs.Play.{Plays, is_off_at};
-ghost use Rattle.xp_exchange.specs.Playing.{Played};
+ghost use Rattle.xp_exchange.specs.steps.Playing.{Played};
 ghost use Rattle.xp_script.specs.Command.{HasLine};
 ghost use Rattle.xp_subs.specs.Tables.{line_count};
 
@@ -21,25 +21,27 @@ use xp_core::{Core, Event, What};
 use xp_script::{Command, LineFault};
 use xp_subs::LineNo;
 
-/// An exchange that a script is played to.
+/// An exchange to which a script is played.
 #[derive(Drop)]
 pub struct Playing<A: Allocator = Global> {
     alloc: A,
     core: Core<A>,
     streams: Streams<A>,
-    /// For the octets of a line and then of a frame that is put out, for the events of a line, and for the text of an
-    /// entry. They are kept for their memory: what they hold between two lines is of no use.
+    /// The octets that come in on a line, and later those of a frame that is sent. This vector, the queue and the text
+    /// are kept for their memory alone: no line uses what the line before left in them.
     octets: Vec<u8, A>,
+    /// The events of a line.
     events: VecDeque<Event<A>, A>,
+    /// The text of an entry.
     text: Vec<u8, A>,
 }
 
 impl<A: Allocator> Model for Playing<A> {
     ghost use Rattle.std.specs.Prelude.{◌≡◌, length};
-    ghost use Rattle.xp_exchange.specs.Play.{Standing};
+    ghost use Rattle.xp_exchange.specs.Play.{PlayState};
     ghost use Rattle.xp_subs.specs.Tables.{line_count};
 
-    ghost Value = { Standing A };
+    ghost Value = { PlayState A };
 
     ghost view = { λ p. record { exchange = p.core; unfinished = p.streams } };
 
@@ -49,7 +51,7 @@ impl<A: Allocator> Model for Playing<A> {
 impl<A: Allocator + Copy> Playing<A> {
     ghost use Rattle.xp_exchange.specs.Play.{start};
 
-    /// An exchange that a script begins to be played to. Where no memory is found it comes back.
+    /// Begins to play a script to an exchange. Returns the exchange if there is no memory.
     pub fn new(alloc: A, core: Core<A>) -> Result<Playing<A>, Core<A>>
         ensures ok { IfOk result (λ playing. playing ≡ start core) }
         ensures err { IfErr result (λ back. back ≡ core) }
@@ -67,14 +69,14 @@ impl<A: Allocator + Copy> Playing<A> {
         }
     }
 
-    /// The exchange.
+    /// Returns the exchange.
     pub fn into_core(self) -> Core<A>
         ensures { result ≡ self.exchange }
     {
         self.core
     }
 
-    /// Plays the line of this number, and writes what is put out and recorded.
+    /// Plays the line of this number, and writes the text of what the exchange sends and records.
     pub fn play<W: Write>(
         &mut self,
         number: u64,
@@ -89,7 +91,7 @@ impl<A: Allocator + Copy> Playing<A> {
             Err(LineFault::Faulty) => return Err(ReplayFault::Script(number)),
             Err(LineFault::Memory) => return Err(ReplayFault::Memory),
         };
-        hear(
+        read_events(
             &self.core,
             &mut self.streams,
             command,
@@ -106,8 +108,8 @@ impl<A: Allocator + Copy> Playing<A> {
     }
 }
 
-/// Fills the queue with the events that a command is. The memory of its octets is given back.
-fn hear<A: Allocator + Copy>(
+/// Fills the queue with the events of a command. Puts the vector of its octets back into `memory`.
+fn read_events<A: Allocator + Copy>(
     core: &Core<A>,
     streams: &mut Streams<A>,
     command: Command<A>,
@@ -135,14 +137,14 @@ fn hear<A: Allocator + Copy>(
             if is_off(core, line) {
                 return Ok(());
             }
-            streams.hear(line, octets.as_slice(), events)?;
+            streams.read_events(line, octets.as_slice(), events)?;
             *memory = octets.into_vec();
             Ok(())
         }
     }
 }
 
-/// Whether a line is out of service.
+/// Returns whether a line is out of service.
 fn is_off<A: Allocator>(core: &Core<A>, line: LineNo) -> bool
     ensures { result ≡ is_off_at (world_of core.now) line }
 {

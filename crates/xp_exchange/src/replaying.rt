@@ -1,9 +1,9 @@
-//! A whole script, in pieces as the reader gives them.
+//! Replays a whole script, which a reader gives in pieces.
 
 ghost use Rattle.std.specs.Prelude.{◌≡◌, ◌+◌, ◌<◌, ◌≤◌, ◌^◌, ℕ, List, [], ◌∷◌, ◌++◌, IfOk, IfErr, IfSome, OnOk, length};
 ghost use Rattle.std.specs.Io.KnownBytes.{Appends};
-ghost use Rattle.xp_exchange.specs.Replaying.{Took, Ended, Finished, Overflows, ReplaysFrom};
-ghost use Rattle.xp_exchange.specs.Serial.{Replays, ReplaysAlone};
+ghost use Rattle.xp_exchange.specs.steps.Replaying.{Took, Ended, Finished, Overflows, ReplaysFrom};
+ghost use Rattle.xp_exchange.specs.WholeScript.{Replays, ReplaysAlone};
 ghost use Rattle.xp_exchange.specs.Splitting.{HasNoFeed};
 
 use crate::fault::ReplayFault;
@@ -17,23 +17,28 @@ use xp_core::Core;
 use xp_script::MAX_LINE_OCTETS;
 use xp_subs::Subs;
 
-/// How often a script is read from before it is given up.
+/// After this many reads the replay gives up.
 const MOST_READS: u32 = 1_000_000_000;
 
-/// How many octets one read takes at most.
+/// The most octets that one read takes.
 const PIECE: usize = 4096;
 
 const LINE_FEED: u8 = b'\n';
 
-/// What a replay answers, and the exchange as it is then.
+/// The result of a replay, and the exchange afterwards.
 #[derive(Drop)]
 pub struct Replayed<A: Allocator = Global> {
     pub ended: Result<(), ReplayFault>,
     pub core: Core<A>,
 }
 
-/// Replays a script on an exchange that is opened for it: `replay_on`. The exchange is left as it is, and its memory to the
-/// end of the program: to give back each entry's is some 500 instructions for it.
+/// Opens an exchange and replays a script on it, as `replay_on` does. It does not free the memory of the exchange, which
+/// lasts to the end of the program: to free it takes some 500 instructions for each entry.
+///
+/// # Errors
+///
+/// Those of `replay_on`, with the same promises. `Memory` also if there is none to open the exchange. Then nothing is read
+/// and nothing is written.
 pub fn replay<A: Allocator + Copy, R: Read + Drop, W: Write>(
     alloc: A,
     subs: Subs,
@@ -48,15 +53,24 @@ pub fn replay<A: Allocator + Copy, R: Read + Drop, W: Write>(
     ended
 }
 
-/// Replays a script: plays its lines in turn to an exchange, and writes what it puts out and records, each line's before
-/// the next is played.
+/// Replays a script: plays its lines in turn to an exchange, and writes the text of what the exchange sends and records.
+/// It writes the text of a line before it plays the next.
 ///
 /// # Errors
 ///
-/// `Script` with the number of the first line that is not a line of a script, of which nothing is done; `Journal`
-/// where fewer than four places of the history are left for an event; `Memory`; `Read`, also after 1,000,000,000
-/// reads, when all whole lines that were read are played. What was entered before is written, but for an entry whose
-/// own text finds no memory. `Write` where it cannot be written; then a prefix of it is.
+/// The replay stops at one line. All lines before it are played, and their text is written whole, whatever the error.
+/// What is done and written of the line itself depends on the error:
+///
+/// - `Script`, with the number of the line: it is not a line of a script. Nothing of it is done or written.
+/// - `Read`: the reader failed, or 1,000,000,000 reads did not end the script. Nothing is done or written of the line
+///   whose end was not read.
+/// - `Journal`: the history has fewer than four places left for the next event of the line. The text of the events
+///   before that one is written whole.
+/// - `Memory`: no memory was left, and one of three holds. Nothing of the line is done or written. Or the exchange
+///   refused the next event of the line, and the text of the events before that one is written whole. Or the text of
+///   the last entry could not be made: this entry is of the line, and no other text is missing.
+/// - `Write`: the writer failed. The first events of the line are done, perhaps all, and a prefix of their text is
+///   written.
 pub fn replay_on<A: Allocator + Copy, R: Read, W: Write>(
     alloc: A,
     core: Core<A>,
@@ -78,19 +92,19 @@ pub fn replay_on<A: Allocator + Copy, R: Read, W: Write>(
     }
 }
 
-/// A script on the way.
+/// A script of which a part was read.
 #[derive(Drop)]
 struct UnfinishedScript<A: Allocator = Global> {
     playing: Playing<A>,
-    /// The octets of the line that is not over.
+    /// The octets that were read of the line that is not over.
     line: Vec<u8, A>,
-    /// Its number.
+    /// The number of that line.
     number: u64,
 }
 
 impl<A: Allocator> Model for UnfinishedScript<A> {
     ghost use Rattle.std.specs.Prelude.{◌≤◌, length};
-    ghost use Rattle.xp_exchange.specs.Replaying.{Progress};
+    ghost use Rattle.xp_exchange.specs.steps.Replaying.{Progress};
     ghost use Rattle.xp_exchange.specs.Splitting.{HasNoFeed};
 
     ghost Value = { Progress A };
@@ -115,7 +129,7 @@ impl<A: Allocator + Copy> UnfinishedScript<A> {
         })
     }
 
-    /// Reads the script to its end.
+    /// Reads the script to its end, and plays its lines.
     fn read_all<R: Read, W: Write>(
         &mut self,
         reader: &mut R,
@@ -140,7 +154,7 @@ impl<A: Allocator + Copy> UnfinishedScript<A> {
         Err(ReplayFault::Read)
     }
 
-    /// Takes the next octets of the script.
+    /// Takes the next octets of the script, and plays the lines that they end.
     fn take<W: Write>(&mut self, octets: &[u8], writer: &mut W) -> Result<(), ReplayFault>
         requires number { self.old.number + length octets.now < 2 ^ 64 }
         requires line { HasNoFeed self.old.line }
@@ -157,7 +171,7 @@ impl<A: Allocator + Copy> UnfinishedScript<A> {
         self.add(rest)
     }
 
-    /// Plays the line that is over.
+    /// Plays the line, which is over, and begins the next.
     fn end_line<W: Write>(&mut self, writer: &mut W) -> Result<(), ReplayFault>
         requires { self.old.number + 1 < 2 ^ 64 }
         ensures ended { (text : List ℕ) × Appends (W.contents writer.old) (W.contents writer.new) text × Ended self.old result self.new text }
@@ -185,7 +199,7 @@ impl<A: Allocator + Copy> UnfinishedScript<A> {
             .map_err(|_| ReplayFault::Memory)
     }
 
-    /// Plays the last line, which may lack its line feed.
+    /// Plays the last line, which may lack its line feed, and flushes the writer.
     fn finish<W: Write>(&mut self, writer: &mut W) -> Result<(), ReplayFault>
         ensures finished { (text : List ℕ) × Appends (W.contents writer.old) (W.contents writer.new) text × Finished self.old result self.new text }
         ensures line { HasNoFeed self.old.line }

@@ -1,10 +1,11 @@
-//! The octet streams of all lines, each cut into frames by itself.
+//! Keeps the octet stream of each line, and cuts it into frames.
 
 ghost use Rattle.std.specs.Prelude.{◌≡◌, ◌<◌, [], All, IfOk, OnOk, length, replicate, slice_set};
-ghost use Rattle.xp_exchange.specs.Heard.{CanCome, Hears};
+ghost use Rattle.xp_exchange.specs.FrameEvents.{ReadsEvents};
+ghost use Rattle.xp_exchange.specs.steps.FrameEvents.{CanCome};
 ghost use Rattle.xp_exchange.specs.Play.{unfinished_at};
 
-use crate::frames::hear;
+use crate::frames::read_events;
 use std::alloc::{AllocError, Allocator, Global};
 use std::collections::VecDeque;
 use std::marker::Model;
@@ -12,7 +13,7 @@ use xp_core::Event;
 use xp_frames::Deframer;
 use xp_subs::LineNo;
 
-/// By line, what is kept of an unfinished frame on its connection.
+/// For each line, the octets of an unfinished frame on its connection.
 #[derive(Drop)]
 pub struct Streams<A: Allocator = Global> {
     alloc: A,
@@ -21,7 +22,7 @@ pub struct Streams<A: Allocator = Global> {
 
 impl<A: Allocator> Model for Streams<A> {
     ghost use Rattle.std.specs.Prelude.{List, ℕ, All, map};
-    ghost use Rattle.xp_exchange.specs.Acting.{IsBetweenFrames};
+    ghost use Rattle.xp_exchange.specs.steps.Acting.{IsBetweenFrames};
 
     ghost Value = { List (List ℕ) };
 
@@ -31,7 +32,7 @@ impl<A: Allocator> Model for Streams<A> {
 }
 
 impl<A: Allocator + Copy> Streams<A> {
-    /// Nothing was heard of any of so many lines.
+    /// Makes the streams of this many lines. No octet has come in on any of them.
     pub fn new(alloc: A, lines: usize) -> Result<Streams<A>, AllocError>
         ensures { IfOk result (λ streams. streams ≡ replicate lines []) }
     {
@@ -42,7 +43,7 @@ impl<A: Allocator + Copy> Streams<A> {
         Ok(Streams { alloc, streams })
     }
 
-    /// A connection of a line begins.
+    /// Begins a connection of a line. The octets of an unfinished frame are dropped.
     pub fn begin(&mut self, line: LineNo)
         requires { line < length self.old }
         ensures { self.new ≡ slice_set self.old line [] }
@@ -50,23 +51,23 @@ impl<A: Allocator + Copy> Streams<A> {
         self.streams[usize::from(line)] = Deframer::new(self.alloc);
     }
 
-    /// Fills the queue with the events that octets of a line are: those of its frames, and that it goes down where a head
-    /// is bad.
-    pub fn hear(
+    /// Fills the queue with the events of octets that come in on a line: one for each frame, and that the line goes down
+    /// if a bad header follows the frames.
+    pub fn read_events(
         &mut self,
         line: LineNo,
         octets: &[u8],
         events: &mut VecDeque<Event<A>, A>,
     ) -> Result<(), AllocError>
         requires { line < length self.old }
-        ensures heard { OnOk result (Hears line (unfinished_at self.old line) octets.now events.new.items (unfinished_at self.new line)) }
+        ensures heard { OnOk result (ReadsEvents line (unfinished_at self.old line) octets.now events.new.items (unfinished_at self.new line)) }
         ensures kept { OnOk result (self.new ≡ slice_set self.old line (unfinished_at self.new line)) }
         ensures lines { length self.new ≡ length self.old }
         ensures fit { OnOk result (All (λ event. (event.line ≡ line) × CanCome event.what) events.new.items) }
     {
         let stream = &mut self.streams[usize::from(line)];
-        if let Err(refused) = hear(self.alloc, line, stream, octets, events) {
-            // Want of memory may leave packets that wait.
+        if let Err(refused) = read_events(self.alloc, line, stream, octets, events) {
+            // Without memory, packets may still wait in the stream.
             *stream = Deframer::new(self.alloc);
             return Err(refused);
         }

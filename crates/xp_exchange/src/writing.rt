@@ -1,12 +1,12 @@
-//! Text to a writer, whole or as much as it takes.
+//! Writes text to a writer.
 
 ghost use Rattle.xp_exchange.specs.Acting.{Puts};
 
 use crate::fault::ReplayFault;
 use std::io::{ErrorKind, Write};
 
-/// Writes the whole text; at a fault a prefix of it is written. Not by `write_all`, whose contract does not say what was
-/// written at a fault.
+/// Writes the whole text. If the writer fails, a prefix of the text is written. This does not call `write_all`, whose
+/// contract does not say what is written when the writer fails.
 pub fn write_out<W: Write>(writer: &mut W, text: &[u8]) -> Result<(), ReplayFault>
     ensures { Puts (W.contents writer.old) (W.contents writer.new) text.now result }
 {

@@ -6,8 +6,6 @@ mod events;
 #[cfg(test)]
 mod replays;
 #[cfg(test)]
-mod scripts;
-#[cfg(test)]
 mod steps;
 #[cfg(test)]
 mod tasks;

@@ -3,13 +3,15 @@
 ghost use Rattle.std.specs.Prelude.{IfOk};
 ghost use Rattle.xp_core.specs.Exchange.{IsReadable};
 
-use std::alloc::Allocator;
+use std::alloc::{AllocError, Allocator, Global};
 use std::process::Abort;
 use std::test::Fail;
-use xp_core::{Core, Event, LineView, StepFault, Stepped, What};
+use xp_core::{Core, Event, StepFault, Stepped, What};
+use xp_machine::LineView;
 use xp_packets::{PacketFault, decode};
+use xp_script::{Command, write_entry};
 use xp_subs::{LineNo, Subs};
-use xp_testing::{Refusing, THREE_STATIONS};
+use xp_testing::Refusing;
 
 pub const A1: LineNo = 0;
 
@@ -17,22 +19,89 @@ pub const B1: LineNo = 1;
 
 const H1: LineNo = 2;
 
-/// A call from a1 to b1 that is accepted and then cleared by a1: on which line what packet comes, or where there are no
-/// octets a connection, and how many packets are put out.
-const CALL: [(LineNo, &[u8], usize); 6] = [
-    (A1, &[], 0),
-    (B1, &[], 0),
-    (
-        A1,
-        &[
-            0x10, 0x01, 0x0b, 0x07, 0x20, 0x80, 0x02, 0x00, 0x00, 0x01, 0x00, 0x00, 0x00,
-        ],
-        1,
-    ),
-    (B1, &[0x10, 0x01, 0x0f], 1),
-    (A1, &[0x10, 0x01, 0x13, 0x00, 0x00], 2),
-    (B1, &[0x10, 0x01, 0x17], 0),
-];
+const C1: LineNo = 3;
+
+/// Three stations, and a fourth with the line c1. The second takes fast select and reverse charging, and is redirected to
+/// the third while it is busy.
+const FOUR_STATIONS: &str = r#"[[station]]
+address = "2080010"
+line = [{ name = "a1", port = 19981 }]
+[[station]]
+address = "2080020"
+fast_select = true
+reverse_charging = true
+line = [{ name = "b1", port = 19982 }]
+redirect = { to = "2080030", busy = true }
+[[station]]
+address = "2080030"
+line = [{ name = "h1", port = 19983 }]
+[[station]]
+address = "2080040"
+line = [{ name = "c1", port = 19984 }]
+"#;
+
+/// Calls of a1: one that is accepted and cleared, one that is charged for 65 octets, one by restricted fast select and one
+/// with too much user data, one that the called line pays, and one that is redirected since c1 rings b1.
+const SCRIPT: &str = "\
+up a1
+up b1
+up h1
+up c1
+in a1 0000000d10010b07208002000001000000
+in b1 0000000310010f
+in a1 000000051001130000
+in b1 000000051001130000
+in a1 0000000b10010b0720800200020401
+in b1 0000000310010f
+in a1 000000441001004141414141414141414141414141414141414141414141414141414141414141414141414141414141414141414141414141414141414141414141414141414141
+in b1 00000003100121
+in a1 000000051001130000
+in b1 00000003100117
+in a1 0000008b10010b07208002000201c04141414141414141414141414141414141414141414141414141414141414141414141414141414141414141414141414141414141414141414141414141414141414141414141414141414141414141414141414141414141414141414141414141414141414141414141414141414141414141414141414141414141414141
+in b1 0000000310010f
+in b1 00000003100117
+in a1 00000003100117
+in a1 0000008c10010b07208002000201c0414141414141414141414141414141414141414141414141414141414141414141414141414141414141414141414141414141414141414141414141414141414141414141414141414141414141414141414141414141414141414141414141414141414141414141414141414141414141414141414141414141414141414141
+in a1 00000003100117
+in a1 0000000b10010b0720800200020101
+in b1 0000000710010f00020401
+in a1 000000441001004141414141414141414141414141414141414141414141414141414141414141414141414141414141414141414141414141414141414141414141414141414141
+in a1 000000051001130000
+in b1 00000003100117
+in c1 0000000910010b072080020000
+in a1 0000000910010b072080020000
+in h1 0000000310010f
+";
+
+/// What comes of them.
+const TEXT: &[u8] = b"\
+out b1 0000001610010b77208002020800100642070743020201000000
+out a1 0000000b10010f0006420707430202
+out a1 00000003100117
+out b1 000000051001130000
+record 1 a1 b1 2080020 caller 0 0 00 0
+out b1 0000001210010b772080020208001006420707430202
+out a1 0000000b10010f0006420707430202
+out b1 000000441001004141414141414141414141414141414141414141414141414141414141414141414141414141414141414141414141414141414141414141414141414141414141
+out a1 00000003100121
+out a1 0000000f100117000ac2080000000000000002
+out b1 000000051001130000
+record 2 a1 b1 2080020 caller 2 0 00 0
+out b1 0000009410010b77208002020800100801c04207074302024141414141414141414141414141414141414141414141414141414141414141414141414141414141414141414141414141414141414141414141414141414141414141414141414141414141414141414141414141414141414141414141414141414141414141414141414141414141414141414141414141414141414141
+out b1 00000005100113132a
+out a1 00000005100113112a
+record 3 a1 b1 2080020 caller 0 0 11 42
+out a1 000000051001131327
+out b1 0000001410010b7720800202080010080101420707430202
+out a1 0000000b10010f0006420707430202
+out b1 000000441001004141414141414141414141414141414141414141414141414141414141414141414141414141414141414141414141414141414141414141414141414141414141
+out a1 00000003100117
+out b1 000000111001130000000ac2080000000200000000
+record 4 a1 b1 2080020 called 2 0 00 0
+out b1 0000001210010b772080020208004006420707430202
+out h1 0000001a10010b77208003020800100e420707430202c306010720800200
+out a1 0000001110010f0720800300080801420707430202
+";
 
 /// A data packet of one octet, the first from a1.
 const DATA: [u8; 4] = [0x10, 0x01, 0x00, 0x41];
@@ -50,8 +119,11 @@ pub fn event_of<A: Allocator + Copy>(
             what: What::Up,
         });
     }
-    let (identifier, packet) = decode(alloc, packet)?;
-    let what = What::frame(identifier, packet);
+    let what = match decode(alloc, packet) {
+        Ok((identifier, packet)) => What::frame(identifier, packet),
+        Err(PacketFault::Malformed(wrong)) => What::WrongFrame(wrong),
+        Err(fault) => return Err(fault),
+    };
     Ok(Event { line, what })
 }
 
@@ -68,11 +140,10 @@ fn offer<A: Allocator + Copy>(
     core.step(event)
 }
 
-/// All that the exchange shows of two lines, and how long its lists are.
-fn shown<A: Allocator + Copy>(core: &Core<A>) -> (LineView, LineView, usize, usize) {
+/// All that the exchange shows of its lines, and how long its lists are.
+fn shown<A: Allocator + Copy>(core: &Core<A>) -> ([LineView; 4], usize, usize) {
     (
-        core.line(A1),
-        core.line(B1),
+        [A1, B1, H1, C1].map(|line| core.line(line)),
         core.history().len(),
         core.records().len(),
     )
@@ -99,43 +170,65 @@ fn offer_again<A: Allocator + Copy>(
     }
 }
 
-/// Plays the call with scarce memory, and then stalls.
-fn play<A: Allocator + Copy>(rt: &impl Abort, subs: Subs, ample: A, scarce: A) -> Result<(), Fail> {
-    let Ok(mut core) = Core::new(scarce, subs) else {
+/// What a line of the script brings: its line, and the packet that comes, or no octets where a connection does.
+fn brought(subs: &Subs, alloc: Global, line: &str) -> Result<(LineNo, Vec<u8>), Fail> {
+    match Command::read(subs, line.as_bytes(), Vec::new(alloc))? {
+        Command::Up(line) => Ok((line, Vec::new(alloc))),
+        Command::In(line, frame) => {
+            let packet = frame.as_slice().get(4..).ok_or("a frame")?;
+            Ok((line, Vec::from_slice(alloc, packet)?))
+        }
+        _ => Err("neither a connection nor a packet".into()),
+    }
+}
+
+/// The text of all entries.
+fn told<A: Allocator + Copy>(core: &Core<A>, ample: A) -> Result<Vec<u8, A>, AllocError> {
+    let mut text = Vec::new(ample);
+    for entry in core.history() {
+        write_entry(core.subs(), entry, &mut Vec::new(ample), &mut text)?;
+    }
+    Ok(text)
+}
+
+/// Plays the calls with scarce memory, and then stalls.
+fn play<A: Allocator + Copy>(
+    rt: &impl Abort,
+    alloc: Global,
+    ample: A,
+    scarce: A,
+) -> Result<(), Fail> {
+    let Ok(mut core) = Core::new(scarce, Subs::read(alloc, FOUR_STATIONS)?) else {
         return Ok(());
     };
-    for (at, (line, packet, outputs)) in CALL.iter().enumerate() {
-        let told = offer_again(rt, &mut core, ample, *line, packet)?.ok_or("a second refusal")?;
-        assert_eq!(rt; told.entry, at as u64 + 1);
-        assert_eq!(rt; told.outputs.as_slice().len(), *outputs, "entry {at}");
+    for line in SCRIPT.lines() {
+        let (line, packet) = brought(core.subs(), alloc, line)?;
+        offer_again(rt, &mut core, ample, line, &packet)?.ok_or("a second refusal")?;
     }
-    assert_eq!(rt; core.records().len(), 1);
+    assert_eq!(rt; told(&core, ample)?.as_slice(), TEXT);
+    assert_eq!(rt; core.records().len(), 4);
     stall_all(rt, &mut core, ample)
 }
 
-/// A further call; stalls are prepared, a packet comes, and both lines are stalled, and one that is out of service. Each
-/// request for memory before the stalls is made again where it was refused; a prepared stall makes none, so none of them
-/// is refused.
+/// Stalls are prepared, a packet comes, and three lines are stalled: both of its call, and one that rings. Each request for
+/// memory before the stalls is made again where it was refused; a prepared stall makes none, so none of them is refused.
 fn stall_all<A: Allocator + Copy>(
     rt: &impl Abort,
     core: &mut Core<A>,
     ample: A,
 ) -> Result<(), Fail> {
-    for (line, packet, _) in &CALL[2..4] {
-        offer_again(rt, core, ample, *line, packet)?.ok_or("a second refusal")?;
-    }
     if core.reserve_stalls().is_err() {
         core.reserve_stalls()?;
     }
     offer_again(rt, core, ample, A1, &DATA)?.ok_or("a second refusal")?;
-    for line in [B1, A1, H1] {
+    for line in [H1, A1, B1] {
         let what = What::Stall;
         assert!(rt;
             offer(rt, core, Event { line, what }).is_ok(),
             "line {line}"
         );
     }
-    assert_eq!(rt; core.records().len(), 2);
+    assert_eq!(rt; core.records().len(), 6);
     Ok(())
 }
 
@@ -143,15 +236,14 @@ fn stall_all<A: Allocator + Copy>(
 fn each_request_of_a_step_refused(rt: HostRuntime) -> Result<(), Fail> {
     let ample = Refusing::new(rt.alloc(), 0);
     let mut refused = 0u64;
-    for number in 1..200u64 {
+    for number in 1..1000u64 {
         let scarce = Refusing::new(rt.alloc(), number);
-        let subs = Subs::read(rt.alloc(), THREE_STATIONS)?;
-        play(&rt, subs, &ample, &scarce)?;
+        play(&rt, rt.alloc(), &ample, &scarce)?;
         if scarce.is_pending() {
             break;
         }
         refused = number;
     }
-    assert!(rt; refused > 10 && refused < 199, "{refused} requests");
+    assert!(rt; refused > 10 && refused < 999, "{refused} requests");
     Ok(())
 }

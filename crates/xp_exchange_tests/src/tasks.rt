@@ -5,14 +5,18 @@ use std::io::{ErrorKind, Write};
 use std::process::Abort;
 use std::test::Fail;
 use xp_exchange::ReplayFault;
-use xp_subs::{Subs, SubsFault};
+use xp_subs::{Subs, SubscriptionFault};
 use xp_tasks::{Task, TaskFailure, perform};
 use xp_testing::THREE_STATIONS;
 
 #[test]
 fn failures_that_are_told(rt: HostRuntime) -> Result<(), Fail> {
     let rows = [
-        (TaskFailure::from(SubsFault::Memory), "xp: memory", 4),
+        (
+            TaskFailure::from(SubscriptionFault::Memory),
+            "xp: memory",
+            4,
+        ),
         (TaskFailure::from(ReplayFault::Memory), "xp: memory", 4),
         (TaskFailure::from(ReplayFault::Read), "xp: input", 5),
         (TaskFailure::from(ReplayFault::Write), "xp: output", 5),

@@ -6,7 +6,7 @@ use Rattle.std.specs.List.{list_all}
 use Rattle.std.proofs.lemmas.Bool.{cond-true, cond-false, lt-leb, le-leb, ne_eqb, false≢true, cases_lt}
 use Rattle.std.proofs.lemmas.List.{append-nil, length-append}
 use Rattle.xp_facilities.specs.Items.{Item, octets_of, octets_of_all}
-use Rattle.xp_facilities.specs.Asked.{own, has_code, accepted_codes, has_accepted_codes, last_of, opens, carried, dte_of}
+use Rattle.xp_facilities.specs.Requested.{before_marker, has_code, accepted_codes, has_accepted_codes, last_of, opens, carried, dte_of}
 
 -- lists of one and two, by index
 pub one_is : (xs : List ℕ) → length xs ≡ 1 → xs ≡ get_or xs 0 0 ∷ []
@@ -21,11 +21,11 @@ two_is (x ∷ y ∷ []) e = refl
 two_is (x ∷ y ∷ z ∷ xs) e = absurd (omega arith)
 
 -- one item less
-pub own-marker : (item : Item) (items : List Item) → item.code ≡ 0 → own (item ∷ items) ≡ []
-own-marker item items e = rw e refl
+pub before_marker-marker : (item : Item) (items : List Item) → item.code ≡ 0 → before_marker (item ∷ items) ≡ []
+before_marker-marker item items e = rw e refl
 
-pub own-other : (item : Item) (items : List Item) → eqb item.code 0 ≡ false → own (item ∷ items) ≡ item ∷ own items
-own-other item items e = cond-false (eqb item.code 0) _ _ e
+pub before_marker-other : (item : Item) (items : List Item) → eqb item.code 0 ≡ false → before_marker (item ∷ items) ≡ item ∷ before_marker items
+before_marker-other item items e = cond-false (eqb item.code 0) _ _ e
 
 -- the first of two finds
 abbrev pub later : Option (List ℕ) → Option (List ℕ) → Option (List ℕ)
@@ -107,19 +107,19 @@ keeps-full kept item (Some others) full =
 -- the codes before the first marker
 pub accepted-marker : (item : Item) (items : List Item) → item.code ≡ 0 → has_accepted_codes (item ∷ items) ≡ true
 unfolding has_accepted_codes
-accepted-marker item items e = ap (list_all (has_code accepted_codes)) (own-marker item items e)
+accepted-marker item items e = ap (list_all (has_code accepted_codes)) (before_marker-marker item items e)
 
 pub accepted-other : (item : Item) (items : List Item) → eqb item.code 0 ≡ false → has_code accepted_codes item ≡ true
     → has_accepted_codes (item ∷ items) ≡ has_accepted_codes items
 unfolding has_accepted_codes
 accepted-other item items e h =
-    ap (list_all (has_code accepted_codes)) (own-other item items e) ∙ ap (λ b. b && list_all (has_code accepted_codes) (own items)) h
+    ap (list_all (has_code accepted_codes)) (before_marker-other item items e) ∙ ap (λ b. b && list_all (has_code accepted_codes) (before_marker items)) h
 
 pub accepted-wrong : (item : Item) (items : List Item) → eqb item.code 0 ≡ false → has_code accepted_codes item ≡ false
     → has_accepted_codes (item ∷ items) ≡ false
 unfolding has_accepted_codes
 accepted-wrong item items e h =
-    ap (list_all (has_code accepted_codes)) (own-other item items e) ∙ ap (λ b. b && list_all (has_code accepted_codes) (own items)) h
+    ap (list_all (has_code accepted_codes)) (before_marker-other item items e) ∙ ap (λ b. b && list_all (has_code accepted_codes) (before_marker items)) h
 
 pub accepted-none : has_accepted_codes [] ≡ true
 unfolding has_accepted_codes
@@ -127,23 +127,23 @@ accepted-none = refl
 
 -- a look for the last item of some codes
 pub last-found : (codes : List ℕ) (items left new : List Item) (item : Item) (found : Option (List ℕ)) → left ≡ item ∷ new → (item.code ≡ 0 → ⊥)
-    → has_code codes item ≡ true → later (last_of codes (own left)) found ≡ last_of codes (own items)
-    → later (last_of codes (own new)) (Some item.parameters) ≡ last_of codes (own items)
+    → has_code codes item ≡ true → later (last_of codes (before_marker left)) found ≡ last_of codes (before_marker items)
+    → later (last_of codes (before_marker new)) (Some item.parameters) ≡ last_of codes (before_marker items)
 last-found codes items left new item found e ne has same =
-    sym (last_of-found codes item (own new) found has)
-    ∙ ap (λ x. later (last_of codes x) found) (sym (ap own e ∙ own-other item new (ne_eqb item.code 0 ne)))
+    sym (last_of-found codes item (before_marker new) found has)
+    ∙ ap (λ x. later (last_of codes x) found) (sym (ap before_marker e ∙ before_marker-other item new (ne_eqb item.code 0 ne)))
     ∙ same
 
 pub last-other : (codes : List ℕ) (items left new : List Item) (item : Item) (found : Option (List ℕ)) → left ≡ item ∷ new → (item.code ≡ 0 → ⊥)
-    → has_code codes item ≡ false → later (last_of codes (own left)) found ≡ last_of codes (own items)
-    → later (last_of codes (own new)) found ≡ last_of codes (own items)
+    → has_code codes item ≡ false → later (last_of codes (before_marker left)) found ≡ last_of codes (before_marker items)
+    → later (last_of codes (before_marker new)) found ≡ last_of codes (before_marker items)
 last-other codes items left new item found e ne has same =
-    sym (last_of-other codes item (own new) found has)
-    ∙ ap (λ x. later (last_of codes x) found) (sym (ap own e ∙ own-other item new (ne_eqb item.code 0 ne)))
+    sym (last_of-other codes item (before_marker new) found has)
+    ∙ ap (λ x. later (last_of codes x) found) (sym (ap before_marker e ∙ before_marker-other item new (ne_eqb item.code 0 ne)))
     ∙ same
 
-pub last-none : (codes : List ℕ) (items left : List Item) (found : Option (List ℕ)) → own left ≡ []
-    → later (last_of codes (own left)) found ≡ last_of codes (own items) → found ≡ last_of codes (own items)
+pub last-none : (codes : List ℕ) (items left : List Item) (found : Option (List ℕ)) → before_marker left ≡ []
+    → later (last_of codes (before_marker left)) found ≡ last_of codes (before_marker items) → found ≡ last_of codes (before_marker items)
 unfolding last_of
 last-none codes items left found e same = ap (λ x. later (last_of codes x) found) (sym e) ∙ same
 

@@ -7,16 +7,17 @@ use Rattle.std.proofs.lemmas.List.{length-append, append-nil}
 use Rattle.std.proofs.lemmas.List.Concat.{flat_map-append}
 use Rattle.xp_facilities.specs.Items.{Item, IsItem, octets_of, octets_of_all}
 use Rattle.xp_packets.specs.Writing.{packed}
-use Rattle.xp_facilities.specs.Told.{options, closed_index, open_index, two_digits, four_digits, eight_digits, short, long, throughput, modified, pair, counts, redirection, row, table, marked, marked_octets, is_in_range, Tells, IsToldField, AscendFrom, most_octets}
+use Rattle.xp_facilities.specs.Indicated.{options, closed_index, open_index, two_digits, four_digits, eight_digits, two_digit_index, four_digit_index, throughput, modified, pair, counts, redirection, optional_item, table, marked, is_in_range, Indicates, IsIndicatedField, AscendFrom, most_octets}
+use Rattle.xp_facilities.specs.steps.Indicated.{marked_octets}
 use Rattle.xp_facilities.specs.declared.fast_select.FastSelect.{FastSelect}
 use Rattle.xp_facilities.specs.declared.fast_select.FastSelect.TheVariants.{No, Unrestricted, Restricted}
-use Rattle.xp_facilities.specs.declared.pair.Pair.{Pair}
+use Rattle.xp_facilities.specs.declared.direction_sizes.DirectionSizes.{DirectionSizes}
 use Rattle.xp_facilities.specs.declared.redirection.Reason.{Reason}
-use Rattle.xp_facilities.specs.declared.redirection.Redirected.{Redirected}
+use Rattle.xp_facilities.specs.declared.redirection.RedirectionNotification.{RedirectionNotification}
 use Rattle.xp_facilities.specs.declared.segment_counts.SegmentCounts.{SegmentCounts}
 use Rattle.xp_facilities.specs.declared.selection.Selection.{Selection}
-use Rattle.xp_facilities.specs.declared.selection.Selection.TheVariants.{Nothing, Closed, AlsoOpen}
-use Rattle.xp_facilities.specs.declared.told.Told.{Told}
+use Rattle.xp_facilities.specs.declared.selection.Selection.TheVariants.{Nothing, Closed, WithOutsideAccess}
+use Rattle.xp_facilities.specs.declared.indicated.IndicatedFacilities.{IndicatedFacilities}
 use Rattle.xp_facilities.proofs.Telling.{rows, marked_octets-is}
 
 pub all-append : {X : Type 0} (P : X → Type 0) (xs ys : List X) → AllByRecursion P xs → AllByRecursion P ys → AllByRecursion P (xs ++ ys)
@@ -27,14 +28,14 @@ all-append P (x ∷ xs) ys p q = (p.0, all-append P xs ys p.1 q)
 abbrev pub Suits : ℕ → Option (List ℕ) → Type 0
 Suits code parameters = IfSome parameters (λ p. code < 192 → length p ≡ code / 64 + 1)
 
-pub row-items : (code : ℕ) (parameters : Option (List ℕ)) → Suits code parameters → AllByRecursion IsItem (row code parameters)
-unfolding row
-row-items code None suits = tt
-row-items code (Some parameters) suits = (suits, tt)
+pub optional_item-items : (code : ℕ) (parameters : Option (List ℕ)) → Suits code parameters → AllByRecursion IsItem (optional_item code parameters)
+unfolding optional_item
+optional_item-items code None suits = tt
+optional_item-items code (Some parameters) suits = (suits, tt)
 
 pub rows-items : (entries : List (ℕ × Option (List ℕ))) → AllByRecursion (λ entry. Suits entry.0 entry.1) entries → AllByRecursion IsItem (rows entries)
 rows-items [] suit = tt
-rows-items (entry ∷ entries) suit = all-append IsItem (row entry.0 entry.1) (rows entries) (row-items entry.0 entry.1 suit.0) (rows-items entries suit.1)
+rows-items (entry ∷ entries) suit = all-append IsItem (optional_item entry.0 entry.1) (rows entries) (optional_item-items entry.0 entry.1 suit.0) (rows-items entries suit.1)
 
 pub options-suit : (fast : FastSelect) (reverse : Bool) → Suits 0x01 (options fast reverse)
 unfolding options
@@ -53,13 +54,13 @@ unfolding modified
 modified-suits None = tt
 modified-suits (Some reason) = λ _. refl
 
-pub pair-suits : (code : ℕ) (sizes : Option Pair) → code / 64 ≡ 1 → Suits code (pair sizes)
+pub pair-suits : (code : ℕ) (sizes : Option DirectionSizes) → code / 64 ≡ 1 → Suits code (pair sizes)
 unfolding pair
 pair-suits code None e = tt
 pair-suits code (Some sizes) e = λ _. omega (arith, e)
 
-pub short-suits : (code : ℕ) (index : Option ℕ) → code / 64 ≡ 0 → Suits code (short index)
-unfolding short two_digits
+pub short-suits : (code : ℕ) (index : Option ℕ) → code / 64 ≡ 0 → Suits code (two_digit_index index)
+unfolding two_digit_index two_digits
 short-suits code None e = tt
 short-suits code (Some index) e = by_test (ltb index 100)
   where
@@ -67,8 +68,8 @@ short-suits code (Some index) e = by_test (ltb index 100)
     by_test true = λ _. omega (arith, e)
     by_test false = tt
 
-pub long-suits : (code : ℕ) (index : Option ℕ) → code / 64 ≡ 1 → Suits code (long index)
-unfolding long four_digits
+pub long-suits : (code : ℕ) (index : Option ℕ) → code / 64 ≡ 1 → Suits code (four_digit_index index)
+unfolding four_digit_index four_digits
 long-suits code None e = tt
 long-suits code (Some index) e = by_test (ltb index 100)
   where
@@ -80,7 +81,7 @@ pub counted-suits : (code : ℕ) (parameters : Option (List ℕ)) → 192 ≤ co
 counted-suits code None large = tt
 counted-suits code (Some parameters) large = λ small. absurd (omega (arith, small, large))
 
-pub table-suits : {A : Type 0} (told : Told A) → AllByRecursion (λ entry. Suits entry.0 entry.1) (table told)
+pub table-suits : {A : Type 0} (told : IndicatedFacilities A) → AllByRecursion (λ entry. Suits entry.0 entry.1) (table told)
 table-suits told = (
   options-suit told.fast told.reverse,
   (
@@ -128,49 +129,49 @@ AscendFrom-lower lowest higher (code ∷ codes) h up = (omega (arith, h, up.0), 
 
 pub rows-order : (entries : List (ℕ × Option (List ℕ))) (lowest : ℕ) → AscendFrom lowest (map (λ (entry : ℕ × Option (List ℕ)). entry.0) entries)
     → AscendFrom lowest (map (λ (item : Item). item.code) (rows entries))
-unfolding row
+unfolding optional_item
 rows-order [] lowest up = tt
 rows-order (entry ∷ entries) lowest up =
     by_parameters entry.0 entry.1 (rows entries) lowest up.0 (rows-order entries (entry.0 + 1) up.1)
   where
     by_parameters : (code : ℕ) (parameters : Option (List ℕ)) (items : List Item) (lowest : ℕ) → lowest ≤ code
-        → AscendFrom (code + 1) (map (λ (item : Item). item.code) items) → AscendFrom lowest (map (λ (item : Item). item.code) (row code parameters ++ items))
+        → AscendFrom (code + 1) (map (λ (item : Item). item.code) items) → AscendFrom lowest (map (λ (item : Item). item.code) (optional_item code parameters ++ items))
     by_parameters code None items lowest h up = AscendFrom-lower lowest (code + 1) _ (omega (arith, h)) up
     by_parameters code (Some parameters) items lowest h up = (h, up)
 
--- how many octets a row has at most
+-- how many octets an item has at most
 abbrev pub row_length : ℕ → Option (List ℕ) → ℕ
-row_length code parameters = length (octets_of_all (row code parameters))
+row_length code parameters = length (octets_of_all (optional_item code parameters))
 
 pub options-length : (fast : FastSelect) (reverse : Bool) → row_length 0x01 (options fast reverse) ≤ 2
-unfolding options row
+unfolding options optional_item
 options-length No false = omega arith
 options-length No true = omega arith
 options-length Unrestricted reverse = omega arith
 options-length Restricted reverse = omega arith
 
 pub throughput-length : (class : Option ℕ) → row_length 0x02 (throughput class) ≤ 2
-unfolding throughput row
+unfolding throughput optional_item
 throughput-length None = omega arith
 throughput-length (Some class) = omega arith
 
 pub modified-length : (reason : Option Reason) → row_length 0x08 (modified reason) ≤ cond (is_some reason) 2 0
-unfolding modified row
+unfolding modified optional_item
 modified-length None = omega arith
 modified-length (Some reason) = omega arith
 
-pub packet-length : (sizes : Option Pair) → row_length 0x42 (pair sizes) ≤ 3
-unfolding pair row
+pub packet-length : (sizes : Option DirectionSizes) → row_length 0x42 (pair sizes) ≤ 3
+unfolding pair optional_item
 packet-length None = omega arith
 packet-length (Some sizes) = omega arith
 
-pub window-length : (sizes : Option Pair) → row_length 0x43 (pair sizes) ≤ 3
-unfolding pair row
+pub window-length : (sizes : Option DirectionSizes) → row_length 0x43 (pair sizes) ≤ 3
+unfolding pair optional_item
 window-length None = omega arith
 window-length (Some sizes) = omega arith
 
 pub counts-length : (segments : Option SegmentCounts) → row_length 0xc2 (counts segments) ≤ cond (is_some segments) 10 0
-unfolding counts eight_digits row
+unfolding counts eight_digits optional_item
 counts-length None = omega arith
 counts-length (Some segments) = omega arith
 
@@ -179,17 +180,17 @@ packed-length [] = omega arith
 packed-length (high ∷ []) = omega arith
 packed-length (high ∷ low ∷ digits) = omega (arith, packed-length digits)
 
-pub redirection-length : (redirected : Option Redirected) → IfSome redirected (λ r. length r.dialled ≤ 15)
+pub redirection-length : (redirected : Option RedirectionNotification) → IfSome redirected (λ r. length r.dialled ≤ 15)
     → row_length 0xc3 (redirection redirected) ≤ cond (is_some redirected) 12 0
-unfolding redirection row
+unfolding redirection optional_item
 redirection-length None few = omega arith
 redirection-length (Some r) few = omega (arith, packed-length r.dialled, few, ap length (append-nil (packed r.dialled)))
 
 -- only one of the four rows has the selection
 pub selection-length : (selection : Selection)
-    → row_length 0x03 (short (closed_index selection)) + row_length 0x09 (short (open_index selection))
-    + row_length 0x47 (long (closed_index selection)) + row_length 0x48 (long (open_index selection)) ≤ 3
-unfolding short long two_digits four_digits closed_index open_index row
+    → row_length 0x03 (two_digit_index (closed_index selection)) + row_length 0x09 (two_digit_index (open_index selection))
+    + row_length 0x47 (four_digit_index (closed_index selection)) + row_length 0x48 (four_digit_index (open_index selection)) ≤ 3
+unfolding two_digit_index four_digit_index two_digits four_digits closed_index open_index optional_item
 selection-length Nothing = omega arith
 selection-length (Closed index) = by_test (ltb index 100)
   where
@@ -197,7 +198,7 @@ selection-length (Closed index) = by_test (ltb index 100)
         → row_length 0x03 (cond b (Some (two_digits index)) None) + 0 + row_length 0x47 (cond b None (Some (four_digits index))) + 0 ≤ 3
     by_test true = omega arith
     by_test false = omega arith
-selection-length (AlsoOpen index) = by_test (ltb index 100)
+selection-length (WithOutsideAccess index) = by_test (ltb index 100)
   where
     by_test : (b : Bool)
         → 0 + row_length 0x09 (cond b (Some (two_digits index)) None) + 0 + row_length 0x48 (cond b None (Some (four_digits index))) ≤ 3
@@ -207,31 +208,31 @@ selection-length (AlsoOpen index) = by_test (ltb index 100)
 pub rows-length : (entry : ℕ × Option (List ℕ)) (entries : List (ℕ × Option (List ℕ)))
     → length (octets_of_all (rows (entry ∷ entries))) ≡ row_length entry.0 entry.1 + length (octets_of_all (rows entries))
 rows-length entry entries =
-    ap length (flat_map-append octets_of (row entry.0 entry.1) (rows entries)) ∙ length-append (octets_of_all (row entry.0 entry.1)) (octets_of_all (rows entries))
+    ap length (flat_map-append octets_of (optional_item entry.0 entry.1) (rows entries)) ∙ length-append (octets_of_all (optional_item entry.0 entry.1)) (octets_of_all (rows entries))
 
-pub table-length : {A : Type 0} (told : Told A) → IfSome told.redirected (λ r. length r.dialled ≤ 15)
+pub table-length : {A : Type 0} (told : IndicatedFacilities A) → IfSome told.redirected (λ r. length r.dialled ≤ 15)
     → length (octets_of_all (rows (table told))) + 82 ≤ most_octets told
 table-length told few =
     let t = table told in
     let e0 = rows-length (0x01, options told.fast told.reverse) (drop 1 t) in
     let e1 = rows-length (0x02, throughput told.throughput) (drop 2 t) in
-    let e2 = rows-length (0x03, short (closed_index told.selection)) (drop 3 t) in
+    let e2 = rows-length (0x03, two_digit_index (closed_index told.selection)) (drop 3 t) in
     let e3 = rows-length (0x08, modified told.modified) (drop 4 t) in
-    let e4 = rows-length (0x09, short (open_index told.selection)) (drop 5 t) in
+    let e4 = rows-length (0x09, two_digit_index (open_index told.selection)) (drop 5 t) in
     let e5 = rows-length (0x42, pair told.packet) (drop 6 t) in
     let e6 = rows-length (0x43, pair told.window) (drop 7 t) in
-    let e7 = rows-length (0x47, long (closed_index told.selection)) (drop 8 t) in
-    let e8 = rows-length (0x48, long (open_index told.selection)) (drop 9 t) in
+    let e7 = rows-length (0x47, four_digit_index (closed_index told.selection)) (drop 8 t) in
+    let e8 = rows-length (0x48, four_digit_index (open_index told.selection)) (drop 9 t) in
     let e9 = rows-length (0xc2, counts told.segments) (drop 10 t) in
     let e10 = rows-length (0xc3, redirection told.redirected) (drop 11 t) in
     sums _ _ _ _ _ _ _ _ _ _ _ _ _ _
     (options-length told.fast told.reverse) (throughput-length told.throughput) (selection-length told.selection) (modified-length told.modified)
     (packet-length told.packet) (window-length told.window) (counts-length told.segments) (redirection-length told.redirected few)
     (e0 ∙ ap (λ x. row_length 0x01 (options told.fast told.reverse) + x) (e1 ∙ ap (λ x. row_length 0x02 (throughput told.throughput) + x)
-    (e2 ∙ ap (λ x. row_length 0x03 (short (closed_index told.selection)) + x) (e3 ∙ ap (λ x. row_length 0x08 (modified told.modified) + x)
-    (e4 ∙ ap (λ x. row_length 0x09 (short (open_index told.selection)) + x) (e5 ∙ ap (λ x. row_length 0x42 (pair told.packet) + x)
-    (e6 ∙ ap (λ x. row_length 0x43 (pair told.window) + x) (e7 ∙ ap (λ x. row_length 0x47 (long (closed_index told.selection)) + x)
-    (e8 ∙ ap (λ x. row_length 0x48 (long (open_index told.selection)) + x) (e9 ∙ ap (λ x. row_length 0xc2 (counts told.segments) + x) e10))))))))))
+    (e2 ∙ ap (λ x. row_length 0x03 (two_digit_index (closed_index told.selection)) + x) (e3 ∙ ap (λ x. row_length 0x08 (modified told.modified) + x)
+    (e4 ∙ ap (λ x. row_length 0x09 (two_digit_index (open_index told.selection)) + x) (e5 ∙ ap (λ x. row_length 0x42 (pair told.packet) + x)
+    (e6 ∙ ap (λ x. row_length 0x43 (pair told.window) + x) (e7 ∙ ap (λ x. row_length 0x47 (four_digit_index (closed_index told.selection)) + x)
+    (e8 ∙ ap (λ x. row_length 0x48 (four_digit_index (open_index told.selection)) + x) (e9 ∙ ap (λ x. row_length 0xc2 (counts told.segments) + x) e10))))))))))
   where
     sums : (a b c d e f g h i j k m s r : ℕ) {all : ℕ} → a ≤ 2 → b ≤ 2 → c + e + h + i ≤ 3 → d ≤ m → f ≤ 3 → g ≤ 3 → j ≤ s → k ≤ r
         → all ≡ a + (b + (c + (d + (e + (f + (g + (h + (i + (j + (k + 0)))))))))) → all + 82 ≤ 95 + m + s + r
@@ -242,11 +243,11 @@ unfolding marked_octets
 marked-length [] few = omega arith
 marked-length (octet ∷ octets) few = omega (arith, few)
 
-pub dte-few : {A : Type 0} (told : Told A) → is_in_range told ≡ true → length told.dte ≤ 80
+pub dte-few : {A : Type 0} (told : IndicatedFacilities A) → is_in_range told ≡ true → length told.dte ≤ 80
 unfolding is_in_range
 dte-few told e = leb-true (length told.dte) 80 (and_parts _ _ e).1
 
-pub told-length : {A : Type 0} (told : Told A) (field : List ℕ) → Tells told field → IfSome told.redirected (λ r. length r.dialled ≤ 15)
+pub told-length : {A : Type 0} (told : IndicatedFacilities A) (field : List ℕ) → Indicates told field → IfSome told.redirected (λ r. length r.dialled ≤ 15)
     → length field ≤ most_octets told
 told-length told field tells few =
     let whole : field ≡ octets_of_all (rows (table told)) ++ octets_of_all (marked tells.carried) =
@@ -260,7 +261,7 @@ told-length told field tells few =
     add : (a b c most : ℕ) → a ≡ b + c → c ≤ 82 → b + 82 ≤ most → a ≤ most
     add a b c most same few fits = omega arith
 
-pub told-exchange : {A : Type 0} (told : Told A) (count : ℕ) → count ≤ most_octets told
+pub told-exchange : {A : Type 0} (told : IndicatedFacilities A) (count : ℕ) → count ≤ most_octets told
     → (told.redirected ≡ None) ⊎ ((told.modified ≡ None) × (told.segments ≡ None)) → count ≤ 107
 told-exchange told count most (inl e) =
     by_tests count (is_some told.modified) (is_some told.segments) (subst (λ x. count ≤ 95 + cond (is_some told.modified) 2 0 + cond (is_some told.segments) 10 0 + cond (is_some x) 12 0) e most)
@@ -279,7 +280,7 @@ told-exchange told count most (inr e) =
     by_test count true h = omega (arith, h)
     by_test count false h = omega (arith, h)
 
-pub told_field : {A : Type 0} (told : Told A) (field : List ℕ) (tells : Tells told field) → IsToldField told field tells
+pub told_field : {A : Type 0} (told : IndicatedFacilities A) (field : List ℕ) (tells : Indicates told field) → IsIndicatedField told field tells
 told_field told field tells = record {
   items = record {
     each = all-append IsItem (rows (table told)) (marked tells.carried) (rows-items (table told) (table-suits told))

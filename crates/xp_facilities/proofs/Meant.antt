@@ -5,12 +5,12 @@ use Rattle.std.specs.List.{AllByRecursion, list_any}
 use Rattle.std.proofs.lemmas.Bool.{leb-true, or_from}
 use Rattle.std.proofs.lemmas.Option.{none-some, option_and_then_some}
 use Rattle.xp_facilities.specs.Items.{Item, IsItem, octets_of_all}
-use Rattle.xp_facilities.specs.Asked.{Means, is_marker, opens, carried, dte_of, sizes_within, packet_of, window_of}
+use Rattle.xp_facilities.specs.Requested.{Means, is_marker, opens, carried, dte_of, sizes_within, packet_of, window_of}
 use Rattle.xp_facilities.specs.Limits.{largest_window}
 use Rattle.xp_facilities.specs.Octets.{is_within}
-use Rattle.xp_facilities.specs.Told.{IsCarried, sizes_fit}
-use Rattle.xp_facilities.specs.declared.asked.Asked.{Asked}
-use Rattle.xp_facilities.specs.declared.pair.Pair.{Pair}
+use Rattle.xp_facilities.specs.Indicated.{IsCarried, sizes_fit}
+use Rattle.xp_facilities.specs.declared.requested.RequestedFacilities.{RequestedFacilities}
+use Rattle.xp_facilities.specs.declared.direction_sizes.DirectionSizes.{DirectionSizes}
 use Rattle.xp_facilities.proofs.Asking.{carried-marker, carried-wrong, carried-outside, carried-inside}
 
 -- items, none of them a marker
@@ -85,14 +85,14 @@ dte-tellable items dte each e = option_and_then_some _ (carried false items) dte
       → cond (leb (length (octets_of_all kept)) 80) (Some (octets_of_all kept)) None ≡ Some dte → IsTellable dte
   kept-tellable kept is e = by_length kept (carried-unmarked items each false kept is) _ refl e
 
-sizes-fit : (least most : ℕ) (found : Option (List ℕ)) (sizes : Option Pair) → sizes_within least most found ≡ Some sizes
+sizes-fit : (least most : ℕ) (found : Option (List ℕ)) (sizes : Option DirectionSizes) → sizes_within least most found ≡ Some sizes
     → sizes_fit least most sizes ≡ true
 unfolding sizes_within sizes_fit
 sizes-fit least most None sizes e = let same : None ≡ sizes = cc in ap (sizes_fit least most) (sym same)
 sizes-fit least most (Some []) sizes e = cc
 sizes-fit least most (Some (called ∷ [])) sizes e = cc
 sizes-fit least most (Some (called ∷ calling ∷ [])) sizes e = by_test _ refl e where
-  pair : Pair
+  pair : DirectionSizes
   pair = record { from_called = called; from_calling = calling }
 
   by_test : (fits : Bool) → is_within least most pair ≡ fits → cond fits (Some (Some pair)) None ≡ Some sizes → sizes_fit least most sizes ≡ true
@@ -101,12 +101,12 @@ sizes-fit least most (Some (called ∷ calling ∷ [])) sizes e = by_test _ refl
 sizes-fit least most (Some (called ∷ calling ∷ other ∷ others)) sizes e = cc
 
 -- what is asked of sizes and of facilities between DTEs
-pub record AsksInRange {A : Type 0} (asked : Asked A) : Type 0 where
+pub record AsksInRange {A : Type 0} (asked : RequestedFacilities A) : Type 0 where
   pub packet : sizes_fit 4 12 asked.packet ≡ true
   pub window : sizes_fit 1 largest_window asked.window ≡ true
   pub dte : IsTellable asked.dte
 
-pub asks_in_range : {A : Type 0} (field : List ℕ) (asked : Asked A) → Means field asked → AsksInRange asked
+pub asks_in_range : {A : Type 0} (field : List ℕ) (asked : RequestedFacilities A) → Means field asked → AsksInRange asked
 unfolding packet_of window_of
 asks_in_range field asked means = record {
   packet = sizes-fit 4 12 _ asked.packet means.packet;

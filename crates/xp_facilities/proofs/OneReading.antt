@@ -3,12 +3,13 @@ use Rattle.std.proofs.Common.{◌≡◌, ℕ, zero, suc, ◌≤◌, ◌<◌, Boo
 use Rattle.std.proofs.lemmas.Bool.{false≢true}
 use Rattle.std.proofs.lemmas.Option.{none-some, same_Some}
 use Rattle.std.proofs.lemmas.List.{nil_from_length}
-use Rattle.xp_facilities.specs.Items.{Item, IsField, first_item}
-use Rattle.xp_facilities.specs.Asked.{Means, IsFaulty, HasWrongParameter, HasOneReading, has_accepted_codes, selection_of, packet_of, window_of, dte_of, last_of, octet_of, fast_of, first_bit, own}
-use Rattle.xp_facilities.specs.declared.asked.Asked.{Asked}
+use Rattle.xp_facilities.specs.Items.{Item, IsField}
+use Rattle.xp_facilities.specs.steps.Items.{first_item}
+use Rattle.xp_facilities.specs.Requested.{Means, IsFaulty, HasWrongParameter, HasOneReading, has_accepted_codes, selection_of, packet_of, window_of, dte_of, last_of, octet_of, fast_of, first_bit, before_marker}
+use Rattle.xp_facilities.specs.declared.requested.RequestedFacilities.{RequestedFacilities}
 use Rattle.xp_facilities.specs.declared.fault.FacilityFault.{FacilityFault}
 use Rattle.xp_facilities.specs.declared.fault.FacilityFault.TheVariants.{Length, Code, Param, Memory}
-use Rattle.xp_facilities.specs.declared.pair.Pair.{Pair}
+use Rattle.xp_facilities.specs.declared.direction_sizes.DirectionSizes.{DirectionSizes}
 use Rattle.xp_facilities.specs.declared.selection.Selection.{Selection}
 use Rattle.xp_facilities.proofs.Reading.{IsField-unique, IsField-more, IsField-less, IsField-none, first_item-shorter}
 
@@ -40,10 +41,10 @@ decided octets = decided-within (length octets) octets (omega arith)
 -- a field of items with accepted codes means something, or has a wrong parameter
 pub read : {A : Type 0} (field : List ℕ) (items : List Item) → IsField field items → has_accepted_codes items ≡ true
     → (selection : Option Selection) → selection_of items ≡ selection
-    → (packet : Option (Option Pair)) → packet_of items ≡ packet
-    → (window : Option (Option Pair)) → window_of items ≡ window
+    → (packet : Option (Option DirectionSizes)) → packet_of items ≡ packet
+    → (window : Option (Option DirectionSizes)) → window_of items ≡ window
     → (dte : Option (List ℕ)) → dte_of items ≡ dte
-    → ((asked : Asked A) × Means field asked) ⊎ HasWrongParameter items
+    → ((asked : RequestedFacilities A) × Means field asked) ⊎ HasWrongParameter items
 read field items is codes None s packet p window w dte d = inr (inl s)
 read field items is codes (Some selection) s None p window w dte d = inr (inr (inl p))
 read field items is codes (Some selection) s (Some packet) p None w dte d = inr (inr (inr (inl w)))
@@ -52,10 +53,10 @@ read field items is codes (Some selection) s (Some packet) p (Some window) w (So
     inl (
       record {
         selection = selection;
-        fast = fast_of (octet_of (last_of (0x01 ∷ []) (own items)));
-        reverse = first_bit (octet_of (last_of (0x01 ∷ []) (own items)));
-        throughput = octet_of (last_of (0x02 ∷ []) (own items));
-        charging = first_bit (octet_of (last_of (0x04 ∷ []) (own items)));
+        fast = fast_of (octet_of (last_of (0x01 ∷ []) (before_marker items)));
+        reverse = first_bit (octet_of (last_of (0x01 ∷ []) (before_marker items)));
+        throughput = octet_of (last_of (0x02 ∷ []) (before_marker items));
+        charging = first_bit (octet_of (last_of (0x04 ∷ []) (before_marker items)));
         packet = packet;
         window = window;
         dte = dte;
@@ -75,22 +76,22 @@ read field items is codes (Some selection) s (Some packet) p (Some window) w (So
       },
     )
 
-pub some_reading : {A : Type 0} (field : List ℕ) → ((asked : Asked A) × Means field asked) ⊎ ((fault : FacilityFault) × IsFaulty field fault)
+pub some_reading : {A : Type 0} (field : List ℕ) → ((asked : RequestedFacilities A) × Means field asked) ⊎ ((fault : FacilityFault) × IsFaulty field fault)
 some_reading {A} field = by_items (decided field)
   where
     by_codes : (items : List Item) → IsField field items → (codes : Bool) → has_accepted_codes items ≡ codes
-        → ((asked : Asked A) × Means field asked) ⊎ ((fault : FacilityFault) × IsFaulty field fault)
+        → ((asked : RequestedFacilities A) × Means field asked) ⊎ ((fault : FacilityFault) × IsFaulty field fault)
     by_codes items is false e = inr (Code, (items, is, e))
     by_codes items is true e =
         ⊎_elim (λ means. inl means) (λ wrong. inr (Param, (items, is, e, wrong)))
         (read field items is e (selection_of items) refl (packet_of items) refl (window_of items) refl (dte_of items) refl)
 
-    by_items : Decided field → ((asked : Asked A) × Means field asked) ⊎ ((fault : FacilityFault) × IsFaulty field fault)
+    by_items : Decided field → ((asked : RequestedFacilities A) × Means field asked) ⊎ ((fault : FacilityFault) × IsFaulty field fault)
     by_items (inl found) = by_codes found.0 found.1 (has_accepted_codes found.0) refl
     by_items (inr none) = inr (Length, none)
 
 -- what a field means is one
-pub same_asked : {A : Type 0} (a b : Asked A) → a.selection ≡ b.selection → a.fast ≡ b.fast → a.reverse ≡ b.reverse → a.throughput ≡ b.throughput
+pub same_asked : {A : Type 0} (a b : RequestedFacilities A) → a.selection ≡ b.selection → a.fast ≡ b.fast → a.reverse ≡ b.reverse → a.throughput ≡ b.throughput
     → a.charging ≡ b.charging → a.packet ≡ b.packet → a.window ≡ b.window → a.dte ≡ b.dte → a ≡ b
 same_asked a b s f r t c p w d =
     λ i. record {
@@ -104,27 +105,27 @@ same_asked a b s f r t c p w d =
       dte = d i;
     }
 
-pub Means-unique : {A : Type 0} (field : List ℕ) (a b : Asked A) → Means field a → Means field b → a ≡ b
+pub Means-unique : {A : Type 0} (field : List ℕ) (a b : RequestedFacilities A) → Means field a → Means field b → a ≡ b
 Means-unique field a b m n =
     let e : m.items ≡ n.items = IsField-unique field m.items n.items m.whole n.whole in
     same_asked a b
     (same_Some a.selection b.selection (sym m.selection ∙ ap selection_of e ∙ n.selection))
-    (m.fast ∙ ap (λ x. fast_of (octet_of (last_of (0x01 ∷ []) (own x)))) e ∙ sym n.fast)
-    (m.reverse ∙ ap (λ x. first_bit (octet_of (last_of (0x01 ∷ []) (own x)))) e ∙ sym n.reverse)
-    (m.throughput ∙ ap (λ x. octet_of (last_of (0x02 ∷ []) (own x))) e ∙ sym n.throughput)
-    (m.charging ∙ ap (λ x. first_bit (octet_of (last_of (0x04 ∷ []) (own x)))) e ∙ sym n.charging)
+    (m.fast ∙ ap (λ x. fast_of (octet_of (last_of (0x01 ∷ []) (before_marker x)))) e ∙ sym n.fast)
+    (m.reverse ∙ ap (λ x. first_bit (octet_of (last_of (0x01 ∷ []) (before_marker x)))) e ∙ sym n.reverse)
+    (m.throughput ∙ ap (λ x. octet_of (last_of (0x02 ∷ []) (before_marker x))) e ∙ sym n.throughput)
+    (m.charging ∙ ap (λ x. first_bit (octet_of (last_of (0x04 ∷ []) (before_marker x)))) e ∙ sym n.charging)
     (same_Some a.packet b.packet (sym m.packet ∙ ap packet_of e ∙ n.packet))
     (same_Some a.window b.window (sym m.window ∙ ap window_of e ∙ n.window))
     (same_Some a.dte b.dte (sym m.dte ∙ ap dte_of e ∙ n.dte))
 
 -- a field that means something is not faulty
-pub Means-wrong : {A : Type 0} (field : List ℕ) (asked : Asked A) (m : Means field asked) → HasWrongParameter m.items → ⊥
+pub Means-wrong : {A : Type 0} (field : List ℕ) (asked : RequestedFacilities A) (m : Means field asked) → HasWrongParameter m.items → ⊥
 Means-wrong field asked m (inl s) = none-some asked.selection (sym s ∙ m.selection)
 Means-wrong field asked m (inr (inl p)) = none-some asked.packet (sym p ∙ m.packet)
 Means-wrong field asked m (inr (inr (inl w))) = none-some asked.window (sym w ∙ m.window)
 Means-wrong field asked m (inr (inr (inr d))) = none-some asked.dte (sym d ∙ m.dte)
 
-pub Means-faultless : {A : Type 0} (field : List ℕ) (asked : Asked A) (fault : FacilityFault) → Means field asked → IsFaulty field fault → ⊥
+pub Means-faultless : {A : Type 0} (field : List ℕ) (asked : RequestedFacilities A) (fault : FacilityFault) → Means field asked → IsFaulty field fault → ⊥
 Means-faultless field asked Length m faulty = faulty m.items m.whole
 Means-faultless field asked Code m faulty =
     false≢true (sym faulty.2 ∙ ap has_accepted_codes (IsField-unique field faulty.0 m.items faulty.1 m.whole) ∙ m.accepted)

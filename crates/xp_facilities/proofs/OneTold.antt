@@ -4,18 +4,18 @@ use Rattle.std.specs.Prelude.{IfSome}
 use Rattle.std.proofs.lemmas.Bool.{and_parts, leb-true}
 use Rattle.std.proofs.lemmas.Option.{same_Some}
 use Rattle.std.proofs.Math.Seq.{take-append_seam}
-use Rattle.xp_packets.specs.Digits.{AreDigits, halves, filling}
+use Rattle.xp_packets.specs.Digits.{AreDigits, half_octets, filling}
 use Rattle.xp_packets.specs.Writing.{packed}
-use Rattle.xp_packets.proofs.HalfOctets.{halves-packed}
-use Rattle.xp_facilities.specs.Asked.{chosen, last_of, sizes_within, octet_of, fast_of, first_bit, dte_of, own}
-use Rattle.xp_facilities.specs.Laws.{HasDigits, TellsOnlyThis}
+use Rattle.xp_packets.proofs.HalfOctets.{half_octets-packed}
+use Rattle.xp_facilities.specs.Requested.{chosen, last_of, sizes_within, octet_of, fast_of, first_bit, dte_of, before_marker}
+use Rattle.xp_facilities.specs.Laws.{HasDigits, IndicatesOnlyThis}
 use Rattle.xp_facilities.specs.Octets.{reason_octet}
-use Rattle.xp_facilities.specs.Told.{decimal_octet, eight_digits, modified, counts, redirection, table, counts_fit, items_told, Tells}
+use Rattle.xp_facilities.specs.Indicated.{decimal_octet, eight_digits, modified, counts, redirection, table, counts_fit, indicated_items, Indicates}
 use Rattle.xp_facilities.specs.declared.redirection.Reason.{Reason}
 use Rattle.xp_facilities.specs.declared.redirection.Reason.TheVariants.{Busy, Distribution, OutOfOrder, Systematic}
-use Rattle.xp_facilities.specs.declared.redirection.Redirected.{Redirected}
+use Rattle.xp_facilities.specs.declared.redirection.RedirectionNotification.{RedirectionNotification}
 use Rattle.xp_facilities.specs.declared.segment_counts.SegmentCounts.{SegmentCounts}
-use Rattle.xp_facilities.specs.declared.told.Told.{Told}
+use Rattle.xp_facilities.specs.declared.indicated.IndicatedFacilities.{IndicatedFacilities}
 use Rattle.xp_facilities.proofs.Bounds.{told_field}
 use Rattle.xp_facilities.proofs.Reading.{IsField-unique}
 use Rattle.xp_facilities.proofs.ReadBack.{found, found-told, in_range, selection-back, fast-back, reverse-back, throughput-back, sizes-back, dte-back}
@@ -81,21 +81,21 @@ segments-back (Some s) fit =
     let received = eight-back s.received (leb-true s.received 99_999_999 (and_parts _ _ fit).1) in
     λ i. Some (record { sent = sym sent i; received = sym received i })
 
-abbrev redirected_in : Option (List ℕ) → Option Redirected
-redirected_in (Some (reason ∷ count ∷ octets)) = Some (record { reason = reason_of reason; dialled = take count (halves octets) })
+abbrev redirected_in : Option (List ℕ) → Option RedirectionNotification
+redirected_in (Some (reason ∷ count ∷ octets)) = Some (record { reason = reason_of reason; dialled = take count (half_octets octets) })
 redirected_in octets = None
 
-redirected-back : (redirected : Option Redirected) → IfSome redirected (λ (r : Redirected). AreDigits r.dialled) → redirected ≡ redirected_in (redirection redirected)
+redirected-back : (redirected : Option RedirectionNotification) → IfSome redirected (λ (r : RedirectionNotification). AreDigits r.dialled) → redirected ≡ redirected_in (redirection redirected)
 unfolding redirection
 redirected-back None are = refl
 redirected-back (Some r) are =
-    let dialled : r.dialled ≡ take (length r.dialled) (halves (packed r.dialled)) =
-    sym (ap (λ x. take (length r.dialled) x) (halves-packed r.dialled are) ∙ take-append_seam r.dialled (filling (length r.dialled))) in
+    let dialled : r.dialled ≡ take (length r.dialled) (half_octets (packed r.dialled)) =
+    sym (ap (λ x. take (length r.dialled) x) (half_octets-packed r.dialled are) ∙ take-append_seam r.dialled (filling (length r.dialled))) in
     λ i. Some (record { reason = reason-back r.reason i; dialled = dialled i })
 
 -- ---- the whole
 
-same_told : {A : Type 0} (a b : Told A) → a.selection ≡ b.selection → a.fast ≡ b.fast → a.reverse ≡ b.reverse → a.throughput ≡ b.throughput
+same_told : {A : Type 0} (a b : IndicatedFacilities A) → a.selection ≡ b.selection → a.fast ≡ b.fast → a.reverse ≡ b.reverse → a.throughput ≡ b.throughput
     → a.modified ≡ b.modified → a.packet ≡ b.packet → a.window ≡ b.window → a.redirected ≡ b.redirected → a.segments ≡ b.segments → a.dte ≡ b.dte → a ≡ b
 same_told a b s f r t m p w c n d =
     λ i. record {
@@ -111,14 +111,14 @@ same_told a b s f r t m p w c n d =
       dte = d i;
     }
 
-pub one_told : {A : Type 0} (told : Told A) (field : List ℕ) → HasDigits told → Tells told field → TellsOnlyThis told field
+pub one_told : {A : Type 0} (told : IndicatedFacilities A) (field : List ℕ) → HasDigits told → Indicates told field → IndicatesOnlyThis told field
 one_told told field are tells other are_also also =
-    let items : items_told other also.carried ≡ items_told told tells.carried =
+    let items : indicated_items other also.carried ≡ indicated_items told tells.carried =
     IsField-unique field _ _ (told_field other field also).items (told_field told field tells).items in
     let within = in_range told tells.in_range in
     let within_also = in_range other also.in_range in
     let same : (which : List ℕ) → found which (table other) ≡ found which (table told) =
-    λ which. sym (found-told other also.carried which) ∙ ap (λ x. last_of which (own x)) items ∙ found-told told tells.carried which in
+    λ which. sym (found-told other also.carried which) ∙ ap (λ x. last_of which (before_marker x)) items ∙ found-told told tells.carried which in
     same_told other told
     (same_Some other.selection told.selection (
     sym (selection-back other.selection within_also.selection)

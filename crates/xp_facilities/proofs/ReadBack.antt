@@ -4,16 +4,16 @@ use Rattle.std.specs.Prelude.{option_map, option_and_then}
 use Rattle.std.specs.List.{AllByRecursion, list_any, list_all}
 use Rattle.std.proofs.lemmas.Bool.{and_parts, or_parts, leb-true, ltb-true, lt-ltb, le-leb}
 use Rattle.xp_facilities.specs.Items.{Item, octets_of_all}
-use Rattle.xp_facilities.specs.Asked.{is_marker, own, has_code, accepted_codes, has_accepted_codes, last_of, decimal, index_of, chosen, selection_of, sizes_within, packet_of, window_of, octet_of, fast_of, first_bit, opens, carried, dte_of}
-use Rattle.xp_facilities.specs.Laws.{IsAskedToo, IsReadBack}
-use Rattle.xp_facilities.specs.Told.{decimal_octet, two_digits, four_digits, fast_bits, options, closed_index, open_index, short, long, throughput, modified, pair, counts, redirection, row, table, marked, index_fits, sizes_fit, counts_fit, is_in_range, items_told, Tells}
+use Rattle.xp_facilities.specs.Requested.{is_marker, before_marker, has_code, accepted_codes, has_accepted_codes, last_of, decimal, index_of, chosen, selection_of, sizes_within, packet_of, window_of, octet_of, fast_of, first_bit, opens, carried, dte_of}
+use Rattle.xp_facilities.specs.Laws.{CanBeRequested, IsReadBack}
+use Rattle.xp_facilities.specs.Indicated.{decimal_octet, two_digits, four_digits, fast_bits, options, closed_index, open_index, two_digit_index, four_digit_index, throughput, modified, pair, counts, redirection, optional_item, table, marked, index_fits, sizes_fit, counts_fit, is_in_range, indicated_items, Indicates}
 use Rattle.xp_facilities.specs.declared.fast_select.FastSelect.{FastSelect}
 use Rattle.xp_facilities.specs.declared.fast_select.FastSelect.TheVariants.{No, Unrestricted, Restricted}
-use Rattle.xp_facilities.specs.declared.pair.Pair.{Pair}
+use Rattle.xp_facilities.specs.declared.direction_sizes.DirectionSizes.{DirectionSizes}
 use Rattle.xp_facilities.specs.declared.selection.Selection.{Selection}
-use Rattle.xp_facilities.specs.declared.selection.Selection.TheVariants.{Nothing, Closed, AlsoOpen}
-use Rattle.xp_facilities.specs.declared.told.Told.{Told}
-use Rattle.xp_facilities.proofs.Asking.{own-other, carried-outside, carried-inside}
+use Rattle.xp_facilities.specs.declared.selection.Selection.TheVariants.{Nothing, Closed, WithOutsideAccess}
+use Rattle.xp_facilities.specs.declared.indicated.IndicatedFacilities.{IndicatedFacilities}
+use Rattle.xp_facilities.proofs.Asking.{before_marker-other, carried-outside, carried-inside}
 use Rattle.xp_facilities.proofs.Bounds.{told_field, dte-few}
 use Rattle.xp_facilities.proofs.Telling.{rows}
 
@@ -35,12 +35,12 @@ either_way true x = refl
 either_way false x = refl
 
 pub last_of-rows : (codes : List ℕ) (entries : List (ℕ × Option (List ℕ))) → last_of codes (rows entries) ≡ found codes entries
-unfolding last_of row
+unfolding last_of optional_item
 last_of-rows codes [] = refl
 last_of-rows codes (entry ∷ entries) = step codes entry.0 entry.1 (rows entries) (found codes entries) (last_of-rows codes entries)
   where
     step : (codes : List ℕ) (code : ℕ) (parameters : Option (List ℕ)) (items : List Item) (later : Option (List ℕ)) → last_of codes items ≡ later
-        → last_of codes (row code parameters ++ items) ≡ cond (has codes code) (later_or later parameters) later
+        → last_of codes (optional_item code parameters ++ items) ≡ cond (has codes code) (later_or later parameters) later
     step codes code None items None e = e ∙ sym (either_way (has codes code) None)
     step codes code None items (Some l) e = e ∙ sym (either_way (has codes code) (Some l))
     step codes code (Some parameters) items None e = rw e refl
@@ -51,25 +51,25 @@ last_of-rows codes (entry ∷ entries) = step codes entry.0 entry.1 (rows entrie
 abbrev pub AreCodes : List (ℕ × Option (List ℕ)) → Type 0
 AreCodes entries = AllByRecursion (λ entry. eqb entry.0 0 ≡ false) entries
 
-pub own-rows : (entries : List (ℕ × Option (List ℕ))) (behind : List Item) → AreCodes entries → own (rows entries ++ marked behind) ≡ rows entries
-unfolding row marked
-own-rows [] [] are = refl
-own-rows [] (item ∷ items) are = refl
-own-rows (entry ∷ entries) behind are = step entry.0 entry.1 (rows entries) behind are.0 (own-rows entries behind are.1)
+pub before_marker-rows : (entries : List (ℕ × Option (List ℕ))) (behind : List Item) → AreCodes entries → before_marker (rows entries ++ marked behind) ≡ rows entries
+unfolding optional_item marked
+before_marker-rows [] [] are = refl
+before_marker-rows [] (item ∷ items) are = refl
+before_marker-rows (entry ∷ entries) behind are = step entry.0 entry.1 (rows entries) behind are.0 (before_marker-rows entries behind are.1)
   where
-    step : (code : ℕ) (parameters : Option (List ℕ)) (items behind : List Item) → eqb code 0 ≡ false → own (items ++ marked behind) ≡ items
-        → own ((row code parameters ++ items) ++ marked behind) ≡ row code parameters ++ items
+    step : (code : ℕ) (parameters : Option (List ℕ)) (items behind : List Item) → eqb code 0 ≡ false → before_marker (items ++ marked behind) ≡ items
+        → before_marker ((optional_item code parameters ++ items) ++ marked behind) ≡ optional_item code parameters ++ items
     step code None items behind e same = same
     step code (Some parameters) items behind e same =
-        own-other (record { code = code; parameters = parameters }) (items ++ marked behind) e ∙ ap (λ x. record { code = code; parameters = parameters } ∷ x) same
+        before_marker-other (record { code = code; parameters = parameters }) (items ++ marked behind) e ∙ ap (λ x. record { code = code; parameters = parameters } ∷ x) same
 
 pub carried-rows : (entries : List (ℕ × Option (List ℕ))) (behind : List Item) → AreCodes entries → carried false (rows entries ++ behind) ≡ carried false behind
-unfolding row
+unfolding optional_item
 carried-rows [] behind are = refl
 carried-rows (entry ∷ entries) behind are = step entry.0 entry.1 (rows entries) behind are.0 (carried-rows entries behind are.1)
   where
     step : (code : ℕ) (parameters : Option (List ℕ)) (items behind : List Item) → eqb code 0 ≡ false → carried false (items ++ behind) ≡ carried false behind
-        → carried false ((row code parameters ++ items) ++ behind) ≡ carried false behind
+        → carried false ((optional_item code parameters ++ items) ++ behind) ≡ carried false behind
     step code None items behind e same = same
     step code (Some parameters) items behind e same =
         carried-outside (record { code = code; parameters = parameters }) (items ++ behind) e ∙ same
@@ -116,8 +116,8 @@ four-digits index few =
 -- ---- each value
 
 pub selection-back : (selection : Selection) → index_fits selection ≡ true
-    → chosen (later_or (long (closed_index selection)) (short (closed_index selection))) (later_or (long (open_index selection)) (short (open_index selection))) ≡ Some selection
-unfolding index_fits chosen long short closed_index open_index
+    → chosen (later_or (four_digit_index (closed_index selection)) (two_digit_index (closed_index selection))) (later_or (four_digit_index (open_index selection)) (two_digit_index (open_index selection))) ≡ Some selection
+unfolding index_fits chosen four_digit_index two_digit_index closed_index open_index
 selection-back Nothing fits = refl
 selection-back (Closed index) fits = by_test (ltb index 100) refl
   where
@@ -125,12 +125,12 @@ selection-back (Closed index) fits = by_test (ltb index 100) refl
         → chosen (later_or (cond b None (Some (four_digits index))) (cond b (Some (two_digits index)) None)) None ≡ Some (Closed index)
     by_test true e = ap (λ x. option_map Closed x) (two-digits index e)
     by_test false e = ap (λ x. option_map Closed x) (four-digits index (leb-true index 9_999 fits))
-selection-back (AlsoOpen index) fits = by_test (ltb index 100) refl
+selection-back (WithOutsideAccess index) fits = by_test (ltb index 100) refl
   where
     by_test : (b : Bool) → ltb index 100 ≡ b
-        → chosen None (later_or (cond b None (Some (four_digits index))) (cond b (Some (two_digits index)) None)) ≡ Some (AlsoOpen index)
-    by_test true e = ap (λ x. option_map AlsoOpen x) (two-digits index e)
-    by_test false e = ap (λ x. option_map AlsoOpen x) (four-digits index (leb-true index 9_999 fits))
+        → chosen None (later_or (cond b None (Some (four_digits index))) (cond b (Some (two_digits index)) None)) ≡ Some (WithOutsideAccess index)
+    by_test true e = ap (λ x. option_map WithOutsideAccess x) (two-digits index e)
+    by_test false e = ap (λ x. option_map WithOutsideAccess x) (four-digits index (leb-true index 9_999 fits))
 
 pub fast-back : (fast : FastSelect) (reverse : Bool) → fast ≡ fast_of (octet_of (options fast reverse))
 unfolding fast_of octet_of options fast_bits
@@ -155,27 +155,27 @@ unfolding octet_of throughput
 throughput-back None = refl
 throughput-back (Some octet) = refl
 
-pub sizes-back : (least most : ℕ) (sizes : Option Pair) → sizes_fit least most sizes ≡ true → sizes_within least most (pair sizes) ≡ Some sizes
+pub sizes-back : (least most : ℕ) (sizes : Option DirectionSizes) → sizes_fit least most sizes ≡ true → sizes_within least most (pair sizes) ≡ Some sizes
 unfolding sizes_fit sizes_within pair
 sizes-back least most None fit = refl
 sizes-back least most (Some sizes) fit = rw fit refl
 
 -- ---- the whole
 
-pub codes : {A : Type 0} (told : Told A) → AreCodes (table told)
+pub codes : {A : Type 0} (told : IndicatedFacilities A) → AreCodes (table told)
 codes told = (refl, (refl, (refl, (refl, (refl, (refl, (refl, (refl, (refl, (refl, (refl, tt)))))))))))
 
 -- what a reader finds for a code
-pub found-told : {A : Type 0} (told : Told A) (behind : List Item) (which : List ℕ) → last_of which (own (items_told told behind)) ≡ found which (table told)
-found-told told behind which = ap (λ x. last_of which x) (own-rows (table told) behind (codes told)) ∙ last_of-rows which (table told)
+pub found-told : {A : Type 0} (told : IndicatedFacilities A) (behind : List Item) (which : List ℕ) → last_of which (before_marker (indicated_items told behind)) ≡ found which (table told)
+found-told told behind which = ap (λ x. last_of which x) (before_marker-rows (table told) behind (codes told)) ∙ last_of-rows which (table told)
 
-pub record InRange {A : Type 0} (told : Told A) : Type 0 where
+pub record InRange {A : Type 0} (told : IndicatedFacilities A) : Type 0 where
   pub selection : index_fits told.selection ≡ true
   pub packet : sizes_fit 4 12 told.packet ≡ true
   pub window : sizes_fit 1 7 told.window ≡ true
   pub segments : counts_fit told.segments ≡ true
 
-pub in_range : {A : Type 0} (told : Told A) → is_in_range told ≡ true → InRange told
+pub in_range : {A : Type 0} (told : IndicatedFacilities A) → is_in_range told ≡ true → InRange told
 unfolding is_in_range
 in_range told e =
     let but_dte = (and_parts _ _ e).0 in
@@ -188,10 +188,10 @@ in_range told e =
       segments = (and_parts _ _ but_dte).1;
     }
 
-pub dte-back : {A : Type 0} (told : Told A) (field : List ℕ) (tells : Tells told field) → dte_of (items_told told tells.carried) ≡ Some told.dte
+pub dte-back : {A : Type 0} (told : IndicatedFacilities A) (field : List ℕ) (tells : Indicates told field) → dte_of (indicated_items told tells.carried) ≡ Some told.dte
 unfolding dte_of
 dte-back told field tells =
-    let kept : carried false (items_told told tells.carried) ≡ Some tells.carried =
+    let kept : carried false (indicated_items told tells.carried) ≡ Some tells.carried =
     carried-rows (table told) (marked tells.carried) (codes told) ∙ carried-marked tells.carried tells.dte.unmarked in
     let few : leb (length told.dte) 80 ≡ true = le-leb _ _ (dte-few told tells.in_range) in
     ap (λ x. option_and_then (λ all. cond (leb (length (octets_of_all all)) 80) (Some (octets_of_all all)) None) x) kept
@@ -201,20 +201,20 @@ dte-back told field tells =
 -- rows of accepted codes, and of others that are not there
 rows-accepted : (entries : List (ℕ × Option (List ℕ))) → AllByRecursion (λ entry. (entry.1 ≡ None) ⊎ (has accepted_codes entry.0 ≡ true)) entries
     → list_all (has_code accepted_codes) (rows entries) ≡ true
-unfolding row
+unfolding optional_item
 rows-accepted [] all = refl
 rows-accepted (entry ∷ entries) all = step entry.0 entry.1 (rows entries) all.0 (rows-accepted entries all.1)
   where
     step : (code : ℕ) (parameters : Option (List ℕ)) (items : List Item) → (parameters ≡ None) ⊎ (has accepted_codes code ≡ true)
-        → list_all (has_code accepted_codes) items ≡ true → list_all (has_code accepted_codes) (row code parameters ++ items) ≡ true
+        → list_all (has_code accepted_codes) items ≡ true → list_all (has_code accepted_codes) (optional_item code parameters ++ items) ≡ true
     step code None items either each = each
     step code (Some parameters) items (inl none) each = absurd cc
     step code (Some parameters) items (inr known) each = rw (known, each) refl
 
-accepted-back : {A : Type 0} (told : Told A) (behind : List Item) → IsAskedToo told → has_accepted_codes (items_told told behind) ≡ true
+accepted-back : {A : Type 0} (told : IndicatedFacilities A) (behind : List Item) → CanBeRequested told → has_accepted_codes (indicated_items told behind) ≡ true
 unfolding has_accepted_codes modified counts redirection
 accepted-back told behind asked =
-    ap (λ x. list_all (has_code accepted_codes) x) (own-rows (table told) behind (codes told))
+    ap (λ x. list_all (has_code accepted_codes) x) (before_marker-rows (table told) behind (codes told))
     ∙ rows-accepted (table told) (
       inr refl,
       (
@@ -243,18 +243,18 @@ uncharged : false ≡ first_bit (octet_of None)
 unfolding first_bit octet_of
 uncharged = refl
 
-pub read_back : {A : Type 0} (told : Told A) (field : List ℕ) → Tells told field → IsReadBack told field
+pub read_back : {A : Type 0} (told : IndicatedFacilities A) (field : List ℕ) → Indicates told field → IsReadBack told field
 unfolding selection_of packet_of window_of
 read_back told field tells asked =
     let within = in_range told tells.in_range in
     let found_of = found-told told tells.carried in
     record {
-      items = items_told told tells.carried;
+      items = indicated_items told tells.carried;
       whole = (told_field told field tells).items;
       accepted = accepted-back told tells.carried asked;
       selection =
-          ap (λ x. chosen x (last_of (0x09 ∷ 0x48 ∷ []) (own (items_told told tells.carried)))) (found_of (0x03 ∷ 0x47 ∷ []))
-          ∙ ap (λ x. chosen (later_or (long (closed_index told.selection)) (short (closed_index told.selection))) x) (found_of (0x09 ∷ 0x48 ∷ []))
+          ap (λ x. chosen x (last_of (0x09 ∷ 0x48 ∷ []) (before_marker (indicated_items told tells.carried)))) (found_of (0x03 ∷ 0x47 ∷ []))
+          ∙ ap (λ x. chosen (later_or (four_digit_index (closed_index told.selection)) (two_digit_index (closed_index told.selection))) x) (found_of (0x09 ∷ 0x48 ∷ []))
           ∙ selection-back told.selection within.selection;
       fast = fast-back told.fast told.reverse ∙ ap (λ x. fast_of (octet_of x)) (sym (found_of (0x01 ∷ [])));
       reverse = reverse-back told.fast told.reverse ∙ ap (λ x. first_bit (octet_of x)) (sym (found_of (0x01 ∷ [])));

@@ -4,7 +4,8 @@ use Rattle.std.proofs.lemmas.Bool.{leb-true, lt-leb, le-leb, lt-ltb, le-ltb, con
 use Rattle.std.proofs.lemmas.List.{take_at, drop_at, take-append-drop, length-take-le, length-append, take_rest}
 use Rattle.std.proofs.lemmas.Option.{cond_some, none-some, some_pair_parts}
 use Rattle.std.specs.List.{AllByRecursion}
-use Rattle.xp_facilities.specs.Items.{Item, IsItem, octets_of, octets_of_all, IsField, cut, cut_counted, first_item, first_items, items_of}
+use Rattle.xp_facilities.specs.Items.{Item, IsItem, octets_of, octets_of_all, IsField}
+use Rattle.xp_facilities.specs.steps.Items.{cut, cut_counted, first_item, first_items, items_of}
 
 -- an item's octets begin with its code, and with the count of its parameters in the last class
 pub octets_of-fixed : (item : Item) → item.code < 192 → octets_of item ≡ item.code ∷ item.parameters

@@ -6,27 +6,28 @@ use Rattle.std.proofs.lemmas.List.{append-nil, take_rest}
 use Rattle.std.proofs.lemmas.List.Concat.{flat_map-append}
 use Rattle.xp_packets.specs.Digits.{AreDigits}
 use Rattle.xp_facilities.specs.Items.{Item, IsField, octets_of, octets_of_all}
-use Rattle.xp_facilities.specs.Asked.{is_marker}
+use Rattle.xp_facilities.specs.Requested.{is_marker}
 use Rattle.xp_packets.specs.Writing.{packed}
-use Rattle.xp_facilities.specs.Told.{row, marked, marked_octets, items_told, is_in_range, IsCarried, Tells}
-use Rattle.xp_facilities.specs.declared.told.Told.{Told}
+use Rattle.xp_facilities.specs.Indicated.{optional_item, marked, indicated_items, is_in_range, IsCarried, Indicates}
+use Rattle.xp_facilities.specs.steps.Indicated.{marked_octets}
+use Rattle.xp_facilities.specs.declared.indicated.IndicatedFacilities.{IndicatedFacilities}
 use Rattle.xp_facilities.proofs.Reading.{IsField-unique}
 
 abbrev pub rows : List (ℕ × Option (List ℕ)) → List Item
-rows entries = flat_map (λ entry. row entry.0 entry.1) entries
+rows entries = flat_map (λ entry. optional_item entry.0 entry.1) entries
 
--- one more row behind those written
+-- one more item behind those written
 pub rows-more : (entries : List (ℕ × Option (List ℕ))) (code : ℕ) (given parameters : Option (List ℕ)) (old new : List ℕ) → given ≡ parameters
-    → old ≡ octets_of_all (rows entries) → new ≡ old ++ octets_of_all (row code given)
+    → old ≡ octets_of_all (rows entries) → new ≡ old ++ octets_of_all (optional_item code given)
     → new ≡ octets_of_all (rows (entries ++ (code, parameters) ∷ []))
 rows-more entries code given parameters old new same before more =
     more
-    ∙ ap (λ x. x ++ octets_of_all (row code given)) before
-    ∙ ap (λ x. octets_of_all (rows entries) ++ octets_of_all (row code x)) same
-    ∙ sym (flat_map-append octets_of (rows entries) (row code parameters))
+    ∙ ap (λ x. x ++ octets_of_all (optional_item code given)) before
+    ∙ ap (λ x. octets_of_all (rows entries) ++ octets_of_all (optional_item code x)) same
+    ∙ sym (flat_map-append octets_of (rows entries) (optional_item code parameters))
     ∙ ap octets_of_all
-    (ap (λ x. rows entries ++ x) (sym (append-nil (row code parameters)))
-    ∙ sym (flat_map-append (λ (entry : ℕ × Option (List ℕ)). row entry.0 entry.1) entries ((code, parameters) ∷ [])))
+    (ap (λ x. rows entries ++ x) (sym (append-nil (optional_item code parameters)))
+    ∙ sym (flat_map-append (λ (entry : ℕ × Option (List ℕ)). optional_item entry.0 entry.1) entries ((code, parameters) ∷ [])))
 
 -- the facilities between DTEs behind their marker
 pub marked_octets-is : (dte : List ℕ) (carried : List Item) → IsField dte carried → marked_octets dte ≡ octets_of_all (marked carried)
@@ -71,7 +72,7 @@ tells-octets entries dte carried is =
     ap (λ x. octets_of_all (rows entries) ++ x) (marked_octets-is dte carried is) ∙ sym (flat_map-append octets_of (rows entries) (marked carried))
 
 -- there is a field that tells values in their ranges
-pub some_field : (A : Type 0) (told : Told A) (carried : List Item) → IsField told.dte carried → list_any is_marker carried ≡ false → is_in_range told ≡ true
-    → (field : List ℕ) × Tells told field
+pub some_field : (A : Type 0) (told : IndicatedFacilities A) (carried : List Item) → IsField told.dte carried → list_any is_marker carried ≡ false → is_in_range told ≡ true
+    → (field : List ℕ) × Indicates told field
 some_field A told carried is unmarked within =
-    (octets_of_all (items_told told carried), record { carried = carried; dte = record { whole = is; unmarked = unmarked }; in_range = within; whole = refl })
+    (octets_of_all (indicated_items told carried), record { carried = carried; dte = record { whole = is; unmarked = unmarked }; in_range = within; whole = refl })

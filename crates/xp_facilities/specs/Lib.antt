@@ -1,6 +1,7 @@
-pub mod Asked
+pub mod Indicated
 pub mod Items
+pub mod Laws
 pub mod Limits
 pub mod Octets
-pub mod Told
-pub mod Laws
+pub mod Requested
+pub mod steps

@@ -4,8 +4,8 @@ pub enum FastSelect {
     /// No fast select.
     #[default]
     No,
-    /// The called DTE may accept or clear.
+    /// The called DTE may accept or clear the call.
     Unrestricted,
-    /// The called DTE may only clear.
+    /// The called DTE may only clear the call.
     Restricted,
 }

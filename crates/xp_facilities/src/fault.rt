@@ -4,19 +4,19 @@ ghost use Rattle.xp_facilities.specs.declared.fault.FacilityFault.TheVariants.{M
 use std::alloc::AllocError;
 use thiserror::Error;
 
-/// Why a facility field was not read or written, in the order in which this is examined.
+/// Why a facility field was not read or written. The variants are in the order of the checks.
 #[derive(Clone, Copy, Debug, PartialEq, Eq, Error)]
 pub enum FacilityFault {
-    /// The octets are no items, one after the other; diagnostic 69.
+    /// The octets are not a list of items; diagnostic 69.
     #[error("invalid facility length")]
     Length,
-    /// A code that is not accepted stands before the first marker; diagnostic 65.
+    /// An item before the first marker has a code that is not accepted; diagnostic 65.
     #[error("facility code not allowed")]
     Code,
     /// A parameter is not allowed, or a value is out of its range; diagnostic 66.
     #[error("facility parameter not allowed")]
     Param,
-    /// Out of memory, which no diagnostic tells.
+    /// An allocation failed. No diagnostic reports this.
     #[error("out of memory")]
     Memory,
 }

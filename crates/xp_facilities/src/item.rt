@@ -1,5 +1,6 @@
 ghost use Rattle.std.specs.Prelude.{◌≡◌, [], ◌∷◌, MatchOption, Some, None, nat_lt, if◌then◌else◌};
-ghost use Rattle.xp_facilities.specs.Items.{IsField, octets_of, cut, first_item};
+ghost use Rattle.xp_facilities.specs.Items.{IsField, octets_of};
+ghost use Rattle.xp_facilities.specs.steps.Items.{cut, first_item};
 
 use crate::codes::FIRST_COUNTED;
 use std::marker::Model;
@@ -24,7 +25,7 @@ impl<'a> Model for Item<'a> {
 }
 
 impl<'a> Item<'a> {
-    /// The item at the front of the octets, and what stands behind it.
+    /// The first item of the octets, and the octets after it. `None` if the octets do not begin with an item.
     fn first(octets: &'a [u8]) -> Option<(Item<'a>, &'a [u8])>
         ensures { MatchOption result (first_item octets.now ≡ None)
             (λ front. first_item octets.now ≡ Some (front.0, front.1.now)) }
@@ -38,7 +39,8 @@ impl<'a> Item<'a> {
         }
     }
 
-    /// The item with so many parameters, which stand before `behind` at the front of the octets.
+    /// The item at the front of `octets`, whose `count` octets of parameters are at the front of `behind`, and the
+    /// octets after it.
     fn cut(
         octets: &'a [u8],
         code: u8,
@@ -73,7 +75,7 @@ impl<'a> Item<'a> {
         self.parameters
     }
 
-    /// All its octets.
+    /// All octets of the item.
     pub(crate) fn octets(&self) -> &'a [u8]
         ensures { result.now ≡ octets_of self.now }
     {
@@ -81,7 +83,7 @@ impl<'a> Item<'a> {
     }
 }
 
-/// The items of a facility field, read from the front on.
+/// The items of a facility field, read from the front.
 #[derive(Drop)]
 pub(crate) struct Items<'a> {
     octets: &'a [u8],
@@ -89,7 +91,8 @@ pub(crate) struct Items<'a> {
 
 impl<'a> Model for Items<'a> {
     ghost use Rattle.std.specs.Prelude.{List};
-    ghost use Rattle.xp_facilities.specs.Items.{Item, items_of, IsField};
+    ghost use Rattle.xp_facilities.specs.Items.{Item, IsField};
+    ghost use Rattle.xp_facilities.specs.steps.Items.{items_of};
 
     ghost Value = { List Item };
 
@@ -99,7 +102,7 @@ impl<'a> Model for Items<'a> {
 }
 
 impl<'a> Items<'a> {
-    /// The items of the field, or `None` where it is no concatenation of items.
+    /// The items of the field, or `None` if it is not a list of items.
     pub(crate) fn of(field: &'a [u8]) -> Option<Items<'a>>
         ensures { MatchOption result ((items : _) → IsField field.now items → ⊥) (λ items. IsField field.now items) }
     {
@@ -111,7 +114,7 @@ impl<'a> Items<'a> {
         Some(Items { octets: field })
     }
 
-    /// The same items once more.
+    /// A copy, which reads the same items again.
     pub(crate) fn again(&self) -> Items<'a>
         ensures { result ≡ self.now }
     {
@@ -120,7 +123,7 @@ impl<'a> Items<'a> {
         }
     }
 
-    /// Takes the next item.
+    /// Removes and returns the next item.
     pub(crate) fn next(&mut self) -> Option<Item<'a>>
         ensures { MatchOption result ((self.old ≡ []) × (self.new ≡ [])) (λ item. self.old ≡ item ∷ self.new) }
     {

@@ -18,5 +18,5 @@ pub const LARGEST_INDEX: u16 = 9_999;
 /// The largest segment count: eight decimal digits (X.25 clause 6.22).
 pub const LARGEST_COUNT: u32 = 99_999_999;
 
-/// How many octets of facilities between DTEs a field has at most, without markers.
+/// The most octets of facilities between DTEs in a field, without markers.
 pub const MOST_DTE_OCTETS: usize = 80;

@@ -1,33 +1,40 @@
 ghost use Rattle.std.specs.Prelude.{◌≡◌, [], ◌∷◌, Some, None, ◌<◌, option_copied, MatchResult, IfOk};
-ghost use Rattle.xp_facilities.specs.Asked.{Parses, Allows, own, has_accepted_codes, last_of, decimal, index_of, selection_of, sizes_within, octet_of, fast_of, first_bit, opens, dte_of};
+ghost use Rattle.xp_facilities.specs.Requested.{Parses, before_marker, has_accepted_codes, last_of, decimal, index_of, selection_of, sizes_within, octet_of, fast_of, first_bit, opens, dte_of};
+ghost use Rattle.xp_facilities.specs.steps.Requested.{Allows};
 
-use crate::asked::Asked;
 use crate::codes;
+use crate::direction_sizes::DirectionSizes;
 use crate::fast_select::FastSelect;
 use crate::fault::FacilityFault;
 use crate::item::Items;
 use crate::limits::{
     LARGEST_SIZE, LARGEST_WINDOW, MOST_DTE_OCTETS, SMALLEST_SIZE, SMALLEST_WINDOW,
 };
-use crate::pair::Pair;
+use crate::requested::RequestedFacilities;
 use crate::selection::Selection;
 use arrayvec::ArrayVec;
 use std::alloc::Allocator;
 use xp_packets::Octets;
 
-/// What a facility field asks for (X.25 clauses 6 and 7.2).
+/// Reads the facilities that a field requests (X.25 clauses 6 and 7.2).
 ///
-/// The last item of a code before the first marker counts; an index of two digits and one of four
-/// are one code.
+/// If several items before the first marker have the same code, the last one counts. Here the code for an index of
+/// two digits and the one for an index of four count as the same code.
 ///
 /// # Errors
 ///
-/// `Length` where the field is no concatenation of items, else `Code` where an item before the first
-/// marker has a code that is not accepted there, else `Param` where a parameter that counts is not
-/// allowed, both kinds of selection stand, a marker has an unknown parameter or the facilities
-/// between DTEs have over 80 octets. `Memory` only where none of these holds.
-#[tactic(auto, unfolding(crate::specs::Asked::packet_of, crate::specs::Asked::window_of))]
-pub fn parse<A: Allocator + Copy>(alloc: A, field: &[u8]) -> Result<Asked<A>, FacilityFault>
+/// The first of these that holds:
+///
+/// - `Length` if the field is not a list of items;
+/// - `Code` if an item before the first marker has a code that is not accepted there;
+/// - `Param` if a parameter that counts is not allowed, if both kinds of closed user group selection are present, if
+///   a marker has an unknown parameter, or if the facilities between DTEs have more than 80 octets;
+/// - `Memory` if an allocation fails.
+#[tactic(auto, unfolding(crate::specs::Requested::packet_of, crate::specs::Requested::window_of))]
+pub fn parse<A: Allocator + Copy>(
+    alloc: A,
+    field: &[u8],
+) -> Result<RequestedFacilities<A>, FacilityFault>
     ensures { Parses field.now result }
 {
     let Some(items) = Items::of(field) else {
@@ -42,7 +49,7 @@ pub fn parse<A: Allocator + Copy>(alloc: A, field: &[u8]) -> Result<Asked<A>, Fa
     let kept = dte(&items)?;
     let dte = Octets::from_slice(alloc, kept.as_slice())?;
     let options = octet(&items, codes::FAST_SELECT);
-    Ok(Asked {
+    Ok(RequestedFacilities {
         selection,
         fast: fast_select(options),
         reverse: first_bit(options),
@@ -54,7 +61,7 @@ pub fn parse<A: Allocator + Copy>(alloc: A, field: &[u8]) -> Result<Asked<A>, Fa
     })
 }
 
-/// Whether each item before the first marker has a code that is accepted there.
+/// Whether each item before the first marker has an accepted code.
 fn has_accepted_codes(items: &Items<'_>) -> bool
     ensures { result ≡ has_accepted_codes items.now }
 {
@@ -70,9 +77,9 @@ fn has_accepted_codes(items: &Items<'_>) -> bool
     true
 }
 
-/// The parameters of the last item before the first marker that has a wanted code.
+/// The parameters of the last item before the first marker whose code is in `wanted`.
 fn last<'a>(items: &Items<'a>, wanted: &[u8]) -> Option<&'a [u8]>
-    ensures { option_copied result ≡ last_of wanted.now (own items.now) }
+    ensures { option_copied result ≡ last_of wanted.now (before_marker items.now) }
 {
     let mut left = items.again();
     let mut found = None;
@@ -87,10 +94,10 @@ fn last<'a>(items: &Items<'a>, wanted: &[u8]) -> Option<&'a [u8]>
     found
 }
 
-/// The parameter of an item of one octet.
-#[tactic(auto, unfolding(crate::specs::Asked::octet_of))]
+/// The parameter of an item with one octet of parameters.
+#[tactic(auto, unfolding(crate::specs::Requested::octet_of))]
 fn octet(items: &Items<'_>, code: u8) -> Option<u8>
-    ensures { result ≡ octet_of (last_of (code ∷ []) (own items.now)) }
+    ensures { result ≡ octet_of (last_of (code ∷ []) (before_marker items.now)) }
 {
     match last(items, &[code]) {
         Some(&[octet]) => Some(octet),
@@ -98,7 +105,7 @@ fn octet(items: &Items<'_>, code: u8) -> Option<u8>
     }
 }
 
-#[tactic(auto, unfolding(crate::specs::Asked::fast_of))]
+#[tactic(auto, unfolding(crate::specs::Requested::fast_of))]
 fn fast_select(octet: Option<u8>) -> FastSelect
     ensures { result ≡ fast_of octet }
 {
@@ -109,31 +116,37 @@ fn fast_select(octet: Option<u8>) -> FastSelect
     }
 }
 
-/// Bit 1: reverse charging, or charging information requested.
-#[tactic(auto, unfolding(crate::specs::Asked::first_bit))]
+/// Bit 1, which requests reverse charging or charging information.
+#[tactic(auto, unfolding(crate::specs::Requested::first_bit))]
 fn first_bit(octet: Option<u8>) -> bool
     ensures { result ≡ first_bit octet }
 {
     octet.is_some_and(|octet| octet & 1 == 1)
 }
 
-/// The closed user group selection, of one kind.
-#[tactic(auto, unfolding(crate::specs::Asked::selection_of, crate::specs::Asked::chosen))]
+/// The closed user group selection. At most one kind may be present.
+#[tactic(auto, unfolding(crate::specs::Requested::selection_of, crate::specs::Requested::chosen))]
 fn selection(items: &Items<'_>) -> Result<Selection, FacilityFault>
     ensures { Allows (selection_of items.now) result }
 {
-    let closed = last(items, &[codes::CLOSED, codes::CLOSED_LONG]);
-    let also_open = last(items, &[codes::ALSO_OPEN, codes::ALSO_OPEN_LONG]);
-    match (closed, also_open) {
+    let closed = last(
+        items,
+        &[codes::CLOSED_USER_GROUP, codes::CLOSED_USER_GROUP_EXTENDED],
+    );
+    let with_outside_access = last(
+        items,
+        &[codes::OUTSIDE_ACCESS, codes::OUTSIDE_ACCESS_EXTENDED],
+    );
+    match (closed, with_outside_access) {
         (None, None) => Ok(Selection::Nothing),
         (Some(parameters), None) => Ok(Selection::Closed(index(parameters)?)),
-        (None, Some(parameters)) => Ok(Selection::AlsoOpen(index(parameters)?)),
+        (None, Some(parameters)) => Ok(Selection::WithOutsideAccess(index(parameters)?)),
         (Some(_), Some(_)) => Err(FacilityFault::Param),
     }
 }
 
 /// An index of two or four decimal digits.
-#[tactic(auto, unfolding(crate::specs::Asked::index_of))]
+#[tactic(auto, unfolding(crate::specs::Requested::index_of))]
 fn index(parameters: &[u8]) -> Result<u16, FacilityFault>
     ensures { Allows (index_of parameters.now) result }
 {
@@ -144,8 +157,8 @@ fn index(parameters: &[u8]) -> Result<u16, FacilityFault>
     }
 }
 
-/// Two decimal digits, in half-octets.
-#[tactic(auto, unfolding(crate::specs::Asked::decimal))]
+/// Two decimal digits, in the half-octets of an octet.
+#[tactic(auto, unfolding(crate::specs::Requested::decimal))]
 fn decimal(octet: u8) -> Result<u16, FacilityFault>
     ensures value { Allows (decimal octet) result }
     ensures small { IfOk result (λ number. number < 100) }
@@ -158,15 +171,20 @@ fn decimal(octet: u8) -> Result<u16, FacilityFault>
     }
 }
 
-/// Packet or window sizes, each within its range.
-#[tactic(auto, unfolding(crate::specs::Asked::sizes_within))]
-fn sizes(items: &Items<'_>, code: u8, least: u8, most: u8) -> Result<Option<Pair>, FacilityFault>
-    ensures { Allows (sizes_within least most (last_of (code ∷ []) (own items.now))) result }
+/// Packet sizes or window sizes, each within its range.
+#[tactic(auto, unfolding(crate::specs::Requested::sizes_within))]
+fn sizes(
+    items: &Items<'_>,
+    code: u8,
+    least: u8,
+    most: u8,
+) -> Result<Option<DirectionSizes>, FacilityFault>
+    ensures { Allows (sizes_within least most (last_of (code ∷ []) (before_marker items.now))) result }
 {
     match last(items, &[code]) {
         None => Ok(None),
         Some(&[from_called, from_calling]) => {
-            let sizes = Pair {
+            let sizes = DirectionSizes {
                 from_called,
                 from_calling,
             };
@@ -179,7 +197,7 @@ fn sizes(items: &Items<'_>, code: u8, least: u8, most: u8) -> Result<Option<Pair
     }
 }
 
-/// The octets of the facilities between DTEs.
+/// The octets of the items between DTEs.
 fn dte(items: &Items<'_>) -> Result<ArrayVec<u8, MOST_DTE_OCTETS>, FacilityFault>
     ensures { MatchResult result (λ kept. dte_of items.now ≡ Some kept.items)
         (λ fault. (dte_of items.now ≡ None) × (fault ≡ FacilityFault.Param)) }
@@ -197,8 +215,8 @@ fn dte(items: &Items<'_>) -> Result<ArrayVec<u8, MOST_DTE_OCTETS>, FacilityFault
     Ok(kept)
 }
 
-/// Whether a marker opens facilities between DTEs.
-#[tactic(auto, unfolding(crate::specs::Asked::opens))]
+/// Whether this marker starts facilities between DTEs.
+#[tactic(auto, unfolding(crate::specs::Requested::opens))]
 fn opens(parameters: &[u8]) -> Result<bool, FacilityFault>
     ensures { Allows (opens parameters.now) result }
 {

@@ -17,7 +17,7 @@ pub enum Reason {
 }
 
 impl Reason {
-    /// The octet by which a packet tells it (X.25 clauses 7.2.2.11 and 7.2.2.12).
+    /// The octet for the reason in a packet (X.25 clauses 7.2.2.11 and 7.2.2.12).
     pub fn octet(self) -> u8
         ensures { result ≡ reason_octet self }
     {
@@ -32,7 +32,7 @@ impl Reason {
 
 /// The call redirection notification (X.25 clause 6.25.3).
 #[derive(Debug, Drop, PartialEq)]
-pub struct Redirected {
+pub struct RedirectionNotification {
     pub reason: Reason,
     /// The address that was dialled.
     pub dialled: Digits,

@@ -1,8 +1,8 @@
-/// The segment count of charging information (X.25 clause 6.22), each at most 99,999,999.
+/// The segment counts of charging information (X.25 clause 6.22), each at most 99,999,999.
 #[derive(Clone, Copy, Debug, Default, PartialEq, Eq)]
 pub struct SegmentCounts {
-    /// Sent to the DTE that is told.
+    /// Segments sent to the DTE that receives this information.
     pub sent: u32,
-    /// Received from it.
+    /// Segments received from that DTE.
     pub received: u32,
 }

@@ -1,11 +1,11 @@
-/// The closed user group selection (X.25 clauses 6.14.6 and 6.14.7), by index from 0 to 9,999.
+/// The closed user group selection (X.25 clauses 6.14.6 and 6.14.7), by an index from 0 to 9,999.
 #[derive(Clone, Copy, Debug, Default, PartialEq, Eq)]
 pub enum Selection {
     /// No group is selected.
     #[default]
     Nothing,
-    /// A group and nothing outside of it.
+    /// A group, with no access outside the group.
     Closed(u16),
-    /// With outgoing access in a call request, with incoming access in an incoming call.
-    AlsoOpen(u16),
+    /// A group with outside access: outgoing access in a call request, incoming access in an incoming call.
+    WithOutsideAccess(u16),
 }

@@ -1,40 +1,48 @@
 ghost use Rattle.std.specs.Prelude.{◌≡◌, ◌+◌, ◌*◌, ◌/◌, ◌%◌, ◌<◌, ◌≤◌, ◌++◌, ◌∷◌, [], length, None, IfOk, IfSome, OnOk, ◌⊎◌};
 ghost use Rattle.std.specs.List.{list_any, flat_map};
 ghost use Rattle.xp_packets.specs.Writing.{packed};
-ghost use Rattle.xp_facilities.specs.Asked.{is_marker};
+ghost use Rattle.xp_facilities.specs.Requested.{is_marker};
 ghost use Rattle.xp_facilities.specs.Items.{octets_of, octets_of_all};
 ghost use Rattle.xp_facilities.specs.Octets.{reason_octet};
-ghost use Rattle.xp_facilities.specs.Told.{Writes, decimal_octet, two_digits, four_digits, eight_digits, options, closed_index, open_index, short, long, throughput, modified, pair, counts, redirection, row, table, index_fits, sizes_fit, counts_fit, is_in_range, marked_octets, most_octets};
+ghost use Rattle.xp_facilities.specs.Indicated.{Writes, decimal_octet, two_digits, four_digits, eight_digits, options, closed_index, open_index, two_digit_index, four_digit_index, throughput, modified, pair, counts, redirection, optional_item, table, index_fits, sizes_fit, counts_fit, is_in_range, most_octets};
+ghost use Rattle.xp_facilities.specs.steps.Indicated.{marked_octets};
 
 use crate::codes;
+use crate::direction_sizes::DirectionSizes;
 use crate::fast_select::FastSelect;
 use crate::fault::FacilityFault;
+use crate::indicated::IndicatedFacilities;
 use crate::item::Items;
 use crate::limits::{
     LARGEST_COUNT, LARGEST_INDEX, LARGEST_SIZE, LARGEST_WINDOW, MOST_DTE_OCTETS, SMALLEST_SIZE,
     SMALLEST_WINDOW,
 };
-use crate::pair::Pair;
-use crate::redirection::{Reason, Redirected};
+use crate::redirection::{Reason, RedirectionNotification};
 use crate::segment_counts::SegmentCounts;
 use crate::selection::Selection;
-use crate::told::Told;
 use arrayvec::ArrayVec;
 use std::alloc::{AllocError, Allocator};
 use xp_packets::Octets;
 
-/// The facility field that tells these values (X.25 clauses 6 and 7.2): items in ascending order of
-/// their codes, then the facilities between DTEs behind their marker.
+/// Writes the facility field that indicates `told` (X.25 clauses 6 and 7.2): items in ascending order of their codes,
+/// then the facilities between DTEs after their marker.
 ///
 /// # Errors
 ///
-/// `Length` where the facilities between DTEs are no items or have a marker, else `Param` where a
-/// value is out of its range, else `Memory` only where memory is wanted.
-pub fn write<A: Allocator + Copy>(alloc: A, told: &Told<A>) -> Result<Octets<A>, FacilityFault>
+/// The first of these that holds:
+///
+/// - `Length` if the facilities between DTEs are not a list of items, or contain a marker;
+/// - `Param` if a value is out of its range;
+/// - `Memory` if an allocation fails.
+pub fn write<A: Allocator + Copy>(
+    alloc: A,
+    told: &IndicatedFacilities<A>,
+) -> Result<Octets<A>, FacilityFault>
     ensures value { Writes told.now result }
     ensures most { IfOk result (λ field. length field ≤ most_octets told.now) }
 
-    // No packet of an exchange tells a redirection and one of the two others.
+    // No packet of the exchange indicates a redirection together with a modified address or segment counts. So each
+    // field that it sends has at most 107 octets.
     ensures exchange { (told.now.redirected ≡ None) ⊎ ((told.now.modified ≡ None) × (told.now.segments ≡ None))
         → IfOk result (λ field. length field ≤ 107) }
 {
@@ -64,8 +72,8 @@ fn has_marker(items: &Items<'_>) -> bool
     false
 }
 
-#[tactic(auto, unfolding(crate::specs::Told::is_in_range))]
-fn is_in_range<A: Allocator>(told: &Told<A>) -> bool
+#[tactic(auto, unfolding(crate::specs::Indicated::is_in_range))]
+fn is_in_range<A: Allocator>(told: &IndicatedFacilities<A>) -> bool
     ensures { result ≡ is_in_range told.now }
 {
     index_fits(told.selection)
@@ -75,24 +83,24 @@ fn is_in_range<A: Allocator>(told: &Told<A>) -> bool
         && told.dte.len() <= MOST_DTE_OCTETS
 }
 
-#[tactic(auto, unfolding(crate::specs::Told::index_fits))]
+#[tactic(auto, unfolding(crate::specs::Indicated::index_fits))]
 fn index_fits(selection: Selection) -> bool
     ensures { result ≡ index_fits selection }
 {
     match selection {
         Selection::Nothing => true,
-        Selection::Closed(index) | Selection::AlsoOpen(index) => index <= LARGEST_INDEX,
+        Selection::Closed(index) | Selection::WithOutsideAccess(index) => index <= LARGEST_INDEX,
     }
 }
 
-#[tactic(auto, unfolding(crate::specs::Told::sizes_fit))]
-fn sizes_fit(sizes: Option<Pair>, least: u8, most: u8) -> bool
+#[tactic(auto, unfolding(crate::specs::Indicated::sizes_fit))]
+fn sizes_fit(sizes: Option<DirectionSizes>, least: u8, most: u8) -> bool
     ensures { result ≡ sizes_fit least most sizes }
 {
     sizes.is_none_or(|sizes| sizes.is_within(least, most))
 }
 
-#[tactic(auto, unfolding(crate::specs::Told::counts_fit))]
+#[tactic(auto, unfolding(crate::specs::Indicated::counts_fit))]
 fn counts_fit(segments: Option<SegmentCounts>) -> bool
     ensures { result ≡ counts_fit segments }
 {
@@ -102,9 +110,9 @@ fn counts_fit(segments: Option<SegmentCounts>) -> bool
 }
 
 /// The octets of all items.
-fn field<A: Allocator>(alloc: A, told: &Told<A>) -> Result<Vec<u8, A>, AllocError>
+fn field<A: Allocator>(alloc: A, told: &IndicatedFacilities<A>) -> Result<Vec<u8, A>, AllocError>
     ensures value { IfOk result (λ field. field.items
-        ≡ octets_of_all (flat_map (λ entry. row entry.0 entry.1) (table told.now)) ++ marked_octets told.now.dte) }
+        ≡ octets_of_all (flat_map (λ entry. optional_item entry.0 entry.1) (table told.now)) ++ marked_octets told.now.dte) }
     ensures digits { OnOk result (IfSome told.now.redirected (λ r. length r.dialled ≤ 15)) }
 {
     let mut field = Vec::new(alloc);
@@ -116,26 +124,26 @@ fn field<A: Allocator>(alloc: A, told: &Told<A>) -> Result<Vec<u8, A>, AllocErro
     push(&mut field, codes::THROUGHPUT, throughput(told.throughput))?;
     push(
         &mut field,
-        codes::CLOSED,
-        short(closed_index(told.selection)),
+        codes::CLOSED_USER_GROUP,
+        two_digit_index(closed_index(told.selection)),
     )?;
     push(&mut field, codes::MODIFIED, modified(told.modified))?;
     push(
         &mut field,
-        codes::ALSO_OPEN,
-        short(open_index(told.selection)),
+        codes::OUTSIDE_ACCESS,
+        two_digit_index(open_index(told.selection)),
     )?;
     push(&mut field, codes::PACKET_SIZE, pair(told.packet))?;
     push(&mut field, codes::WINDOW_SIZE, pair(told.window))?;
     push(
         &mut field,
-        codes::CLOSED_LONG,
-        long(closed_index(told.selection)),
+        codes::CLOSED_USER_GROUP_EXTENDED,
+        four_digit_index(closed_index(told.selection)),
     )?;
     push(
         &mut field,
-        codes::ALSO_OPEN_LONG,
-        long(open_index(told.selection)),
+        codes::OUTSIDE_ACCESS_EXTENDED,
+        four_digit_index(open_index(told.selection)),
     )?;
     push(&mut field, codes::SEGMENT_COUNT, counts(told.segments))?;
     push_redirection(&mut field, &told.redirected)?;
@@ -143,15 +151,15 @@ fn field<A: Allocator>(alloc: A, told: &Told<A>) -> Result<Vec<u8, A>, AllocErro
     Ok(field)
 }
 
-/// Adds an item, where there are parameters.
-#[tactic(auto, unfolding(crate::specs::Told::row))]
+/// Appends an item, if there are parameters for it.
+#[tactic(auto, unfolding(crate::specs::Indicated::optional_item))]
 fn push<A: Allocator, const N: usize>(
     field: &mut Vec<u8, A>,
     code: u8,
     parameters: Option<[u8; N]>,
 ) -> Result<(), AllocError>
     requires { 192 ≤ code → N < 256 }
-    ensures { OnOk result (field.new.items ≡ field.old.items ++ octets_of_all (row code parameters.entry)) }
+    ensures { OnOk result (field.new.items ≡ field.old.items ++ octets_of_all (optional_item code parameters.entry)) }
 {
     match parameters {
         Some(parameters) => push_item(field, code, &parameters),
@@ -159,7 +167,7 @@ fn push<A: Allocator, const N: usize>(
     }
 }
 
-/// Adds an item.
+/// Appends an item.
 fn push_item<A: Allocator>(
     field: &mut Vec<u8, A>,
     code: u8,
@@ -176,13 +184,13 @@ fn push_item<A: Allocator>(
     field.extend_from_slice(parameters)
 }
 
-/// Adds the call redirection notification, where there is one.
-#[tactic(auto, unfolding(crate::specs::Told::row, crate::specs::Told::redirection))]
+/// Appends the call redirection notification, if there is one.
+#[tactic(auto, unfolding(crate::specs::Indicated::optional_item, crate::specs::Indicated::redirection))]
 fn push_redirection<A: Allocator>(
     field: &mut Vec<u8, A>,
-    redirected: &Option<Redirected>,
+    redirected: &Option<RedirectionNotification>,
 ) -> Result<(), AllocError>
-    ensures value { OnOk result (field.new.items ≡ field.old.items ++ octets_of_all (row 195 (redirection redirected.now))) }
+    ensures value { OnOk result (field.new.items ≡ field.old.items ++ octets_of_all (optional_item 195 (redirection redirected.now))) }
     ensures digits { OnOk result (IfSome redirected.now (λ r. length r.dialled ≤ 15)) }
 {
     match redirected {
@@ -194,8 +202,8 @@ fn push_redirection<A: Allocator>(
     }
 }
 
-/// Adds the facilities between DTEs behind their marker, where there are any.
-#[tactic(auto, unfolding(crate::specs::Told::marked_octets))]
+/// Appends the facilities between DTEs after their marker, if there are any.
+#[tactic(auto, unfolding(crate::specs::steps::Indicated::marked_octets))]
 fn push_dte<A: Allocator>(field: &mut Vec<u8, A>, dte: &[u8]) -> Result<(), AllocError>
     ensures { OnOk result (field.new.items ≡ field.old.items ++ marked_octets dte.now) }
 {
@@ -206,8 +214,8 @@ fn push_dte<A: Allocator>(field: &mut Vec<u8, A>, dte: &[u8]) -> Result<(), Allo
     field.extend_from_slice(dte)
 }
 
-/// Fast select in bits 8 and 7, reverse charging in bit 1.
-#[tactic(auto, unfolding(crate::specs::Told::options, crate::specs::Told::fast_bits))]
+/// The parameter for fast select in bits 8 and 7 and reverse charging in bit 1. `None` if the call has neither.
+#[tactic(auto, unfolding(crate::specs::Indicated::options, crate::specs::Indicated::fast_bits))]
 fn options(fast: FastSelect, reverse: bool) -> Option<[u8; 1]>
     ensures { result ≡ options fast reverse }
 {
@@ -220,30 +228,30 @@ fn options(fast: FastSelect, reverse: bool) -> Option<[u8; 1]>
     Some([bits + u8::from(reverse)])
 }
 
-#[tactic(auto, unfolding(crate::specs::Told::closed_index))]
+#[tactic(auto, unfolding(crate::specs::Indicated::closed_index))]
 fn closed_index(selection: Selection) -> Option<u16>
     ensures { result ≡ closed_index selection }
 {
     match selection {
         Selection::Closed(index) => Some(index),
-        Selection::Nothing | Selection::AlsoOpen(_) => None,
+        Selection::Nothing | Selection::WithOutsideAccess(_) => None,
     }
 }
 
-#[tactic(auto, unfolding(crate::specs::Told::open_index))]
+#[tactic(auto, unfolding(crate::specs::Indicated::open_index))]
 fn open_index(selection: Selection) -> Option<u16>
     ensures { result ≡ open_index selection }
 {
     match selection {
-        Selection::AlsoOpen(index) => Some(index),
+        Selection::WithOutsideAccess(index) => Some(index),
         Selection::Nothing | Selection::Closed(_) => None,
     }
 }
 
-/// An index of at most two digits.
-#[tactic(auto, unfolding(crate::specs::Told::short, crate::specs::Told::two_digits))]
-fn short(index: Option<u16>) -> Option<[u8; 1]>
-    ensures { result ≡ short index }
+/// An index of at most two digits. `None` for a longer one.
+#[tactic(auto, unfolding(crate::specs::Indicated::two_digit_index, crate::specs::Indicated::two_digits))]
+fn two_digit_index(index: Option<u16>) -> Option<[u8; 1]>
+    ensures { result ≡ two_digit_index index }
 {
     match index {
         Some(index) if index < 100 => Some([decimal_octet(u32::from(index % 100))]),
@@ -251,10 +259,10 @@ fn short(index: Option<u16>) -> Option<[u8; 1]>
     }
 }
 
-/// An index of more than two digits.
-#[tactic(auto, unfolding(crate::specs::Told::long, crate::specs::Told::four_digits))]
-fn long(index: Option<u16>) -> Option<[u8; 2]>
-    ensures { result ≡ long index }
+/// An index of more than two digits. `None` for a shorter one.
+#[tactic(auto, unfolding(crate::specs::Indicated::four_digit_index, crate::specs::Indicated::four_digits))]
+fn four_digit_index(index: Option<u16>) -> Option<[u8; 2]>
+    ensures { result ≡ four_digit_index index }
 {
     match index {
         Some(index) if index >= 100 => Some([
@@ -265,7 +273,7 @@ fn long(index: Option<u16>) -> Option<[u8; 2]>
     }
 }
 
-#[tactic(auto, unfolding(crate::specs::Told::throughput))]
+#[tactic(auto, unfolding(crate::specs::Indicated::throughput))]
 fn throughput(class: Option<u8>) -> Option<[u8; 1]>
     ensures { result ≡ throughput class }
 {
@@ -275,7 +283,7 @@ fn throughput(class: Option<u8>) -> Option<[u8; 1]>
     }
 }
 
-#[tactic(auto, unfolding(crate::specs::Told::modified))]
+#[tactic(auto, unfolding(crate::specs::Indicated::modified))]
 fn modified(reason: Option<Reason>) -> Option<[u8; 1]>
     ensures { result ≡ modified reason }
 {
@@ -285,8 +293,8 @@ fn modified(reason: Option<Reason>) -> Option<[u8; 1]>
     }
 }
 
-#[tactic(auto, unfolding(crate::specs::Told::pair))]
-fn pair(sizes: Option<Pair>) -> Option<[u8; 2]>
+#[tactic(auto, unfolding(crate::specs::Indicated::pair))]
+fn pair(sizes: Option<DirectionSizes>) -> Option<[u8; 2]>
     ensures { result ≡ pair sizes }
 {
     match sizes {
@@ -295,8 +303,8 @@ fn pair(sizes: Option<Pair>) -> Option<[u8; 2]>
     }
 }
 
-/// Eight digits of what was sent to the DTE, and eight of what was received from it.
-#[tactic(auto, unfolding(crate::specs::Told::counts))]
+/// Eight decimal digits for the segments sent to the DTE, then eight for those received from it.
+#[tactic(auto, unfolding(crate::specs::Indicated::counts))]
 fn counts(segments: Option<SegmentCounts>) -> Option<[u8; 8]>
     ensures { result ≡ counts segments }
 {
@@ -310,7 +318,7 @@ fn counts(segments: Option<SegmentCounts>) -> Option<[u8; 8]>
     }
 }
 
-/// The field that tells the segments of a call and nothing else (X.25 clause 7.2). It takes no memory.
+/// The field that indicates the segments of a call and nothing else (X.25 clause 7.2). This allocates nothing.
 pub fn segments_field(segments: SegmentCounts) -> [u8; 10]
     ensures { result ≡ 0xc2 ∷ 8 ∷ eight_digits segments.sent ++ eight_digits segments.received }
 {
@@ -320,7 +328,7 @@ pub fn segments_field(segments: SegmentCounts) -> [u8; 10]
 }
 
 /// Eight decimal digits, in half-octets.
-#[tactic(auto, unfolding(crate::specs::Told::eight_digits))]
+#[tactic(auto, unfolding(crate::specs::Indicated::eight_digits))]
 fn eight_digits(number: u32) -> [u8; 4]
     ensures { result ≡ eight_digits number }
 {
@@ -332,8 +340,8 @@ fn eight_digits(number: u32) -> [u8; 4]
     ]
 }
 
-/// Two decimal digits, in half-octets.
-#[tactic(auto, unfolding(crate::specs::Told::decimal_octet))]
+/// Two decimal digits, in the half-octets of an octet.
+#[tactic(auto, unfolding(crate::specs::Indicated::decimal_octet))]
 fn decimal_octet(number: u32) -> u8
     requires { number < 100 }
     ensures { result ≡ decimal_octet number }
@@ -341,8 +349,8 @@ fn decimal_octet(number: u32) -> u8
     (16 * (number / 10) + number % 10) as u8
 }
 
-/// The reason, the number of digits, and the digits in half-octets, filled with zero.
-fn redirection(redirected: &Redirected) -> ArrayVec<u8, 10>
+/// The reason, the number of digits, and the digits in half-octets. A zero fills the last octet.
+fn redirection(redirected: &RedirectionNotification) -> ArrayVec<u8, 10>
     ensures value { result.items
         ≡ reason_octet redirected.now.reason ∷ length redirected.now.dialled ∷ packed redirected.now.dialled }
     ensures most { length redirected.now.dialled ≤ 15 }

@@ -8,9 +8,9 @@ use Rattle.std.proofs.lemmas.Bool.{cases_Bool}
 use Rattle.std.proofs.lemmas.List.Elements.{All-nil, All-cons}
 use Rattle.toml.specs.Data.{Data, Members, as_str, as_table, get_member}
 use Rattle.toml.specs.View.{view, items_view}
-use Rattle.xp_file.specs.declared.fault.SubsFault.{SubsFault}
+use Rattle.xp_file.specs.declared.fault.SubscriptionFault.{SubscriptionFault}
 use Rattle.xp_file.specs.Reading.{◌>>=◌, each, examined, tables_among, required, line_name_in, ok_at}
-use Rattle.xp_file.specs.declared.fault.SubsFault.TheVariants as faults
+use Rattle.xp_file.specs.declared.fault.SubscriptionFault.TheVariants as faults
 use Rattle.xp_file.specs.declared.key.Key.TheVariants as keys
 use Rattle.xp_file.specs.Keys.{key_text}
 use Rattle.xp_file.specs.Name.{is_line_name}
@@ -18,7 +18,7 @@ use Rattle.xp_file.proofs.Choices.{none_is_some, err_is_ok}
 use Rattle.xp_file.proofs.Lists.{cut, front_more, rest_at}
 
 module _ {A : Type 0} where
-  push_step : (r : Result A SubsFault) (rs more : Result (List A) SubsFault) (xs : List A) (x : A)
+  push_step : (r : Result A SubscriptionFault) (rs more : Result (List A) SubscriptionFault) (xs : List A) (x : A)
       → (r >>= λ y. rs >>= λ ys. Ok (y ∷ ys)) ≡ Ok xs → ((ys : List A) → rs ≡ Ok ys → more ≡ Ok (ys ++ x ∷ []))
       → (r >>= λ y. more >>= λ ys. Ok (y ∷ ys)) ≡ Ok (xs ++ x ∷ [])
   push_step (Err fault) rs more xs x before next = let never : Err fault ≡ Ok xs = before in cc
@@ -28,14 +28,14 @@ module _ {A : Type 0} where
       let same_list : y ∷ ys ≡ xs = cc in
       rw (next ys refl, ← same_list)
 
-  refused_step : (r : Result A SubsFault) (rs more : Result (List A) SubsFault) (xs : List A) (fault : SubsFault)
+  refused_step : (r : Result A SubscriptionFault) (rs more : Result (List A) SubscriptionFault) (xs : List A) (fault : SubscriptionFault)
       → (r >>= λ y. rs >>= λ ys. Ok (y ∷ ys)) ≡ Ok xs → ((ys : List A) → rs ≡ Ok ys → more ≡ Err fault)
       → (r >>= λ y. more >>= λ ys. Ok (y ∷ ys)) ≡ Err fault
   refused_step (Err other) rs more xs fault before next = let never : Err other ≡ Ok xs = before in cc
   refused_step (Ok y) (Err other) more xs fault before next = let never : Err other ≡ Ok xs = before in cc
   refused_step (Ok y) (Ok ys) more xs fault before next = rw (next ys refl)
 
-module _ {A : Type 0} (read : Members → Result A SubsFault) where
+module _ {A : Type 0} (read : Members → Result A SubscriptionFault) where
   each-push : (tables : List Members) (table : Members) (xs : List A) (x : A)
       → each read tables ≡ Ok xs → read table ≡ Ok x → each read (tables ++ table ∷ []) ≡ Ok (xs ++ x ∷ [])
   each-push [] table xs x before here = let none : [] ≡ xs = cc in rw (here, ← none)
@@ -43,7 +43,7 @@ module _ {A : Type 0} (read : Members → Result A SubsFault) where
       push_step (read first) (each read tables) (each read (tables ++ table ∷ [])) xs x before
       (λ ys these. each-push tables table ys x these here)
 
-  each-refused : (tables : List Members) (table : Members) (more : List Members) (xs : List A) (fault : SubsFault)
+  each-refused : (tables : List Members) (table : Members) (more : List Members) (xs : List A) (fault : SubscriptionFault)
       → each read tables ≡ Ok xs → read table ≡ Err fault → each read (tables ++ table ∷ more) ≡ Err fault
   each-refused [] table more xs fault before here = rw here
   each-refused (first ∷ tables) table more xs fault before here =
@@ -60,7 +60,7 @@ module _ {A : Type 0} (read : Members → Result A SubsFault) where
         ∙ each-push (map shown (take i xs)) (shown x) ys y before read_here
 
     -- the first that is refused decides
-    pub each_refused : (fault : SubsFault) → i < length xs → x ≡ get_or xs i x → each read (map shown (take i xs)) ≡ Ok ys
+    pub each_refused : (fault : SubscriptionFault) → i < length xs → x ≡ get_or xs i x → each read (map shown (take i xs)) ≡ Ok ys
         → read (shown x) ≡ Err fault → each read (map shown xs) ≡ Err fault
     each_refused fault within here before read_here =
         ap (λ l. each read (map shown l)) (cut xs i x within here)
@@ -68,12 +68,12 @@ module _ {A : Type 0} (read : Members → Result A SubsFault) where
         ∙ each-refused (map shown (take i xs)) (shown x) (map shown (drop (i + 1) xs)) ys fault before read_here
 
 -- a key of each table in turn
-module _ {A X : Type 0} (read : Members → Result A SubsFault) (shown : X → Members) (xs : List X) (i : ℕ) (x : X) where
+module _ {A X : Type 0} (read : Members → Result A SubscriptionFault) (shown : X → Members) (xs : List X) (i : ℕ) (x : X) where
   pub examined_more : (y : A) → i < length xs → x ≡ get_or xs i x → read (shown x) ≡ Ok y
       → examined read (map shown (drop i xs)) ≡ examined read (map shown (drop (i + 1) xs))
   examined_more y within here read_here = ap (λ l. examined read (map shown l)) (rest_at xs i x within here) ∙ rw read_here
 
-  pub examined_refused : (fault : SubsFault) → i < length xs → x ≡ get_or xs i x → read (shown x) ≡ Err fault
+  pub examined_refused : (fault : SubscriptionFault) → i < length xs → x ≡ get_or xs i x → read (shown x) ≡ Err fault
       → examined read (map shown (drop i xs)) ≡ Err fault
   examined_refused fault within here read_here = ap (λ l. examined read (map shown l)) (rest_at xs i x within here) ∙ rw read_here
 
@@ -124,7 +124,7 @@ module _ (values : List Value) (i : ℕ) (value : Value) where
 pub list_all_shown : {X Y : Type 0} (p : Y → Bool) (shown : X → Y) (xs : List X) → list_all p (map shown xs) ≡ list_all (λ x. p (shown x)) xs
 list_all_shown p shown xs = list_all-map p shown xs
 
-length_step : {A : Type 0} (r : Result A SubsFault) (rs : Result (List A) SubsFault) (n : ℕ) (xs : List A)
+length_step : {A : Type 0} (r : Result A SubscriptionFault) (rs : Result (List A) SubscriptionFault) (n : ℕ) (xs : List A)
     → (r >>= λ y. rs >>= λ ys. Ok (y ∷ ys)) ≡ Ok xs → ((ys : List A) → rs ≡ Ok ys → length ys ≡ n) → length xs ≡ suc n
 length_step (Err fault) rs n xs all more = let never : Err fault ≡ Ok xs = all in cc
 length_step (Ok y) (Err fault) n xs all more = let never : Err fault ≡ Ok xs = all in cc
@@ -133,12 +133,12 @@ length_step (Ok y) (Ok ys) n xs all more =
     ap length (sym same_list) ∙ ap suc (more ys refl)
 
 -- as many values as tables
-pub length-each : {A : Type 0} (read : Members → Result A SubsFault) (tables : List Members) (xs : List A) → each read tables ≡ Ok xs → length xs ≡ length tables
+pub length-each : {A : Type 0} (read : Members → Result A SubscriptionFault) (tables : List Members) (xs : List A) → each read tables ≡ Ok xs → length xs ≡ length tables
 length-each read [] xs all = let none : [] ≡ xs = cc in ap length (sym none)
 length-each read (table ∷ tables) xs all =
     length_step (read table) (each read tables) (length tables) xs all (λ ys these. length-each read tables ys these)
 
-all_step : {A : Type 0} (P : A → Type 0) (r : Result A SubsFault) (rs : Result (List A) SubsFault) (xs : List A)
+all_step : {A : Type 0} (P : A → Type 0) (r : Result A SubscriptionFault) (rs : Result (List A) SubscriptionFault) (xs : List A)
     → (r >>= λ y. rs >>= λ ys. Ok (y ∷ ys)) ≡ Ok xs → ((y : A) → r ≡ Ok y → P y) → ((ys : List A) → rs ≡ Ok ys → All P ys) → All P xs
 all_step P (Err fault) rs xs all here more = let never : Err fault ≡ Ok xs = all in absurd (err_is_ok never)
 all_step P (Ok y) (Err fault) xs all here more = let never : Err fault ≡ Ok xs = all in absurd (err_is_ok never)
@@ -147,7 +147,7 @@ all_step P (Ok y) (Ok ys) xs all here more =
     subst (All P) same_list (All-cons P y ys (here y refl) (more ys refl))
 
 -- what holds of each value that may be read holds of each that was
-pub All-each : {A : Type 0} (P : A → Type 0) (read : Members → Result A SubsFault) → ((table : Members) (x : A) → read table ≡ Ok x → P x)
+pub All-each : {A : Type 0} (P : A → Type 0) (read : Members → Result A SubscriptionFault) → ((table : Members) (x : A) → read table ≡ Ok x → P x)
     → (tables : List Members) (xs : List A) → each read tables ≡ Ok xs → All P xs
 All-each P read holds [] xs all = let none : [] ≡ xs = cc in subst (All P) none (All-nil P)
 All-each P read holds (table ∷ tables) xs all =

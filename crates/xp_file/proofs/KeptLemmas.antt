@@ -4,21 +4,21 @@ use Rattle.std.proofs.lemmas.List.{length-map}
 use Rattle.toml.specs.Data.{Members}
 use Rattle.xp_file.specs.declared.entry.LineEntry.{LineEntry}
 use Rattle.xp_file.specs.declared.entry.GroupEntry.{GroupEntry}
-use Rattle.xp_file.specs.declared.fault.SubsFault.{SubsFault}
+use Rattle.xp_file.specs.declared.fault.SubscriptionFault.{SubscriptionFault}
 use Rattle.xp_file.specs.declared.key.Key.TheVariants as keys
 use Rattle.xp_file.specs.Entries.{IsLineEntry, IsGroupEntry}
-use Rattle.xp_file.specs.File.{line_of, group_of, lines_of, groups_of}
+use Rattle.xp_file.specs.SubscriptionFile.{line_of, group_of, lines_of, groups_of}
 use Rattle.xp_file.specs.Reading.{◌>>=◌, line_name_in, group_name_in, number_in, address_in, required, optional, flag, each, examined}
 use Rattle.xp_file.proofs.Choices.{err_is_ok}
 use Rattle.xp_file.proofs.EachLemmas.{All-each, length-each, line_name_form}
 use Rattle.xp_file.proofs.Ranges.{required_range}
 
-line_parts : (name : Result (List ℕ) SubsFault) (port : Result ℕ SubsFault) (address : Result (Option (List ℕ)) SubsFault) (line : LineEntry)
+line_parts : (name : Result (List ℕ) SubscriptionFault) (port : Result ℕ SubscriptionFault) (address : Result (Option (List ℕ)) SubscriptionFault) (line : LineEntry)
     → (name >>= λ n. port >>= λ p. address >>= λ a. Ok (record { name = n; port = p; address = a })) ≡ Ok line
     → (name ≡ Ok line.name) × (port ≡ Ok line.port)
 line_parts (Ok n) (Ok p) (Ok a) line e =
     let is : record { name = n; port = p; address = a } ≡ line = cc in
-    (ap (λ (l : LineEntry). let r : Result (List ℕ) SubsFault = Ok l.name in r) is, ap (λ (l : LineEntry). let r : Result ℕ SubsFault = Ok l.port in r) is)
+    (ap (λ (l : LineEntry). let r : Result (List ℕ) SubscriptionFault = Ok l.name in r) is, ap (λ (l : LineEntry). let r : Result ℕ SubscriptionFault = Ok l.port in r) is)
 line_parts (Ok n) (Ok p) (Err fault) line e = absurd (err_is_ok e)
 line_parts (Ok n) (Err fault) address line e = absurd (err_is_ok e)
 line_parts (Err fault) port address line e = absurd (err_is_ok e)
@@ -31,12 +31,12 @@ line_kept table line e =
     let range = required_range 1 65535 keys.Port table line.port ported in
     record { spelled = line_name_form table line.name named; least_port = range.0; most_port = range.1 }
 
-group_parts : (name : Result (List ℕ) SubsFault) (index : Result ℕ SubsFault) (outgoing incoming : Result Bool SubsFault) (group : GroupEntry)
+group_parts : (name : Result (List ℕ) SubscriptionFault) (index : Result ℕ SubscriptionFault) (outgoing incoming : Result Bool SubscriptionFault) (group : GroupEntry)
     → (name >>= λ n. index >>= λ i. outgoing >>= λ o. incoming >>= λ p. Ok (record { name = n; index = i; outgoing_barred = o; incoming_barred = p })) ≡ Ok group
     → index ≡ Ok group.index
 group_parts (Ok n) (Ok i) (Ok o) (Ok p) group e =
     let is : record { name = n; index = i; outgoing_barred = o; incoming_barred = p } ≡ group = cc in
-    ap (λ (g : GroupEntry). let r : Result ℕ SubsFault = Ok g.index in r) is
+    ap (λ (g : GroupEntry). let r : Result ℕ SubscriptionFault = Ok g.index in r) is
 group_parts (Ok n) (Ok i) (Ok o) (Err fault) group e = absurd (err_is_ok e)
 group_parts (Ok n) (Ok i) (Err fault) incoming group e = absurd (err_is_ok e)
 group_parts (Ok n) (Err fault) outgoing incoming group e = absurd (err_is_ok e)
@@ -50,7 +50,7 @@ group_kept table group e =
     (flag keys.IncomingBarred table) group e)).1
 
 -- what comes after an examination
-after : {A B : Type 0} (r : Result A SubsFault) (next : Result B SubsFault) (y : B) → (r >>= λ x. next) ≡ Ok y → next ≡ Ok y
+after : {A B : Type 0} (r : Result A SubscriptionFault) (next : Result B SubscriptionFault) (y : B) → (r >>= λ x. next) ≡ Ok y → next ≡ Ok y
 after (Ok x) next y e = e
 after (Err fault) next y e = absurd (err_is_ok e)
 

@@ -3,7 +3,7 @@ use Rattle.std.proofs.Common.{◌≡◌, ℕ, ◌≤◌, ℤ, pos, ◌&&◌, inl
 use Rattle.std.proofs.lemmas.Bool.{and_parts, cases_Bool, leb-true}
 use Rattle.std.specs.Prelude.{nat_le}
 use Rattle.toml.specs.Data.{Data, Members, as_integer, get_member}
-use Rattle.xp_file.specs.declared.fault.SubsFault.TheVariants as faults
+use Rattle.xp_file.specs.declared.fault.SubscriptionFault.TheVariants as faults
 use Rattle.xp_file.specs.declared.key.Key.{Key}
 use Rattle.xp_file.specs.Keys.{key_text}
 use Rattle.xp_file.specs.Reading.{within, number_in, ok_at, required, defaulted}

@@ -1,4 +1,4 @@
--- What the subscription file says, table by table.
+-- The content of the subscription file, table by table.
 use Rattle.std.specs.Prelude.{ℕ, ◌<◌, ◌≤◌, List, Option, All, IsTrue, length}
 use Rattle.xp_file.specs.declared.entry.Facilities.{Facilities}
 use Rattle.xp_file.specs.declared.entry.GroupEntry.{GroupEntry}
@@ -15,23 +15,24 @@ pub record StationData : Type 0 where
   pub groups : List GroupEntry
   pub redirect : Option Redirection
 
--- a line has a name that a line may have, and a port that there is
+-- the line has a valid name and a valid port
 pub record IsLineEntry (line : LineEntry) : Type 0 where
   pub spelled : IsTrue (is_line_name line.name)
   pub least_port : 1 ≤ line.port
   pub most_port : line.port ≤ 65_535
 
--- an index has at most four digits
+-- the index has at most four digits
 abbrev pub IsGroupEntry : GroupEntry → Type 0
 IsGroupEntry group = group.index ≤ 9_999
 
--- a station has at least one line
+-- the station has at least one line
 pub record IsStationEntry (station : StationData) : Type 0 where
   pub some : 0 < length station.lines
   pub lines : All IsLineEntry station.lines
   pub groups : All IsGroupEntry station.groups
 
--- the limits that a file may set: to the segments of a call in one direction, and to the entries of the history
+-- the limits that a file sets are in their ranges: of the segments of a call in one direction, and of the entries of
+-- the history
 pub record AreLimits (segment_limit journal : ℕ) : Type 0 where
   pub some_segment : 1 ≤ segment_limit
   pub eight_digits : segment_limit ≤ 99_999_999

@@ -3,7 +3,7 @@ use Rattle.std.specs.Prelude.{ℕ, List, codes}
 use Rattle.xp_file.specs.declared.key.Key.{Key}
 use Rattle.xp_file.specs.declared.key.Key.TheVariants as keys
 
--- a key as the file has it
+-- a key as it is written in the file
 abbrev pub key_text : Key → List ℕ
 key_text keys.SegmentLimit = codes "segment_limit"
 key_text keys.Journal = codes "journal"

@@ -1,9 +1,9 @@
--- The values of the subscription file's keys, as they are read off the tables of a TOML document.
+-- How the values of the keys are read from the tables of a TOML document.
 use Rattle.std.specs.Prelude.{◌≡◌, ℕ, ℤ, pos, List, [], ◌∷◌, Bool, true, false, ◌&&◌, Option, None, Some, Result, Ok, Err, option_and_then, option_map, map, nat_le, if◌then◌else◌}
 use Rattle.std.specs.List.{list_any}
 use Rattle.toml.specs.Data.{Data, Items, no_items, item, Members, no_members, member, get_member, as_str, as_integer, as_bool, as_array, as_table}
-use Rattle.xp_file.specs.declared.fault.SubsFault.{SubsFault}
-use Rattle.xp_file.specs.declared.fault.SubsFault.TheVariants as faults
+use Rattle.xp_file.specs.declared.fault.SubscriptionFault.{SubscriptionFault}
+use Rattle.xp_file.specs.declared.fault.SubscriptionFault.TheVariants as faults
 use Rattle.xp_file.specs.declared.key.Key.{Key}
 use Rattle.xp_file.specs.Address.{is_address, digit_of}
 use Rattle.xp_file.specs.Keys.{key_text}
@@ -11,12 +11,12 @@ use Rattle.xp_file.specs.Name.{is_line_name, is_group_name}
 use Rattle.xp_file.specs.Name.{same}
 
 infixl 10 ◌>>=◌
--- what is read next, where nothing was refused
-abbrev pub ◌>>=◌ : {A B : Type 0} → Result A SubsFault → (A → Result B SubsFault) → Result B SubsFault
+-- if reading succeeded, continues with `next`; otherwise keeps the fault
+abbrev pub ◌>>=◌ : {A B : Type 0} → Result A SubscriptionFault → (A → Result B SubscriptionFault) → Result B SubscriptionFault
 Ok x >>= next = next x
 Err fault >>= next = Err fault
 
--- a number in a range
+-- a number from `low` to `high`
 abbrev pub within : ℕ → ℕ → ℤ → Option ℕ
 within low high (pos n) = if nat_le low n && nat_le n high then Some n else None
 within low high _ = None
@@ -24,7 +24,7 @@ within low high _ = None
 abbrev pub number_in : ℕ → ℕ → Data → Option ℕ
 number_in low high value = option_and_then (within low high) (as_integer value)
 
--- a text of one form
+-- a text of this form
 abbrev pub text_of : (List ℕ → Bool) → Data → Option (List ℕ)
 text_of form value = option_and_then (λ text. if form text then Some text else None) (as_str value)
 
@@ -37,7 +37,7 @@ group_name_in = text_of is_group_name
 abbrev pub address_in : Data → Option (List ℕ)
 address_in value = option_map (map digit_of) (text_of is_address value)
 
--- an array of tables
+-- the values as tables; none if one of them is not a table
 abbrev pub tables_among : Items → Option (List Members)
 tables_among no_items = Some []
 tables_among (item value more) = option_and_then (λ table. option_map (λ tables. table ∷ tables) (tables_among more)) (as_table value)
@@ -45,60 +45,56 @@ tables_among (item value more) = option_and_then (λ table. option_map (λ table
 abbrev pub tables_in : Data → Option (List Members)
 tables_in value = option_and_then tables_among (as_array value)
 
--- at least one
+-- an array of at least one table
 abbrev pub some_tables_in : Data → Option (List Members)
 some_tables_in value = option_and_then some (tables_in value) where
   some : List Members → Option (List Members)
   some [] = None
   some (table ∷ tables) = Some (table ∷ tables)
 
--- what was read, or else the fault of its key
-abbrev pub ok_at : {A : Type 0} → Key → Option A → Result A SubsFault
+-- the value, or the fault of its key
+abbrev pub ok_at : {A : Type 0} → Key → Option A → Result A SubscriptionFault
 ok_at key (Some x) = Ok x
 ok_at key None = Err (faults.Field key)
 
--- a key that has to be there
-abbrev pub required : {A : Type 0} → (Data → Option A) → Key → Members → Result A SubsFault
+-- a key that the table must have
+abbrev pub required : {A : Type 0} → (Data → Option A) → Key → Members → Result A SubscriptionFault
 required read key table = ok_at key (option_and_then read (get_member (key_text key) table))
 
--- a key that may be absent, with the value that it then has
-abbrev pub defaulted : {A : Type 0} → (Data → Option A) → A → Key → Members → Result A SubsFault
+-- a key that may be missing, with its default value
+abbrev pub defaulted : {A : Type 0} → (Data → Option A) → A → Key → Members → Result A SubscriptionFault
 defaulted {A} read absent key table = found (get_member (key_text key) table) where
-  found : Option Data → Result A SubsFault
+  found : Option Data → Result A SubscriptionFault
   found None = Ok absent
   found (Some value) = ok_at key (read value)
 
-abbrev pub optional : {A : Type 0} → (Data → Option A) → Key → Members → Result (Option A) SubsFault
+abbrev pub optional : {A : Type 0} → (Data → Option A) → Key → Members → Result (Option A) SubscriptionFault
 optional read key table = defaulted (λ value. option_map (λ x. Some x) (read value)) None key table
 
-abbrev pub flag : Key → Members → Result Bool SubsFault
+abbrev pub flag : Key → Members → Result Bool SubscriptionFault
 flag key table = defaulted as_bool false key table
 
--- a key of each table in turn
-abbrev pub each : {A : Type 0} → (Members → Result A SubsFault) → List Members → Result (List A) SubsFault
+-- reads each table in turn
+abbrev pub each : {A : Type 0} → (Members → Result A SubscriptionFault) → List Members → Result (List A) SubscriptionFault
 each read [] = Ok []
 each read (table ∷ tables) = do
   x ← read table
   xs ← each read tables
   Ok (x ∷ xs)
 
--- a key of each table in turn, the first that is refused
-abbrev pub examined : {A : Type 0} → (Members → Result A SubsFault) → List Members → Result (Unit {0}) SubsFault
+-- checks one key in each table in turn; stops at the first fault
+abbrev pub examined : {A : Type 0} → (Members → Result A SubscriptionFault) → List Members → Result (Unit {0}) SubscriptionFault
 examined read [] = Ok tt
 examined read (table ∷ tables) = do
   x ← read table
   examined read tables
-
--- all that is returned at a table or a value, as it is shown, is what is read of it
-abbrev pub Reads : {X Y B : Type 0} → (X → Y) → (X → B → Type 0) → (Y → B) → Type 0
-Reads {X} {Y} {B} shown Returns read = (x : X) (answer : B) → Returns x answer → read (shown x) ≡ answer
 
 -- the table has no other keys
 abbrev pub has_only : List Key → Members → Bool
 has_only listed no_members = true
 has_only listed (member key value more) = list_any (λ known. same (key_text known) key) listed && has_only listed more
 
--- what comes next, where a test passes
-abbrev pub checked : {A : Type 0} → Bool → SubsFault → Result A SubsFault → Result A SubsFault
+-- continues with `next` if a test passes; otherwise the fault
+abbrev pub checked : {A : Type 0} → Bool → SubscriptionFault → Result A SubscriptionFault → Result A SubscriptionFault
 checked true fault next = next
 checked false fault next = Err fault

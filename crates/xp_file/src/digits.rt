@@ -4,7 +4,7 @@ ghost use Rattle.xp_file.specs.Address.{is_address, is_digit, digit_of};
 
 use xp_packets::Digits;
 
-/// The address that a text is, 1 to 15 digits, if it is one.
+/// Reads an address from text: 1 to 15 digits. Returns `None` for any other text.
 pub(crate) fn read_digits(text: &str) -> Option<Digits>
     ensures { result ≡ (if is_address text.now then Some (map digit_of text.now) else None) }
 {

@@ -1,4 +1,4 @@
-//! What the subscription file says, table by table.
+//! The content of the subscription file, table by table.
 ghost use Rattle.std.specs.Prelude.{◌≡◌};
 
 use crate::name::Name;
@@ -8,13 +8,13 @@ use xp_packets::Digits;
 /// Where a station's calls are redirected, and for which reasons (X.25 clause 6.25.1).
 #[derive(Debug, Drop, PartialEq)]
 pub struct Redirection {
-    /// The alternate address, 1 to 15 digits; it need not be one of this exchange.
+    /// The alternate address, 1 to 15 digits. It need not be an address of this exchange.
     pub to: Digits,
-    /// Each call is redirected.
+    /// Whether every call is redirected.
     pub systematic: bool,
-    /// Calls are redirected while no line is idle.
+    /// Whether a call is redirected if no line is idle.
     pub busy: bool,
-    /// Calls are redirected while all lines are out of service.
+    /// Whether a call is redirected if all lines are out of service.
     pub out_of_order: bool,
 }
 
@@ -32,7 +32,7 @@ impl Redirection {
     }
 }
 
-/// The facilities to which a station subscribes or not (X.25 clause 6).
+/// The facilities that a station has subscribed to (X.25 clause 6).
 #[derive(Clone, Copy, Debug, Default, PartialEq, Eq)]
 pub struct Facilities {
     /// Outgoing calls barred (X.25 clause 6.6).
@@ -53,17 +53,17 @@ pub struct Facilities {
 #[derive(Drop)]
 pub struct LineEntry {
     pub name: Name,
-    /// 1 to 65,535.
+    /// The TCP port, 1 to 65,535.
     pub port: u16,
-    /// The line's own address, 1 to 15 digits, where it has one beside its station's.
+    /// The line's own address, 1 to 15 digits, if it has one in addition to its station's.
     pub address: Option<Digits>,
 }
 
-/// A station's part in a closed user group.
+/// A station's membership of a closed user group.
 #[derive(Drop)]
 pub struct GroupEntry {
     pub name: Name,
-    /// The number by which the station selects the group, 0 to 9,999.
+    /// The index by which the station selects the group, 0 to 9,999.
     pub index: u16,
     /// Outgoing calls barred within the group.
     pub outgoing_barred: bool,
@@ -74,14 +74,14 @@ pub struct GroupEntry {
 /// A station.
 #[derive(Drop)]
 pub struct StationEntry {
-    /// 1 to 15 digits.
+    /// The address, 1 to 15 digits.
     pub address: Digits,
     pub facilities: Facilities,
     /// The index of the preferential group, 0 to 9,999.
     pub preferential: Option<u16>,
-    /// The lines in order, at least one.
+    /// The lines in the order of the file, at least one.
     pub lines: Vec<LineEntry>,
-    /// The closed user groups in order.
+    /// The closed user groups in the order of the file.
     pub groups: Vec<GroupEntry>,
     pub redirect: Option<Redirection>,
 }

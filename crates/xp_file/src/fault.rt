@@ -1,63 +1,64 @@
 ghost use Rattle.std.specs.Prelude.{◌≡◌};
-ghost use Rattle.xp_file.specs.declared.fault.SubsFault.TheVariants.{Memory as OutOfMemory};
+ghost use Rattle.xp_file.specs.declared.fault.SubscriptionFault.TheVariants.{Memory as OutOfMemory};
 
 use crate::key::Key;
 use std::alloc::{AllocError, AllocFailed};
 use std::error::Error;
 use std::fmt;
 
-/// Why a subscription file is refused. Each examination goes over the whole file before the next:
-/// its text, the values of its keys, its limits, what is used twice, and the indexes of groups.
+/// Why a subscription file is refused. Each check goes over the whole file before the next one starts: first the
+/// text, then the values of its keys, its limits, the values that are used twice, and the indexes of groups.
 #[derive(Clone, Copy, Debug, PartialEq, Eq)]
-pub enum SubsFault {
-    /// The text is no TOML.
+pub enum SubscriptionFault {
+    /// The text is not TOML.
     Toml,
-    /// The value of this key is missing, of another type, misspelt or out of range, or the key is not one of the file's.
+    /// The value of this key is missing, of another type, misspelt or out of range. [`Key::Other`] means that the
+    /// file has a key that it may not have.
     Field(Key),
     /// An address, a line's name or a port is used twice.
     TwiceUsed(Key),
-    /// A station has an index or a group twice, or its preferential index is none of its indexes.
+    /// A station has an index or a group twice, or its preferential index is not one of its indexes.
     Index,
     /// There are more stations, lines or groups than an exchange may have.
     Limit(Key),
-    /// Out of memory.
+    /// An allocation failed.
     Memory,
 }
 
-/// The words of a program's message: `toml`, `field KEY`, `twice KEY`, `index`, `limit KEY` or `memory`.
-// By hand, since its text is proved.
-impl fmt::Display for SubsFault {
+/// The text of the program's message: `toml`, `field KEY`, `twice KEY`, `index`, `limit KEY` or `memory`.
+// This impl is written by hand because its text is proved.
+impl fmt::Display for SubscriptionFault {
     ghost use Rattle.std.specs.Prelude.{Some};
-    ghost use Rattle.xp_file.specs.Fault.{fault_text};
+    ghost use Rattle.xp_file.specs.steps.Fault.{fault_text};
 
     ghost output = { λ fault. Some (fault_text fault) };
 
     fn fmt<W: fmt::Write>(&self, f: &mut fmt::Formatter<W>) -> fmt::Result {
         match self {
-            SubsFault::Toml => f.write_str("toml"),
-            SubsFault::Field(key) => write!(f, "field {key}"),
-            SubsFault::TwiceUsed(key) => write!(f, "twice {key}"),
-            SubsFault::Index => f.write_str("index"),
-            SubsFault::Limit(key) => write!(f, "limit {key}"),
-            SubsFault::Memory => f.write_str("memory"),
+            SubscriptionFault::Toml => f.write_str("toml"),
+            SubscriptionFault::Field(key) => write!(f, "field {key}"),
+            SubscriptionFault::TwiceUsed(key) => write!(f, "twice {key}"),
+            SubscriptionFault::Index => f.write_str("index"),
+            SubscriptionFault::Limit(key) => write!(f, "limit {key}"),
+            SubscriptionFault::Memory => f.write_str("memory"),
         }
     }
 }
 
-impl Error for SubsFault {}
+impl Error for SubscriptionFault {}
 
-impl From<AllocError> for SubsFault {
+impl From<AllocError> for SubscriptionFault {
     ghost from_gives = { λ _ fault. fault ≡ OutOfMemory };
 
-    fn from(_error: AllocError) -> SubsFault {
-        SubsFault::Memory
+    fn from(_error: AllocError) -> SubscriptionFault {
+        SubscriptionFault::Memory
     }
 }
 
-impl<T: Drop> From<AllocFailed<T>> for SubsFault {
+impl<T: Drop> From<AllocFailed<T>> for SubscriptionFault {
     ghost from_gives = { λ _ fault. fault ≡ OutOfMemory };
 
-    fn from(_error: AllocFailed<T>) -> SubsFault {
-        SubsFault::Memory
+    fn from(_error: AllocFailed<T>) -> SubscriptionFault {
+        SubscriptionFault::Memory
     }
 }

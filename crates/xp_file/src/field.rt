@@ -1,92 +1,96 @@
-//! Single keys of a table of the subscription file.
+//! Reads single keys of a table of the subscription file.
 ghost use Rattle.std.specs.Prelude.{◌≡◌, ◌≤◌, Ok, Err, IfOk, IfErr, IfSome, option_map};
 ghost use Rattle.std.specs.Fn.{FnReturnsAt};
 ghost use Rattle.std.specs.List.{list_any};
 ghost use Rattle.toml.specs.Data.{get_member, as_str, as_table};
 ghost use Rattle.toml.specs.View.{view, table_view};
 ghost use Rattle.xp_file.specs.Keys.{key_text};
-ghost use Rattle.xp_file.specs.Reading.{Reads, number_in, line_name_in, group_name_in, address_in, required, optional, defaulted, flag, has_only};
+ghost use Rattle.xp_file.specs.Reading.{number_in, line_name_in, group_name_in, address_in, required, optional, defaulted, flag, has_only};
+ghost use Rattle.xp_file.specs.steps.Reading.{Reads};
 ghost use Rattle.xp_file.specs.Name.{same};
 
 use crate::digits::read_digits;
-use crate::fault::SubsFault;
+use crate::fault::SubscriptionFault;
 use crate::key::Key;
 use crate::name::Name;
 use toml::{Table, Value};
 use xp_packets::Digits;
 
-/// The value of a key, if the table has it.
+/// The value of a key, if the table has that key.
 pub(crate) fn value_at(table: &Table, key: Key) -> Option<&Value>
     ensures { option_map (λ value. view value.now) result ≡ get_member (key_text key) (table_view table.now) }
 {
     table.get(key.name())
 }
 
-/// What is read of the value of a key that has to be there.
+/// Reads a key that the table must have.
 pub(crate) fn required<T: Drop, F: Fn(&Value) -> Option<T>>(
     table: &Table,
     key: Key,
     read: F,
-) -> Result<T, SubsFault>
+) -> Result<T, SubscriptionFault>
     requires { F.IsAlwaysCallable read }
     ensures { (reading : _) → Reads view (FnReturnsAt F.Fn read) reading → result ≡ required reading key (table_view table.now) }
 {
     let Some(value) = value_at(table, key) else {
-        return Err(SubsFault::Field(key));
+        return Err(SubscriptionFault::Field(key));
     };
-    read(value).ok_or(SubsFault::Field(key))
+    read(value).ok_or(SubscriptionFault::Field(key))
 }
 
-/// What is read of the value of a key, or what it is where the key is absent.
+/// Reads a key. If the table does not have it, returns the default value.
 pub(crate) fn defaulted<T: Drop, F: Fn(&Value) -> Option<T>>(
     table: &Table,
     key: Key,
     absent: T,
     read: F,
-) -> Result<T, SubsFault>
+) -> Result<T, SubscriptionFault>
     requires { F.IsAlwaysCallable read }
     ensures { (reading : _) → Reads view (FnReturnsAt F.Fn read) reading → result ≡ defaulted reading absent key (table_view table.now) }
 {
     let Some(value) = value_at(table, key) else {
         return Ok(absent);
     };
-    read(value).ok_or(SubsFault::Field(key))
+    read(value).ok_or(SubscriptionFault::Field(key))
 }
 
-/// What is read of the value of a key, where it is there.
+/// Reads a key, if the table has it.
 pub(crate) fn optional<T: Drop, F: Fn(&Value) -> Option<T>>(
     table: &Table,
     key: Key,
     read: F,
-) -> Result<Option<T>, SubsFault>
+) -> Result<Option<T>, SubscriptionFault>
     requires { F.IsAlwaysCallable read }
     ensures { (reading : _) → Reads view (FnReturnsAt F.Fn read) reading → result ≡ optional reading key (table_view table.now) }
 {
     let Some(value) = value_at(table, key) else {
         return Ok(None);
     };
-    read(value).map(Some).ok_or(SubsFault::Field(key))
+    read(value).map(Some).ok_or(SubscriptionFault::Field(key))
 }
 
-/// True or false, false where it is absent.
-pub(crate) fn flag(table: &Table, key: Key) -> Result<bool, SubsFault>
+/// Reads a key that is true or false. If the table does not have it, it is false.
+pub(crate) fn flag(table: &Table, key: Key) -> Result<bool, SubscriptionFault>
     ensures { result ≡ flag key (table_view table.now) }
 {
     defaulted(table, key, false, |value| value.as_bool())
 }
 
-/// A table, where it is there.
-pub(crate) fn optional_table(table: &Table, key: Key) -> Result<Option<&Table>, SubsFault>
+/// The table under a key, if there is one.
+pub(crate) fn optional_table(table: &Table, key: Key) -> Result<Option<&Table>, SubscriptionFault>
     ensures ok { IfOk result (λ found. optional as_table key (table_view table.now) ≡ Ok (option_map (λ inner. table_view inner.now) found)) }
     ensures refused { IfErr result (λ fault. optional as_table key (table_view table.now) ≡ Err fault) }
 {
     match value_at(table, key) {
-        Some(value) => value.as_table().map(Some).ok_or(SubsFault::Field(key)),
+        Some(value) => value
+            .as_table()
+            .map(Some)
+            .ok_or(SubscriptionFault::Field(key)),
         None => Ok(None),
     }
 }
 
-/// Whether the table has no other keys than these.
+/// Whether the table has no keys other than `listed`.
 pub(crate) fn has_only(table: &Table, listed: &[Key]) -> bool
     ensures { result ≡ has_only listed.now (table_view table.now) }
 {
@@ -110,7 +114,7 @@ fn is_key(known: Key, text: &str) -> bool
     known.name() == text
 }
 
-/// A number in a range.
+/// A number from `low` to `high`.
 pub(crate) fn number(value: &Value, low: u32, high: u32) -> Option<u32>
     ensures number { result ≡ number_in low high (view value.now) }
     ensures most { IfSome result (λ number. number ≤ high) }
@@ -119,7 +123,7 @@ pub(crate) fn number(value: &Value, low: u32, high: u32) -> Option<u32>
     (low..=high).contains(&number).then_some(number)
 }
 
-/// A number in a range, of at most 65,535.
+/// A number from `low` to `high`, at most 65,535.
 pub(crate) fn short(value: &Value, low: u16, high: u16) -> Option<u16>
     ensures { result ≡ number_in low high (view value.now) }
 {

@@ -1,16 +1,16 @@
-//! The first pass over the subscription file: every value of every key.
+//! The first pass over the subscription file. It reads the value of every key.
 ghost use Rattle.std.specs.Prelude.{◌≡◌, ◌≢◌, ◌<◌, length, All, Ok, Err, None, Some, IfOk, IfErr, option_map, map, codes, string_bytes};
 ghost use Rattle.std.specs.List.{list_all};
 ghost use Rattle.toml.specs.Data.{as_str};
 ghost use Rattle.toml.specs.View.{table_view};
-ghost use Rattle.xp_file.specs.declared.fault.SubsFault.TheVariants.{Memory as OutOfMemory};
+ghost use Rattle.xp_file.specs.declared.fault.SubscriptionFault.TheVariants.{Memory as OutOfMemory};
 ghost use Rattle.xp_file.specs.declared.key.Key.TheVariants as keys;
 ghost use Rattle.xp_file.specs.Entries.{AreLimits, IsStationEntry};
-ghost use Rattle.xp_file.specs.File.{facilities_of, line_of, lines_of, group_of, groups_of, redirection_of, are_listed, entry_of, file_of, file_in};
+ghost use Rattle.xp_file.specs.SubscriptionFile.{facilities_of, line_of, lines_of, group_of, groups_of, redirection_of, are_listed, entry_of, file_of, file_in};
 ghost use Rattle.xp_file.specs.Reading.{each, has_only, required, optional, defaulted, number_in, address_in, line_name_in, group_name_in};
 
 use crate::entry::{Facilities, GroupEntry, LineEntry, Redirection, StationEntry};
-use crate::fault::SubsFault;
+use crate::fault::SubscriptionFault;
 use crate::field::{
     address, defaulted, flag, group_name, has_only, line_name, number, optional, optional_table,
     required, short, value_at,
@@ -23,22 +23,22 @@ use std::marker::Model;
 use toml::Table;
 use xp_packets::Digits;
 
-/// All that the subscription file says, with the values of the keys that it leaves out.
+/// The content of the subscription file, with default values for the keys that it omits.
 #[derive(Drop)]
-pub struct File {
-    /// The segments that a call may have in one direction, 1 to 99,999,999.
+pub struct SubscriptionFile {
+    /// The most segments that a call may have in one direction, 1 to 99,999,999.
     pub segment_limit: u32,
-    /// The entries that the history may have, 4 to 10,000,000.
+    /// The most entries that the history may have, 4 to 10,000,000.
     pub journal: u32,
     /// The host on whose ports the exchange listens.
     pub host: String,
-    /// The stations in order, at least one.
+    /// The stations in the order of the file, at least one.
     pub stations: Vec<StationEntry>,
 }
 
-impl Model for File {
+impl Model for SubscriptionFile {
     ghost use Rattle.std.specs.Prelude.{string_bytes};
-    ghost use Rattle.xp_file.specs.File.{FileData};
+    ghost use Rattle.xp_file.specs.SubscriptionFile.{FileData};
 
     ghost Value = { FileData };
 
@@ -50,22 +50,22 @@ impl Model for File {
     } };
 }
 
-/// The most segments in one direction of a call, which is also the limit of a file that sets none.
+/// The greatest limit to the segments of a call in one direction, which is also the default.
 const MAX_SEGMENT_LIMIT: u32 = 99_999_999;
 
-/// The fewest entries that a history may be limited to.
+/// The smallest limit to the entries of the history.
 const MIN_JOURNAL: u32 = 4;
 
-/// The most entries that a history may be limited to.
+/// The greatest limit to the entries of the history.
 const MAX_JOURNAL: u32 = 10_000_000;
 
-/// The limit of a history where the file sets none.
+/// The default limit to the entries of the history.
 const DEFAULT_JOURNAL: u32 = 1_000_000;
 
-/// The host of a file that names none.
+/// The default host.
 const DEFAULT_HOST: &str = "127.0.0.1";
 
-/// The greatest index of a group, which has four digits (X.25 clause 6.14.6).
+/// The greatest index of a group: four digits (X.25 clause 6.14.6).
 const MAX_INDEX: u16 = 9_999;
 
 const TOP_KEYS: [Key; 4] = [Key::SegmentLimit, Key::Journal, Key::Host, Key::Station];
@@ -95,8 +95,8 @@ const GROUP_KEYS: [Key; 4] = [
 
 const REDIRECT_KEYS: [Key; 4] = [Key::To, Key::Systematic, Key::Busy, Key::OutOfOrder];
 
-#[tactic(auto, unfolding(crate::specs::File::facilities_of))]
-fn facilities(table: &Table) -> Result<Facilities, SubsFault>
+#[tactic(auto, unfolding(crate::specs::SubscriptionFile::facilities_of))]
+fn facilities(table: &Table) -> Result<Facilities, SubscriptionFault>
     ensures { result ≡ facilities_of (table_view table.now) }
 {
     let outgoing_barred = flag(table, Key::OutgoingBarred)?;
@@ -115,38 +115,38 @@ fn facilities(table: &Table) -> Result<Facilities, SubsFault>
     })
 }
 
-fn address_of(table: &Table, key: Key) -> Result<Digits, SubsFault>
+fn address_of(table: &Table, key: Key) -> Result<Digits, SubscriptionFault>
     ensures { result ≡ required address_in key (table_view table.now) }
 {
     required(table, key, address)
 }
 
-fn preferential_of(table: &Table) -> Result<Option<u16>, SubsFault>
+fn preferential_of(table: &Table) -> Result<Option<u16>, SubscriptionFault>
     ensures { result ≡ optional (number_in 0 9999) keys.Preferential (table_view table.now) }
 {
     optional(table, Key::Preferential, |value| short(value, 0, MAX_INDEX))
 }
 
-fn line_name_of(table: &Table) -> Result<Name, SubsFault>
+fn line_name_of(table: &Table) -> Result<Name, SubscriptionFault>
     ensures { result ≡ required line_name_in keys.Name (table_view table.now) }
 {
     required(table, Key::Name, line_name)
 }
 
-fn port_of(table: &Table) -> Result<u16, SubsFault>
+fn port_of(table: &Table) -> Result<u16, SubscriptionFault>
     ensures { result ≡ required (number_in 1 65535) keys.Port (table_view table.now) }
 {
     required(table, Key::Port, |value| short(value, 1, u16::MAX))
 }
 
-fn own_address_of(table: &Table) -> Result<Option<Digits>, SubsFault>
+fn own_address_of(table: &Table) -> Result<Option<Digits>, SubscriptionFault>
     ensures { result ≡ optional address_in keys.Address (table_view table.now) }
 {
     optional(table, Key::Address, address)
 }
 
-#[tactic(auto, unfolding(crate::specs::File::line_of))]
-fn line(table: &Table) -> Result<LineEntry, SubsFault>
+#[tactic(auto, unfolding(crate::specs::SubscriptionFile::line_of))]
+fn line(table: &Table) -> Result<LineEntry, SubscriptionFault>
     ensures { result ≡ line_of (table_view table.now) }
 {
     Ok(LineEntry {
@@ -156,8 +156,8 @@ fn line(table: &Table) -> Result<LineEntry, SubsFault>
     })
 }
 
-#[tactic(auto, unfolding(crate::specs::File::lines_of))]
-fn lines(alloc: Global, tables: &[&Table]) -> Result<Vec<LineEntry>, SubsFault>
+#[tactic(auto, unfolding(crate::specs::SubscriptionFile::lines_of))]
+fn lines(alloc: Global, tables: &[&Table]) -> Result<Vec<LineEntry>, SubscriptionFault>
     ensures ok { IfOk result (λ lines. lines_of (map (λ table. table_view table.now) tables.now) ≡ Ok lines.items) }
     ensures refused { IfErr result (λ fault. fault ≢ OutOfMemory → lines_of (map (λ table. table_view table.now) tables.now) ≡ Err fault) }
 {
@@ -166,20 +166,20 @@ fn lines(alloc: Global, tables: &[&Table]) -> Result<Vec<LineEntry>, SubsFault>
     each(alloc, tables, line)
 }
 
-fn group_name_of(table: &Table) -> Result<Name, SubsFault>
+fn group_name_of(table: &Table) -> Result<Name, SubscriptionFault>
     ensures { result ≡ required group_name_in keys.Name (table_view table.now) }
 {
     required(table, Key::Name, group_name)
 }
 
-fn index_of(table: &Table) -> Result<u16, SubsFault>
+fn index_of(table: &Table) -> Result<u16, SubscriptionFault>
     ensures { result ≡ required (number_in 0 9999) keys.Index (table_view table.now) }
 {
     required(table, Key::Index, |value| short(value, 0, MAX_INDEX))
 }
 
-#[tactic(auto, unfolding(crate::specs::File::group_of))]
-fn group(table: &Table) -> Result<GroupEntry, SubsFault>
+#[tactic(auto, unfolding(crate::specs::SubscriptionFile::group_of))]
+fn group(table: &Table) -> Result<GroupEntry, SubscriptionFault>
     ensures { result ≡ group_of (table_view table.now) }
 {
     Ok(GroupEntry {
@@ -190,8 +190,8 @@ fn group(table: &Table) -> Result<GroupEntry, SubsFault>
     })
 }
 
-#[tactic(auto, unfolding(crate::specs::File::groups_of))]
-fn groups(alloc: Global, tables: &[&Table]) -> Result<Vec<GroupEntry>, SubsFault>
+#[tactic(auto, unfolding(crate::specs::SubscriptionFile::groups_of))]
+fn groups(alloc: Global, tables: &[&Table]) -> Result<Vec<GroupEntry>, SubscriptionFault>
     ensures ok { IfOk result (λ groups. groups_of (map (λ table. table_view table.now) tables.now) ≡ Ok groups.items) }
     ensures refused { IfErr result (λ fault. fault ≢ OutOfMemory → groups_of (map (λ table. table_view table.now) tables.now) ≡ Err fault) }
 {
@@ -201,8 +201,8 @@ fn groups(alloc: Global, tables: &[&Table]) -> Result<Vec<GroupEntry>, SubsFault
     each(alloc, tables, group)
 }
 
-#[tactic(auto, unfolding(crate::specs::File::redirection_of))]
-fn redirection(table: Option<&Table>) -> Result<Option<Redirection>, SubsFault>
+#[tactic(auto, unfolding(crate::specs::SubscriptionFile::redirection_of))]
+fn redirection(table: Option<&Table>) -> Result<Option<Redirection>, SubscriptionFault>
     ensures { result ≡ redirection_of (option_map (λ inner. table_view inner.now) table.entry) }
 {
     let Some(table) = table else {
@@ -237,8 +237,8 @@ fn are_listed(table: &Table, lines: &[&Table], groups: &[&Table], redirect: Opti
     own && lines && groups && redirect
 }
 
-#[tactic(auto, unfolding(crate::specs::File::entry_of))]
-fn entry(alloc: Global, table: &Table) -> Result<StationEntry, SubsFault>
+#[tactic(auto, unfolding(crate::specs::SubscriptionFile::entry_of))]
+fn entry(alloc: Global, table: &Table) -> Result<StationEntry, SubscriptionFault>
     ensures ok { IfOk result (λ entry. entry_of (table_view table.now) ≡ Ok entry) }
     ensures refused { IfErr result (λ fault. fault ≢ OutOfMemory → entry_of (table_view table.now) ≡ Err fault) }
     ensures kept { IfOk result IsStationEntry }
@@ -253,7 +253,7 @@ fn entry(alloc: Global, table: &Table) -> Result<StationEntry, SubsFault>
     let groups = groups(alloc, &group_tables)?;
     let redirect = redirection(redirect_table)?;
     if !are_listed(table, &line_tables, &group_tables, redirect_table) {
-        return Err(SubsFault::Field(Key::Other));
+        return Err(SubscriptionFault::Field(Key::Other));
     }
     Ok(StationEntry {
         address,
@@ -265,7 +265,7 @@ fn entry(alloc: Global, table: &Table) -> Result<StationEntry, SubsFault>
     })
 }
 
-fn entries(alloc: Global, tables: &[&Table]) -> Result<Vec<StationEntry>, SubsFault>
+fn entries(alloc: Global, tables: &[&Table]) -> Result<Vec<StationEntry>, SubscriptionFault>
     ensures ok { IfOk result (λ entries. each entry_of (map (λ table. table_view table.now) tables.now) ≡ Ok entries.items) }
     ensures refused { IfErr result (λ fault. fault ≢ OutOfMemory → each entry_of (map (λ table. table_view table.now) tables.now) ≡ Err fault) }
     ensures count { IfOk result (λ entries. length entries.items ≡ length tables.now) }
@@ -278,8 +278,8 @@ fn entries(alloc: Global, tables: &[&Table]) -> Result<Vec<StationEntry>, SubsFa
     Ok(entries)
 }
 
-#[tactic(auto, unfolding(crate::specs::File::file_of))]
-fn read_table(alloc: Global, table: &Table) -> Result<File, SubsFault>
+#[tactic(auto, unfolding(crate::specs::SubscriptionFile::file_of))]
+fn read_table(alloc: Global, table: &Table) -> Result<SubscriptionFile, SubscriptionFault>
     ensures ok { IfOk result (λ file. file_of (table_view table.now) ≡ Ok file) }
     ensures refused { IfErr result (λ fault. fault ≢ OutOfMemory → file_of (table_view table.now) ≡ Err fault) }
     ensures some { IfOk result (λ file. 0 < length file.stations) }
@@ -303,10 +303,10 @@ fn read_table(alloc: Global, table: &Table) -> Result<File, SubsFault>
     let host = host(alloc, table)?;
     let tables = some_tables_at(alloc, table, Key::Station)?;
     if !has_only(table, &TOP_KEYS) {
-        return Err(SubsFault::Field(Key::Other));
+        return Err(SubscriptionFault::Field(Key::Other));
     }
     let stations = entries(alloc, &tables)?;
-    Ok(File {
+    Ok(SubscriptionFile {
         segment_limit,
         journal,
         host,
@@ -314,31 +314,39 @@ fn read_table(alloc: Global, table: &Table) -> Result<File, SubsFault>
     })
 }
 
-fn limit(table: &Table, key: Key, low: u32, high: u32, absent: u32) -> Result<u32, SubsFault>
+fn limit(
+    table: &Table,
+    key: Key,
+    low: u32,
+    high: u32,
+    absent: u32,
+) -> Result<u32, SubscriptionFault>
     ensures { result ≡ defaulted (number_in low high) absent key (table_view table.now) }
 {
     defaulted(table, key, absent, |value| number(value, low, high))
 }
 
-fn host(alloc: Global, table: &Table) -> Result<String, SubsFault>
+fn host(alloc: Global, table: &Table) -> Result<String, SubscriptionFault>
     ensures ok { IfOk result (λ host. defaulted as_str (codes "127.0.0.1") keys.Host (table_view table.now) ≡ Ok (string_bytes host)) }
     ensures refused { IfErr result (λ fault. fault ≢ OutOfMemory → defaulted as_str (codes "127.0.0.1") keys.Host (table_view table.now) ≡ Err fault) }
 {
     let text = match value_at(table, Key::Host) {
-        Some(value) => value.as_str().ok_or(SubsFault::Field(Key::Host))?,
+        Some(value) => value.as_str().ok_or(SubscriptionFault::Field(Key::Host))?,
         None => DEFAULT_HOST,
     };
     Ok(String::from_str(alloc, text)?)
 }
 
-impl File {
+impl SubscriptionFile {
     /// Reads the text of a subscription file and the value of each of its keys.
     ///
     /// # Errors
     ///
-    /// `Toml` where the text is no TOML, `Field` with the first key whose value is missing, of another type,
-    /// misspelt or out of range, or that the file may not have; `Memory`.
-    pub fn read(alloc: Global, text: &str) -> Result<File, SubsFault>
+    /// - `Toml` if the text is not TOML.
+    /// - `Field` with the first key whose value is missing, of another type, misspelt or out of range, or that the
+    ///   file may not have.
+    /// - `Memory` if an allocation fails.
+    pub fn read(alloc: Global, text: &str) -> Result<SubscriptionFile, SubscriptionFault>
         ensures ok { IfOk result (λ file. file_in text.now ≡ Ok file) }
         ensures refused { IfErr result (λ fault. fault ≢ OutOfMemory → file_in text.now ≡ Err fault) }
         ensures some { IfOk result (λ file. 0 < length file.stations) }
@@ -347,8 +355,8 @@ impl File {
     {
         match toml::table_from_str(alloc, text) {
             Ok(table) => read_table(alloc, &table),
-            Err(error) if error.is_memory() => Err(SubsFault::Memory),
-            Err(_) => Err(SubsFault::Toml),
+            Err(error) if error.is_memory() => Err(SubscriptionFault::Memory),
+            Err(_) => Err(SubscriptionFault::Toml),
         }
     }
 }

@@ -33,7 +33,7 @@ pub enum Key {
 }
 
 impl Key {
-    /// The key as the file has it, `other` for one that it may not have.
+    /// The key as it is written in the file; `other` for a key that the file may not have.
     pub fn name(self) -> &'static str
         ensures { result.now ≡ key_text self }
     {

@@ -1,4 +1,4 @@
-//! The subscription file of an exchange: its keys and the values that they may have.
+//! The subscription file of an exchange: its keys and their permitted values.
 #![tactic(auto)]
 
 mod digits;
@@ -11,7 +11,7 @@ mod name;
 mod tables;
 
 pub use entry::{Facilities, GroupEntry, LineEntry, Redirection, StationEntry};
-pub use fault::SubsFault;
-pub use file::File;
+pub use fault::SubscriptionFault;
+pub use file::SubscriptionFile;
 pub use key::Key;
 pub use name::Name;

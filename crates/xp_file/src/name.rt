@@ -7,7 +7,7 @@ use std::fmt;
 use std::hash::{Hash, Hasher};
 use std::marker::Model;
 
-/// The name of a line or of a closed user group: 1 to 16 letters and digits, in a line's name no capital letters.
+/// The name of a line or of a closed user group: 1 to 16 letters and digits. A line's name has no capital letters.
 #[derive(Drop)]
 pub struct Name {
     text: ArrayString<16>,
@@ -22,10 +22,10 @@ impl Model for Name {
 }
 
 impl Name {
-    /// The longest name.
+    /// The most characters of a name.
     const MOST: usize = 16;
 
-    /// The line's name that a text is, if it is one.
+    /// A line's name. Returns `None` if the text cannot be one.
     pub fn of_line(text: &str) -> Option<Name>
         ensures { result ≡ (if is_line_name text.now then Some text.now else None) }
     {
@@ -36,7 +36,7 @@ impl Name {
         Some(Name { text })
     }
 
-    /// The group's name that a text is, if it is one.
+    /// A group's name. Returns `None` if the text cannot be one.
     pub fn of_group(text: &str) -> Option<Name>
         ensures { result ≡ (if is_group_name text.now then Some text.now else None) }
     {

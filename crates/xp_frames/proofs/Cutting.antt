@@ -3,7 +3,7 @@ use Rattle.std.proofs.Common.{◌≡◌, ℕ, ◌+◌, ◌≤◌, List, [], ◌�
 use Rattle.std.specs.List.{AllByRecursion}
 use Rattle.std.proofs.lemmas.List.{map_push, take_rest, drop-drop, length-drop, length-take-le}
 use Rattle.xp_frames.specs.Frame.{IsPacketLength, IsPacket, frame, frames}
-use Rattle.xp_frames.specs.Head.{BeginsWithFrame}
+use Rattle.xp_frames.specs.steps.DeframerSteps.{BeginsWithFrame}
 use Rattle.xp_frames.proofs.Frames.{frames-append, packets-append}
 
 -- The packets of the frames so far, `count` octets in all, stand behind those that waited.

@@ -2,7 +2,7 @@
 use Rattle.std.specs.Prelude.{if◌then◌else◌}
 use Rattle.std.proofs.Common.{◌≡◌, ℕ, Bool, true, false, List, ◌++◌, length, take, map, sym, ap, ◌∙◌, arith}
 use Rattle.std.proofs.lemmas.List.{take-map, take_at, take_all}
-use Rattle.xp_frames.specs.Held.{Held}
+use Rattle.xp_frames.specs.Deframer.{DeframerState}
 
 pub restored_waiting : {X : Type 0} (f : X → List ℕ) (old new back : List X) (n : ℕ) → n ≡ length old → take (length (map f old)) (map f new) ≡ map f old → back ≡ take n new → length (map f old) ≡ length old → map f back ≡ map f old
 restored_waiting f old new back n len kept cut same =
@@ -13,5 +13,5 @@ restored_rest old piece new back true n made len cut = cut ∙ (ap (take n) made
 restored_rest old piece new back false n made len cut = cut ∙ (ap (take n) made ∙ take_all n old (omega arith))
 
 pub same_held : (waiting others : List (List ℕ)) (rest left : List ℕ) (failed : Bool) → waiting ≡ others → rest ≡ left →
-    (let one : Held = record { waiting = waiting; rest = rest; failed = failed } in let other : Held = record { waiting = others; rest = left; failed = failed } in one ≡ other)
+    (let one : DeframerState = record { waiting = waiting; rest = rest; failed = failed } in let other : DeframerState = record { waiting = others; rest = left; failed = failed } in one ≡ other)
 same_held waiting others rest left failed e f = cc

@@ -1,4 +1,5 @@
--- The frames of X.25 over TCP (RFC 1613), as lists of octets. Nothing here speaks of the pieces that a stream comes in.
+-- The frames of X.25 over TCP (RFC 1613), as lists of octets. These definitions do not depend on how the stream was
+-- cut into pieces.
 use Rattle.std.specs.Prelude.{◌≡◌, ℕ, ◌+◌, ◌*◌, ◌/◌, ◌%◌, ◌<◌, ◌≤◌, min, List, [], ◌∷◌, ◌++◌, length, Result, Ok, Err}
 use Rattle.std.specs.List.{AllByRecursion}
 use Rattle.xp_frames.specs.declared.fault.FrameFault.{FrameFault}
@@ -11,7 +12,7 @@ number high low = 256 * high + low
 abbrev pub IsPacketLength : ℕ → Type 0
 IsPacketLength n = (3 ≤ n) × (n ≤ 1028)
 
--- what a frame may carry: 3 to 1,028 octets
+-- a packet that a frame may carry: 3 to 1,028 octets
 abbrev pub IsPacket : List ℕ → Type 0
 IsPacket packet = IsPacketLength (length packet)
 
@@ -24,34 +25,35 @@ abbrev pub frames : List (List ℕ) → List ℕ
 frames [] = []
 frames (packet ∷ packets) = frame packet ++ frames packets
 
--- no whole frame stands at the front
+-- no whole frame is at the front
 abbrev pub HasNoFrame : List ℕ → Type 0
 HasNoFrame octets = (packet more : List ℕ) → IsPacket packet → octets ≡ frame packet ++ more → ⊥
 
--- The octets are the frames of the packets, and then a rest that begins with no whole frame.
+-- The octets are the frames of the packets, followed by a rest that does not begin with a whole frame.
 pub record Stream (octets : List ℕ) (packets : List (List ℕ)) (rest : List ℕ) : Type 0 where
   pub whole : octets ≡ frames packets ++ rest
   pub each : AllByRecursion IsPacket packets
   pub partial : HasNoFrame rest
 
--- The head's four octets are there and no frame has such a head: another version, or version 0 and a length that no packet has.
-abbrev pub BadHead : List ℕ → FrameFault → Type 0
-BadHead (a ∷ b ∷ c ∷ d ∷ more) (Version v) = (v ≡ number a b) × (0 < v)
-BadHead (a ∷ b ∷ c ∷ d ∷ more) (Length n) = (number a b ≡ 0) × (n ≡ number c d) × (IsPacketLength n → ⊥)
-BadHead octets fault = ⊥
+-- The four octets of a header are there, and no frame has such a header: the version is not 0, or it is 0 and no
+-- packet has the length.
+abbrev pub BadHeader : List ℕ → FrameFault → Type 0
+BadHeader (a ∷ b ∷ c ∷ d ∷ more) (Version v) = (v ≡ number a b) × (0 < v)
+BadHeader (a ∷ b ∷ c ∷ d ∷ more) (Length n) = (number a b ≡ 0) × (n ≡ number c d) × (IsPacketLength n → ⊥)
+BadHeader octets fault = ⊥
 
-abbrev pub HasNoBadHead : List ℕ → Type 0
-HasNoBadHead octets = (fault : FrameFault) → BadHead octets fault → ⊥
+abbrev pub HasNoBadHeader : List ℕ → Type 0
+HasNoBadHeader octets = (fault : FrameFault) → BadHeader octets fault → ⊥
 
--- What `frame_head` answers: the octets of the frame before the packet.
-abbrev pub IsHead : List ℕ → Result (List ℕ) FrameFault → Type 0
-IsHead packet (Ok head) = IsPacket packet × (frame packet ≡ head ++ packet)
-IsHead packet (Err (Length n)) = (IsPacket packet → ⊥) × (n ≡ min (length packet) 65535)
-IsHead packet (Err Memory) = ⊥
-IsHead packet (Err (Version v)) = ⊥
-IsHead packet (Err Failed) = ⊥
+-- The result of `frame_header`: the octets of the frame before the packet.
+abbrev pub IsHeader : List ℕ → Result (List ℕ) FrameFault → Type 0
+IsHeader packet (Ok head) = IsPacket packet × (frame packet ≡ head ++ packet)
+IsHeader packet (Err (Length n)) = (IsPacket packet → ⊥) × (n ≡ min (length packet) 65535)
+IsHeader packet (Err Memory) = ⊥
+IsHeader packet (Err (Version v)) = ⊥
+IsHeader packet (Err Failed) = ⊥
 
--- What `write_frame` answers, and what stands in its buffer before and after.
+-- The result of `write_frame`, with the content of its buffer before and after.
 abbrev pub Writes : List ℕ → List ℕ → Result (Unit {0}) FrameFault → List ℕ → Type 0
 Writes packet before (Ok done) after = IsPacket packet × (after ≡ before ++ frame packet)
 Writes packet before (Err (Length n)) after = (IsPacket packet → ⊥) × (n ≡ min (length packet) 65535) × (after ≡ before)

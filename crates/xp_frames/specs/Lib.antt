@@ -1,4 +1,4 @@
+pub mod Deframer
 pub mod Frame
-pub mod Head
-pub mod Held
 pub mod Laws
+pub mod steps

@@ -1,44 +1,45 @@
-//! Packets out of a stream of octets that comes in pieces.
+//! Cuts a stream of octets, which arrives in pieces, into packets.
 
 ghost use Rattle.std.specs.Prelude.{◌≡◌, ◌≤◌, IfOk, map, drop, option_map};
 ghost use Rattle.std.specs.Vec.{vec_len};
-ghost use Rattle.xp_frames.specs.Head.{Cuts};
+ghost use Rattle.xp_frames.specs.steps.DeframerSteps.{Cuts};
 
 use crate::fault::FrameFault;
-use crate::head::{Front, HEAD, front_of};
+use crate::header::{Front, HEADER_LENGTH, front_of};
 use std::alloc::{AllocError, Allocator, Global};
 use std::collections::VecDeque;
 use std::marker::Model;
 use std::mem;
 
-/// Takes a stream of octets in pieces of any size, and gives the packets of its frames, in order (RFC 1613).
+/// Receives a stream of octets in pieces of any size, and returns the packets of its frames in order (RFC 1613).
 ///
-/// After a piece with a bad head it gives the packets before that head, and takes no more.
+/// A piece may contain a header that no frame can have. Then the deframer still returns the packets before that
+/// header, and refuses every later piece.
 #[derive(Drop)]
 pub struct Deframer<A: Allocator = Global> {
-    // whole packets that were not asked for yet
+    // whole packets that `next` has not returned yet
     waiting: VecDeque<Vec<u8, A>, A>,
-    // memory for the next of them, whatever it holds
+    // a buffer to reuse for the next packet; its content is ignored
     spare: Vec<u8, A>,
-    // the octets behind the last whole frame
+    // the octets after the last whole frame
     rest: Vec<u8, A>,
-    // whether the rest begins with a bad head
+    // whether the rest begins with a bad header
     failed: bool,
 }
 
 impl<A: Allocator> Model for Deframer<A> {
     ghost use Rattle.std.specs.Prelude.{map};
-    ghost use Rattle.xp_frames.specs.Held.{Held};
+    ghost use Rattle.xp_frames.specs.Deframer.{DeframerState};
 
-    ghost Value = { Held };
+    ghost Value = { DeframerState };
 
     ghost view = { λ d. record { waiting = map (λ packet. packet.items) d.waiting.items; rest = d.rest.items; failed = d.failed } };
 }
 
 impl<A: Allocator + Copy> Deframer<A> {
-    ghost use Rattle.xp_frames.specs.Held.{IsNew, Feeds, Gives};
+    ghost use Rattle.xp_frames.specs.Deframer.{IsNew, Feeds, Gives};
 
-    /// A deframer at the start of a stream. It takes no memory yet.
+    /// A deframer at the start of a stream. This allocates nothing.
     pub fn new(alloc: A) -> Self
         ensures { IsNew result }
     {
@@ -50,13 +51,14 @@ impl<A: Allocator + Copy> Deframer<A> {
         }
     }
 
-    /// Takes the next octets of the stream.
+    /// Adds the next octets of the stream.
     ///
     /// # Errors
     ///
-    /// `Version` and `Length` where the octets after the last whole frame begin with a bad head, judged when its four
-    /// octets are there, the version first; the frames of this piece before it wait for [`next`](Self::next).
-    /// From then on `Failed`, which changes nothing. `Memory` changes nothing: the same piece may be fed again.
+    /// `Version` or `Length` if the octets after the last whole frame begin with a bad header. It is checked as soon
+    /// as its four octets have arrived, the version first. The packets before it in this piece remain available to
+    /// [`next`](Self::next). Every later call returns `Failed` and changes nothing. `Memory` if an allocation fails;
+    /// then nothing has changed, and the same piece may be fed again.
     pub fn feed(&mut self, piece: &[u8]) -> Result<(), FrameFault>
         ensures { Feeds self.old piece.now result self.new }
     {
@@ -81,14 +83,14 @@ impl<A: Allocator + Copy> Deframer<A> {
         }
     }
 
-    /// The next whole packet of the stream, if one is there. Needs no memory.
+    /// Removes and returns the next whole packet of the stream, if there is one. This allocates nothing.
     pub fn next(&mut self) -> Option<Vec<u8, A>>
         ensures { Gives self.old (option_map (λ packet. packet.items) result) self.new }
     {
         self.waiting.pop_front()
     }
 
-    /// Takes the memory of a vector, for a packet to come. What it holds is of no use.
+    /// Gives a vector to the deframer, which uses its memory for a later packet. The content is ignored.
     pub fn reuse(&mut self, memory: Vec<u8, A>)
         ensures { self.new ≡ self.old }
     {
@@ -96,13 +98,13 @@ impl<A: Allocator + Copy> Deframer<A> {
     }
 }
 
-// How many octets of a stream are whole frames, and what is wrong with the head behind them, if anything.
+// How many octets at the start of a stream are whole frames, and the fault of the header after them, if it is bad.
 struct Cut {
     count: usize,
     fault: Option<FrameFault>,
 }
 
-// Cuts the whole frames off the front of a stream, and appends their packets to those that wait.
+// Cuts the whole frames off the front of a stream, and appends their packets to `waiting`.
 fn cut_frames<A: Allocator + Copy>(
     stream: &[u8],
     waiting: &mut VecDeque<Vec<u8, A>, A>,
@@ -116,14 +118,18 @@ fn cut_frames<A: Allocator + Copy>(
         let front = &stream[count..];
         match front_of(front) {
             Front::Frame(length) => {
-                let packet = packet_of(&front[HEAD..HEAD + length], spare, alloc)?;
+                let packet = packet_of(
+                    &front[HEADER_LENGTH..HEADER_LENGTH + length],
+                    spare,
+                    alloc,
+                )?;
                 waiting.push_back(packet)?;
-                count += HEAD + length;
+                count += HEADER_LENGTH + length;
             }
             Front::Partial => {
                 return Ok(Cut { count, fault: None });
             }
-            Front::BadHead(fault) => {
+            Front::BadHeader(fault) => {
                 return Ok(Cut {
                     count,
                     fault: Some(fault),
@@ -133,7 +139,7 @@ fn cut_frames<A: Allocator + Copy>(
     }
 }
 
-// A packet of these octets, in the spare memory where it has room.
+// A packet of these octets. It uses the spare buffer if that is large enough.
 fn packet_of<A: Allocator>(
     octets: &[u8],
     spare: &mut Vec<u8, A>,
@@ -147,7 +153,7 @@ fn packet_of<A: Allocator>(
     Ok(packet)
 }
 
-// Drops so many octets from the front. Where there are none to drop, none moves.
+// Drops `count` octets from the front. If `count` is zero, no octet moves.
 fn drop_front<A: Allocator>(octets: &mut Vec<u8, A>, count: usize)
     requires { count ≤ vec_len octets.old }
     ensures { octets.new.items ≡ drop count octets.old.items }

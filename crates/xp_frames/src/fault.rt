@@ -4,19 +4,20 @@ ghost use Rattle.xp_frames.specs.declared.fault.FrameFault.TheVariants.{Memory};
 use std::alloc::AllocError;
 use thiserror::Error;
 
-/// Why octets are no frames, or why a call changed nothing.
+/// Why octets are not frames, or why a call changed nothing.
 #[derive(Clone, Copy, Debug, PartialEq, Eq, Error)]
 pub enum FrameFault {
-    /// A frame's head has another version than 0 (RFC 1613).
+    /// The header of a frame has a version other than 0 (RFC 1613). The value is that version.
     #[error("frame version {0} in place of 0")]
     Version(u16),
-    /// The length of a packet is outside 3 to 1,028 octets; 65,535 stands for all greater lengths too.
+    /// The length of a packet is outside 3 to 1,028 octets. The value is that length; 65,535 also means any greater
+    /// length.
     #[error("packet length {0} outside 3 to 1028 octets")]
     Length(u16),
-    /// An earlier part of the stream was no frame.
+    /// An earlier piece of the stream had a bad header.
     #[error("the stream has failed")]
     Failed,
-    /// No memory was left.
+    /// An allocation failed.
     #[error("out of memory")]
     Memory,
 }

@@ -1,24 +1,24 @@
-//! The laws of frames: each function's contract is the law, and its body is empty.
+//! Laws of frames. Each law is the contract of a function with an empty body.
 
 ghost use Rattle.xp_frames.specs.Laws.{AnyPieces, FailedEverAfter, NoFrameBeginsAnother, OneReading};
 
-/// No frame is a proper prefix of another.
+/// No frame is a proper prefix of another frame.
 pub fn no_frame_begins_another()
     ensures { NoFrameBeginsAnother }
 {}
 
-/// A stream has one list of packets and one rest, so "the packets of a stream" names one thing.
+/// A stream has only one list of packets and only one rest, so "the packets of a stream" is well defined.
 pub fn one_reading()
     ensures { OneReading }
 {}
 
-/// After any calls in any order, what came out and then what waits are the packets of the whole stream, and the
-/// deframer has failed exactly where a bad head follows them.
+/// Take any calls in any order. The packets that were returned, followed by those that wait, are the packets of the
+/// whole stream. The deframer has failed exactly if a bad header follows them.
 pub fn any_pieces()
     ensures { AnyPieces }
 {}
 
-/// After a piece with a bad head each further piece is answered with `Failed`, and no piece is before.
+/// Every piece after one with a bad header gets `Failed`, and no earlier piece does.
 pub fn failed_ever_after()
     ensures { FailedEverAfter }
 {}

@@ -1,19 +1,18 @@
-//! The writing of frames.
+//! Writing frames.
 
-ghost use Rattle.xp_frames.specs.Frame.{IsHead, Writes};
+ghost use Rattle.xp_frames.specs.Frame.{IsHeader, Writes};
 
 use crate::fault::FrameFault;
-use crate::head::{HEAD, VERSION, is_packet_length};
+use crate::header::{HEADER_LENGTH, VERSION, is_packet_length};
 use std::alloc::Allocator;
 
-/// What stands before `packet` in its frame (RFC 1613).
+/// The header of the frame of `packet` (RFC 1613).
 ///
 /// # Errors
 ///
-/// `Length` where the packet has fewer than 3 or more than 1,028 octets, with its length, or 65,535 where that is
-/// greater.
-pub fn frame_head(packet: &[u8]) -> Result<[u8; HEAD], FrameFault>
-    ensures { IsHead packet.now result }
+/// `Length` if the packet has fewer than 3 or more than 1,028 octets. The value is its length, at most 65,535.
+pub fn frame_header(packet: &[u8]) -> Result<[u8; HEADER_LENGTH], FrameFault>
+    ensures { IsHeader packet.now result }
 {
     let length = u16::try_from(packet.len()).unwrap_or(u16::MAX);
     if !is_packet_length(length) {
@@ -28,12 +27,12 @@ pub fn frame_head(packet: &[u8]) -> Result<[u8; HEAD], FrameFault>
 ///
 /// # Errors
 ///
-/// `Length` as of [`frame_head`]. `Memory` where `out` cannot grow. Either leaves `out` as it was.
+/// `Length` as for [`frame_header`]. `Memory` if `out` cannot grow. In both cases `out` is unchanged.
 pub fn write_frame<A: Allocator>(packet: &[u8], out: &mut Vec<u8, A>) -> Result<(), FrameFault>
     ensures { Writes packet.now out.old.items result out.new.items }
 {
-    let head = frame_head(packet)?;
-    out.reserve(HEAD + packet.len())?;
+    let head = frame_header(packet)?;
+    out.reserve(HEADER_LENGTH + packet.len())?;
     out.extend_from_slice(&head).unwrap();
     out.extend_from_slice(packet).unwrap();
     Ok(())

@@ -3,12 +3,12 @@ use Rattle.std.proofs.Common.{◌≡◌, ℕ, true, false, Bool, nat_eq, List, [
 use Rattle.std.specs.List.{find}
 use Rattle.std.specs.Bool.{IsTrue}
 use Rattle.xp_facilities.specs.declared.selection.Selection.{Selection}
-use Rattle.xp_facilities.specs.declared.selection.Selection.TheVariants.{Nothing, Closed, AlsoOpen}
+use Rattle.xp_facilities.specs.declared.selection.Selection.TheVariants.{Nothing, Closed, WithOutsideAccess}
 use Rattle.xp_subs.specs.declared.station.Station.{Station}
 use Rattle.xp_subs.specs.declared.station.Membership.{Membership}
 use Rattle.xp_groups.specs.declared.intention.Intent.{Intent}
 use Rattle.xp_causes.specs.declared.refusal.TheConstants.Refusal.{ACCESS_BARRED}
-use Rattle.xp_groups.specs.Groups.{HasGroups, HasNoGroups, preferred, part_in}
+use Rattle.xp_groups.specs.Groups.{HasGroups, HasNoGroups, preferred, membership_in}
 use Rattle.xp_groups.specs.Intends.{Intends, preferential, preferential_open}
 use Rattle.xp_groups.specs.Admits.{Admits, EntersNone, from_outside}
 use Rattle.xp_groups.specs.Admits as admits
@@ -26,7 +26,7 @@ grouped station = by station.memberships.items refl where
   by (first ∷ more) some = inr (λ none. cc)
 
 -- a station with a part in a group has groups
-part_of_groups : (station : Station) (group : Option ℕ) (held : Membership) → part_in station group ≡ Some held → HasGroups station
+part_of_groups : (station : Station) (group : Option ℕ) (held : Membership) → membership_in station group ≡ Some held → HasGroups station
 part_of_groups station None held is none = cc
 part_of_groups station (Some group) held is none =
     let P : List Membership → Type 0 = λ all. find (λ m. nat_eq m.group group) all ≡ Some held in
@@ -36,22 +36,22 @@ module _ (intent : Intent) (station : Station) (outside : Bool)
     (no_groups : HasNoGroups station → outside ≡ intent.outside)
     (groups : HasGroups station → outside ≡ from_outside intent station) where
   by_part : (held : Membership) (told : Selection) (open_call : Bool) → open_call ≡ from_outside intent station
-      → HasGroups station → part_in station intent.group ≡ Some held → held.incoming_barred ≡ false
-      → (IsTrue open_call → told ≡ AlsoOpen held.index) → (open_call ≡ false → told ≡ Closed held.index)
-      → Admits intent station (Ok (record { told = told }))
-  by_part held told true is some part not_barred also_open closed =
-      admits.within_group_open held some (part, not_barred) (sym is) (ap (λ t. Ok (record { told = t })) (also_open refl))
-  by_part held told false is some part not_barred also_open closed =
-      admits.within_group held some (part, not_barred) (sym is) (ap (λ t. Ok (record { told = t })) (closed refl))
+      → HasGroups station → membership_in station intent.group ≡ Some held → held.incoming_barred ≡ false
+      → (IsTrue open_call → told ≡ WithOutsideAccess held.index) → (open_call ≡ false → told ≡ Closed held.index)
+      → Admits intent station (Ok (record { indicated = told }))
+  by_part held told true is some part not_barred with_outside_access closed =
+      admits.within_group_open held some (part, not_barred) (sym is) (ap (λ t. Ok (record { indicated = t })) (with_outside_access refl))
+  by_part held told false is some part not_barred with_outside_access closed =
+      admits.within_group held some (part, not_barred) (sym is) (ap (λ t. Ok (record { indicated = t })) (closed refl))
 
-  pub entered : (held : Membership) (told : Selection) → part_in station intent.group ≡ Some held → held.incoming_barred ≡ false
-      → (IsTrue outside → told ≡ AlsoOpen held.index) → (outside ≡ false → told ≡ Closed held.index)
-      → Admits intent station (Ok (record { told = told }))
-  entered held told part not_barred also_open closed =
+  pub entered : (held : Membership) (told : Selection) → membership_in station intent.group ≡ Some held → held.incoming_barred ≡ false
+      → (IsTrue outside → told ≡ WithOutsideAccess held.index) → (outside ≡ false → told ≡ Closed held.index)
+      → Admits intent station (Ok (record { indicated = told }))
+  entered held told part not_barred with_outside_access closed =
       let some = part_of_groups station intent.group held part in
-      by_part held told outside (groups some) some part not_barred also_open closed
+      by_part held told outside (groups some) some part not_barred with_outside_access closed
 
-  pub let_in : EntersNone intent station → outside ≡ true → Admits intent station (Ok (record { told = Nothing }))
+  pub let_in : EntersNone intent station → outside ≡ true → Admits intent station (Ok (record { indicated = Nothing }))
   let_in none open_call = elim (grouped station) [
     | inl without ↦ admits.no_groups without (sym (no_groups without) ∙ open_call) refl
     | inr some ↦ admits.incoming_access some none (sym (groups some) ∙ open_call) refl

@@ -1,14 +1,14 @@
 -- Groups answer every selection and every intent.
 use Rattle.std.proofs.Common.{◌≡◌, ℕ, Bool, true, false, Option, None, Some, Result, Ok, Err, inl, inr, refl, subst}
 use Rattle.xp_facilities.specs.declared.selection.Selection.{Selection}
-use Rattle.xp_facilities.specs.declared.selection.Selection.TheVariants.{Nothing, Closed, AlsoOpen}
+use Rattle.xp_facilities.specs.declared.selection.Selection.TheVariants.{Nothing, Closed, WithOutsideAccess}
 use Rattle.xp_subs.specs.declared.station.Station.{Station}
 use Rattle.xp_subs.specs.declared.station.Membership.{Membership}
 use Rattle.xp_groups.specs.declared.intention.Intent.{Intent}
 use Rattle.xp_groups.specs.declared.admission.Admission.{Admission}
 use Rattle.xp_causes.specs.declared.refusal.Refusal.{Refusal}
 use Rattle.xp_causes.specs.declared.refusal.TheConstants.Refusal.{ACCESS_BARRED, GROUP_NOT_KNOWN, FACILITY_NOT_ALLOWED}
-use Rattle.xp_groups.specs.Groups.{HasGroups, HasNoGroups, selected, preferred, part_in}
+use Rattle.xp_groups.specs.Groups.{HasGroups, HasNoGroups, selected, preferred, membership_in}
 use Rattle.xp_groups.specs.Intends.{Intends, outside_only, within, within_or_outside, PrefersNone}
 use Rattle.xp_groups.specs.Intends as intends
 use Rattle.xp_groups.specs.Admits.{Admits, EntersNone, from_outside}
@@ -48,19 +48,19 @@ module _ (station : Station) where
   without_groups : (selection : Selection) → HasNoGroups station → IntendsSome selection
   without_groups Nothing none = (Ok outside_only, intends.no_groups none refl refl)
   without_groups (Closed index) none = (Err FACILITY_NOT_ALLOWED, intends.no_groups_to_select none (λ e. cc) refl)
-  without_groups (AlsoOpen index) none = (Err FACILITY_NOT_ALLOWED, intends.no_groups_to_select none (λ e. cc) refl)
+  without_groups (WithOutsideAccess index) none = (Err FACILITY_NOT_ALLOWED, intends.no_groups_to_select none (λ e. cc) refl)
 
   closed : (index : ℕ) → HasGroups station → Found (selected station index) out → IntendsSome (Closed index)
   closed index groups (nobody none) = (Err GROUP_NOT_KNOWN, intends.closed_not_known index groups refl none refl)
   closed index groups (barred held is bars) = (Err ACCESS_BARRED, intends.closed_barred index held groups refl is bars refl)
   closed index groups (may_go held is clear) = (Ok (within held), intends.closed index held groups refl is clear refl)
 
-  also_open : (index : ℕ) → HasGroups station → (access : Bool) → station.facilities.outgoing_access ≡ access
-      → Found (selected station index) out → IntendsSome (AlsoOpen index)
-  also_open index groups false access _ = (Err FACILITY_NOT_ALLOWED, intends.no_outgoing_access index groups refl access refl)
-  also_open index groups true access (nobody none) = (Err GROUP_NOT_KNOWN, intends.also_open_not_known index groups refl access none refl)
-  also_open index groups true access (barred held is bars) = (Ok outside_only, intends.also_open_barred index held groups refl access is bars refl)
-  also_open index groups true access (may_go held is clear) = (Ok (within_or_outside held), intends.also_open index held groups refl access is clear refl)
+  with_outside_access : (index : ℕ) → HasGroups station → (access : Bool) → station.facilities.outgoing_access ≡ access
+      → Found (selected station index) out → IntendsSome (WithOutsideAccess index)
+  with_outside_access index groups false access _ = (Err FACILITY_NOT_ALLOWED, intends.no_outgoing_access index groups refl access refl)
+  with_outside_access index groups true access (nobody none) = (Err GROUP_NOT_KNOWN, intends.with_outside_access_not_known index groups refl access none refl)
+  with_outside_access index groups true access (barred held is bars) = (Ok outside_only, intends.with_outside_access_barred index held groups refl access is bars refl)
+  with_outside_access index groups true access (may_go held is clear) = (Ok (within_or_outside held), intends.with_outside_access index held groups refl access is clear refl)
 
   preferring_none : HasGroups station → (access : Bool) → station.facilities.outgoing_access ≡ access → PrefersNone station → IntendsSome Nothing
   preferring_none groups true access none = (Ok outside_only, intends.outgoing_access groups refl none access refl)
@@ -77,7 +77,7 @@ module _ (station : Station) where
   with_groups : (selection : Selection) → HasGroups station → IntendsSome selection
   with_groups Nothing groups = unselected groups station.facilities.outgoing_access refl (found (preferred station) out)
   with_groups (Closed index) groups = closed index groups (found (selected station index) out)
-  with_groups (AlsoOpen index) groups = also_open index groups station.facilities.outgoing_access refl (found (selected station index) out)
+  with_groups (WithOutsideAccess index) groups = with_outside_access index groups station.facilities.outgoing_access refl (found (selected station index) out)
 
 pub intends_some : (station : Station) (selection : Selection) → (result : Result Intent Refusal) × Intends station selection result
 intends_some station selection = elim (grouped station) [
@@ -90,24 +90,24 @@ module _ (intent : Intent) (station : Station) where
   AdmitsSome = (result : Result Admission Refusal) × Admits intent station result
 
   let_in_without : HasNoGroups station → (outside : Bool) → intent.outside ≡ outside → AdmitsSome
-  let_in_without none true outside = (Ok (record { told = Nothing }), admits.no_groups none outside refl)
+  let_in_without none true outside = (Ok (record { indicated = Nothing }), admits.no_groups none outside refl)
   let_in_without none false outside = (Err ACCESS_BARRED, admits.no_groups_to_share none outside refl)
 
   entering_none : HasGroups station → EntersNone intent station → (outside : Bool) → from_outside intent station ≡ outside → AdmitsSome
-  entering_none groups none true outside = (Ok (record { told = Nothing }), admits.incoming_access groups none outside refl)
+  entering_none groups none true outside = (Ok (record { indicated = Nothing }), admits.incoming_access groups none outside refl)
   entering_none groups none false outside = (Err ACCESS_BARRED, admits.no_way_in groups none outside refl)
 
-  by_part : HasGroups station → (outside : Bool) → from_outside intent station ≡ outside → Found (part_in station intent.group) into → AdmitsSome
+  by_part : HasGroups station → (outside : Bool) → from_outside intent station ≡ outside → Found (membership_in station intent.group) into → AdmitsSome
   by_part groups outside is (nobody none) = entering_none groups (λ held some. cc) outside is
   by_part groups outside is (barred held some bars) =
-      entering_none groups (λ other also. barred_in_each (part_in station intent.group) into held other some bars also) outside is
+      entering_none groups (λ other also. barred_in_each (membership_in station intent.group) into held other some bars also) outside is
   by_part groups true outside (may_go held some clear) =
-      (Ok (record { told = AlsoOpen held.index }), admits.within_group_open held groups (some, clear) outside refl)
+      (Ok (record { indicated = WithOutsideAccess held.index }), admits.within_group_open held groups (some, clear) outside refl)
   by_part groups false outside (may_go held some clear) =
-      (Ok (record { told = Closed held.index }), admits.within_group held groups (some, clear) outside refl)
+      (Ok (record { indicated = Closed held.index }), admits.within_group held groups (some, clear) outside refl)
 
 pub admits_some : (intent : Intent) (station : Station) → (result : Result Admission Refusal) × Admits intent station result
 admits_some intent station = elim (grouped station) [
   | inl none ↦ let_in_without intent station none intent.outside refl
-  | inr groups ↦ by_part intent station groups (from_outside intent station) refl (found (part_in station intent.group) into)
+  | inr groups ↦ by_part intent station groups (from_outside intent station) refl (found (membership_in station intent.group) into)
 ]

@@ -8,7 +8,7 @@ use Rattle.xp_subs.specs.declared.station.Membership.{Membership}
 use Rattle.xp_groups.specs.declared.intention.Intent.{Intent}
 use Rattle.xp_groups.specs.declared.admission.Admission.{Admission}
 use Rattle.xp_causes.specs.declared.refusal.Refusal.{Refusal}
-use Rattle.xp_groups.specs.Groups.{selected_if_any, part_in}
+use Rattle.xp_groups.specs.Groups.{selected_if_any, membership_in}
 use Rattle.xp_groups.specs.Intends.{Intends, outside_only, Prefers}
 use Rattle.xp_groups.specs.Intends as intends
 use Rattle.xp_groups.specs.Admits.{Admits, Enters, from_outside}
@@ -63,9 +63,9 @@ shows caller selection intent (intends.closed index held _ _ is not_barred e) =
 shows caller selection intent (intends.closed_barred _ _ _ _ _ _ e) = cc
 shows caller selection intent (intends.closed_not_known _ _ _ _ e) = cc
 shows caller selection intent (intends.no_outgoing_access _ _ _ _ e) = cc
-shows caller selection intent (intends.also_open_not_known _ _ _ _ _ e) = cc
-shows caller selection intent (intends.also_open_barred _ _ _ _ access _ _ e) = shows_outside caller intent (inr access) e
-shows caller selection intent (intends.also_open _ held _ _ access is not_barred e) =
+shows caller selection intent (intends.with_outside_access_not_known _ _ _ _ _ e) = cc
+shows caller selection intent (intends.with_outside_access_barred _ _ _ _ access _ _ e) = shows_outside caller intent (inr access) e
+shows caller selection intent (intends.with_outside_access _ held _ _ access is not_barred e) =
     shows_within caller intent held true (find_some _ _ held is).0 not_barred (λ _. inr access) e
 shows caller selection intent (intends.preferential held _ _ (is, not_barred) _ e) =
     shows_within caller intent held false (preferred_held caller _ held is) not_barred (λ h. cc) e
@@ -75,7 +75,7 @@ shows caller selection intent (intends.outgoing_access _ _ _ access e) = shows_o
 shows caller selection intent (intends.no_way_out _ _ _ _ e) = cc
 
 -- the station's part in a group is a membership of that group
-pub part_held : (station : Station) (group : Option ℕ) (held : Membership) → part_in station group ≡ Some held
+pub part_held : (station : Station) (group : Option ℕ) (held : Membership) → membership_in station group ≡ Some held
     → Contains station.memberships.items held × (group ≡ Some held.group)
 part_held station None held e = cc
 part_held station (Some group) held e =

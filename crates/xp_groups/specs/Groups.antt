@@ -10,19 +10,19 @@ HasGroups station = station.memberships.items ≢ []
 abbrev pub HasNoGroups : Station → Type 0
 HasNoGroups station = station.memberships.items ≡ []
 
--- the group which the station selects by this index
+-- the membership that the station selects by this index
 abbrev pub selected : Station → ℕ → Option Membership
 selected station index = find (λ held. nat_eq held.index index) station.memberships.items
 
--- the station's part in this group
-abbrev pub part_in : Station → Option ℕ → Option Membership
-part_in station None = None
-part_in station (Some group) = find (λ held. nat_eq held.group group) station.memberships.items
+-- the station's membership of this group
+abbrev pub membership_in : Station → Option ℕ → Option Membership
+membership_in station None = None
+membership_in station (Some group) = find (λ held. nat_eq held.group group) station.memberships.items
 
 abbrev pub selected_if_any : Station → Option ℕ → Option Membership
 selected_if_any station None = None
 selected_if_any station (Some index) = selected station index
 
--- its preferential group
+-- the station's membership of its preferential group
 abbrev pub preferred : Station → Option Membership
 preferred station = selected_if_any station station.preferential

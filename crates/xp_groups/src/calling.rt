@@ -1,5 +1,5 @@
 ghost use Rattle.std.specs.Prelude.{◌≡◌};
-ghost use Rattle.xp_facilities.specs.declared.selection.Selection.TheVariants.{Nothing, Closed, AlsoOpen};
+ghost use Rattle.xp_facilities.specs.declared.selection.Selection.TheVariants.{Nothing, Closed, WithOutsideAccess};
 ghost use Rattle.xp_groups.specs.Groups.{HasGroups, selected, preferred};
 ghost use Rattle.xp_groups.specs.Intends.{Intends};
 
@@ -8,13 +8,13 @@ use xp_causes::Refusal;
 use xp_facilities::Selection;
 use xp_subs::{Membership, Station};
 
-/// The group and the openness of a call that `station` makes with this selection.
+/// The group and the outside access of a call that `station` makes with this selection.
 ///
 /// # Errors
 ///
-/// - `FACILITY_NOT_ALLOWED`, where the station has no groups to select, or selects outgoing access and has none.
-/// - `GROUP_NOT_KNOWN`, where the station has no group of the selected index.
-/// - `ACCESS_BARRED`, where outgoing calls are barred in the selected group, or where the station selects none and has
+/// - `FACILITY_NOT_ALLOWED` if the station has no groups to select, or if it selects outgoing access and has none.
+/// - `GROUP_NOT_KNOWN` if the station has no group with the selected index.
+/// - `ACCESS_BARRED` if outgoing calls are barred in the selected group, or if the station selects no group and has
 ///   neither a preferential group to call in nor outgoing access.
 pub fn intent(station: &Station, selection: Selection) -> Result<Intent, Refusal>
     ensures { Intends station.now selection result }
@@ -22,17 +22,19 @@ pub fn intent(station: &Station, selection: Selection) -> Result<Intent, Refusal
     if station.memberships.is_empty() {
         return match selection {
             Selection::Nothing => Ok(Intent::OUTSIDE),
-            Selection::Closed(_) | Selection::AlsoOpen(_) => Err(Refusal::FACILITY_NOT_ALLOWED),
+            Selection::Closed(_) | Selection::WithOutsideAccess(_) => Err(
+                Refusal::FACILITY_NOT_ALLOWED,
+            ),
         };
     }
     match selection {
         Selection::Nothing => unselected(station),
         Selection::Closed(index) => closed(station, index),
-        Selection::AlsoOpen(index) => also_open(station, index),
+        Selection::WithOutsideAccess(index) => with_outside_access(station, index),
     }
 }
 
-/// A call without a selection.
+/// The intent of a call without a selection.
 fn unselected(station: &Station) -> Result<Intent, Refusal>
     requires { HasGroups station.now }
     ensures { Intends station.now Nothing result }
@@ -44,7 +46,7 @@ fn unselected(station: &Station) -> Result<Intent, Refusal>
     }
 }
 
-/// A call within the group of this index.
+/// The intent of a call within the group with this index.
 fn closed(station: &Station, index: u16) -> Result<Intent, Refusal>
     requires { HasGroups station.now }
     ensures { Intends station.now (Closed index) result }
@@ -56,10 +58,10 @@ fn closed(station: &Station, index: u16) -> Result<Intent, Refusal>
     }
 }
 
-/// A call within the group of this index, or outside of it.
-fn also_open(station: &Station, index: u16) -> Result<Intent, Refusal>
+/// The intent of a call within the group with this index, or outside it.
+fn with_outside_access(station: &Station, index: u16) -> Result<Intent, Refusal>
     requires { HasGroups station.now }
-    ensures { Intends station.now (AlsoOpen index) result }
+    ensures { Intends station.now (WithOutsideAccess index) result }
 {
     if !station.facilities.outgoing_access {
         return Err(Refusal::FACILITY_NOT_ALLOWED);
@@ -71,7 +73,7 @@ fn also_open(station: &Station, index: u16) -> Result<Intent, Refusal>
     }
 }
 
-/// The group that the station selects by this index.
+/// The station's membership of the group with this index.
 fn membership(station: &Station, index: u16) -> Option<Membership>
     ensures { result ≡ selected station.now index }
 {
@@ -82,14 +84,14 @@ fn membership(station: &Station, index: u16) -> Option<Membership>
         .copied()
 }
 
-/// The station's preferential group.
+/// The station's membership of its preferential group.
 fn preferential(station: &Station) -> Option<Membership>
     ensures { result ≡ preferred station.now }
 {
     membership(station, station.preferential?)
 }
 
-/// A call within this group, open or not.
+/// The intent of a call within this group, with or without outside access.
 fn within(held: Membership, outside: bool) -> Intent
     ensures { result ≡ record { group = Some held.group; outside = outside } }
 {

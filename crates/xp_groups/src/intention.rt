@@ -1,16 +1,16 @@
 use xp_subs::GroupNo;
 
-/// How a call is made with regard to closed user groups (X.301).
+/// How a call is made, according to the caller's closed user groups (X.301).
 #[derive(Clone, Copy, Debug, PartialEq, Eq)]
 pub struct Intent {
-    /// The group within which it is made.
+    /// The group within which the call is made.
     pub group: Option<GroupNo>,
-    /// Whether it is open, so that it may go to a station outside of the group.
+    /// Whether the call has outside access: it may go to a station outside the group.
     pub outside: bool,
 }
 
 impl Intent {
-    /// An open call within no group.
+    /// A call with outside access and within no group.
     pub const OUTSIDE: Intent = Intent {
         group: None,
         outside: true,

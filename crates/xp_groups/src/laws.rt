@@ -1,26 +1,26 @@
 ghost use Rattle.xp_groups.specs.Laws.{IntentIsDetermined, AdmissionIsDetermined, EverySelectionIsAnswered, EveryIntentIsAnswered, JoinedMayJoin};
 
-/// A station and a selection determine the intent or the refusal.
+/// A station and a selection have only one result: an intent or a refusal.
 pub fn intent_is_determined()
     ensures { IntentIsDetermined }
 {}
 
-/// An intent and a station determine the admission or the refusal.
+/// An intent and a station have only one result: an admission or a refusal.
 pub fn admission_is_determined()
     ensures { AdmissionIsDetermined }
 {}
 
-/// Whatever a station selects, it has an intent or a refusal.
+/// Whatever a station selects, there is an intent or a refusal.
 pub fn every_selection_is_answered()
     ensures { EverySelectionIsAnswered }
 {}
 
-/// Whatever the intent of a call, a station takes it or there is a refusal.
+/// Whatever the intent of a call, a station admits the call or there is a refusal.
 pub fn every_intent_is_answered()
     ensures { EveryIntentIsAnswered }
 {}
 
-/// Where a caller may make a call and a station takes it, closed user groups let the two be joined.
+/// If a caller may make a call and a station admits it, then closed user groups permit the two to be joined.
 pub fn joined_stations_may_join()
     ensures { JoinedMayJoin }
 {}

@@ -1,4 +1,5 @@
-//! Closed user groups (X.25 clause 6.14, X.301): under which group a call is made, and who takes it.
+//! Closed user groups (X.25 clause 6.14, X.301): the group within which a call is made, and the stations that admit
+//! it.
 #![tactic(auto)]
 
 mod admission;

@@ -3,12 +3,12 @@ use Rattle.std.proofs.Common.{◌≡◌, ◌≢◌, ℕ, suc, List, [], ◌∷�
 use Rattle.std.proofs.lemmas.List.Elements.{All-nil, All-cons}
 use Rattle.xp_hunt.specs.declared.lines.LineState.{LineState}
 use Rattle.xp_hunt.specs.declared.lines.LineState.TheVariants.{Off, Idle, Busy}
-use Rattle.xp_hunt.specs.declared.choice.Picked.{Picked}
-use Rattle.xp_hunt.specs.declared.choice.Picked.TheVariants as picked
+use Rattle.xp_hunt.specs.declared.choice.HuntOutcome.{HuntOutcome}
+use Rattle.xp_hunt.specs.declared.choice.HuntOutcome.TheVariants as picked
 use Rattle.xp_hunt.specs.Picks.{HasNoneIdle, HasBusy, Picks}
 
 abbrev Found : (ℕ → LineState) → List ℕ → Type 0
-Found states group = (found : Picked) × Picks states group found
+Found states group = (found : HuntOutcome) × Picks states group found
 
 module _ (states : ℕ → LineState) (line : ℕ) (group : List ℕ) where
   not_idle : (state : LineState) → states line ≡ state → state ≢ Idle → states line ≢ Idle

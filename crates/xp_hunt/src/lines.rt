@@ -2,7 +2,7 @@ ghost use Rattle.std.specs.Prelude.{◌≡◌, ℕ};
 
 use xp_subs::LineNo;
 
-/// What an exchange knows of a line when it looks for one that takes a call.
+/// The state of a line when the exchange hunts for one that takes a call.
 #[derive(Clone, Copy, Debug, Default, PartialEq, Eq)]
 pub enum LineState {
     /// Out of service.
@@ -10,11 +10,11 @@ pub enum LineState {
     Off,
     /// In service, with no call.
     Idle,
-    /// In service, with a call or with a clearing that is not yet confirmed.
+    /// In service, with a call or with a clear that is not yet confirmed.
     Busy,
 }
 
-/// The lines of an exchange, as they are at one moment.
+/// The lines of an exchange at one moment.
 pub trait Lines {
     ghost use Rattle.xp_hunt.specs.declared.lines.LineState.{LineState};
 

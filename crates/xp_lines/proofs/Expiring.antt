@@ -6,7 +6,7 @@ use Rattle.xp_core.specs.declared.event.What.{What}
 use Rattle.xp_core.specs.declared.output.Outgoing.{Outgoing}
 use Rattle.xp_core.specs.declared.output.Put.{Put}
 use Rattle.xp_core.specs.declared.output.Put.TheVariants.{Send, Close}
-use Rattle.xp_lines.specs.Ringing.{Lapses, answered, expiry, is_late, rings, rings_by, rung}
+use Rattle.xp_lines.specs.AnswerTimer.{Expires, answered, expiry, has_expired, since_after, since_after_put, since_after_all}
 use Rattle.xp_lines.specs.Together.{calls, calls_by, calls_of, expiries, is_no_expiry, waits}
 use Rattle.xp_lines.proofs.Sums.{HasNoExpiry}
 
@@ -14,14 +14,14 @@ answered_few : (sent : Bool) (since : Option ℕ) → waits (answered sent since
 answered_few true since = omega arith
 answered_few false since = omega arith
 
-late_few : (A : Type 0) (now : ℕ) (since : Option ℕ) (late : Bool) → late ≡ is_late now since → expiries {A = A} (expiry late) + waits (answered late since) ≤ waits since
+late_few : (A : Type 0) (now : ℕ) (since : Option ℕ) (late : Bool) → late ≡ has_expired now since → expiries {A = A} (expiry late) + waits (answered late since) ≤ waits since
 late_few A now None true is = absurd (let both : true ≡ false = is in cc)
 late_few A now None false is = omega arith
 late_few A now (Some since) true is = omega arith
 late_few A now (Some since) false is = omega arith
 
 module _ {A : Type 0} where
-  rings_few : (now : ℕ) (since : Option ℕ) (packet : Packet A) → waits (rings now since packet) ≤ waits since + calls_of packet
+  rings_few : (now : ℕ) (since : Option ℕ) (packet : Packet A) → waits (since_after now since packet) ≤ waits since + calls_of packet
   rings_few now since (packets.Call d block) = omega arith
   rings_few now since (packets.Accepted d block) = omega arith
   rings_few now since (packets.Clear cause diagnostic block) = omega arith
@@ -35,30 +35,30 @@ module _ {A : Type 0} where
   rings_few now since (packets.Reset cause diagnostic) = omega arith
   rings_few now since packets.ResetConfirm = omega arith
 
-  put_few : (now : ℕ) (since : Option ℕ) (put : Put A) → waits (rings_by now since put) ≤ waits since + calls_by put
+  put_few : (now : ℕ) (since : Option ℕ) (put : Put A) → waits (since_after_put now since put) ≤ waits since + calls_by put
   put_few now since (Send identifier packet) = rings_few now since packet
   put_few now since Close = omega arith
 
-  item_few : (mine : Bool) (now : ℕ) (since : Option ℕ) (put : Put A) → waits (cond mine (rings_by now since put) since) ≤ waits since + cond mine (calls_by put) 0
+  item_few : (own_entries : Bool) (now : ℕ) (since : Option ℕ) (put : Put A) → waits (cond own_entries (since_after_put now since put) since) ≤ waits since + cond own_entries (calls_by put) 0
   item_few true now since put = put_few now since put
   item_few false now since put = omega arith
 
   -- what is written makes no more calls wait than it has
-  pub rung_few : (now connection : ℕ) (since : Option ℕ) (items : List (Outgoing A)) → waits (rung now connection since items) ≤ waits since + calls connection items
+  pub rung_few : (now connection : ℕ) (since : Option ℕ) (items : List (Outgoing A)) → waits (since_after_all now connection since items) ≤ waits since + calls connection items
   rung_few now connection since [] = omega arith
   rung_few now connection since (item ∷ items) =
-      let mine : Bool = item.connection == connection in
-      let next : Option ℕ = cond mine (rings_by now since item.put) since in
-      let one : waits next ≤ waits since + cond mine (calls_by item.put) 0 = item_few mine now since item.put in
-      let rest : waits (rung now connection next items) ≤ waits next + calls connection items = rung_few now connection next items in
+      let own_entries : Bool = item.connection == connection in
+      let next : Option ℕ = cond own_entries (since_after_put now since item.put) since in
+      let one : waits next ≤ waits since + cond own_entries (calls_by item.put) 0 = item_few own_entries now since item.put in
+      let rest : waits (since_after_all now connection next items) ≤ waits next + calls connection items = rung_few now connection next items in
       omega (arith, one, rest)
 
   -- a call that expires waits no more
-  pub lapses_few : (now : ℕ) (sent : Bool) (since : Option ℕ) (expired : List (What A)) (after : Option ℕ) → Lapses true now (answered sent since) expired after → expiries expired + waits after ≤ waits since
+  pub lapses_few : (now : ℕ) (sent : Bool) (since : Option ℕ) (expired : List (What A)) (after : Option ℕ) → Expires true now (answered sent since) expired after → expiries expired + waits after ≤ waits since
   lapses_few now sent since expired after lapses =
-      let told : expiries expired ≡ expiries (expiry {A = A} (is_late now (answered sent since))) = ap expiries lapses.0 in
-      let left : waits after ≡ waits (answered (is_late now (answered sent since)) (answered sent since)) = ap waits lapses.1 in
-      let few = late_few A now (answered sent since) (is_late now (answered sent since)) refl in
+      let told : expiries expired ≡ expiries (expiry {A = A} (has_expired now (answered sent since))) = ap expiries lapses.0 in
+      let left : waits after ≡ waits (answered (has_expired now (answered sent since)) (answered sent since)) = ap waits lapses.1 in
+      let few = late_few A now (answered sent since) (has_expired now (answered sent since)) refl in
       let fewer = answered_few sent since in
       omega (arith, told, left, few, fewer)
 

@@ -2,27 +2,30 @@
 use Rattle.std.proofs.Common.{◌≡◌, ℕ, List, [], ◌∷◌, ◌++◌, refl, sym, ap, ◌∙◌, append_assoc, append-nil, map, subst, Option, None, Some, Bool, true, false, ◌||◌, Result, Ok, Err}
 use Rattle.std.specs.Prelude.{option_to_list}
 use Rattle.std.proofs.lemmas.List.{map-append}
-use Rattle.xp_frames.specs.Held.{Held}
+use Rattle.xp_frames.specs.Deframer.{DeframerState}
 use Rattle.xp_core.specs.declared.entry.Entry.{Entry}
 use Rattle.xp_core.specs.declared.event.What.{What}
-use Rattle.xp_lock.specs.Passes.{Pass, mine}
-use Rattle.xp_lines.specs.Heard.{IsReadAs, AreReadAs}
-use Rattle.xp_lock.specs.declared.done.Done.{Done}
-use Rattle.xp_lines.specs.Offering.{IsRefusal, NextIs, Tells}
+use Rattle.xp_core.specs.declared.event.What.TheVariants.{Up}
+use Rattle.xp_subs.specs.Tables.{Tables}
+use Rattle.xp_lock.specs.Passes.{GainsEvent, Pass, own_entries}
+use Rattle.xp_lines.specs.FrameEvents.{IsReadAs, AreReadAs}
+use Rattle.xp_lock.specs.declared.receipt.Receipt.{Receipt}
+use Rattle.xp_lines.specs.steps.Offering.{IsRefusal, NextIs, Tells}
 use Rattle.xp_lines.specs.Offers.{Gains, Offers, on_line}
-use Rattle.xp_lines.specs.Ringing.{has_any}
+use Rattle.xp_lines.specs.steps.Sessions.{ComesUp}
+use Rattle.xp_lines.specs.AnswerTimer.{has_any}
 use Rattle.xp_lines.specs.declared.offering.Stop.{Stop}
 
 module _ {A : Type 0} where
   pub gains_nothing : (pass : Pass A) → Gains pass [] pass
-  gains_nothing pass = record { line = refl; taken = refl; entries = []; mine_is = sym (append-nil (mine pass)); events = refl }
+  gains_nothing pass = record { line = refl; taken = refl; entries = []; own_entries_are = sym (append-nil (own_entries pass)); events = refl }
 
   pub gains_both : (first second third : Pass A) (whats others : List (What A)) → Gains first whats second → Gains second others third → Gains first (whats ++ others) third
   gains_both first second third whats others a b = record {
     line = b.line ∙ a.line;
     taken = b.taken ∙ a.taken;
     entries = a.entries ++ b.entries;
-    mine_is = b.mine_is ∙ ap (λ xs. xs ++ b.entries) a.mine_is ∙ append_assoc (mine first) a.entries b.entries;
+    own_entries_are = b.own_entries_are ∙ ap (λ xs. xs ++ b.entries) a.own_entries_are ∙ append_assoc (own_entries first) a.entries b.entries;
     events =
         map-append (λ (e : Entry A). e.event) a.entries b.entries
         ∙ ap (λ xs. xs ++ map (λ (e : Entry A). e.event) b.entries) a.events
@@ -37,7 +40,7 @@ module _ {A : Type 0} where
   read_one_more (first ∷ packets) (one ∷ read) packet what so_far is = (so_far.0, read_one_more packets read packet what so_far.1 is)
 
   -- What waited and the packets that were asked for so far are what was offered and what is in hand.
-  pub record OfferedSoFar (held : Option (What A)) (frames : Held) (whats : List (What A)) (hand : List (What A)) (now : Held) : Type 0 where
+  pub record OfferedSoFar (held : Option (What A)) (frames : DeframerState) (whats : List (What A)) (hand : List (What A)) (now : DeframerState) : Type 0 where
     pub packets : List (List ℕ)
     pub frames_are : frames.waiting ≡ packets ++ now.waiting
     pub rest : now.rest ≡ frames.rest
@@ -46,11 +49,11 @@ module _ {A : Type 0} where
     pub read_as : AreReadAs packets read
     pub in_order : option_to_list held ++ read ≡ whats ++ hand
 
-  pub offered_nothing : (held : Option (What A)) (frames : Held) → OfferedSoFar held frames [] (option_to_list held) frames
+  pub offered_nothing : (held : Option (What A)) (frames : DeframerState) → OfferedSoFar held frames [] (option_to_list held) frames
   offered_nothing held frames = record { packets = []; frames_are = refl; rest = refl; failed = refl; read = []; read_as = tt; in_order = append-nil (option_to_list held) }
 
   -- something is taken in hand
-  pub taken_in_hand : (held : Option (What A)) (frames : Held) (whats : List (What A)) (waiting : Option (What A)) (before : Held) (what : What A) (left : Option (What A)) (now : Held)
+  pub taken_in_hand : (held : Option (What A)) (frames : DeframerState) (whats : List (What A)) (waiting : Option (What A)) (before : DeframerState) (what : What A) (left : Option (What A)) (now : DeframerState)
       → OfferedSoFar held frames whats (option_to_list waiting) before → NextIs waiting before (Ok (Some what)) left now → (left ≡ None) × OfferedSoFar held frames whats (what ∷ []) now
   taken_in_hand held frames whats (Some first) before what left now so_far next =
       (next.1, subst (OfferedSoFar held frames whats (what ∷ [])) (sym next.2) (subst (λ w. OfferedSoFar held frames whats (w ∷ []) before) (sym next.0) so_far))
@@ -69,7 +72,7 @@ module _ {A : Type 0} where
   )
 
   -- what is in hand was taken
-  pub hand_offered : (held : Option (What A)) (frames : Held) (whats : List (What A)) (what : What A) (waiting : Option (What A)) (now : Held)
+  pub hand_offered : (held : Option (What A)) (frames : DeframerState) (whats : List (What A)) (what : What A) (waiting : Option (What A)) (now : DeframerState)
       → OfferedSoFar held frames whats (what ∷ []) now → waiting ≡ None → OfferedSoFar held frames (whats ++ what ∷ []) (option_to_list waiting) now
   hand_offered held frames whats what waiting now so_far none = record {
     packets = so_far.packets;
@@ -82,7 +85,7 @@ module _ {A : Type 0} where
   }
 
   -- what is in hand is put back, or dropped
-  pub hand_kept : (held : Option (What A)) (frames : Held) (whats : List (What A)) (hand : List (What A)) (on : Bool) (left : Option (What A)) (now : Held)
+  pub hand_kept : (held : Option (What A)) (frames : DeframerState) (whats : List (What A)) (hand : List (What A)) (on : Bool) (left : Option (What A)) (now : DeframerState)
       → OfferedSoFar held frames whats hand now → (on ≡ true → hand ≡ option_to_list left) → Offers held frames.waiting whats on left now.waiting
   hand_kept held frames whats hand on left now so_far kept = record {
     packets = so_far.packets;
@@ -95,11 +98,21 @@ module _ {A : Type 0} where
     kept = λ is. (refl, kept is);
   }
 
-  pub refused : (old new : Pass A) (what : What A) (result : Result Done Stop) (stop : Stop) → Tells old what result new → result ≡ Err stop → IsRefusal stop × (new ≡ old)
+  pub refused : (old new : Pass A) (what : What A) (result : Result Receipt Stop) (stop : Stop) → Tells old what result new → result ≡ Err stop → IsRefusal stop × (new ≡ old)
   refused old new what result stop tells is = subst (λ r. Tells old what r new) is tells
 
-  pub accepted : (old new : Pass A) (what : What A) (result : Result Done Stop) (done : Done) → Tells old what result new → result ≡ Ok done → Gains old (what ∷ []) new
+  pub accepted : (old new : Pass A) (what : What A) (result : Result Receipt Stop) (done : Receipt) → Tells old what result new → result ≡ Ok done → Gains old (what ∷ []) new
   accepted old new what result done tells is = subst (λ r. Tells old what r new) is tells
+
+  -- that a link came was accepted
+  pub comes_up : (subs : Tables) (before pass : Pass A) (what : What A) (receipt : Receipt) (connection : ℕ) → GainsEvent subs before (on_line before.line what) receipt pass → what ≡ Up → connection ≡ receipt.connection → ComesUp subs connection pass
+  comes_up subs before pass what receipt connection gains is_up connection_is = record {
+    before = before;
+    receipt = receipt;
+    gains =
+        subst (λ event. GainsEvent subs before event receipt pass) (ap (on_line before.line) is_up ∙ ap (λ line. on_line line Up) (sym gains.line)) gains;
+    connection_is = connection_is;
+  }
 
 module _ {T : Type 0} where
   pub any_more : (xs : List T) (x : T) → true ≡ has_any (xs ++ x ∷ [])

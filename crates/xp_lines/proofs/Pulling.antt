@@ -1,26 +1,30 @@
 -- What becomes of octets that are pulled, before and behind a pull.
-use Rattle.std.proofs.Common.{◌≡◌, ℕ, List, [], ◌∷◌, ◌++◌, refl, sym, ap, ◌∙◌, append_assoc, append-nil, subst, Option, None, Some, Bool, true, false, inl, inr, Result, Ok, Err}
+use Rattle.std.proofs.Common.{◌≡◌, ◌⊎◌, ℕ, List, [], ◌∷◌, ◌++◌, refl, sym, ap, ◌∙◌, append_assoc, append-nil, subst, Option, None, Some, Bool, true, false, inl, inr, Result, Ok, Err}
 use Rattle.std.specs.Prelude.{option_to_list}
 use Rattle.xp_frames.specs.declared.fault.FrameFault.{FrameFault}
 use Rattle.xp_frames.specs.declared.fault.FrameFault.TheVariants as faults
-use Rattle.xp_frames.specs.Held.{Feeds, Held, Takes}
+use Rattle.xp_frames.specs.Deframer.{Feeds, DeframerState, Takes}
+use Rattle.xp_frames.specs.Frame.{HasNoBadHeader}
 use Rattle.xp_core.specs.declared.event.What.{What}
 use Rattle.xp_lines.specs.Gates.{IsAllOffered, Refused, WaitsForGate}
-use Rattle.xp_lines.specs.Heard.{AreReadAs}
-use Rattle.xp_lines.specs.Offers.{Offers, goes_on}
-use Rattle.xp_lines.specs.Reads.{Completes, Pulls, Reads, heard_after, heard_at, is_lost, pull_by, stays}
+use Rattle.xp_lines.specs.FrameEvents.{AreReadAs}
+use Rattle.xp_lines.specs.Offers.{Offers}
+use Rattle.xp_lines.specs.steps.Offers.{goes_on}
+use Rattle.xp_lines.specs.Reads.{Completes, Reads, stays}
+use Rattle.xp_lines.specs.steps.Reads.{Pulls, outcome_after, outcome_at, is_lost, pull_by}
 use Rattle.xp_lines.specs.declared.offering.Stop.{Stop}
 use Rattle.xp_lines.specs.declared.offering.Stop.TheVariants as stops
-use Rattle.xp_lines.specs.declared.reading.Heard.{Heard}
-use Rattle.xp_lines.specs.declared.reading.Heard.TheVariants as heards
+use Rattle.xp_lines.specs.declared.reading.ReadOutcome.{ReadOutcome}
+use Rattle.xp_lines.specs.declared.reading.ReadOutcome.TheVariants as outcomes
 use Rattle.xp_lines.specs.declared.reading.Pull.{Pull}
 use Rattle.xp_lines.specs.declared.reading.Pull.TheVariants as pulls
 
 pub completes_nothing : (rest : List ℕ) → Completes rest [] [] rest
 completes_nothing rest = record { whole = append-nil rest; each = tt; partial = λ none. none }
 
-pub pulls_nothing : (held : Held) (pull : Pull) → Pulls held [] pull held
-pulls_nothing held pull = record {
+-- no octets came
+pulls_none : (held : DeframerState) (pull : Pull) → (pull ≡ pulls.Came → ⊥) → Pulls held [] pull held
+pulls_none held pull never = record {
   fed = [];
   lost = [];
   pulled_are = refl;
@@ -28,10 +32,24 @@ pulls_nothing held pull = record {
   packets = [];
   completes = completes_nothing held.rest;
   waiting = sym (append-nil held.waiting);
+  sound = λ is. absurd (never is);
+  still = λ _. refl;
 }
 
-pulls_taken : (old : Held) (piece : List ℕ) (pull : Pull) (new : Held) → Takes old piece new → Pulls old piece pull new
-pulls_taken old piece pull new takes = record {
+over_came : pulls.Over ≡ pulls.Came → ⊥
+over_came is = let both : pulls.Over ≡ pulls.Came = is in cc
+
+over_nothing : pulls.Over ≡ pulls.Nothing → ⊥
+over_nothing is = let both : pulls.Over ≡ pulls.Nothing = is in cc
+
+pub pulls_nothing : (held : DeframerState) → Pulls held [] pulls.Nothing held
+pulls_nothing held = pulls_none held pulls.Nothing (λ is. let both : pulls.Nothing ≡ pulls.Came = is in cc)
+
+pub pulls_over : (held : DeframerState) → Pulls held [] pulls.Over held
+pulls_over held = pulls_none held pulls.Over over_came
+
+pulls_taken : (old : DeframerState) (piece : List ℕ) (pull : Pull) (new : DeframerState) → Takes old piece new → (pull ≡ pulls.Came → HasNoBadHeader new.rest) → (pull ≡ pulls.Nothing → ⊥) → Pulls old piece pull new
+pulls_taken old piece pull new takes sound never = record {
   fed = piece;
   lost = [];
   pulled_are = sym (append-nil piece);
@@ -39,9 +57,15 @@ pulls_taken old piece pull new takes = record {
   packets = takes.packets;
   completes = record { whole = takes.stream.whole; each = takes.stream.each; partial = λ _. takes.stream.partial };
   waiting = takes.waiting;
+  sound = sound;
+  still = λ is. absurd (never is);
 }
 
-pulls_lost : (old : Held) (piece : List ℕ) (new : Held) → new ≡ old → Pulls old piece pulls.Lost new
+-- the octets that came end in a bad header
+pulls_bad : (old : DeframerState) (piece : List ℕ) (new : DeframerState) → Takes old piece new → Pulls old piece pulls.Over new
+pulls_bad old piece new takes = pulls_taken old piece pulls.Over new takes (λ is. absurd (over_came is)) over_nothing
+
+pulls_lost : (old : DeframerState) (piece : List ℕ) (new : DeframerState) → new ≡ old → Pulls old piece pulls.Lost new
 pulls_lost old piece new same = subst (Pulls old piece pulls.Lost) (sym same) (record {
   fed = [];
   lost = piece;
@@ -50,34 +74,41 @@ pulls_lost old piece new same = subst (Pulls old piece pulls.Lost) (sym same) (r
   packets = [];
   completes = completes_nothing old.rest;
   waiting = sym (append-nil old.waiting);
+  sound = λ is. absurd (let both : pulls.Lost ≡ pulls.Came = is in cc);
+  still = λ is. absurd (let both : pulls.Lost ≡ pulls.Nothing = is in cc);
 })
 
-pub pulls_fed : (old : Held) (piece : List ℕ) (answer : Result (Unit {0}) FrameFault) (new : Held) → Feeds old piece answer new → Pulls old piece (pull_by answer) new
-pulls_fed old piece (Ok done) new feeds = pulls_taken old piece pulls.Came new feeds.2
-pulls_fed old piece (Err (faults.Version v)) new feeds = pulls_taken old piece pulls.Over new feeds.2
-pulls_fed old piece (Err (faults.Length n)) new feeds = pulls_taken old piece pulls.Over new feeds.2
+pub pulls_fed : (old : DeframerState) (piece : List ℕ) (answer : Result (Unit {0}) FrameFault) (new : DeframerState) → Feeds old piece answer new → Pulls old piece (pull_by answer) new
+pulls_fed old piece (Ok done) new feeds =
+    pulls_taken old piece pulls.Came new feeds.2 (λ _. feeds.3) (λ is. let both : pulls.Came ≡ pulls.Nothing = is in cc)
+pulls_fed old piece (Err (faults.Version v)) new feeds = pulls_bad old piece new feeds.2
+pulls_fed old piece (Err (faults.Length n)) new feeds = pulls_bad old piece new feeds.2
 pulls_fed old piece (Err faults.Failed) new feeds = pulls_lost old piece new feeds.1
 pulls_fed old piece (Err faults.Memory) new feeds = pulls_lost old piece new feeds.1
 
-stays_at : (stop : Stop) → stays (heard_at stop) ≡ goes_on (Some stop)
+stays_at : (stop : Stop) → stays (outcome_at stop) ≡ goes_on (Some stop)
 stays_at stops.Held = refl
 stays_at stops.Memory = refl
 stays_at stops.Halted = refl
 stays_at stops.Journal = refl
 
--- where the link stays, the offering went on and nothing was lost
-stays_after : (pull : Pull) (stop : Option Stop) → stays (heard_after pull stop) ≡ true → (is_lost pull ≡ false) × (goes_on stop ≡ true)
+-- where the link stays, nothing was lost, the offering lost nothing, and octets came or none were there
+stays_after : (pull : Pull) (stop : Option Stop) → stays (outcome_after pull stop) ≡ true → (is_lost pull ≡ false) × (goes_on stop ≡ true) × ((pull ≡ pulls.Came) ⊎ (pull ≡ pulls.Nothing))
 stays_after pull (Some stops.Halted) is = absurd (let both : false ≡ true = is in cc)
 stays_after pull (Some stops.Journal) is = absurd (let both : false ≡ true = is in cc)
 stays_after pull (Some stops.Memory) is = absurd (let both : false ≡ true = is in cc)
-stays_after pulls.Came None is = (refl, refl)
-stays_after pulls.Nothing None is = (refl, refl)
+stays_after pulls.Came None is = (refl, refl, inl refl)
+stays_after pulls.Nothing None is = (refl, refl, inr refl)
 stays_after pulls.Over None is = absurd (let both : false ≡ true = is in cc)
 stays_after pulls.Lost None is = absurd (let both : false ≡ true = is in cc)
-stays_after pulls.Came (Some stops.Held) is = (refl, refl)
-stays_after pulls.Nothing (Some stops.Held) is = (refl, refl)
+stays_after pulls.Came (Some stops.Held) is = (refl, refl, inl refl)
+stays_after pulls.Nothing (Some stops.Held) is = (refl, refl, inr refl)
 stays_after pulls.Over (Some stops.Held) is = absurd (let both : false ≡ true = is in cc)
 stays_after pulls.Lost (Some stops.Held) is = absurd (let both : false ≡ true = is in cc)
+
+-- where the link stays, a pull leaves no bad header that was not there
+sound_after : (old : DeframerState) (pulled : List ℕ) (pull : Pull) (new : DeframerState) → Pulls old pulled pull new → (pull ≡ pulls.Came) ⊎ (pull ≡ pulls.Nothing) → HasNoBadHeader old.rest → HasNoBadHeader new.rest
+sound_after old pulled pull new is kind none = elim kind [ inl came ↦ is.sound came | inr nothing ↦ subst HasNoBadHeader (sym (is.still nothing)) none ]
 
 module _ {A : Type 0} where
   pub read_both : (packets others : List (List ℕ)) (read more : List (What A)) → AreReadAs packets read → AreReadAs others more → AreReadAs (packets ++ others) (read ++ more)
@@ -87,8 +118,8 @@ module _ {A : Type 0} where
   read_both (first ∷ packets) others (one ∷ read) more a b = (a.0, read_both packets others read more a.1 b)
 
   -- the offering stopped before a pull
-  pub reads_stopped : (held : Option (What A)) (old : Held) (whats : List (What A)) (stop : Stop) (left : Option (What A)) (new : Held)
-      → Offers held old.waiting whats (goes_on (Some stop)) left new.waiting → new.rest ≡ old.rest → Reads held old [] whats (heard_at stop) left new
+  pub reads_stopped : (held : Option (What A)) (old : DeframerState) (whats : List (What A)) (stop : Stop) (left : Option (What A)) (new : DeframerState)
+      → Offers held old.waiting whats (goes_on (Some stop)) left new.waiting → new.rest ≡ old.rest → Reads held old [] whats (outcome_at stop) left new
   reads_stopped held old whats stop left new offers rest = record {
     fed = [];
     lost = [];
@@ -96,15 +127,16 @@ module _ {A : Type 0} where
     none_lost = λ _. refl;
     packets = [];
     completes = subst (Completes old.rest [] []) (sym rest) (completes_nothing old.rest);
+    sound = λ _ none. subst HasNoBadHeader (sym rest) none;
     offers =
         subst (λ on. Offers held (old.waiting ++ []) whats on left new.waiting) (sym (stays_at stop))
         (subst (λ frames. Offers held frames whats (goes_on (Some stop)) left new.waiting) (sym (append-nil old.waiting)) offers);
   }
 
   -- all that waited was offered, a piece was pulled, and what it completed was offered
-  pub reads_both : (held : Option (What A)) (old : Held) (whats : List (What A)) (left : Option (What A)) (before : Held) (pulled : List ℕ) (pull : Pull) (after : Held) (others : List (What A)) (stop : Option Stop) (last : Option (What A)) (new : Held)
+  pub reads_both : (held : Option (What A)) (old : DeframerState) (whats : List (What A)) (left : Option (What A)) (before : DeframerState) (pulled : List ℕ) (pull : Pull) (after : DeframerState) (others : List (What A)) (stop : Option Stop) (last : Option (What A)) (new : DeframerState)
       → Offers held old.waiting whats true left before.waiting → left ≡ None → before.waiting ≡ [] → before.rest ≡ old.rest → Pulls before pulled pull after
-      → Offers left after.waiting others (goes_on stop) last new.waiting → new.rest ≡ after.rest → Reads held old pulled (whats ++ others) (heard_after pull stop) last new
+      → Offers left after.waiting others (goes_on stop) last new.waiting → new.rest ≡ after.rest → Reads held old pulled (whats ++ others) (outcome_after pull stop) last new
   reads_both held old whats left before pulled pull after others stop last new first none empty rest pulls second kept =
       let waits : after.waiting ≡ pulls.packets = pulls.waiting ∙ ap (λ xs. xs ++ pulls.packets) empty in
       let unread : first.unread ≡ [] = (first.kept refl).0 ∙ empty in
@@ -121,6 +153,9 @@ module _ {A : Type 0} where
         completes =
             subst (λ xs. Completes xs pulls.fed pulls.packets new.rest) rest
             (subst (Completes before.rest pulls.fed pulls.packets) (sym kept) pulls.completes);
+        sound = λ is none.
+            subst HasNoBadHeader (sym kept)
+            (sound_after before pulled pull after pulls (stays_after pull stop is).2 (subst HasNoBadHeader (sym rest) none));
         offers = record {
           packets = first.packets ++ second.packets;
           unread = second.unread;
@@ -139,18 +174,18 @@ module _ {A : Type 0} where
 
 module _ {A G : Type 0} (answers : G → Bool → G → Type 0) (held : Option (What A)) (waiting : List (List ℕ)) (gate : G) where
   -- the offering stopped, and the link stays only where that was for the gate
-  pub left_at_gate : (found : Option Stop) (stop : Stop) (heard : Heard) → heard ≡ heard_at stop → found ≡ Some stop → (found ≡ Some stops.Held → Refused answers gate)
-      → heard ≡ heards.Open → WaitsForGate answers held waiting gate
-  left_at_gate found stops.Held heard heard_is is refused stays = inr (refused is)
-  left_at_gate found stops.Memory heard heard_is is refused stays = absurd (let both : heards.Over ≡ heards.Open = sym heard_is ∙ stays in cc)
-  left_at_gate found stops.Halted heard heard_is is refused stays = absurd (let both : heards.Halted ≡ heards.Open = sym heard_is ∙ stays in cc)
-  left_at_gate found stops.Journal heard heard_is is refused stays = absurd (let both : heards.Journal ≡ heards.Open = sym heard_is ∙ stays in cc)
+  pub left_at_gate : (found : Option Stop) (stop : Stop) (outcome : ReadOutcome) → outcome ≡ outcome_at stop → found ≡ Some stop → (found ≡ Some stops.Held → Refused answers gate)
+      → outcome ≡ outcomes.Open → WaitsForGate answers held waiting gate
+  left_at_gate found stops.Held outcome heard_is is refused stays = inr (refused is)
+  left_at_gate found stops.Memory outcome heard_is is refused stays = absurd (let both : outcomes.Over ≡ outcomes.Open = sym heard_is ∙ stays in cc)
+  left_at_gate found stops.Halted outcome heard_is is refused stays = absurd (let both : outcomes.Halted ≡ outcomes.Open = sym heard_is ∙ stays in cc)
+  left_at_gate found stops.Journal outcome heard_is is refused stays = absurd (let both : outcomes.Journal ≡ outcomes.Open = sym heard_is ∙ stays in cc)
 
   -- the link stays only where all that came was offered, or the gate said no
-  pub left_by_gate : (pull : Pull) (stop : Option Stop) (heard : Heard) → heard ≡ heard_after pull stop → (stop ≡ None → IsAllOffered held waiting) → (stop ≡ Some stops.Held → Refused answers gate)
-      → heard ≡ heards.Open → WaitsForGate answers held waiting gate
-  left_by_gate pull None heard heard_is all refused stays = inl (all refl)
-  left_by_gate pull (Some stops.Held) heard heard_is all refused stays = inr (refused refl)
-  left_by_gate pull (Some stops.Memory) heard heard_is all refused stays = absurd (let both : heards.Over ≡ heards.Open = sym heard_is ∙ stays in cc)
-  left_by_gate pull (Some stops.Halted) heard heard_is all refused stays = absurd (let both : heards.Halted ≡ heards.Open = sym heard_is ∙ stays in cc)
-  left_by_gate pull (Some stops.Journal) heard heard_is all refused stays = absurd (let both : heards.Journal ≡ heards.Open = sym heard_is ∙ stays in cc)
+  pub left_by_gate : (pull : Pull) (stop : Option Stop) (outcome : ReadOutcome) → outcome ≡ outcome_after pull stop → (stop ≡ None → IsAllOffered held waiting) → (stop ≡ Some stops.Held → Refused answers gate)
+      → outcome ≡ outcomes.Open → WaitsForGate answers held waiting gate
+  left_by_gate pull None outcome heard_is all refused stays = inl (all refl)
+  left_by_gate pull (Some stops.Held) outcome heard_is all refused stays = inr (refused refl)
+  left_by_gate pull (Some stops.Memory) outcome heard_is all refused stays = absurd (let both : outcomes.Over ≡ outcomes.Open = sym heard_is ∙ stays in cc)
+  left_by_gate pull (Some stops.Halted) outcome heard_is all refused stays = absurd (let both : outcomes.Halted ≡ outcomes.Open = sym heard_is ∙ stays in cc)
+  left_by_gate pull (Some stops.Journal) outcome heard_is all refused stays = absurd (let both : outcomes.Journal ≡ outcomes.Open = sym heard_is ∙ stays in cc)

@@ -3,8 +3,8 @@ use Rattle.std.proofs.Common.{◌≡◌, ℕ, List, [], ◌∷◌, ◌++◌, ref
 use Rattle.std.specs.List.{AllByRecursion}
 use Rattle.xp_core.specs.declared.event.What.{What}
 use Rattle.xp_core.specs.declared.event.What.TheVariants.{Up, Down, Frame, WrongFrame, Expire, Stall}
-use Rattle.xp_lines.specs.Heard.{AreReadAs, IsReadAs}
-use Rattle.xp_lines.specs.Ringing.{Lapses, expiry, is_late}
+use Rattle.xp_lines.specs.FrameEvents.{AreReadAs, IsReadAs}
+use Rattle.xp_lines.specs.AnswerTimer.{Expires, expiry, has_expired}
 use Rattle.xp_lines.specs.Together.{but_expiries, is_no_expiry}
 
 module _ {A : Type 0} where
@@ -46,6 +46,6 @@ module _ {A : Type 0} where
   none_of_expiry true = refl
   none_of_expiry false = refl
 
-  pub none_left : (linked : Bool) (now : ℕ) (since : Option ℕ) (expired : List (What A)) (after : Option ℕ) → Lapses linked now since expired after → but_expiries expired ≡ []
-  none_left true now since expired after lapses = ap but_expiries lapses.0 ∙ none_of_expiry (is_late now since)
+  pub none_left : (linked : Bool) (now : ℕ) (since : Option ℕ) (expired : List (What A)) (after : Option ℕ) → Expires linked now since expired after → but_expiries expired ≡ []
+  none_left true now since expired after lapses = ap but_expiries lapses.0 ∙ none_of_expiry (has_expired now since)
   none_left false now since expired after lapses = ap but_expiries lapses

@@ -4,27 +4,28 @@ use Rattle.std.specs.Prelude.{option_to_list}
 use Rattle.std.proofs.lemmas.Grind.{flat_map-append}
 use Rattle.std.proofs.lemmas.List.{map-append}
 use Rattle.std.proofs.lemmas.List.Elements.{filter-append}
-use Rattle.xp_frames.specs.Frame.{frames}
+use Rattle.xp_frames.specs.Frame.{HasNoBadHeader, frames}
 use Rattle.xp_frames.proofs.Frames.{frames-append, packets-append}
 use Rattle.xp_core.specs.declared.entry.Entry.{Entry}
 use Rattle.xp_core.specs.declared.event.What.{What}
 use Rattle.xp_core.specs.declared.event.What.TheVariants.{Down}
 use Rattle.xp_core.specs.declared.output.Outgoing.{Outgoing}
 use Rattle.xp_lock.specs.Handed.{handed}
-use Rattle.xp_lock.specs.Passes.{Pass, mine}
+use Rattle.xp_lock.specs.Passes.{Pass, own_entries}
 use Rattle.xp_lines.specs.Offers.{Gains, on_line}
 use Rattle.xp_lines.specs.Reads.{Completes, stays}
-use Rattle.xp_lines.specs.Ringing.{Lapses, answered, has_any, rung}
+use Rattle.xp_lines.specs.AnswerTimer.{Expires, answered, has_any, since_after_all}
 use Rattle.xp_lines.specs.Together.{AreTurns, IsFresh, IsLeftSo, Left, MayFollow, Together, TurnsAddUp, but_expiries, calls, expiries, is_linked, is_no_expiry, last_of, waits}
-use Rattle.xp_lines.specs.Turns.{Downs, Follows, IsTurnBy, Seen, Worked, Works, is_owed}
+use Rattle.xp_lines.specs.Turns.{Downs, Follows, IsTurnBy, Seen, Worked, WritesAndReads, is_owed}
 use Rattle.xp_lines.specs.Wire.{Took, carried, wire}
-use Rattle.xp_lines.specs.declared.reading.Heard.{Heard}
-use Rattle.xp_lines.specs.declared.reading.Heard.TheVariants as heards
-use Rattle.xp_lines.specs.declared.turning.After.{After}
-use Rattle.xp_lines.specs.declared.turning.After.TheVariants.{Linked, Dropped, DownOwed, Halted, Journal}
+use Rattle.xp_lines.specs.declared.reading.ReadOutcome.{ReadOutcome}
+use Rattle.xp_lines.specs.declared.reading.ReadOutcome.TheVariants as outcomes
+use Rattle.xp_lines.specs.declared.turning.TurnOutcome.{TurnOutcome}
+use Rattle.xp_lines.specs.declared.turning.TurnOutcome.TheVariants.{Linked, Dropped, DownOwed, Halted, Journal}
 use Rattle.xp_lines.proofs.Expiring.{calls_both, expiries_both, lapses_few, no_expiries, rung_few}
 use Rattle.xp_lines.proofs.Octets.{appends_both, appends_nothing}
 use Rattle.xp_lines.proofs.Pulling.{completes_nothing, read_both}
+use Rattle.xp_lines.proofs.Written.{none_closes_both}
 use Rattle.xp_lines.proofs.Sums.{HasNoExpiry, all_without, none_behind, none_both, none_front, none_left, none_of_read}
 
 completes_both : (fed more : List ℕ) (packets others : List (List ℕ)) (rest last : List ℕ) → Completes [] fed packets rest → Completes rest more others last → Completes [] (fed ++ more) (packets ++ others) last
@@ -36,8 +37,11 @@ completes_both fed more packets others rest last a b = record {
   partial = λ none. b.partial (a.partial none);
 }
 
+no_header : HasNoBadHeader []
+no_header fault bad = bad
+
 module _ {A : Type 0} where
-  took_mine : (old : Pass A) (items : List _) (new : Pass A) → Took old items new → mine new ≡ mine old
+  took_mine : (old : Pass A) (items : List _) (new : Pass A) → Took old items new → own_entries new ≡ own_entries old
   took_mine old items new took = ap (λ line. handed line new.seen) took.line ∙ ap (λ seen. handed old.line seen) took.seen
 
   together_fresh : (connection : ℕ) (pass : Pass A) (came : Seen A) → IsFresh came → Together connection pass came true pass came
@@ -68,29 +72,31 @@ module _ {A : Type 0} where
     closing = [];
     is_closing = inl refl;
     expire_once = omega arith;
-    may_expire = λ _. let none : waits came.ringing ≡ 0 = ap waits fresh.ringing in omega (arith, none);
+    may_expire = λ _. let none : waits came.unanswered_since ≡ 0 = ap waits fresh.unanswered_since in omega (arith, none);
     entries = [];
-    mine_is = sym (append-nil (mine pass));
+    own_entries_are = sym (append-nil (own_entries pass));
     events = refl;
+    none_closes = λ _. tt;
+    sound = λ _. subst HasNoBadHeader (sym fresh.rest) no_header;
     kept = λ _. (refl, refl, sym fresh.rest, sym fresh.waiting, sym (ap option_to_list fresh.held), refl);
   }
 
   module _ (connection : ℕ) (old : Pass A) (came : Seen A) where
     -- no more calls expire than were written
-    expire_few : (now : ℕ) (linked sent : Bool) (since : Option ℕ) (whats told expired : List (What A)) (ringing after : Option ℕ) (items more : List (Outgoing A))
-        → expiries told ≡ 0 → expiries whats + waits ringing ≤ calls connection items → (linked ≡ true → since ≡ rung now connection ringing more)
-        → Lapses linked now (answered sent since) expired after
+    expire_few : (now : ℕ) (linked sent : Bool) (since : Option ℕ) (whats told expired : List (What A)) (unanswered_since after : Option ℕ) (items more : List (Outgoing A))
+        → expiries told ≡ 0 → expiries whats + waits unanswered_since ≤ calls connection items → (linked ≡ true → since ≡ since_after_all now connection unanswered_since more)
+        → Expires linked now (answered sent since) expired after
         → (expiries (whats ++ (told ++ expired)) ≤ calls connection (items ++ more))
         × (linked ≡ true → expiries (whats ++ (told ++ expired)) + waits after ≤ calls connection (items ++ more))
-    expire_few now true sent since whats told expired ringing after items more none before since_is lapses =
+    expire_few now true sent since whats told expired unanswered_since after items more none before since_is lapses =
         let all : expiries (whats ++ (told ++ expired)) ≡ expiries whats + (expiries told + expiries expired) =
         expiries_both whats (told ++ expired) ∙ ap (λ n. expiries whats + n) (expiries_both told expired) in
         let both : calls connection (items ++ more) ≡ calls connection items + calls connection more = calls_both connection items more in
-        let at : waits since ≡ waits (rung now connection ringing more) = ap waits (since_is refl) in
-        let written : waits (rung now connection ringing more) ≤ waits ringing + calls connection more = rung_few now connection ringing more in
+        let at : waits since ≡ waits (since_after_all now connection unanswered_since more) = ap waits (since_is refl) in
+        let written : waits (since_after_all now connection unanswered_since more) ≤ waits unanswered_since + calls connection more = rung_few now connection unanswered_since more in
         let told_few : expiries expired + waits after ≤ waits since = lapses_few now sent since expired after lapses in
         (omega (arith, all, both, at, written, told_few, none, before), λ _. omega (arith, all, both, at, written, told_few, none, before))
-    expire_few now false sent since whats told expired ringing after items more none before since_is lapses =
+    expire_few now false sent since whats told expired unanswered_since after items more none before since_is lapses =
         let all : expiries (whats ++ (told ++ expired)) ≡ expiries whats + (expiries told + expiries expired) =
         expiries_both whats (told ++ expired) ∙ ap (λ n. expiries whats + n) (expiries_both told expired) in
         let both : calls connection (items ++ more) ≡ calls connection items + calls connection more = calls_both connection items more in
@@ -98,10 +104,10 @@ module _ {A : Type 0} where
         (omega (arith, all, both, nothing, none, before), λ is. absurd (let never : false ≡ true = is in cc))
 
     -- the line worked, from where its link stayed
-    worked_on : (now : ℕ) (pass : Pass A) (seen : Seen A) (heard : Heard) (new_pass : Pass A) (new : Seen A)
-        → Together connection old came true pass seen → Works now connection pass seen heard new_pass new
-        → (next : Together connection old came (stays heard) new_pass new) × (next.closing ≡ [])
-    worked_on now pass seen heard new_pass new t works =
+    worked_on : (now : ℕ) (pass : Pass A) (seen : Seen A) (outcome : ReadOutcome) (new_pass : Pass A) (new : Seen A)
+        → Together connection old came true pass seen → WritesAndReads now connection pass seen outcome new_pass new
+        → (next : Together connection old came (stays outcome) new_pass new) × (next.closing ≡ [])
+    worked_on now pass seen outcome new_pass new t works =
         let kept = t.kept refl in
         let w = works.writes in
         let h = works.hears in
@@ -115,8 +121,8 @@ module _ {A : Type 0} where
         none_front h.whats o.unoffered (subst HasNoExpiry o.in_order (none_both held o.read none (none_of_read o.packets o.read o.read_as))) in
         let told : but_expiries gained ≡ h.whats =
         filter-append is_no_expiry h.whats h.expired ∙ ap (λ xs. xs ++ but_expiries h.expired) (all_without h.whats offered)
-        ∙ ap (λ xs. h.whats ++ xs) (none_left (stays heard) now (answered (has_any h.whats) works.since) h.expired new.ringing h.lapses) ∙ append-nil h.whats in
-        let few = expire_few now (stays heard) (has_any h.whats) works.since t.whats h.whats h.expired seen.ringing new.ringing t.items w.items
+        ∙ ap (λ xs. h.whats ++ xs) (none_left (stays outcome) now (answered (has_any h.whats) works.since) h.expired new.unanswered_since h.lapses) ∙ append-nil h.whats in
+        let few = expire_few now (stays outcome) (has_any h.whats) works.since t.whats h.whats h.expired seen.unanswered_since new.unanswered_since t.items w.items
         (no_expiries h.whats offered) (t.may_expire refl) works.since_is h.lapses in
         let all_told : but_expiries (t.whats ++ gained) ≡ but_expiries t.whats ++ h.whats =
         filter-append is_no_expiry t.whats gained ∙ ap (λ xs. but_expiries t.whats ++ xs) told in (
@@ -162,15 +168,17 @@ module _ {A : Type 0} where
             expire_once = few.0;
             may_expire = few.1;
             entries = t.entries ++ h.gains.entries;
-            mine_is =
-                h.gains.mine_is ∙ ap (λ xs. xs ++ h.gains.entries) (took_mine pass w.items works.between w.took ∙ t.mine_is)
-                ∙ append_assoc (mine old) t.entries h.gains.entries;
+            own_entries_are =
+                h.gains.own_entries_are ∙ ap (λ xs. xs ++ h.gains.entries) (took_mine pass w.items works.between w.took ∙ t.own_entries_are)
+                ∙ append_assoc (own_entries old) t.entries h.gains.entries;
             events =
                 map-append (λ (e : Entry A). e.event) t.entries h.gains.entries
                 ∙ ap (λ xs. xs ++ map (λ (e : Entry A). e.event) h.gains.entries)
                 (t.events ∙ ap (λ closing. map (on_line old.line) (t.whats ++ closing)) kept.5 ∙ ap (map (on_line old.line)) (append-nil t.whats))
                 ∙ ap (λ xs. map (on_line old.line) t.whats ++ xs) (h.gains.events ∙ ap (λ line. map (on_line line) gained) (w.took.line ∙ t.line))
                 ∙ sym (map-append (on_line old.line) t.whats gained) ∙ ap (map (on_line old.line)) (sym (append-nil (t.whats ++ gained)));
+            none_closes = λ is. none_closes_both connection t.items w.items (t.none_closes refl) (works.none_closes is);
+            sound = λ is. r.sound is (t.sound refl);
             kept = λ is. (works.none_unsent is, r.none_lost is, refl, (o.kept is).0, (o.kept is).1, refl);
           },
           refl,
@@ -179,10 +187,10 @@ module _ {A : Type 0} where
     -- the link goes, and what waited to be offered on it
     link_goes : (linked : Bool) (pass : Pass A) (seen : Seen A) (new_pass : Pass A) (left : Option (What A)) (closing : List (What A)) (entries : List (Entry A))
         → (t : Together connection old came linked pass seen) → new_pass.line ≡ pass.line → new_pass.taken ≡ pass.taken
-        → (closing ≡ []) ⊎ (closing ≡ Down ∷ []) → mine new_pass ≡ mine old ++ entries
+        → (closing ≡ []) ⊎ (closing ≡ Down ∷ []) → own_entries new_pass ≡ own_entries old ++ entries
         → map (λ (e : Entry A). e.event) entries ≡ map (on_line old.line) (t.whats ++ closing)
         → (next : Together connection old came false new_pass (record seen { held = left })) × (next.closing ≡ closing)
-    link_goes linked pass seen new_pass left closing entries t line taken is_closing mine_is events = (
+    link_goes linked pass seen new_pass left closing entries t line taken is_closing own_entries_are events = (
       record {
         line = line ∙ t.line;
         items = t.items;
@@ -212,8 +220,10 @@ module _ {A : Type 0} where
         expire_once = t.expire_once;
         may_expire = λ is. absurd (let both : false ≡ true = is in cc);
         entries = entries;
-        mine_is = mine_is;
+        own_entries_are = own_entries_are;
         events = events;
+        none_closes = λ is. absurd (let both : false ≡ true = is in cc);
+        sound = λ is. absurd (let both : false ≡ true = is in cc);
         kept = λ is. absurd (let both : false ≡ true = is in cc);
       },
       refl,
@@ -225,7 +235,7 @@ module _ {A : Type 0} where
         → (next : Together connection old came false new_pass (record seen { held = left })) × (next.closing ≡ [])
     nothing_offered linked pass seen new_pass left t opened same =
         link_goes linked pass seen new_pass left [] t.entries t (ap (λ p. p.line) same) (ap (λ p. p.taken) same) (inl refl)
-        (ap mine same ∙ t.mine_is) (t.events ∙ ap (λ closing. map (on_line old.line) (t.whats ++ closing)) opened)
+        (ap own_entries same ∙ t.own_entries_are) (t.events ∙ ap (λ closing. map (on_line old.line) (t.whats ++ closing)) opened)
 
     -- the Down was taken
     down_taken : (linked : Bool) (pass : Pass A) (seen : Seen A) (new_pass : Pass A) (left : Option (What A))
@@ -239,18 +249,18 @@ module _ {A : Type 0} where
         ∙ ap (λ xs. map (on_line old.line) t.whats ++ xs) (gains.events ∙ ap (λ line. map (on_line line) (Down ∷ [])) t.line)
         ∙ sym (map-append (on_line old.line) t.whats (Down ∷ [])) in
         let next = link_goes linked pass seen new_pass left (Down ∷ []) (t.entries ++ gains.entries) t gains.line gains.taken (inr refl)
-        (gains.mine_is ∙ ap (λ xs. xs ++ gains.entries) t.mine_is ∙ append_assoc (mine old) t.entries gains.entries) events in
+        (gains.own_entries_are ∙ ap (λ xs. xs ++ gains.entries) t.own_entries_are ∙ append_assoc (own_entries old) t.entries gains.entries) events in
         next.0
 
     -- what a turn leaves to the next
-    abbrev Next : After → Pass A → Seen A → Type 0
+    abbrev Next : TurnOutcome → Pass A → Seen A → Type 0
     Next Linked pass seen = Together connection old came true pass seen
     Next Dropped pass seen = Together connection old came false pass seen
     Next DownOwed pass seen = (t : Together connection old came false pass seen) × (t.closing ≡ []) × (seen.held ≡ Some Down)
     Next Halted pass seen = Together connection old came false pass seen
     Next Journal pass seen = Together connection old came false pass seen
 
-    next_by_down : (linked : Bool) (pass : Pass A) (seen : Seen A) (after : After) (new_pass : Pass A) (left : Option (What A))
+    next_by_down : (linked : Bool) (pass : Pass A) (seen : Seen A) (after : TurnOutcome) (new_pass : Pass A) (left : Option (What A))
         → (t : Together connection old came linked pass seen) → t.closing ≡ [] → Downs pass after new_pass left
         → Next after new_pass (record seen { held = left })
     next_by_down linked pass seen Linked new_pass left t opened downs = absurd downs
@@ -260,47 +270,47 @@ module _ {A : Type 0} where
     next_by_down linked pass seen Halted new_pass left t opened downs = (nothing_offered linked pass seen new_pass left t opened downs).0
     next_by_down linked pass seen Journal new_pass left t opened downs = (nothing_offered linked pass seen new_pass left t opened downs).0
 
-    next_by_heard : (heard : Heard) (pass : Pass A) (seen : Seen A) (after : After) (new_pass : Pass A) (left : Option (What A))
-        → (t : Together connection old came (stays heard) pass seen) → t.closing ≡ [] → Follows heard pass seen.held after new_pass left
+    next_by_heard : (outcome : ReadOutcome) (pass : Pass A) (seen : Seen A) (after : TurnOutcome) (new_pass : Pass A) (left : Option (What A))
+        → (t : Together connection old came (stays outcome) pass seen) → t.closing ≡ [] → Follows outcome pass seen.held after new_pass left
         → Next after new_pass (record seen { held = left })
-    next_by_heard heards.Open pass seen after new_pass left t opened follows =
+    next_by_heard outcomes.Open pass seen after new_pass left t opened follows =
         subst (λ a. Next a new_pass (record seen { held = left })) (sym follows.0)
         (subst (λ p. Together connection old came true p (record seen { held = left })) (sym follows.1)
         (subst (λ h. Together connection old came true pass (record seen { held = h })) (sym follows.2) t))
-    next_by_heard heards.Over pass seen after new_pass left t opened follows = next_by_down false pass seen after new_pass left t opened follows
-    next_by_heard heards.Halted pass seen after new_pass left t opened follows =
+    next_by_heard outcomes.Over pass seen after new_pass left t opened follows = next_by_down false pass seen after new_pass left t opened follows
+    next_by_heard outcomes.Halted pass seen after new_pass left t opened follows =
         subst (λ a. Next a new_pass (record seen { held = left })) (sym follows.0) (nothing_offered false pass seen new_pass left t opened follows.1).0
-    next_by_heard heards.Journal pass seen after new_pass left t opened follows =
+    next_by_heard outcomes.Journal pass seen after new_pass left t opened follows =
         subst (λ a. Next a new_pass (record seen { held = left })) (sym follows.0) (nothing_offered false pass seen new_pass left t opened follows.1).0
 
-    next_by_work : (now : ℕ) (pass : Pass A) (seen : Seen A) (after : After) (new_pass : Pass A) (new : Seen A)
+    next_by_work : (now : ℕ) (pass : Pass A) (seen : Seen A) (after : TurnOutcome) (new_pass : Pass A) (new : Seen A)
         → Together connection old came true pass seen → Worked now connection pass seen after new_pass new → Next after new_pass new
     next_by_work now pass seen after new_pass new t worked =
-        let next = worked_on now pass seen worked.heard worked.worked_pass worked.worked t worked.works in
+        let next = worked_on now pass seen worked.outcome worked.worked_pass worked.worked t worked.works in
         subst (Next after new_pass) (sym worked.rest)
-        (next_by_heard worked.heard worked.worked_pass worked.worked after new_pass new.held next.0 next.1 worked.follows)
+        (next_by_heard worked.outcome worked.worked_pass worked.worked after new_pass new.held next.0 next.1 worked.follows)
 
-    next_linked : (owed : Bool) (now : ℕ) (pass : Pass A) (seen : Seen A) (after : After) (new_pass : Pass A) (new : Seen A)
+    next_linked : (owed : Bool) (now : ℕ) (pass : Pass A) (seen : Seen A) (after : TurnOutcome) (new_pass : Pass A) (new : Seen A)
         → Together connection old came true pass seen → IsTurnBy owed now connection pass seen after new_pass new → Next after new_pass new
     next_linked true now pass seen after new_pass new t turn =
         subst (Next after new_pass) (sym turn.1) (next_by_down true pass seen after new_pass new.held t (t.kept refl).5 turn.0)
     next_linked false now pass seen after new_pass new t turn = next_by_work now pass seen after new_pass new t turn
 
-    next_owed : (now : ℕ) (pass : Pass A) (seen : Seen A) (after : After) (new_pass : Pass A) (new : Seen A)
+    next_owed : (now : ℕ) (pass : Pass A) (seen : Seen A) (after : TurnOutcome) (new_pass : Pass A) (new : Seen A)
         → Next DownOwed pass seen → IsTurnBy (is_owed seen.held) now connection pass seen after new_pass new → Next after new_pass new
     next_owed now pass seen after new_pass new (t, opened, held) turn =
         let owed : IsTurnBy true now connection pass seen after new_pass new =
         subst (λ o. IsTurnBy o now connection pass seen after new_pass new) (ap is_owed held) turn in
         subst (Next after new_pass) (sym owed.1) (next_by_down false pass seen after new_pass new.held t opened owed.0)
 
-    together_of : (after : After) (pass : Pass A) (seen : Seen A) → Next after pass seen → Together connection old came (is_linked after) pass seen
+    together_of : (after : TurnOutcome) (pass : Pass A) (seen : Seen A) → Next after pass seen → Together connection old came (is_linked after) pass seen
     together_of Linked pass seen next = next
     together_of Dropped pass seen next = next
     together_of DownOwed pass seen next = next.0
     together_of Halted pass seen next = next
     together_of Journal pass seen next = next
 
-    turns_from : (after : After) (pass : Pass A) (seen : Seen A) (turns : List (Left A)) → Next after pass seen → MayFollow after turns → AreTurns connection pass seen turns
+    turns_from : (after : TurnOutcome) (pass : Pass A) (seen : Seen A) (turns : List (Left A)) → Next after pass seen → MayFollow after turns → AreTurns connection pass seen turns
         → IsLeftSo connection old came (last_of (record { after = after; pass = pass; seen = seen }) turns)
     turns_from after pass seen [] next may are = together_of after pass seen next
     turns_from Linked pass seen (left ∷ turns) next may are =

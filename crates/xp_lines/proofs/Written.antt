@@ -1,14 +1,16 @@
 -- What a line takes and writes, one output at a time.
-use Rattle.std.proofs.Common.{◌≡◌, ℕ, ◌==◌, List, [], ◌∷◌, ◌++◌, refl, sym, ap, ◌∙◌, append_assoc, append-nil, subst, Option, cond, false, inl, inr}
+use Rattle.std.proofs.Common.{◌≡◌, ℕ, ◌+◌, ◌<◌, ◌≤◌, ◌==◌, List, [], ◌∷◌, ◌++◌, length, length-append, arith, refl, sym, ap, ◌∙◌, append_assoc, append-nil, subst, Option, cond, true, false, inl, inr}
 use Rattle.std.proofs.lemmas.Grind.{flat_map-append}
 use Rattle.xp_core.specs.declared.output.Outgoing.{Outgoing}
 use Rattle.xp_lock.specs.Passes.{Pass}
-use Rattle.xp_lines.specs.Ended.{is_lost}
+use Rattle.xp_lines.specs.steps.Ended.{is_lost}
 use Rattle.xp_lines.specs.Flow.{Leaves}
-use Rattle.xp_lines.specs.Ringing.{rings_by, rung}
-use Rattle.xp_lines.specs.Wire.{Fills, Took, Writes, carried, wire}
-use Rattle.xp_lines.specs.declared.bell.Bell.{Bell}
+use Rattle.xp_lines.specs.AnswerTimer.{since_after_put, since_after_all}
+use Rattle.xp_lines.specs.Wire.{NoneCloses, Took, Writes, carried, closes, wire}
+use Rattle.xp_lines.specs.steps.Wire.{Fills}
+use Rattle.xp_lines.specs.declared.answer_timer.AnswerTimer.{AnswerTimer}
 use Rattle.xp_lines.specs.declared.writing.Ended.{Ended}
+use Rattle.xp_lines.specs.declared.writing.Ended.TheVariants as ends
 use Rattle.xp_lines.proofs.Octets.{appends_both}
 
 module _ {A : Type 0} where
@@ -26,69 +28,129 @@ module _ {A : Type 0} where
   wire_more connection items item = flat_map-append (carried connection) items (item ∷ []) ∙ ap (λ xs. wire connection items ++ xs) (append-nil (carried connection item))
 
   rung_more : (now connection : ℕ) (since : Option ℕ) (items : List (Outgoing A)) (item : Outgoing A)
-      → rung now connection since (items ++ item ∷ [])
-      ≡ cond (item.connection == connection) (rings_by now (rung now connection since items) item.put) (rung now connection since items)
+      → since_after_all now connection since (items ++ item ∷ [])
+      ≡ cond (item.connection == connection) (since_after_put now (since_after_all now connection since items) item.put) (since_after_all now connection since items)
   rung_more now connection since [] item = refl
-  rung_more now connection since (first ∷ items) item = rung_more now connection (cond (first.connection == connection) (rings_by now since first.put) since) items item
+  rung_more now connection since (first ∷ items) item = rung_more now connection (cond (first.connection == connection) (since_after_put now since first.put) since) items item
 
   fills_nothing : (connection : ℕ) (old : Pass A) (unwritten : List ℕ) → Fills connection old unwritten old unwritten []
-  fills_nothing connection old unwritten = record { items = []; took = took_nothing old; whole = refl }
+  fills_nothing connection old unwritten = record { items = []; took = took_nothing old; few = omega arith; whole = refl }
+
+  one_more : (items : List (Outgoing A)) (item : Outgoing A) (count : ℕ) → length items ≤ count → length (items ++ item ∷ []) ≤ count + 1
+  one_more items item count few = let many : length (items ++ item ∷ []) ≡ length items + 1 = length-append items (item ∷ []) in omega (arith, many)
+
+  room_for_one : (items : List (Outgoing A)) (item : Outgoing A) (count : ℕ) → length items ≤ count → count < 64 → length (items ++ item ∷ []) ≤ 64
+  room_for_one items item count few below = let more : length (items ++ item ∷ []) ≤ count + 1 = one_more items item count few in omega (arith, more)
+
+  pub none_closes_both : (connection : ℕ) (items others : List (Outgoing A)) → NoneCloses connection items → NoneCloses connection others → NoneCloses connection (items ++ others)
+  none_closes_both connection [] others none all = all
+  none_closes_both connection (item ∷ items) others none all = (none.0, none_closes_both connection items others none.1 all)
 
   -- one output more, whose octets stand behind the others or are lost
-  fills_with : (connection : ℕ) (old : Pass A) (unwritten : List ℕ) (now : Pass A) (left : List ℕ) (item : Outgoing A) (next : Pass A) (more lost : List ℕ)
-      → Fills connection old unwritten now left [] → next ≡ record now { taken = now.taken ++ item ∷ [] } → left ++ carried connection item ≡ more ++ lost
+  fills_with : (connection : ℕ) (old : Pass A) (unwritten : List ℕ) (now : Pass A) (left : List ℕ) (item : Outgoing A) (next : Pass A) (more lost : List ℕ) (count : ℕ)
+      → (so_far : Fills connection old unwritten now left []) → length so_far.items ≤ count → count < 64 → next ≡ record now { taken = now.taken ++ item ∷ [] } → left ++ carried connection item ≡ more ++ lost
       → Fills connection old unwritten next more lost
-  fills_with connection old unwritten now left item next more lost so_far taken placed = record {
+  fills_with connection old unwritten now left item next more lost count so_far few below taken placed = record {
     items = so_far.items ++ item ∷ [];
     took = took_more old now next so_far.items item so_far.took taken;
+    few = room_for_one so_far.items item count few below;
     whole =
         ap (λ xs. unwritten ++ xs) (wire_more connection so_far.items item) ∙ sym (append_assoc unwritten (wire connection so_far.items) (carried connection item))
         ∙ ap (λ xs. xs ++ carried connection item) (so_far.whole ∙ append-nil left) ∙ placed;
   }
 
-  fills_more : (connection : ℕ) (old : Pass A) (unwritten : List ℕ) (now : Pass A) (left : List ℕ) (item : Outgoing A) (next : Pass A) (more : List ℕ)
-      → Fills connection old unwritten now left [] → next ≡ record now { taken = now.taken ++ item ∷ [] } → more ≡ left ++ carried connection item
+  fills_more : (connection : ℕ) (old : Pass A) (unwritten : List ℕ) (now : Pass A) (left : List ℕ) (item : Outgoing A) (next : Pass A) (more : List ℕ) (count : ℕ)
+      → (so_far : Fills connection old unwritten now left []) → length so_far.items ≤ count → count < 64 → next ≡ record now { taken = now.taken ++ item ∷ [] } → more ≡ left ++ carried connection item
       → Fills connection old unwritten next more []
-  fills_more connection old unwritten now left item next more so_far taken appended =
-      fills_with connection old unwritten now left item next more [] so_far taken (sym appended ∙ sym (append-nil more))
+  fills_more connection old unwritten now left item next more count so_far few below taken appended =
+      fills_with connection old unwritten now left item next more [] count so_far few below taken (sym appended ∙ sym (append-nil more))
 
-  pub fills_lost : (connection : ℕ) (old : Pass A) (unwritten : List ℕ) (now : Pass A) (left : List ℕ) (item : Outgoing A) (next : Pass A) (same : List ℕ)
-      → Fills connection old unwritten now left [] → next ≡ record now { taken = now.taken ++ item ∷ [] } → same ≡ left
+  fills_lost : (connection : ℕ) (old : Pass A) (unwritten : List ℕ) (now : Pass A) (left : List ℕ) (item : Outgoing A) (next : Pass A) (same : List ℕ) (count : ℕ)
+      → (so_far : Fills connection old unwritten now left []) → length so_far.items ≤ count → count < 64 → next ≡ record now { taken = now.taken ++ item ∷ [] } → same ≡ left
       → Fills connection old unwritten next same (carried connection item)
-  fills_lost connection old unwritten now left item next same so_far taken kept =
-      fills_with connection old unwritten now left item next same (carried connection item) so_far taken (ap (λ xs. xs ++ carried connection item) (sym kept))
+  fills_lost connection old unwritten now left item next same count so_far few below taken kept =
+      fills_with connection old unwritten now left item next same (carried connection item) count so_far few below taken (ap (λ xs. xs ++ carried connection item) (sym kept))
 
-  -- what was taken so far, and since when an incoming call waits by it
-  pub record Filled (connection : ℕ) (old : Pass A) (unwritten : List ℕ) (before : Bell) (now : Pass A) (left : List ℕ) (bell : Bell) : Type 0 where
+  -- what was taken so far, which is at most so many outputs of which none closes the connection, and since when an incoming call
+  -- waits by it
+  pub record Filled (connection : ℕ) (old : Pass A) (unwritten : List ℕ) (before : AnswerTimer) (now : Pass A) (left : List ℕ) (timer : AnswerTimer) (count : ℕ) : Type 0 where
     pub fills : Fills connection old unwritten now left []
-    pub rung_is : bell ≡ record before { since = rung before.now connection before.since fills.items }
+    pub rung_is : timer ≡ record before { since = since_after_all before.now connection before.since fills.items }
+    pub counted : length fills.items ≤ count
+    pub none_closes : NoneCloses connection fills.items
 
-  pub filled_nothing : (connection : ℕ) (old : Pass A) (unwritten : List ℕ) (bell : Bell) → Filled connection old unwritten bell old unwritten bell
+  pub filled_nothing : (connection : ℕ) (old : Pass A) (unwritten : List ℕ) (timer : AnswerTimer) → Filled connection old unwritten timer old unwritten timer 0
   unfolding fills_nothing
-  filled_nothing connection old unwritten bell = record { fills = fills_nothing connection old unwritten; rung_is = refl }
+  filled_nothing connection old unwritten timer = record { fills = fills_nothing connection old unwritten; rung_is = refl; counted = omega arith; none_closes = tt }
 
-  pub filled_more : (connection : ℕ) (old : Pass A) (unwritten : List ℕ) (before : Bell) (now : Pass A) (left : List ℕ) (bell : Bell) (item : Outgoing A) (next : Pass A) (more : List ℕ) (later : Bell)
-      → Filled connection old unwritten before now left bell → next ≡ record now { taken = now.taken ++ item ∷ [] } → more ≡ left ++ carried connection item
-      → later ≡ record bell { since = cond (item.connection == connection) (rings_by bell.now bell.since item.put) bell.since }
-      → Filled connection old unwritten before next more later
+  rung_then : (connection : ℕ) (before timer later : AnswerTimer) (items : List (Outgoing A)) (item : Outgoing A)
+      → timer ≡ record before { since = since_after_all before.now connection before.since items }
+      → later ≡ record timer { since = cond (item.connection == connection) (since_after_put timer.now timer.since item.put) timer.since }
+      → later ≡ record before { since = since_after_all before.now connection before.since (items ++ item ∷ []) }
+  rung_then connection before timer later items item was rang =
+      rang
+      ∙ ap (λ (b : AnswerTimer). record b { since = cond (item.connection == connection) (since_after_put b.now b.since item.put) b.since }) was
+      ∙ ap (λ since. record before { since = since }) (sym (rung_more before.now connection before.since items item))
+
+  pub filled_more : (connection : ℕ) (old : Pass A) (unwritten : List ℕ) (before : AnswerTimer) (now : Pass A) (left : List ℕ) (timer : AnswerTimer) (count : ℕ) (item : Outgoing A) (next : Pass A) (more : List ℕ) (later : AnswerTimer)
+      → Filled connection old unwritten before now left timer count → count < 64 → next ≡ record now { taken = now.taken ++ item ∷ [] } → more ≡ left ++ carried connection item
+      → later ≡ record timer { since = cond (item.connection == connection) (since_after_put timer.now timer.since item.put) timer.since }
+      → closes connection item ≡ false
+      → Filled connection old unwritten before next more later (count + 1)
   unfolding fills_more fills_with
-  filled_more connection old unwritten before now left bell item next more later so_far taken appended rang = record {
-    fills = fills_more connection old unwritten now left item next more so_far.fills taken appended;
-    rung_is =
-        rang
-        ∙ ap (λ (b : Bell). record b { since = cond (item.connection == connection) (rings_by b.now b.since item.put) b.since }) so_far.rung_is
-        ∙ ap (λ since. record before { since = since }) (sym (rung_more before.now connection before.since so_far.fills.items item));
+  filled_more connection old unwritten before now left timer count item next more later so_far below taken appended rang stays_open = record {
+    fills = fills_more connection old unwritten now left item next more count so_far.fills so_far.counted below taken appended;
+    rung_is = rung_then connection before timer later so_far.fills.items item so_far.rung_is rang;
+    counted = one_more so_far.fills.items item count so_far.counted;
+    none_closes = none_closes_both connection so_far.fills.items (item ∷ []) so_far.none_closes (stays_open, tt);
   }
 
-  -- the taking is over
-  pub filled_out : (connection : ℕ) (old : Pass A) (unwritten : List ℕ) (before : Bell) (now : Pass A) (left : List ℕ) (bell : Bell) (next : Pass A) (ended : Ended)
-      → Filled connection old unwritten before now left bell → next ≡ now
-      → (lost : List ℕ) × (fills : Fills connection old unwritten next left lost)
-      × (is_lost ended ≡ false → (lost ≡ []) × (bell ≡ record before { since = rung before.now connection before.since fills.items }))
-  filled_out connection old unwritten before now left bell next ended filled same = subst
-      (λ p. (lost : List ℕ) × (fills : Fills connection old unwritten p left lost)
-      × (is_lost ended ≡ false → (lost ≡ []) × (bell ≡ record before { since = rung before.now connection before.since fills.items }))) (sym same)
-      ([], filled.fills, λ _. (refl, filled.rung_is))
+  -- what the taking of outputs came to
+  abbrev pub TakenOut : ℕ → Pass A → List ℕ → AnswerTimer → Ended → Pass A → List ℕ → AnswerTimer → Type 0
+  TakenOut connection old unwritten before ended new left after =
+      (lost : List ℕ) × (fills : Fills connection old unwritten new left lost)
+      × (is_lost ended ≡ false → (lost ≡ []) × (after ≡ record before { since = since_after_all before.now connection before.since fills.items }))
+      × (ended ≡ ends.Open → NoneCloses connection fills.items)
+
+  -- no output is there any more, or enough were taken
+  pub filled_out : (connection : ℕ) (old : Pass A) (unwritten : List ℕ) (before : AnswerTimer) (now : Pass A) (left : List ℕ) (timer : AnswerTimer) (count : ℕ) (next : Pass A) (ended : Ended)
+      → Filled connection old unwritten before now left timer count → next ≡ now → TakenOut connection old unwritten before ended next left timer
+  filled_out connection old unwritten before now left timer count next ended filled same = subst
+      (λ p. TakenOut connection old unwritten before ended p left timer) (sym same)
+      ([], filled.fills, λ _. (refl, filled.rung_is), λ _. filled.none_closes)
+
+  -- the last output closes the connection
+  pub filled_closed : (connection : ℕ) (old : Pass A) (unwritten : List ℕ) (before : AnswerTimer) (now : Pass A) (left : List ℕ) (timer : AnswerTimer) (count : ℕ) (item : Outgoing A) (next : Pass A) (more : List ℕ) (later : AnswerTimer) (ended : Ended)
+      → Filled connection old unwritten before now left timer count → count < 64 → next ≡ record now { taken = now.taken ++ item ∷ [] } → more ≡ left ++ carried connection item
+      → later ≡ record timer { since = cond (item.connection == connection) (since_after_put timer.now timer.since item.put) timer.since }
+      → ended ≡ ends.Over
+      → TakenOut connection old unwritten before ended next more later
+  unfolding fills_more fills_with
+  filled_closed connection old unwritten before now left timer count item next more later ended so_far below taken appended rang over = (
+    [],
+    fills_more connection old unwritten now left item next more count so_far.fills so_far.counted below taken appended,
+    λ _. (refl, rung_then connection before timer later so_far.fills.items item so_far.rung_is rang),
+    λ is_open. absurd (let both : ends.Over ≡ ends.Open = sym over ∙ is_open in cc),
+  )
+
+  -- the last output is lost
+  pub filled_lost : (connection : ℕ) (old : Pass A) (unwritten : List ℕ) (before : AnswerTimer) (now : Pass A) (left : List ℕ) (timer : AnswerTimer) (count : ℕ) (item : Outgoing A) (next : Pass A) (same : List ℕ) (later : AnswerTimer) (ended : Ended)
+      → Filled connection old unwritten before now left timer count → count < 64 → next ≡ record now { taken = now.taken ++ item ∷ [] } → same ≡ left
+      → ended ≡ ends.Lost
+      → TakenOut connection old unwritten before ended next same later
+  filled_lost connection old unwritten before now left timer count item next same later ended so_far below taken kept lost = (
+    carried connection item,
+    fills_lost connection old unwritten now left item next same count so_far.fills so_far.counted below taken kept,
+    λ not_lost. absurd (let both : true ≡ false = sym (ap is_lost lost) ∙ not_lost in cc),
+    λ is_open. absurd (let both : ends.Lost ≡ ends.Open = sym lost ∙ is_open in cc),
+  )
+
+  -- what the writing of a turn came to
+  abbrev pub WrittenOut : ℕ → Pass A → List ℕ → Option (List ℕ) → AnswerTimer → Ended → Pass A → List ℕ → Option (List ℕ) → AnswerTimer → Type 0
+  WrittenOut connection old unwritten before timer ended new left after later =
+      (lost : List ℕ) × (writes : Writes connection old unwritten before new left after lost)
+      × (is_lost ended ≡ false → (lost ≡ []) × (later ≡ record timer { since = since_after_all timer.now connection timer.since writes.items }))
+      × (ended ≡ ends.Open → NoneCloses connection writes.items)
 
   -- the link does not take all that was unwritten
   writes_first : (connection : ℕ) (old : Pass A) (unwritten : List ℕ) (before : Option (List ℕ)) (left : List ℕ) (after : Option (List ℕ))
@@ -96,18 +158,18 @@ module _ {A : Type 0} where
   writes_first connection old unwritten before left after leaves = record {
     items = [];
     took = took_nothing old;
+    few = omega arith;
     pushed = leaves.pushed;
     grows = leaves.grows;
     whole = append-nil unwritten ∙ sym leaves.whole ∙ sym (append-nil (leaves.pushed ++ left));
     in_turn = inl refl;
   }
 
-  pub written_first : (connection : ℕ) (old : Pass A) (unwritten : List ℕ) (before : Option (List ℕ)) (left : List ℕ) (after : Option (List ℕ)) (bell : Bell) (ended : Ended)
-      → Leaves before after unwritten left
-      → (lost : List ℕ) × (writes : Writes connection old unwritten before old left after lost)
-      × (is_lost ended ≡ false → (lost ≡ []) × (bell ≡ record bell { since = rung bell.now connection bell.since writes.items }))
+  pub written_first : (connection : ℕ) (old : Pass A) (unwritten : List ℕ) (before : Option (List ℕ)) (left : List ℕ) (after : Option (List ℕ)) (timer : AnswerTimer) (ended : Ended)
+      → Leaves before after unwritten left → WrittenOut connection old unwritten before timer ended old left after timer
   unfolding writes_first
-  written_first connection old unwritten before left after bell ended leaves = ([], writes_first connection old unwritten before left after leaves, λ _. (refl, refl))
+  written_first connection old unwritten before left after timer ended leaves =
+      ([], writes_first connection old unwritten before left after leaves, λ _. (refl, refl), λ _. tt)
 
   -- what was unwritten was pushed, outputs were taken, and pushed
   writes_all : (connection : ℕ) (old : Pass A) (unwritten : List ℕ) (before : Option (List ℕ)) (rest : List ℕ) (between : Option (List ℕ)) (new : Pass A) (filled lost left : List ℕ) (after : Option (List ℕ))
@@ -116,6 +178,7 @@ module _ {A : Type 0} where
   writes_all connection old unwritten before rest between new filled lost left after first none fills second = record {
     items = fills.items;
     took = fills.took;
+    few = fills.few;
     pushed = first.pushed ++ second.pushed;
     grows = appends_both before between after first.pushed second.pushed first.grows second.grows;
     whole =
@@ -127,13 +190,14 @@ module _ {A : Type 0} where
         inr (second.pushed, ap (λ xs. xs ++ second.pushed) (sym (append-nil first.pushed) ∙ ap (λ xs. first.pushed ++ xs) (sym none) ∙ first.whole));
   }
 
-  pub written_all : (connection : ℕ) (old : Pass A) (unwritten : List ℕ) (before : Option (List ℕ)) (rest : List ℕ) (between : Option (List ℕ)) (new : Pass A) (filled left : List ℕ) (after : Option (List ℕ)) (bell later : Bell) (taking ended : Ended)
-      → Leaves before between unwritten rest → rest ≡ []
-      → (lost : List ℕ) × (fills : Fills connection old rest new filled lost)
-      × (is_lost taking ≡ false → (lost ≡ []) × (later ≡ record bell { since = rung bell.now connection bell.since fills.items }))
-      → Leaves between after filled left → is_lost ended ≡ is_lost taking
-      → (lost : List ℕ) × (writes : Writes connection old unwritten before new left after lost)
-      × (is_lost ended ≡ false → (lost ≡ []) × (later ≡ record bell { since = rung bell.now connection bell.since writes.items }))
+  pub written_all : (connection : ℕ) (old : Pass A) (unwritten : List ℕ) (before : Option (List ℕ)) (rest : List ℕ) (between : Option (List ℕ)) (new : Pass A) (filled left : List ℕ) (after : Option (List ℕ)) (timer later : AnswerTimer) (taking ended : Ended)
+      → Leaves before between unwritten rest → rest ≡ [] → TakenOut connection old rest timer taking new filled later
+      → Leaves between after filled left → is_lost ended ≡ is_lost taking → (ended ≡ ends.Open → taking ≡ ends.Open)
+      → WrittenOut connection old unwritten before timer ended new left after later
   unfolding writes_all
-  written_all connection old unwritten before rest between new filled left after bell later taking ended first none (lost, fills, rang) second same =
-      (lost, writes_all connection old unwritten before rest between new filled lost left after first none fills second, λ not_lost. rang (sym same ∙ not_lost))
+  written_all connection old unwritten before rest between new filled left after timer later taking ended first none (lost, fills, rang, none_closes) second same still_open = (
+    lost,
+    writes_all connection old unwritten before rest between new filled lost left after first none fills second,
+    λ not_lost. rang (sym same ∙ not_lost),
+    λ is_open. none_closes (still_open is_open),
+  )

@@ -1,8 +1,8 @@
--- What leaves by a link of the octets that are to be written.
+-- What a push into a link leaves of the octets that are to be written.
 use Rattle.std.specs.Prelude.{◌≡◌, ℕ, List, ◌++◌, Option}
 use Rattle.std.specs.Io.KnownBytes.{Appends}
 
--- A front of the octets was pushed, and those behind it are left.
+-- The octets up to some point were pushed into the link, and those after it are left.
 pub record Leaves (before after : Option (List ℕ)) (octets left : List ℕ) : Type 0 where
   pub pushed : List ℕ
   pub grows : Appends before after pushed

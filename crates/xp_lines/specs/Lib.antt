@@ -1,13 +1,11 @@
+pub mod AnswerTimer
 pub mod Counts
-pub mod Ended
 pub mod Flow
+pub mod FrameEvents
 pub mod Gates
-pub mod Heard
-pub mod Offering
 pub mod Offers
 pub mod Reads
-pub mod Ringing
-pub mod Threads
 pub mod Together
 pub mod Turns
 pub mod Wire
+pub mod steps

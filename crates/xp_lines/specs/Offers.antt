@@ -1,34 +1,26 @@
--- What a line's pass gains of what happened on the line.
+-- The events that a line offers, and the entries that its pass gains by them.
 use Rattle.std.specs.Prelude.{◌≡◌, ℕ, Bool, true, false, List, ◌++◌, map, Option, Some, None, option_to_list}
 use Rattle.xp_core.specs.declared.entry.Entry.{Entry}
 use Rattle.xp_core.specs.declared.event.Event.{Event}
 use Rattle.xp_core.specs.declared.event.What.{What}
-use Rattle.xp_lock.specs.Passes.{Pass, mine}
-use Rattle.xp_lines.specs.Heard.{AreReadAs}
-use Rattle.xp_lines.specs.declared.offering.Stop.{Stop}
-use Rattle.xp_lines.specs.declared.offering.Stop.TheVariants as stops
-
--- nothing that waits was lost
-abbrev pub goes_on : Option Stop → Bool
-goes_on None = true
-goes_on (Some stops.Held) = true
-goes_on (Some stops.Memory) = false
-goes_on (Some stops.Halted) = false
-goes_on (Some stops.Journal) = false
+use Rattle.xp_lock.specs.Passes.{Pass, own_entries}
+use Rattle.xp_lines.specs.FrameEvents.{AreReadAs}
 
 module _ {A : Type 0} where
+  -- an event of this line
   abbrev pub on_line : ℕ → What A → Event A
   on_line line what = record { line = line; what = what }
 
-  -- the exchange took these events of the line, in order, one entry each, and no others of it
+  -- The exchange accepted these events of the line, in order, with one entry each, and no other event of the line.
   pub record Gains (old : Pass A) (whats : List (What A)) (new : Pass A) : Type 0 where
     pub line : new.line ≡ old.line
     pub taken : new.taken ≡ old.taken
     pub entries : List (Entry A)
-    pub mine_is : mine new ≡ mine old ++ entries
+    pub own_entries_are : own_entries new ≡ own_entries old ++ entries
     pub events : map (λ entry. entry.event) entries ≡ map (on_line old.line) whats
 
-  -- What waits, and then the packets of the frames that wait, were offered, in order, as far as the offering went.
+  -- The event that waited, and then the packets that waited, were offered in order. The offering may have stopped before the
+  -- end. Where nothing was lost, the event and the packets that were not offered still wait.
   pub record Offers (held : Option (What A)) (frames : List (List ℕ)) (whats : List (What A)) (on : Bool) (left_held : Option (What A)) (left_frames : List (List ℕ)) : Type 0 where
     pub packets : List (List ℕ)
     pub unread : List (List ℕ)

@@ -1,6 +1,7 @@
--- What the turns of a line on one link come to together.
+-- What all turns of a line on one link add up to.
 use Rattle.std.specs.Prelude.{◌≡◌, ◌⊎◌, ℕ, ◌+◌, ◌≤◌, ◌==◌, Bool, true, false, cond, List, [], ◌∷◌, ◌++◌, filter, map, Option, None, Some, option_to_list}
 use Rattle.std.specs.Io.KnownBytes.{Appends}
+use Rattle.xp_frames.specs.Frame.{HasNoBadHeader}
 use Rattle.xp_core.specs.declared.entry.Entry.{Entry}
 use Rattle.xp_core.specs.declared.event.What.{What}
 use Rattle.xp_core.specs.declared.event.What.TheVariants.{Up, Down, Frame, WrongFrame, Expire, Stall}
@@ -9,62 +10,62 @@ use Rattle.xp_packets.specs.declared.packet.Packet.TheVariants as packets
 use Rattle.xp_core.specs.declared.output.Outgoing.{Outgoing}
 use Rattle.xp_core.specs.declared.output.Put.{Put}
 use Rattle.xp_core.specs.declared.output.Put.TheVariants.{Send, Close}
-use Rattle.xp_lock.specs.Passes.{Pass, mine}
-use Rattle.xp_lines.specs.Heard.{AreReadAs}
+use Rattle.xp_lock.specs.Passes.{Pass, own_entries}
+use Rattle.xp_lines.specs.FrameEvents.{AreReadAs}
 use Rattle.xp_lines.specs.Offers.{on_line}
 use Rattle.xp_lines.specs.Reads.{Completes}
 use Rattle.xp_lines.specs.Turns.{IsTurn, Seen}
-use Rattle.xp_lines.specs.Wire.{wire}
-use Rattle.xp_lines.specs.declared.turning.After.{After}
-use Rattle.xp_lines.specs.declared.turning.After.TheVariants.{Linked, Dropped, DownOwed, Halted, Journal}
+use Rattle.xp_lines.specs.Wire.{NoneCloses, wire}
+use Rattle.xp_lines.specs.declared.turning.TurnOutcome.{TurnOutcome}
+use Rattle.xp_lines.specs.declared.turning.TurnOutcome.TheVariants.{Linked, Dropped, DownOwed, Halted, Journal}
 
 -- how a turn left its line
 pub record Left (A : Type 0) : Type 0 where
-  pub after : After
+  pub after : TurnOutcome
   pub pass : Pass A
   pub seen : Seen A
 
-abbrev pub is_linked : After → Bool
+abbrev pub is_linked : TurnOutcome → Bool
 is_linked Linked = true
 is_linked Dropped = false
 is_linked DownOwed = false
 is_linked Halted = false
 is_linked Journal = false
 
--- an incoming call that waits for the line's answer
+-- how many incoming calls wait for the line's answer: none or one
 abbrev pub waits : Option ℕ → ℕ
 waits None = 0
 waits (Some since) = 1
 
 module _ {A : Type 0} where
-  -- the link stays, or its Down has still to be offered: else the turn was the last
-  abbrev pub MayFollow : After → List (Left A) → Type 0
+  -- Turns may follow where the link stays, or where its Down waits to be offered. Else the turn was the last.
+  abbrev pub MayFollow : TurnOutcome → List (Left A) → Type 0
   MayFollow Linked turns = Unit {0}
   MayFollow DownOwed turns = Unit {0}
   MayFollow Dropped turns = turns ≡ []
   MayFollow Halted turns = turns ≡ []
   MayFollow Journal turns = turns ≡ []
 
-  -- one turn after the other
+  -- each turn starts where the one before left the line
   abbrev pub AreTurns : ℕ → Pass A → Seen A → List (Left A) → Type 0
   AreTurns connection pass seen [] = Unit {0}
   AreTurns connection pass seen (left ∷ turns) =
       ((now : ℕ) × IsTurn now connection pass seen left.after left.pass left.seen) × MayFollow left.after turns × AreTurns connection left.pass left.seen turns
 
-  -- how the last of them left the line, which came so
+  -- how the last turn left the line; without a turn, how the line was at first
   abbrev pub last_of : Left A → List (Left A) → Left A
   last_of came [] = came
   last_of came (left ∷ turns) = last_of left turns
 
-  -- a link that has just come: nothing was read, nothing waits, and no call rings
+  -- The link has just come: no octet was read, nothing waits, and no call waits for its answer.
   pub record IsFresh (seen : Seen A) : Type 0 where
     pub held : seen.held ≡ None
     pub waiting : seen.frames.waiting ≡ []
     pub rest : seen.frames.rest ≡ []
     pub unwritten : seen.unwritten ≡ []
-    pub ringing : seen.ringing ≡ None
+    pub unanswered_since : seen.unanswered_since ≡ None
 
-  -- anything but that an incoming call was not answered in time, which no octets tell
+  -- any event but the expiry of an incoming call, which no octets bring
   abbrev pub is_no_expiry : What A → Bool
   is_no_expiry Up = true
   is_no_expiry Down = true
@@ -73,15 +74,15 @@ module _ {A : Type 0} where
   is_no_expiry Expire = false
   is_no_expiry Stall = true
 
+  -- the events without the expiries
   abbrev pub but_expiries : List (What A) → List (What A)
   but_expiries whats = filter is_no_expiry whats
 
-  -- how many of what happened are expiries
+  -- how many of the events are expiries
   abbrev pub expiries : List (What A) → ℕ
   expiries [] = 0
   expiries (what ∷ whats) = cond (is_no_expiry what) 0 1 + expiries whats
 
-  -- how many incoming calls of this connection are among the outputs
   abbrev pub calls_of : Packet A → ℕ
   calls_of (packets.Call d block) = 1
   calls_of packet = 0
@@ -90,6 +91,7 @@ module _ {A : Type 0} where
   calls_by (Send identifier packet) = calls_of packet
   calls_by Close = 0
 
+  -- how many incoming calls of this connection are among the outputs
   abbrev pub calls : ℕ → List (Outgoing A) → ℕ
   calls connection [] = 0
   calls connection (item ∷ items) = cond (item.connection == connection) (calls_by item.put) 0 + calls connection items
@@ -98,9 +100,10 @@ module _ {A : Type 0} where
   abbrev pub IsClosing : List (What A) → Type 0
   IsClosing closing = (closing ≡ []) ⊎ (closing ≡ Down ∷ [])
 
-  -- Since its link came the line took these items, and their octets were pushed; these octets were pulled, which are the
-  -- frames of packets, and each packet in order is an event that the line's own entries have; expiries came between them,
-  -- no more than incoming calls, and the Down last. While the link stays nothing of it is lost: what is not yet pushed, read or offered waits.
+  -- Since its link came the line took these outputs, and their octets were pushed. These octets were pulled, which are the
+  -- frames of packets. Each packet in order is an event that the line's own entries have. Between them stand expiries, no more
+  -- than incoming calls, and last the Down. While the link stays nothing is lost: what is not yet pushed, read or offered waits.
+  -- And then no output closed the connection, and no bad header came.
   pub record Together (connection : ℕ) (old : Pass A) (came : Seen A) (linked : Bool) (new : Pass A) (now : Seen A) : Type 0 where
     pub line : new.line ≡ old.line
     pub items : List (Outgoing A)
@@ -129,12 +132,15 @@ module _ {A : Type 0} where
     pub is_closing : IsClosing closing
     -- no more expiries than incoming calls, of which one may still wait
     pub expire_once : expiries whats ≤ calls connection items
-    pub may_expire : linked ≡ true → expiries whats + waits now.ringing ≤ calls connection items
+    pub may_expire : linked ≡ true → expiries whats + waits now.unanswered_since ≤ calls connection items
     pub entries : List (Entry A)
-    pub mine_is : mine new ≡ mine old ++ entries
+    pub own_entries_are : own_entries new ≡ own_entries old ++ entries
     pub events : map (λ entry. entry.event) entries ≡ map (on_line old.line) (whats ++ closing)
+    pub none_closes : linked ≡ true → NoneCloses connection items
+    pub sound : linked ≡ true → HasNoBadHeader now.frames.rest
     pub kept : linked ≡ true → (unsent ≡ []) × (lost ≡ []) × (rest ≡ now.frames.rest) × (unread ≡ now.frames.waiting) × (unoffered ≡ option_to_list now.held) × (closing ≡ [])
 
+  -- the turns up to this one add up
   abbrev pub IsLeftSo : ℕ → Pass A → Seen A → Left A → Type 0
   IsLeftSo connection pass came last = Together connection pass came (is_linked last.after) last.pass last.seen
 

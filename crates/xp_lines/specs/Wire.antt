@@ -1,5 +1,6 @@
--- What leaves over a link of what its line takes from its outbox.
-use Rattle.std.specs.Prelude.{◌≡◌, ◌⊎◌, ℕ, ◌==◌, cond, List, [], ◌++◌, Option, flat_map}
+-- What a line writes to its link of the outputs that it takes from its outbox.
+use Rattle.std.specs.Prelude.{◌≡◌, ◌⊎◌, ℕ, ◌≤◌, ◌==◌, Bool, true, false, cond, List, [], ◌++◌, length, Option, flat_map}
+use Rattle.std.specs.List.{AllByRecursion}
 use Rattle.std.specs.Io.KnownBytes.{Appends}
 use Rattle.xp_frames.specs.Frame.{frame}
 use Rattle.xp_packets.specs.Writing.{written}
@@ -9,38 +10,45 @@ use Rattle.xp_core.specs.declared.output.Put.TheVariants.{Send, Close}
 use Rattle.xp_lock.specs.Passes.{Pass}
 
 module _ {A : Type 0} where
-  -- a packet leaves as its frame; that the connection is to be closed takes no octets
+  -- a packet is written as its frame; a close writes no octets
   abbrev pub octets_of : Put A → List ℕ
   octets_of (Send identifier packet) = frame (written identifier packet)
   octets_of Close = []
 
-  -- what is for another connection of the line than this does not leave
+  -- an output for another connection of the line is not written
   abbrev pub carried : ℕ → Outgoing A → List ℕ
   carried connection item = cond (item.connection == connection) (octets_of item.put) []
 
-  -- the octets of all items, in order
+  -- the octets of all outputs, in order
   abbrev pub wire : ℕ → List (Outgoing A) → List ℕ
   wire connection items = flat_map (carried connection) items
 
-  -- the pass took these items more, and nothing else of it changed
+  abbrev pub is_close : Put A → Bool
+  is_close (Send identifier packet) = false
+  is_close Close = true
+
+  -- the output closes this connection
+  abbrev pub closes : ℕ → Outgoing A → Bool
+  closes connection item = cond (item.connection == connection) (is_close item.put) false
+
+  abbrev pub NoneCloses : ℕ → List (Outgoing A) → Type 0
+  NoneCloses connection items = AllByRecursion (λ item. closes connection item ≡ false) items
+
+  -- The pass took these outputs too, and nothing else of it changed.
   pub record Took (old : Pass A) (items : List (Outgoing A)) (new : Pass A) : Type 0 where
     pub line : new.line ≡ old.line
     pub seen : new.seen ≡ old.seen
     pub taken : new.taken ≡ old.taken ++ items
 
-  -- The octets of the items that were taken stand behind those that were unwritten, but for those that were lost.
-  pub record Fills (connection : ℕ) (old : Pass A) (unwritten : List ℕ) (new : Pass A) (left lost : List ℕ) : Type 0 where
-    pub items : List (Outgoing A)
-    pub took : Took old items new
-    pub whole : unwritten ++ wire connection items ≡ left ++ lost
-
-  -- The octets that were unwritten, followed by those of the items that were taken, are those that were pushed, followed
-  -- by those that are unwritten then; and then those that were lost.
+  -- Outputs were taken and written. The octets that were unwritten, and then those of the outputs, are the octets that were
+  -- pushed, then those that are still unwritten, and then those that were lost.
   pub record Writes (connection : ℕ) (old : Pass A) (unwritten : List ℕ) (before : Option (List ℕ)) (new : Pass A) (left : List ℕ) (after : Option (List ℕ)) (lost : List ℕ) : Type 0 where
     pub items : List (Outgoing A)
     pub took : Took old items new
+    -- as many as an outbox has places
+    pub few : length items ≤ 64
     pub pushed : List ℕ
     pub grows : Appends before after pushed
     pub whole : unwritten ++ wire connection items ≡ (pushed ++ left) ++ lost
-    -- nothing is taken before all that was unwritten is pushed
+    -- nothing is taken before all octets that were unwritten are pushed
     pub in_turn : (items ≡ []) ⊎ ((sent : List ℕ) × (pushed ≡ unwritten ++ sent))

@@ -1,4 +1,4 @@
-//! Octets on their way into a link.
+//! The pushing of octets into a link.
 
 ghost use Rattle.std.specs.Prelude.{◌≡◌, ◌≤◌, [], drop, length, take};
 ghost use Rattle.std.specs.Io.KnownBytes.{Appends};
@@ -8,24 +8,24 @@ ghost use Rattle.xp_lines.specs.Flow.{Leaves};
 use crate::link::{Link, Pushed};
 use std::alloc::Allocator;
 
-/// Whether a link takes more.
+/// Whether a link took all octets.
 #[derive(Clone, Copy, Debug, PartialEq)]
 pub enum Flow {
-    /// All was taken.
+    /// It took all.
     Free,
-    /// The rest has to wait.
+    /// It takes no more now: the rest waits.
     Waits,
-    /// The link is broken.
+    /// It is broken.
     Broken,
 }
 
-// How many octets of a list were pushed, and whether the link takes more.
+// How many octets of a list were pushed, and whether the link took all.
 struct Push {
     count: usize,
     flow: Flow,
 }
 
-/// Pushes what is unwritten, as far as the link takes it.
+/// Pushes the unwritten octets, as many as the link takes now, and keeps the others.
 pub fn push_rest<L: Link, A: Allocator>(link: &mut L, unwritten: &mut Vec<u8, A>) -> Flow
     ensures leaves { Leaves (L.pushed link.old) (L.pushed link.new) unwritten.old.items unwritten.new.items }
     ensures pulled { L.pulled link.new ≡ L.pulled link.old }
@@ -36,6 +36,7 @@ pub fn push_rest<L: Link, A: Allocator>(link: &mut L, unwritten: &mut Vec<u8, A>
     flow
 }
 
+/// Pushes octets, as many as the link takes now.
 fn push_some<L: Link>(link: &mut L, octets: &[u8]) -> Push
     ensures within { result.count ≤ length octets.now }
     ensures pushed { Appends (L.pushed link.old) (L.pushed link.new) (take result.count octets.now) }
@@ -62,7 +63,7 @@ fn push_some<L: Link>(link: &mut L, octets: &[u8]) -> Push
     }
 }
 
-/// Drops so many octets from the front.
+/// Removes this many octets from the front.
 fn drop_front<A: Allocator>(octets: &mut Vec<u8, A>, count: usize)
     requires { count ≤ vec_len octets.old }
     ensures { octets.new.items ≡ drop count octets.old.items }

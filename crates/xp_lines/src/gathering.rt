@@ -1,9 +1,10 @@
-//! The packets of a line that may go to the exchange.
+//! The packets of a line that its gate lets go to the exchange.
 
 ghost use Rattle.std.specs.Prelude.{◌≡◌, ◌++◌, ◌∷◌, [], None, OnErr, OnOk, Some};
 ghost use Rattle.xp_lines.specs.Gates.{IsAllOffered, Refused};
-ghost use Rattle.xp_lines.specs.Offers.{Offers, goes_on};
-ghost use Rattle.xp_lines.specs.Offering.{NextIs};
+ghost use Rattle.xp_lines.specs.Offers.{Offers};
+ghost use Rattle.xp_lines.specs.steps.Offers.{goes_on};
+ghost use Rattle.xp_lines.specs.steps.Offering.{NextIs};
 
 use crate::link::Gate;
 use crate::offering::Stop;
@@ -12,16 +13,16 @@ use std::alloc::{AllocError, Allocator};
 use xp_frames::Deframer;
 use xp_subs::LineNo;
 
-/// Packets that may go to the exchange, in order.
+/// The packets that may go to the exchange, in order.
 #[derive(Drop)]
 pub struct Gathered<A: Allocator> {
     pub ready: Vec<Waiting<A>, A>,
-    /// Why there are no more of them, where some are left.
+    /// Why the gathering stopped before the last packet, if it did.
     pub stop: Option<Stop>,
 }
 
-/// Gathers what waits, and then the packets that wait, in order, as far as the gate lets them go. So the gate is asked, and
-/// the packets are read, before the exchange's lock is taken.
+/// Gathers the event that waits, and then the packets that wait, in order, as long as the gate lets them go. So the thread
+/// asks the gate and decodes the packets before it takes the exchange's lock.
 pub fn gather<G: Gate, A: Allocator + Copy>(
     alloc: A,
     line: LineNo,
@@ -51,6 +52,7 @@ pub fn gather<G: Gate, A: Allocator + Copy>(
     }
 }
 
+/// Appends one event.
 fn add<A: Allocator>(ready: &mut Vec<Waiting<A>, A>, next: Waiting<A>) -> Result<(), AllocError>
     ensures ok { OnOk result (ready.new.items ≡ ready.old.items ++ next ∷ []) }
     ensures err { OnErr result (ready.new.items ≡ ready.old.items) }
@@ -59,13 +61,14 @@ fn add<A: Allocator>(ready: &mut Vec<Waiting<A>, A>, next: Waiting<A>) -> Result
     Ok(())
 }
 
+/// The events so far, and why there are no more.
 fn gathered_until<A: Allocator>(ready: Vec<Waiting<A>, A>, stop: Option<Stop>) -> Gathered<A>
     ensures { result ≡ record { ready = ready; stop = stop } }
 {
     Gathered { ready, stop }
 }
 
-/// What is to be offered next, if anything.
+/// Returns the event to be offered next, if there is one.
 fn next_waiting<A: Allocator + Copy>(
     alloc: A,
     frames: &mut Deframer<A>,

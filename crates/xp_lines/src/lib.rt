@@ -1,7 +1,12 @@
-//! The threads of lines: each carries the octets of its line's links to the exchange and back.
+//! The threads of lines.
+//!
+//! A line's thread takes connections from the line's port, one at a time. It reads packets from the connection and offers them
+//! to the exchange, and it writes to the connection the packets that the exchange puts out to the line.
+//! [`serve_all`] starts one thread for each line, [`serve_line`] is what such a thread runs, and [`turn`] is one turn on a
+//! connection, which is called a link here.
 #![tactic(auto)]
 
-mod bell;
+mod answer_timer;
 mod flow;
 mod gathering;
 mod laws;
@@ -17,9 +22,9 @@ mod writing;
 
 pub use flow::{Flow, push_rest};
 pub use laws::turns_add_up;
-pub use line::{LineEnd, Why, serve_line};
+pub use line::{EndReason, LineEnd, serve_line};
 pub use link::{Arrived, Clock, Gate, Link, Port, Pulled, Pushed};
 pub use session::Session;
-pub use threads::{Part, ServeFault, serve_all};
-pub use turning::{After, Turned, turn};
+pub use threads::{ServeFault, ThreadInputs, serve_all};
+pub use turning::{TurnOutcome, Turned, turn};
 pub use waiting::Waiting;

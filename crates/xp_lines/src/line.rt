@@ -1,24 +1,26 @@
 //! The thread of one line.
 
-ghost use Rattle.std.specs.Prelude.{◌≡◌};
+ghost use Rattle.std.specs.Prelude.{◌≡◌, IfSome, None};
+ghost use Rattle.xp_lines.specs.Together.{IsFresh};
+ghost use Rattle.xp_lines.specs.steps.Sessions.{ComesUp};
 
 use crate::link::{Arrived, Clock, Gate, Link, Port};
 use crate::offering::{Stop, offer};
 use crate::session::Session;
-use crate::turning::{After, go_down, turn};
+use crate::turning::{TurnOutcome, go_down, turn};
 use crate::waiting::Waiting;
 use std::alloc::{Allocator, Global};
 use std::sync::Wait;
 use xp_frames::Deframer;
 use xp_lock::{Exchange, LinePass, Name};
 
-/// How many outputs are dropped at most before a link comes up: as many as an outbox has room for.
+/// The most outputs that are dropped before a link comes up: as many as an outbox has places.
 const MOST_DRAINED: usize = 64;
 
 /// Why a line's thread has ended.
 #[derive(Clone, Copy, Debug, PartialEq)]
-pub enum Why {
-    /// It has had all its turns.
+pub enum EndReason {
+    /// The line has had all its turns.
     Turns,
     /// The exchange is halted.
     Halted,
@@ -30,15 +32,17 @@ pub enum Why {
     NotStarted,
 }
 
-/// A line whose thread has ended.
+/// What a line's thread returns as it ends.
 #[derive(Drop)]
 pub struct LineEnd<N: Name, A: Allocator = Global> {
+    /// The pass of the line.
     pub pass: LinePass<N, A>,
-    pub why: Why,
+    /// Why it ended.
+    pub why: EndReason,
 }
 
-/// Serves a line for so many turns: links that come from its port, one at a time. Where so many charging records are made,
-/// or the journal is full, the exchange is halted. A link that is there at the end goes down first.
+/// Serves a line for at most `turns` turns, with the links that come from its port, one at a time. It halts the exchange where
+/// `records` charging records are made, or the journal is full. At the end it offers the Down of a link that is still there.
 pub fn serve_line<N: Name, P: Port, C: Clock, G: Gate, A: Allocator + Copy, R: Wait>(
     rt: &R,
     alloc: A,
@@ -57,7 +61,7 @@ pub fn serve_line<N: Name, P: Port, C: Clock, G: Gate, A: Allocator + Copy, R: W
     let mut clock = clock;
     let mut gate = gate;
     let mut session = None;
-    let mut why = Why::Turns;
+    let mut why = EndReason::Turns;
     for _turn in 0..turns {
         let step = match session {
             Some(linked) => go_on(rt, exchange, &mut pass, linked, &mut clock, &mut gate),
@@ -75,19 +79,21 @@ pub fn serve_line<N: Name, P: Port, C: Clock, G: Gate, A: Allocator + Copy, R: W
     if let Some(linked) = session {
         close(rt, exchange, &mut pass, &mut clock, linked);
     }
-    if why == Why::Journal {
+    if why == EndReason::Journal {
         exchange.halt(rt);
     }
     LineEnd { pass, why }
 }
 
-/// What a turn leaves: the line with its link or without one, how many charging records there were at the last event, and
-/// whether the line has ended.
+/// The result of one turn of a line, with a link or without one.
 #[derive(Drop)]
 struct Step<L: Link, A: Allocator> {
+    /// The line with its link, if it has one.
     session: Option<Session<L, A>>,
+    /// How many charging records there were after the last event that the exchange accepted; 0 if it accepted none.
     records: u64,
-    end: Option<Why>,
+    /// Why the line has ended, if it has.
+    end: Option<EndReason>,
 }
 
 /// A turn on a link.
@@ -105,30 +111,30 @@ fn go_on<N: Name, L: Link, C: Clock, G: Gate, A: Allocator + Copy, R: Wait>(
     let turned = turn(rt, exchange, pass, &mut session, clock, gate);
     let records = turned.records;
     match turned.after {
-        After::Linked | After::DownOwed => Step {
+        TurnOutcome::Linked | TurnOutcome::DownOwed => Step {
             session: Some(session),
             records,
             end: None,
         },
-        After::Dropped => Step {
+        TurnOutcome::Dropped => Step {
             session: None,
             records,
             end: None,
         },
-        After::Halted => Step {
+        TurnOutcome::Halted => Step {
             session: Some(session),
             records,
-            end: Some(Why::Halted),
+            end: Some(EndReason::Halted),
         },
-        After::Journal => Step {
+        TurnOutcome::Journal => Step {
             session: Some(session),
             records,
-            end: Some(Why::Journal),
+            end: Some(EndReason::Journal),
         },
     }
 }
 
-/// A turn without a link.
+/// A turn without a link: it takes the next link from the port, if one has come.
 fn connect<N: Name, P: Port, C: Clock, A: Allocator + Copy, R: Wait>(
     rt: &R,
     alloc: A,
@@ -138,9 +144,11 @@ fn connect<N: Name, P: Port, C: Clock, A: Allocator + Copy, R: Wait>(
     clock: &mut C,
 ) -> Step<P::Link, A>
     ensures line { pass.new.line ≡ pass.old.line }
+    ensures connection { IfSome result.session (λ session. ComesUp N.subs session.connection pass.new) }
+    ensures fresh { IfSome result.session (λ session. IsFresh (record { held = session.waiting; frames = session.frames; unwritten = session.unwritten.items; pushed = P.Link.pushed session.link; pulled = P.Link.pulled session.link; unanswered_since = session.unanswered_since })) }
 {
     if exchange.halted() {
-        return unlinked(Some(Why::Halted));
+        return unlinked(Some(EndReason::Halted));
     }
     match port.next() {
         Arrived::Came(link) => {
@@ -151,11 +159,14 @@ fn connect<N: Name, P: Port, C: Clock, A: Allocator + Copy, R: Wait>(
             clock.idle();
             unlinked(None)
         }
-        Arrived::Fault => unlinked(Some(Why::Port)),
+        Arrived::Fault => unlinked(Some(EndReason::Port)),
     }
 }
 
-fn unlinked<L: Link, A: Allocator>(end: Option<Why>) -> Step<L, A> {
+/// The result of a turn after which the line has no link.
+fn unlinked<L: Link, A: Allocator>(end: Option<EndReason>) -> Step<L, A>
+    ensures { result.session ≡ None }
+{
     Step {
         session: None,
         records: 0,
@@ -163,7 +174,7 @@ fn unlinked<L: Link, A: Allocator>(end: Option<Why>) -> Step<L, A> {
     }
 }
 
-/// Drops what was put out over an earlier link.
+/// Drops the outputs that the exchange put out over an earlier link.
 fn drain<N: Name, A: Allocator + Copy, R: Wait>(
     rt: &R,
     exchange: &Exchange<N, A>,
@@ -178,7 +189,7 @@ fn drain<N: Name, A: Allocator + Copy, R: Wait>(
     }
 }
 
-/// Offers that a link came. Where that is refused the link is dropped.
+/// Offers that a link came. If the exchange refuses that, the link is dropped.
 fn come_up<N: Name, L: Link, C: Clock, A: Allocator + Copy, R: Wait>(
     rt: &R,
     alloc: A,
@@ -188,6 +199,8 @@ fn come_up<N: Name, L: Link, C: Clock, A: Allocator + Copy, R: Wait>(
     link: L,
 ) -> Step<L, A>
     ensures line { pass.new.line ≡ pass.old.line }
+    ensures connection { IfSome result.session (λ session. ComesUp N.subs session.connection pass.new) }
+    ensures fresh { IfSome result.session (λ session. IsFresh (record { held = session.waiting; frames = session.frames; unwritten = session.unwritten.items; pushed = L.pushed session.link; pulled = L.pulled session.link; unanswered_since = session.unanswered_since })) }
 {
     match offer(rt, exchange, pass, clock, Waiting::up()) {
         Ok(done) => Step {
@@ -197,18 +210,18 @@ fn come_up<N: Name, L: Link, C: Clock, A: Allocator + Copy, R: Wait>(
                 frames: Deframer::new(alloc),
                 waiting: None,
                 unwritten: Vec::new(alloc),
-                ringing: None,
+                unanswered_since: None,
             }),
             records: done.records() as u64,
             end: None,
         },
-        Err(Stop::Halted) => unlinked(Some(Why::Halted)),
-        Err(Stop::Journal) => unlinked(Some(Why::Journal)),
+        Err(Stop::Halted) => unlinked(Some(EndReason::Halted)),
+        Err(Stop::Journal) => unlinked(Some(EndReason::Journal)),
         Err(Stop::Memory | Stop::Held) => unlinked(None),
     }
 }
 
-/// Offers that the last link went, and drops it.
+/// Offers that the line's last link went, and drops it.
 fn close<N: Name, L: Link, C: Clock, A: Allocator + Copy, R: Wait>(
     rt: &R,
     exchange: &Exchange<N, A>,
@@ -218,7 +231,7 @@ fn close<N: Name, L: Link, C: Clock, A: Allocator + Copy, R: Wait>(
 )
     ensures line { pass.new.line ≡ pass.old.line }
 {
-    // Where it is refused there is nothing more to be done: the link goes.
+    // The link goes even if the exchange refuses the event.
     let mut session = session;
     let _ = go_down(rt, exchange, pass, clock, &mut session.waiting, 0);
 }

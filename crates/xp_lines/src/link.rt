@@ -1,4 +1,4 @@
-//! What a line's thread is given to work with.
+//! What a line's thread works with: links and the port that they come from, a clock and a gate.
 
 ghost use Rattle.std.specs.Prelude.{◌≡◌, ◌≤◌, length, take};
 ghost use Rattle.std.specs.Io.KnownBytes.{Appends};
@@ -6,56 +6,56 @@ ghost use Rattle.xp_lines.specs.Counts.{pulled_count, pushed_count};
 
 use xp_subs::LineNo;
 
-/// What a pull from a link gave.
+/// The result of a pull from a link.
 #[derive(Clone, Copy, Debug, PartialEq)]
 pub enum Pulled {
-    /// So many octets, at the front of the buffer.
+    /// This many octets came. They stand at the front of the buffer.
     Octets(usize),
-    /// No octets are there yet.
+    /// No octets have come yet.
     Nothing,
-    /// No more octets will come.
+    /// The other end closed the link: no more octets will come.
     Ended,
     /// The link is broken.
     Fault,
 }
 
-/// What a push into a link did.
+/// The result of a push into a link.
 #[derive(Clone, Copy, Debug, PartialEq)]
 pub enum Pushed {
-    /// So many octets were taken, from the front.
+    /// The link took this many octets, from the front.
     Took(usize),
-    /// None could be taken now.
+    /// The link takes none now.
     Nothing,
     /// The link is broken.
     Fault,
 }
 
-/// An octet stream in both directions, as a TCP connection. No call waits.
+/// An octet stream in both directions, such as a TCP connection. No call of it waits.
 pub trait Link: Drop {
     ghost use Rattle.std.specs.Prelude.{ℕ, List, Option, None};
 
-    // All octets that were pushed and pulled so far, where they are known.
+    // All octets that were pushed into the link so far, and all that were pulled from it, where they are known.
     ghost pushed: { Self → Option (List ℕ) } = { λ _. None };
 
     ghost pulled: { Self → Option (List ℕ) } = { λ _. None };
 
-    /// Takes octets that came, and puts them at the front of the buffer.
+    /// Moves octets that came to the front of the buffer, at most as many as it holds.
     fn pull(&mut self, into: &mut [u8]) -> Pulled
         ensures bound { pulled_count result ≤ length into.new }
         ensures pulled { Appends (pulled self.old) (pulled self.new) (take (pulled_count result) into.new) }
         ensures pushed { pushed self.new ≡ pushed self.old };
 
-    /// Sends octets on their way, as many as can be taken now.
+    /// Sends octets, as many as the link takes now, from the front.
     fn push(&mut self, from: &[u8]) -> Pushed
         ensures bound { pushed_count result ≤ length from.now }
         ensures pushed { Appends (pushed self.old) (pushed self.new) (take (pushed_count result) from.now) }
         ensures pulled { pulled self.new ≡ pulled self.old };
 }
 
-/// What a port gave.
+/// The result of asking a port for the next link.
 #[derive(Drop)]
 pub enum Arrived<L: Link> {
-    /// A new link for the line.
+    /// A new link of the line.
     Came(L),
     /// No link has come yet.
     Nothing,
@@ -63,11 +63,11 @@ pub enum Arrived<L: Link> {
     Fault,
 }
 
-/// Where a line's links come from.
+/// The port that a line's links come from.
 pub trait Port: Drop {
     type Link: Link + Send;
 
-    /// The next link, if one has come. It does not wait.
+    /// Returns the next link, if one has come. It does not wait for one.
     fn next(&mut self) -> Arrived<Self::Link>;
 }
 
@@ -75,18 +75,18 @@ pub trait Port: Drop {
 pub trait Clock: Drop {
     ghost use Rattle.std.specs.Prelude.{ℕ, ⊤};
 
-    // What a time that is told says of the clock before it and after it, where anything is known.
+    // What a call of `now` says of the clock before it, the time that it returns, and the clock after it, where anything is known.
     ghost tells: { Self → ℕ → Self → Type 0 } = { λ _ _ _. ⊤ };
 
-    /// The time in seconds, from any moment on.
+    /// The time in seconds since any fixed moment.
     fn now(&mut self) -> u64
         ensures { tells self.old result self.new };
 
-    /// Lets time pass: the line has nothing to do until octets come for it or another line's thread wakes it.
+    /// Lets time pass. The line has nothing to do until octets come from its link or another line's thread wakes it.
     fn idle(&mut self);
 
-    /// Something was put out to another line, whose thread may be asleep. A clock that lets no time pass has none to wake.
-    /// It does not wait: where what was offered went to several lines, it is called while the exchange's lock is held.
+    /// Wakes the thread of another line, which may be asleep, since the exchange put something out to that line. A clock that lets
+    /// no time pass has no thread to wake. It does not wait, since a thread may call it while it holds the exchange's lock.
     fn wake(&mut self, _line: LineNo) {}
 }
 
@@ -94,11 +94,12 @@ pub trait Clock: Drop {
 pub trait Gate: Drop {
     ghost use Rattle.std.specs.Prelude.{Bool, ⊤};
 
-    // What an answer tells of the gate before it and after it, where anything is known.
+    // What a call of `may_go` says of the gate before it, its answer, and the gate after it, where anything is known.
     ghost answers: { Self → Bool → Self → Type 0 } = { λ _ _ _. ⊤ };
 
-    /// Asked before each packet is offered, while the exchange's lock is free, so it may wait for other lines; where it says
-    /// no, the packet waits and is asked for again. Packets that it lets go one after the other are offered together.
+    /// Whether the line's next packet may go. A line's thread calls it before it offers a packet, while it does not hold the
+    /// exchange's lock, so it may wait for other lines. After a no the packet waits, and the thread asks again in the next turn.
+    /// Packets that may go one after the other are offered together.
     fn may_go(&mut self, line: LineNo) -> bool
         ensures { answers self.old result self.new };
 }

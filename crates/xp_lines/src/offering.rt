@@ -1,11 +1,13 @@
-//! What happened on a line, on its way to the exchange.
+//! The offering of a line's events to the exchange.
 
-ghost use Rattle.std.specs.Prelude.{◌≡◌, List, None, Some};
+ghost use Rattle.std.specs.Prelude.{◌≡◌, IfOk, List, None, Some};
 ghost use Rattle.xp_core.specs.declared.event.What.{What as Happening};
+ghost use Rattle.xp_lock.specs.Passes.{GainsEvent};
 ghost use Rattle.xp_lines.specs.Gates.{IsAllOffered, Refused};
-ghost use Rattle.xp_lines.specs.Offers.{Gains, Offers, goes_on};
-ghost use Rattle.xp_lines.specs.Offering.{IsRefusal, TakesFront, Tells};
-ghost use Rattle.xp_lines.specs.Ringing.{has_any};
+ghost use Rattle.xp_lines.specs.Offers.{Gains, Offers, on_line};
+ghost use Rattle.xp_lines.specs.steps.Offers.{goes_on};
+ghost use Rattle.xp_lines.specs.steps.Offering.{IsRefusal, TakesFront, Tells};
+ghost use Rattle.xp_lines.specs.AnswerTimer.{has_any};
 
 use crate::gathering::gather;
 use crate::link::{Clock, Gate};
@@ -14,15 +16,15 @@ use std::alloc::Allocator;
 use std::sync::Wait;
 use xp_core::Event;
 use xp_frames::Deframer;
-use xp_lock::{Done, Exchange, ExchangeGuard, LinePass, Name, OfferFault};
+use xp_lock::{Exchange, ExchangeGuard, LinePass, Name, OfferFault, Receipt};
 use xp_subs::LineNo;
 
-/// Why the offering stopped before the end.
+/// Why the offering stopped before the last event.
 #[derive(Clone, Copy, Debug, PartialEq)]
 pub enum Stop {
-    /// The gate does not let a packet go yet.
+    /// The gate did not let a packet go.
     Held,
-    /// Memory was wanted.
+    /// An allocation failed, or the outbox of a line that comes up has too little room.
     Memory,
     /// The exchange is halted.
     Halted,
@@ -33,22 +35,28 @@ pub enum Stop {
 /// How far the offering went.
 #[derive(Clone, Copy, Debug, PartialEq)]
 pub struct Offered {
+    /// Why it stopped before the last event, if it did.
     pub stop: Option<Stop>,
-    /// Whether anything was taken.
+    /// Whether the exchange accepted any event.
     pub moved: bool,
-    /// How many charging records there were at the last that was taken.
+    /// How many charging records there were after the last event that the exchange accepted; 0 if it accepted none.
     pub records: u64,
 }
 
-/// Offers one event of the pass's line. Other lines that something is put out to are woken.
+/// Offers one event of the pass's line. After releasing the lock, the thread wakes each other line that received outputs by it.
+///
+/// # Errors
+///
+/// `Halted` and `Journal` as the exchange refuses the event, and `Memory` for its other refusals. Then nothing has changed.
 pub fn offer<N: Name, C: Clock, A: Allocator + Copy, R: Wait>(
     rt: &R,
     exchange: &Exchange<N, A>,
     pass: &mut LinePass<N, A>,
     clock: &mut C,
     waiting: Waiting<A>,
-) -> Result<Done, Stop>
-    ensures { Tells pass.old waiting result pass.new }
+) -> Result<Receipt, Stop>
+    ensures tells { Tells pass.old waiting result pass.new }
+    ensures gains { IfOk result (λ done. GainsEvent N.subs pass.old (on_line pass.old.line waiting) done pass.new) }
 {
     let taken = offer_held(rt, &mut exchange.lock(rt), pass, waiting);
     if let Ok(done) = &taken {
@@ -58,14 +66,19 @@ pub fn offer<N: Name, C: Clock, A: Allocator + Copy, R: Wait>(
     taken
 }
 
-/// Offers one event of the pass's line while the exchange's lock is held.
+/// Offers one event of the pass's line while the thread holds the exchange's lock.
+///
+/// # Errors
+///
+/// Those of `offer`.
 fn offer_held<N: Name, A: Allocator + Copy, R: Wait>(
     rt: &R,
     guard: &mut ExchangeGuard<'_, N, A>,
     pass: &mut LinePass<N, A>,
     waiting: Waiting<A>,
-) -> Result<Done, Stop>
-    ensures { Tells pass.old waiting result pass.new }
+) -> Result<Receipt, Stop>
+    ensures tells { Tells pass.old waiting result pass.new }
+    ensures gains { IfOk result (λ done. GainsEvent N.subs pass.old (on_line pass.old.line waiting) done pass.new) }
 {
     let event = Event {
         line: pass.line(),
@@ -76,12 +89,12 @@ fn offer_held<N: Name, A: Allocator + Copy, R: Wait>(
         .map_err(|fault| stop_at(&fault))
 }
 
-/// Wakes lines that something was put out to, other than this one, all but the last: what follows is mostly put out to that
-/// one too, and it is woken once, behind all of it.
+/// Wakes the other lines that received outputs by an event, all but the last one, which it returns. The events after this one
+/// mostly put out to that line too, and so the thread wakes it once, after all of them.
 fn wake_others<C: Clock>(
     clock: &mut C,
     last: Option<LineNo>,
-    done: &Done,
+    done: &Receipt,
     line: LineNo,
 ) -> Option<LineNo> {
     let mut last = last;
@@ -94,13 +107,14 @@ fn wake_others<C: Clock>(
     last
 }
 
+/// Wakes the thread of a line, if there is one to wake.
 fn wake<C: Clock>(clock: &mut C, line: Option<LineNo>) {
     if let Some(line) = line {
         clock.wake(line);
     }
 }
 
-/// Why an event was refused, without the event.
+/// Why the exchange refused an event, without the event.
 fn stop_at<A: Allocator>(fault: &OfferFault<A>) -> Stop
     ensures { IsRefusal result }
 {
@@ -111,7 +125,7 @@ fn stop_at<A: Allocator>(fault: &OfferFault<A>) -> Stop
     }
 }
 
-/// Offers what waits, and then the packets that wait, in order, as far as the gate lets them go.
+/// Offers the event that waits, and then the packets that wait, in order, as long as the gate lets them go.
 pub fn offer_waiting<N: Name, C: Clock, G: Gate, A: Allocator + Copy, R: Wait>(
     rt: &R,
     alloc: A,
@@ -133,8 +147,8 @@ pub fn offer_waiting<N: Name, C: Clock, G: Gate, A: Allocator + Copy, R: Wait>(
     done_with(stop, offered.moved, offered.records)
 }
 
-/// Offers packets that may go, in order, under one lock, until one is refused. Where there are none no lock is taken. The
-/// last line that something was put out to is woken behind the lock, so that it finds all that it was given at once.
+/// Offers events in order, under one lock, until the exchange refuses one. Where there are none it takes no lock. After
+/// releasing the lock, the thread wakes the last line that received outputs, which then finds all of them at once.
 fn offer_all<N: Name, C: Clock, A: Allocator + Copy, R: Wait>(
     rt: &R,
     exchange: &Exchange<N, A>,
@@ -153,6 +167,7 @@ fn offer_all<N: Name, C: Clock, A: Allocator + Copy, R: Wait>(
     offered
 }
 
+/// Offers events in order while the thread holds the exchange's lock, until the exchange refuses one.
 fn offer_each<N: Name, C: Clock, A: Allocator + Copy, R: Wait>(
     rt: &R,
     guard: &mut ExchangeGuard<'_, N, A>,
@@ -178,6 +193,7 @@ fn offer_each<N: Name, C: Clock, A: Allocator + Copy, R: Wait>(
     done_with(None, moved, records)
 }
 
+/// How far the offering went.
 fn done_with(stop: Option<Stop>, moved: bool, records: u64) -> Offered
     ensures stop { result.stop ≡ stop }
     ensures moved { result.moved ≡ moved }

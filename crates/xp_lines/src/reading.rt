@@ -1,12 +1,13 @@
-//! The octets of a line's link, on their way to the exchange.
+//! The reading of a turn: octets from the line's link become packets, which the thread offers to the exchange.
 
 ghost use Rattle.std.specs.Prelude.{◌≡◌, ◌||◌, ℕ, List};
 ghost use Rattle.std.specs.Io.KnownBytes.{Appends};
 ghost use Rattle.xp_core.specs.declared.event.What.{What as Happening};
 ghost use Rattle.xp_lines.specs.Gates.{WaitsForGate};
 ghost use Rattle.xp_lines.specs.Offers.{Gains};
-ghost use Rattle.xp_lines.specs.Ringing.{has_any};
-ghost use Rattle.xp_lines.specs.Reads.{Pulls, Reads, heard_after, heard_at, pull_by, stays};
+ghost use Rattle.xp_lines.specs.AnswerTimer.{has_any};
+ghost use Rattle.xp_lines.specs.Reads.{Reads, stays};
+ghost use Rattle.xp_lines.specs.steps.Reads.{Pulls, outcome_after, outcome_at, pull_by};
 
 use crate::link::{Clock, Gate, Link, Pulled};
 use crate::offering::{Offered, Stop, offer_waiting};
@@ -16,15 +17,15 @@ use std::sync::Wait;
 use xp_frames::{Deframer, FrameFault};
 use xp_lock::{Exchange, LinePass, Name};
 
-/// How many octets one pull takes at most.
+/// The most octets that one pull takes.
 const PIECE: usize = 4096;
 
 /// How the reading of a turn ended.
 #[derive(Clone, Copy, Debug, PartialEq)]
-pub enum Heard {
-    /// All that is there is read, or waits for the gate.
+pub enum ReadOutcome {
+    /// All octets that came are read. A packet waits only where the gate did not let it go.
     Open,
-    /// The link has ended, is broken or carries no frames, or memory was wanted.
+    /// The link has ended, is broken or sent a bad frame header, or an allocation failed.
     Over,
     /// The exchange is halted.
     Halted,
@@ -32,39 +33,40 @@ pub enum Heard {
     Journal,
 }
 
-/// Whether the line goes on with its link.
-pub fn stays(heard: Heard) -> bool
-    ensures { result ≡ stays heard }
+/// Whether the line keeps its link.
+pub fn stays(outcome: ReadOutcome) -> bool
+    ensures { result ≡ stays outcome }
 {
-    matches!(heard, Heard::Open)
+    matches!(outcome, ReadOutcome::Open)
 }
 
-/// What the reading of a turn came to.
+/// The result of the reading of a turn.
 #[derive(Clone, Copy, Debug, PartialEq)]
 pub struct Taken {
-    pub heard: Heard,
+    /// How the reading ended.
+    pub outcome: ReadOutcome,
     /// Whether the line had anything to do.
     pub moved: bool,
-    /// Whether a packet was taken.
+    /// Whether the exchange accepted a packet.
     pub offered: bool,
-    /// How many charging records there were at the last event that was taken.
+    /// How many charging records there were after the last event that the exchange accepted; 0 if it accepted none.
     pub records: u64,
 }
 
-/// What a pull came to.
+/// The result of a pull, after its octets were cut into frames.
 #[derive(Clone, Copy, Debug, PartialEq)]
 pub enum Pull {
-    /// Octets came, and are cut into frames.
+    /// Octets came, and are cut into frames. No bad header is among them.
     Came,
-    /// None are there yet.
+    /// No octets have come yet.
     Nothing,
-    /// The link is over; the frames before that are there.
+    /// The link has ended, is broken or sent a bad frame header. The frames before that are there.
     Over,
-    /// There was no memory for the octets that came.
+    /// An allocation failed, and the octets that came are lost.
     Lost,
 }
 
-/// Pulls once, and cuts what came into frames.
+/// Pulls once, and cuts the octets that came into frames.
 fn pull_in<L: Link, A: Allocator + Copy>(link: &mut L, frames: &mut Deframer<A>) -> Pull
     ensures pulls { (pulled : List ℕ) × Appends (L.pulled link.old) (L.pulled link.new) pulled × Pulls frames.old pulled result frames.new }
     ensures pushed { L.pushed link.new ≡ L.pushed link.old }
@@ -78,7 +80,7 @@ fn pull_in<L: Link, A: Allocator + Copy>(link: &mut L, frames: &mut Deframer<A>)
     }
 }
 
-/// Cuts octets that came into frames.
+/// Cuts octets into frames.
 fn feed_in<A: Allocator + Copy>(frames: &mut Deframer<A>, octets: &[u8]) -> Pull
     ensures { Pulls frames.old octets.now result frames.new }
 {
@@ -86,6 +88,7 @@ fn feed_in<A: Allocator + Copy>(frames: &mut Deframer<A>, octets: &[u8]) -> Pull
     pull_by(answer)
 }
 
+/// What a pull came to, by the result of feeding its octets to the deframer.
 fn pull_by(answer: Result<(), FrameFault>) -> Pull
     ensures { result ≡ pull_by answer }
 {
@@ -98,7 +101,8 @@ fn pull_by(answer: Result<(), FrameFault>) -> Pull
     }
 }
 
-/// Offers what waits, and where nothing waits any more pulls once, and offers the packets of what came.
+/// Offers the event and the packets that wait. Where none waits any more, it pulls once, and offers the packets of the octets
+/// that came.
 pub fn read_in<N: Name, L: Link, C: Clock, G: Gate, A: Allocator + Copy, R: Wait>(
     rt: &R,
     alloc: A,
@@ -110,9 +114,9 @@ pub fn read_in<N: Name, L: Link, C: Clock, G: Gate, A: Allocator + Copy, R: Wait
     clock: &mut C,
     gate: &mut G,
 ) -> Taken
-    ensures reads { (pulled : List ℕ) × Appends (L.pulled link.old) (L.pulled link.new) pulled × (whats : List (Happening A)) × Gains pass.old whats pass.new × Reads waiting.old frames.old pulled whats result.heard waiting.new frames.new × (result.offered ≡ has_any whats) }
+    ensures reads { (pulled : List ℕ) × Appends (L.pulled link.old) (L.pulled link.new) pulled × (whats : List (Happening A)) × Gains pass.old whats pass.new × Reads waiting.old frames.old pulled whats result.outcome waiting.new frames.new × (result.offered ≡ has_any whats) }
     ensures pushed { L.pushed link.new ≡ L.pushed link.old }
-    ensures left { result.heard ≡ Heard.Open → WaitsForGate G.answers waiting.new frames.new.waiting gate.new }
+    ensures left { result.outcome ≡ ReadOutcome.Open → WaitsForGate G.answers waiting.new frames.new.waiting gate.new }
 {
     let first = offer_waiting(rt, alloc, exchange, pass, frames, waiting, clock, gate);
     if let Some(stop) = first.stop {
@@ -123,45 +127,45 @@ pub fn read_in<N: Name, L: Link, C: Clock, G: Gate, A: Allocator + Copy, R: Wait
     both(first, pull, second)
 }
 
-/// What is read where the offering stopped before a pull.
+/// The result where the offering stopped before a pull.
 fn stopped(offered: Offered, stop: Stop) -> Taken
-    ensures heard { result.heard ≡ heard_at stop }
+    ensures outcome { result.outcome ≡ outcome_at stop }
     ensures offered { result.offered ≡ offered.moved }
 {
     Taken {
-        heard: heard_at(stop),
+        outcome: outcome_at(stop),
         moved: offered.moved,
         offered: offered.moved,
         records: offered.records,
     }
 }
 
-/// How a turn ends where an event is refused.
-pub fn heard_at(stop: Stop) -> Heard
-    ensures { result ≡ heard_at stop }
+/// How the reading ends where the offering stopped.
+pub fn outcome_at(stop: Stop) -> ReadOutcome
+    ensures { result ≡ outcome_at stop }
 {
     match stop {
-        Stop::Held => Heard::Open,
-        Stop::Memory => Heard::Over,
-        Stop::Halted => Heard::Halted,
-        Stop::Journal => Heard::Journal,
+        Stop::Held => ReadOutcome::Open,
+        Stop::Memory => ReadOutcome::Over,
+        Stop::Halted => ReadOutcome::Halted,
+        Stop::Journal => ReadOutcome::Journal,
     }
 }
 
-/// What is read before a pull and behind it.
+/// The result of the offering before a pull, the pull, and the offering after it.
 fn both(first: Offered, pull: Pull, second: Offered) -> Taken
-    ensures heard { result.heard ≡ heard_after pull second.stop }
+    ensures outcome { result.outcome ≡ outcome_after pull second.stop }
     ensures offered { result.offered ≡ first.moved || second.moved }
 {
-    let heard = match (second.stop, pull) {
-        (Some(Stop::Halted), _) => Heard::Halted,
-        (Some(Stop::Journal), _) => Heard::Journal,
-        (Some(Stop::Memory), _) | (_, Pull::Over | Pull::Lost) => Heard::Over,
-        (None | Some(Stop::Held), Pull::Came | Pull::Nothing) => Heard::Open,
+    let outcome = match (second.stop, pull) {
+        (Some(Stop::Halted), _) => ReadOutcome::Halted,
+        (Some(Stop::Journal), _) => ReadOutcome::Journal,
+        (Some(Stop::Memory), _) | (_, Pull::Over | Pull::Lost) => ReadOutcome::Over,
+        (None | Some(Stop::Held), Pull::Came | Pull::Nothing) => ReadOutcome::Open,
     };
     let offered = first.moved || second.moved;
     Taken {
-        heard,
+        outcome,
         moved: offered || pull == Pull::Came,
         offered,
         records: first.records.max(second.records),

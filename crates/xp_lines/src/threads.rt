@@ -1,9 +1,9 @@
-//! All lines of an exchange, each on a thread of its own.
+//! All lines of an exchange, each on its own thread.
 
 ghost use Rattle.std.specs.Prelude.{◌≡◌, IfErr, IfOk, [], ◌++◌, map, vec_len, vec_capacity, ◌+◌, ◌≤◌};
-ghost use Rattle.xp_lines.specs.Threads.{line_begun};
+ghost use Rattle.xp_lines.specs.steps.Threads.{line_begun};
 
-use crate::line::{LineEnd, Why, serve_line};
+use crate::line::{EndReason, LineEnd, serve_line};
 use crate::link::{Clock, Gate, Port};
 use std::alloc::Global;
 use std::sync::Wait;
@@ -12,22 +12,22 @@ use std::thread::{Promise, PromisedHandle, Scope, Threads};
 use xp_lock::{Exchange, LinePass, Name};
 use xp_subs::LineNo;
 
-/// What the thread of a line is given.
+/// What the thread of a line works with.
 #[derive(Drop)]
-pub struct Part<N: Name, P: Port, C: Clock, G: Gate> {
+pub struct ThreadInputs<N: Name, P: Port, C: Clock, G: Gate> {
     pub pass: LinePass<N>,
     pub port: P,
     pub clock: C,
     pub gate: G,
 }
 
-/// Why no line was served: want of memory. The parts come back.
+/// An allocation failed, and no line was served. The parts come back.
 #[derive(Drop)]
 pub struct ServeFault<N: Name, P: Port, C: Clock, G: Gate> {
-    pub parts: Vec<Part<N, P, C, G>>,
+    pub parts: Vec<ThreadInputs<N, P, C, G>>,
 }
 
-/// That a thread gives back the pass of its line.
+/// The promise that a thread returns the pass of its line.
 #[derive(Clone, Copy)]
 struct OfLine(LineNo);
 
@@ -37,15 +37,16 @@ impl<N: Name> Promise<LineEnd<N>> for OfLine {
     ghost kept_by = { λ promise end. end.pass.line ≡ promise.0 };
 }
 
-/// A line that is served, or whose thread could not be started.
+/// A line whose thread runs, or a line whose thread could not be started.
 type Begun<N> = Result<PromisedHandle<LineEnd<N>, OfLine>, LineEnd<N>>;
 
-/// Serves all lines, each on a thread of its own, until all have ended: `serve_line`. A line whose thread can't be started
-/// halts the exchange.
+/// Serves all lines, each on its own thread by [`serve_line`], until all have ended. `turns` is the most turns of each line, and
+/// `records` the number of charging records at which the exchange is halted. If the thread of a line cannot be started, the
+/// exchange is halted. The ends are in the order of the parts.
 ///
 /// # Errors
 ///
-/// Where memory is wanted no line is served, and the parts come back.
+/// `ServeFault` if an allocation fails. Then no line was served, and the parts come back.
 pub fn serve_all<
     N: Name + Send + Sync,
     P: Port + Send,
@@ -56,7 +57,7 @@ pub fn serve_all<
     rt: &R,
     alloc: Global,
     exchange: &Exchange<N>,
-    parts: Vec<Part<N, P, C, G>>,
+    parts: Vec<ThreadInputs<N, P, C, G>>,
     turns: u64,
     records: u64,
 ) -> Result<Vec<LineEnd<N>>, ServeFault<N, P, C, G>>
@@ -98,7 +99,7 @@ fn begin_all<
     scope: &Scope<'s, E>,
     alloc: Global,
     exchange: &'s Exchange<N>,
-    parts: Vec<Part<N, P, C, G>>,
+    parts: Vec<ThreadInputs<N, P, C, G>>,
     begun: Vec<Begun<N>>,
     turns: u64,
     records: u64,
@@ -115,7 +116,7 @@ fn begin_all<
     begun
 }
 
-/// Starts the thread of a line. Where it can't be started the exchange is halted, so that the line ends at once.
+/// Starts the thread of a line. If it cannot be started, the exchange is halted, so that the line ends at once.
 fn begin_one<
     's,
     E,
@@ -129,13 +130,13 @@ fn begin_one<
     scope: &Scope<'s, E>,
     alloc: Global,
     exchange: &'s Exchange<N>,
-    part: Part<N, P, C, G>,
+    part: ThreadInputs<N, P, C, G>,
     turns: u64,
     records: u64,
 ) -> Begun<N>
     ensures { line_begun result ≡ part.pass.line }
 {
-    let Part {
+    let ThreadInputs {
         pass,
         port,
         clock,
@@ -152,7 +153,7 @@ fn begin_one<
             let end = (refused.value)();
             Err(LineEnd {
                 pass: end.pass,
-                why: Why::NotStarted,
+                why: EndReason::NotStarted,
             })
         }
     }

@@ -1,4 +1,4 @@
-//! One turn of a line on its link.
+//! One turn of a line on its link: it writes, reads, and lets the link go where it is over.
 
 ghost use Rattle.std.specs.Prelude.{◌≡◌, ◌⊎◌, ℕ, List, Some, false};
 ghost use Rattle.xp_core.specs.declared.event.What.{What as Happening};
@@ -6,13 +6,13 @@ ghost use Rattle.xp_core.specs.declared.event.What.TheVariants.{Down as WentDown
 ghost use Rattle.xp_lines.specs.Gates.{WaitsForGate};
 ghost use Rattle.xp_lines.specs.Offers.{Gains};
 ghost use Rattle.xp_lines.specs.Reads.{stays};
-ghost use Rattle.xp_lines.specs.Ringing.{Lapses};
-ghost use Rattle.xp_lines.specs.Turns.{Downs, Follows, Hears, IsTurn, Works, is_owed};
+ghost use Rattle.xp_lines.specs.AnswerTimer.{Expires};
+ghost use Rattle.xp_lines.specs.Turns.{Downs, Follows, ReadsAndExpires, IsTurn, WritesAndReads, is_owed};
 
-use crate::bell::Bell;
+use crate::answer_timer::AnswerTimer;
 use crate::link::{Clock, Gate, Link};
 use crate::offering::{Stop, offer};
-use crate::reading::{Heard, Taken, heard_at, read_in, stays};
+use crate::reading::{ReadOutcome, Taken, outcome_at, read_in, stays};
 use crate::session::Session;
 use crate::waiting::Waiting;
 use crate::writing::{Ended, write_out};
@@ -23,12 +23,12 @@ use xp_lock::{Exchange, LinePass, Name};
 
 /// How a turn leaves its line.
 #[derive(Clone, Copy, Debug, PartialEq)]
-pub enum After {
+pub enum TurnOutcome {
     /// With its link.
     Linked,
-    /// Without it: the exchange took that it went.
+    /// Without it: the exchange accepted that the link went.
     Dropped,
-    /// There was no memory for that; it waits, and is offered again.
+    /// Without it, but an allocation failed as the thread offered that the link went. The next turn offers it again.
     DownOwed,
     /// The exchange is halted: it is the line's last turn.
     Halted,
@@ -36,18 +36,24 @@ pub enum After {
     Journal,
 }
 
-/// What a turn came to.
+/// The result of a turn.
 #[derive(Clone, Copy, Debug, PartialEq)]
 pub struct Turned {
-    pub after: After,
-    /// How many charging records there were at the last event that was taken, 0 for none.
+    /// How the turn left the line.
+    pub after: TurnOutcome,
+    /// How many charging records there were after the last event that the exchange accepted; 0 if it accepted none.
     pub records: u64,
 }
 
-/// One turn of a line on its link: what is unwritten is pushed, at most 64 outputs are taken and pushed, and then, unless a
-/// packet waits for the gate, one piece is pulled and the packets of its frames are offered. That an incoming call was not
-/// answered for 180 seconds is told to the exchange, once. Where the link is over, its Down is offered. A turn that read
-/// nothing and found its outbox empty lets time pass.
+/// Runs one turn of a line on its link, in this order:
+///
+/// - It pushes the unwritten octets. Where the link takes all of them, it takes at most 64 outputs and pushes their packets.
+/// - It offers the packets that wait. Unless one still waits for the gate, it pulls once and offers the packets that came.
+/// - It offers that an incoming call was not answered for 180 seconds, once for each such call.
+/// - Where an output closed the connection, the link is over or sent a bad frame header, or an allocation failed, it offers the
+///   link's Down.
+///
+/// Where a Down from an earlier turn waits, it offers that alone. A turn that read nothing and emptied the outbox lets time pass.
 pub fn turn<N: Name, L: Link, C: Clock, G: Gate, A: Allocator + Copy, R: Wait>(
     rt: &R,
     exchange: &Exchange<N, A>,
@@ -56,9 +62,9 @@ pub fn turn<N: Name, L: Link, C: Clock, G: Gate, A: Allocator + Copy, R: Wait>(
     clock: &mut C,
     gate: &mut G,
 ) -> Turned
-    ensures turn { (now : ℕ) × (is_owed session.old.waiting ≡ false → (told : C) × C.tells clock.old now told) × IsTurn now session.old.connection pass.old (record { held = session.old.waiting; frames = session.old.frames; unwritten = session.old.unwritten.items; pushed = L.pushed session.old.link; pulled = L.pulled session.old.link; ringing = session.old.ringing }) result.after pass.new (record { held = session.new.waiting; frames = session.new.frames; unwritten = session.new.unwritten.items; pushed = L.pushed session.new.link; pulled = L.pulled session.new.link; ringing = session.new.ringing }) }
+    ensures turn { (now : ℕ) × (is_owed session.old.waiting ≡ false → (told : C) × C.tells clock.old now told) × IsTurn now session.old.connection pass.old (record { held = session.old.waiting; frames = session.old.frames; unwritten = session.old.unwritten.items; pushed = L.pushed session.old.link; pulled = L.pulled session.old.link; unanswered_since = session.old.unanswered_since }) result.after pass.new (record { held = session.new.waiting; frames = session.new.frames; unwritten = session.new.unwritten.items; pushed = L.pushed session.new.link; pulled = L.pulled session.new.link; unanswered_since = session.new.unanswered_since }) }
     ensures connection { session.new.connection ≡ session.old.connection }
-    ensures left { result.after ≡ After.Linked → WaitsForGate G.answers session.new.waiting session.new.frames.waiting gate.new }
+    ensures left { result.after ≡ TurnOutcome.Linked → WaitsForGate G.answers session.new.waiting session.new.frames.waiting gate.new }
     ensures line { pass.new.line ≡ pass.old.line }
 {
     let Session {
@@ -67,16 +73,16 @@ pub fn turn<N: Name, L: Link, C: Clock, G: Gate, A: Allocator + Copy, R: Wait>(
         frames,
         waiting,
         unwritten,
-        ringing,
+        unanswered_since,
     } = session;
     if owes_down(waiting) {
         return go_down(rt, exchange, pass, clock, waiting, 0);
     }
-    let mut bell = Bell {
-        since: *ringing,
+    let mut timer = AnswerTimer {
+        since: *unanswered_since,
         now: clock.now(),
     };
-    let taken = work(
+    let taken = write_and_read(
         rt,
         exchange,
         pass,
@@ -85,15 +91,15 @@ pub fn turn<N: Name, L: Link, C: Clock, G: Gate, A: Allocator + Copy, R: Wait>(
         frames,
         waiting,
         unwritten,
-        &mut bell,
+        &mut timer,
         clock,
         gate,
     );
-    *ringing = bell.since;
+    *unanswered_since = timer.since;
     finish(rt, exchange, pass, clock, waiting, taken)
 }
 
-/// What follows on how the line was heard: the link stays, or its Down is offered, or it is the line's last turn.
+/// Ends a turn by how its reading ended: the link stays, or its Down is offered, or it is the line's last turn.
 fn finish<N: Name, C: Clock, A: Allocator + Copy, R: Wait>(
     rt: &R,
     exchange: &Exchange<N, A>,
@@ -102,28 +108,29 @@ fn finish<N: Name, C: Clock, A: Allocator + Copy, R: Wait>(
     waiting: &mut Option<Waiting<A>>,
     taken: Taken,
 ) -> Turned
-    ensures { Follows taken.heard pass.old waiting.old result.after pass.new waiting.new }
+    ensures { Follows taken.outcome pass.old waiting.old result.after pass.new waiting.new }
 {
-    match taken.heard {
-        Heard::Open => {
+    match taken.outcome {
+        ReadOutcome::Open => {
             if !taken.moved {
                 clock.idle();
             }
-            ended(After::Linked, taken.records)
+            ended(TurnOutcome::Linked, taken.records)
         }
-        Heard::Over => go_down(rt, exchange, pass, clock, waiting, taken.records),
-        Heard::Halted => ended(After::Halted, taken.records),
-        Heard::Journal => ended(After::Journal, taken.records),
+        ReadOutcome::Over => go_down(rt, exchange, pass, clock, waiting, taken.records),
+        ReadOutcome::Halted => ended(TurnOutcome::Halted, taken.records),
+        ReadOutcome::Journal => ended(TurnOutcome::Journal, taken.records),
     }
 }
 
-fn ended(after: After, records: u64) -> Turned
+/// The result of a turn.
+fn ended(after: TurnOutcome, records: u64) -> Turned
     ensures { result.after ≡ after }
 {
     Turned { after, records }
 }
 
-/// Whether the exchange has still to be told that the link went.
+/// Whether the link went and the exchange has not accepted that yet.
 pub fn owes_down<A: Allocator>(waiting: &Option<Waiting<A>>) -> bool
     ensures { result ≡ is_owed waiting.now }
 {
@@ -133,7 +140,7 @@ pub fn owes_down<A: Allocator>(waiting: &Option<Waiting<A>>) -> bool
     }
 }
 
-/// Offers that the link went. Where it finds no memory it waits.
+/// Offers that the link went. If an allocation fails, that event waits.
 pub fn go_down<N: Name, C: Clock, A: Allocator + Copy, R: Wait>(
     rt: &R,
     exchange: &Exchange<N, A>,
@@ -145,24 +152,25 @@ pub fn go_down<N: Name, C: Clock, A: Allocator + Copy, R: Wait>(
     ensures { Downs pass.old result.after pass.new waiting.new }
 {
     match offer(rt, exchange, pass, clock, Waiting::down()) {
-        Ok(done) => ended(After::Dropped, done.records() as u64),
-        Err(Stop::Halted) => ended(After::Halted, records),
-        Err(Stop::Journal) => ended(After::Journal, records),
+        Ok(done) => ended(TurnOutcome::Dropped, done.records() as u64),
+        Err(Stop::Halted) => ended(TurnOutcome::Halted, records),
+        Err(Stop::Journal) => ended(TurnOutcome::Journal, records),
         Err(Stop::Memory | Stop::Held) => {
             owe_down(waiting);
-            ended(After::DownOwed, records)
+            ended(TurnOutcome::DownOwed, records)
         }
     }
 }
 
+/// Lets the event that the link went wait.
 fn owe_down<A: Allocator>(waiting: &mut Option<Waiting<A>>)
     ensures { waiting.new ≡ Some WentDown }
 {
     *waiting = Some(Waiting::down());
 }
 
-/// The turn but for a Down: what is written, read and expired.
-fn work<N: Name, L: Link, C: Clock, G: Gate, A: Allocator + Copy, R: Wait>(
+/// A turn without its Down: it writes, reads, and lets a call expire.
+fn write_and_read<N: Name, L: Link, C: Clock, G: Gate, A: Allocator + Copy, R: Wait>(
     rt: &R,
     exchange: &Exchange<N, A>,
     pass: &mut LinePass<N, A>,
@@ -171,32 +179,32 @@ fn work<N: Name, L: Link, C: Clock, G: Gate, A: Allocator + Copy, R: Wait>(
     frames: &mut Deframer<A>,
     waiting: &mut Option<Waiting<A>>,
     unwritten: &mut Vec<u8, A>,
-    bell: &mut Bell,
+    timer: &mut AnswerTimer,
     clock: &mut C,
     gate: &mut G,
 ) -> Taken
-    ensures works { Works bell.old.now connection pass.old (record { held = waiting.old; frames = frames.old; unwritten = unwritten.old.items; pushed = L.pushed link.old; pulled = L.pulled link.old; ringing = bell.old.since }) result.heard pass.new (record { held = waiting.new; frames = frames.new; unwritten = unwritten.new.items; pushed = L.pushed link.new; pulled = L.pulled link.new; ringing = bell.new.since }) }
-    ensures left { result.heard ≡ Heard.Open → WaitsForGate G.answers waiting.new frames.new.waiting gate.new }
+    ensures works { WritesAndReads timer.old.now connection pass.old (record { held = waiting.old; frames = frames.old; unwritten = unwritten.old.items; pushed = L.pushed link.old; pulled = L.pulled link.old; unanswered_since = timer.old.since }) result.outcome pass.new (record { held = waiting.new; frames = frames.new; unwritten = unwritten.new.items; pushed = L.pushed link.new; pulled = L.pulled link.new; unanswered_since = timer.new.since }) }
+    ensures left { result.outcome ≡ ReadOutcome.Open → WaitsForGate G.answers waiting.new frames.new.waiting gate.new }
 {
     let halted = exchange.halted();
-    let written = write_out(rt, exchange, pass, connection, link, unwritten, bell);
+    let written = write_out(rt, exchange, pass, connection, link, unwritten, timer);
     if halted {
-        return nothing_read(Heard::Halted);
+        return nothing_read(ReadOutcome::Halted);
     }
     match written.ended {
         Ended::Open => {}
-        Ended::Over => return nothing_read(Heard::Over),
-        Ended::Lost => return nothing_read(Heard::Over),
+        Ended::Over => return nothing_read(ReadOutcome::Over),
+        Ended::Lost => return nothing_read(ReadOutcome::Over),
     }
     let alloc = *unwritten.allocator();
-    let taken = hear(
-        rt, alloc, exchange, pass, link, frames, waiting, bell, clock, gate,
+    let taken = read_and_expire(
+        rt, alloc, exchange, pass, link, frames, waiting, timer, clock, gate,
     );
     and_written(taken, written.more)
 }
 
-/// What is read, and whether an incoming call has waited for too long.
-fn hear<N: Name, L: Link, C: Clock, G: Gate, A: Allocator + Copy, R: Wait>(
+/// Reads, and then lets an incoming call expire that was not answered in time.
+fn read_and_expire<N: Name, L: Link, C: Clock, G: Gate, A: Allocator + Copy, R: Wait>(
     rt: &R,
     alloc: A,
     exchange: &Exchange<N, A>,
@@ -204,70 +212,72 @@ fn hear<N: Name, L: Link, C: Clock, G: Gate, A: Allocator + Copy, R: Wait>(
     link: &mut L,
     frames: &mut Deframer<A>,
     waiting: &mut Option<Waiting<A>>,
-    bell: &mut Bell,
+    timer: &mut AnswerTimer,
     clock: &mut C,
     gate: &mut G,
 ) -> Taken
-    ensures hears { Hears bell.old.now pass.old waiting.old frames.old (L.pulled link.old) bell.old.since result.heard pass.new waiting.new frames.new (L.pulled link.new) bell.new.since }
+    ensures hears { ReadsAndExpires timer.old.now pass.old waiting.old frames.old (L.pulled link.old) timer.old.since result.outcome pass.new waiting.new frames.new (L.pulled link.new) timer.new.since }
     ensures pushed { L.pushed link.new ≡ L.pushed link.old }
-    ensures left { result.heard ≡ Heard.Open → WaitsForGate G.answers waiting.new frames.new.waiting gate.new }
+    ensures left { result.outcome ≡ ReadOutcome.Open → WaitsForGate G.answers waiting.new frames.new.waiting gate.new }
 {
     let taken = read_in(
         rt, alloc, exchange, pass, link, frames, waiting, clock, gate,
     );
-    bell.answer(taken.offered);
-    expire_late(rt, exchange, pass, clock, bell, taken)
+    timer.answer(taken.offered);
+    expire_late(rt, exchange, pass, clock, timer, taken)
 }
 
-fn nothing_read(heard: Heard) -> Taken
-    ensures { result.heard ≡ heard }
+/// The result of a turn that does not read.
+fn nothing_read(outcome: ReadOutcome) -> Taken
+    ensures { result.outcome ≡ outcome }
 {
     Taken {
-        heard,
+        outcome,
         moved: true,
         offered: false,
         records: 0,
     }
 }
 
+/// The result of the reading, and whether there is more to write.
 fn and_written(taken: Taken, more: bool) -> Taken
-    ensures { result.heard ≡ taken.heard }
+    ensures { result.outcome ≡ taken.outcome }
 {
     Taken {
-        heard: taken.heard,
+        outcome: taken.outcome,
         moved: taken.moved || more,
         offered: taken.offered,
         records: taken.records,
     }
 }
 
-/// Offers that an incoming call was not answered in time, where one was not.
+/// Offers that an incoming call was not answered in time, if that is so.
 fn expire_late<N: Name, C: Clock, A: Allocator + Copy, R: Wait>(
     rt: &R,
     exchange: &Exchange<N, A>,
     pass: &mut LinePass<N, A>,
     clock: &mut C,
-    bell: &mut Bell,
+    timer: &mut AnswerTimer,
     taken: Taken,
 ) -> Taken
-    ensures lapses { (expired : List (Happening A)) × Gains pass.old expired pass.new × Lapses (stays result.heard) bell.old.now bell.old.since expired bell.new.since }
-    ensures ends { (result.heard ≡ taken.heard) ⊎ (stays result.heard ≡ false) }
+    ensures lapses { (expired : List (Happening A)) × Gains pass.old expired pass.new × Expires (stays result.outcome) timer.old.now timer.old.since expired timer.new.since }
+    ensures ends { (result.outcome ≡ taken.outcome) ⊎ (stays result.outcome ≡ false) }
 {
-    if !stays(taken.heard) {
+    if !stays(taken.outcome) {
         return taken;
     }
-    if !bell.expires() {
+    if !timer.expires() {
         return taken;
     }
     match offer(rt, exchange, pass, clock, Waiting::expire()) {
         Ok(done) => Taken {
-            heard: taken.heard,
+            outcome: taken.outcome,
             moved: true,
             offered: taken.offered,
             records: done.records() as u64,
         },
         Err(stop) => Taken {
-            heard: heard_at(stop),
+            outcome: outcome_at(stop),
             moved: true,
             offered: taken.offered,
             records: taken.records,

@@ -1,15 +1,15 @@
-//! What happened on a line, and the exchange has not taken yet.
+//! Events of a line that the exchange has not accepted yet.
 
 ghost use Rattle.std.specs.Prelude.{◌≡◌, IfOk};
-ghost use Rattle.xp_core.specs.declared.event.What.TheVariants.{Down as WentDown, Expire as RangInVain, Up as CameUp};
-ghost use Rattle.xp_lines.specs.Heard.{IsReadAs, is_down};
+ghost use Rattle.xp_core.specs.declared.event.What.TheVariants.{Down as WentDown, Expire as NotAnswered, Up as CameUp};
+ghost use Rattle.xp_lines.specs.FrameEvents.{IsReadAs, is_down};
 
 use std::alloc::{AllocError, Allocator, Global};
 use std::marker::Model;
 use xp_core::What;
 use xp_packets::{PacketFault, decode};
 
-/// What happened on a line, and is to be offered to the exchange.
+/// An event of a line that is to be offered to the exchange. It is never a stall, which only the exchange makes.
 #[derive(Drop)]
 pub struct Waiting<A: Allocator = Global> {
     what: What<A>,
@@ -30,35 +30,35 @@ impl<A: Allocator> Model for Waiting<A> {
 }
 
 impl<A: Allocator> Waiting<A> {
-    /// A connection came.
+    /// The event that the line's connection came.
     pub fn up() -> Waiting<A>
         ensures { result ≡ CameUp }
     {
         Waiting { what: What::Up }
     }
 
-    /// The connection went, or broke the framing.
+    /// The event that the connection went, or sent octets that are no frame.
     pub fn down() -> Waiting<A>
         ensures { result ≡ WentDown }
     {
         Waiting { what: What::Down }
     }
 
-    /// The line did not answer an incoming call in time.
+    /// The event that the line did not answer an incoming call in time.
     pub fn expire() -> Waiting<A>
-        ensures { result ≡ RangInVain }
+        ensures { result ≡ NotAnswered }
     {
         Waiting { what: What::Expire }
     }
 
-    /// Whether it is that the connection went.
+    /// Whether it is the event that the connection went.
     pub fn is_down(&self) -> bool
         ensures { result ≡ is_down self.now }
     {
         matches!(self.what, What::Down)
     }
 
-    /// What happened.
+    /// The event, as the exchange accepts it.
     pub(crate) fn into_what(self) -> What<A>
         ensures { result ≡ self }
     {
@@ -67,13 +67,17 @@ impl<A: Allocator> Waiting<A> {
 }
 
 impl<A: Allocator + Copy> Waiting<A> {
-    /// A packet, or octets that are none.
+    /// Decodes the octets of a frame's packet: the event is the packet, or what is wrong with it.
+    ///
+    /// # Errors
+    ///
+    /// `AllocError` if an allocation fails.
     pub(crate) fn read(alloc: A, octets: &[u8]) -> Result<Waiting<A>, AllocError>
         ensures { IfOk result (λ waiting. IsReadAs octets.now waiting) }
     {
         let what = match decode(alloc, octets) {
             Ok((identifier, packet)) => What::frame(identifier, packet),
-            Err(PacketFault::Wrong(wrong)) => What::WrongFrame(wrong),
+            Err(PacketFault::Malformed(wrong)) => What::WrongFrame(wrong),
             Err(PacketFault::Memory) => return Err(AllocError),
         };
         Ok(Waiting { what })

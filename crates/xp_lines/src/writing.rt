@@ -1,13 +1,14 @@
-//! What the exchange puts out to a line, on its way into the line's link.
+//! The writing of a turn: the thread takes the line's outputs from its outbox and pushes them into its link.
 
-ghost use Rattle.std.specs.Prelude.{◌≡◌, ◌==◌, ℕ, List, [], ◌++◌, false, cond, OnErr, OnOk};
-ghost use Rattle.xp_lines.specs.Wire.{Fills, Writes, carried};
+ghost use Rattle.std.specs.Prelude.{◌≡◌, ◌==◌, ℕ, List, [], ◌++◌, false, cond, IfOk, OnErr, OnOk};
+ghost use Rattle.xp_lines.specs.Wire.{NoneCloses, Writes, carried, closes};
+ghost use Rattle.xp_lines.specs.steps.Wire.{Fills};
 ghost use Rattle.xp_frames.specs.Frame.{frame};
 ghost use Rattle.xp_packets.specs.Writing.{written};
-ghost use Rattle.xp_lines.specs.Ended.{is_lost};
-ghost use Rattle.xp_lines.specs.Ringing.{rings_by, rung};
+ghost use Rattle.xp_lines.specs.steps.Ended.{is_lost};
+ghost use Rattle.xp_lines.specs.AnswerTimer.{since_after_put, since_after_all};
 
-use crate::bell::Bell;
+use crate::answer_timer::AnswerTimer;
 use crate::flow::{Flow, push_rest};
 use crate::link::Link;
 use std::alloc::{AllocError, Allocator};
@@ -17,30 +18,31 @@ use xp_frames::write_frame;
 use xp_lock::{Exchange, LinePass, Name};
 use xp_packets::{Packet, encode};
 
-/// How many outputs a turn takes at most: as many as an outbox has room for.
+/// The most outputs that a turn takes: as many as an outbox has places.
 const MOST_OUTPUTS: usize = 64;
 
 /// How the writing of a turn ended.
 #[derive(Clone, Copy, Debug, PartialEq)]
 pub enum Ended {
-    /// All is written, or the rest has to wait.
+    /// All octets are pushed, or the rest waits until the link takes more.
     Open,
-    /// The link is broken, or is to be closed.
+    /// The link is broken, or the exchange gave the line up and its connection is to be closed.
     Over,
-    /// A packet found no memory, and is lost.
+    /// An allocation failed, and a packet is lost.
     Lost,
 }
 
-/// What the writing of a turn came to.
+/// The result of the writing of a turn.
 #[derive(Clone, Copy, Debug, PartialEq)]
 pub struct Written {
+    /// How it ended.
     pub ended: Ended,
-    /// Whether there may be more outputs to take.
+    /// Whether the outbox may have more outputs to take.
     pub more: bool,
 }
 
-/// Pushes what is unwritten, and where the link takes it all takes outputs and pushes them. What is for another connection
-/// than this is dropped.
+/// Pushes the unwritten octets. Where the link takes all of them, it takes at most 64 outputs and pushes those for this
+/// connection. It drops outputs for another connection. After an output that closes this connection it takes no more.
 pub fn write_out<N: Name, L: Link, A: Allocator + Copy, R: Wait>(
     rt: &R,
     exchange: &Exchange<N, A>,
@@ -48,9 +50,9 @@ pub fn write_out<N: Name, L: Link, A: Allocator + Copy, R: Wait>(
     connection: u64,
     link: &mut L,
     unwritten: &mut Vec<u8, A>,
-    bell: &mut Bell,
+    timer: &mut AnswerTimer,
 ) -> Written
-    ensures writes { (lost : List ℕ) × (writes : Writes connection pass.old unwritten.old.items (L.pushed link.old) pass.new unwritten.new.items (L.pushed link.new) lost) × (is_lost result.ended ≡ false → (lost ≡ []) × (bell.new ≡ record bell.old { since = rung bell.old.now connection bell.old.since writes.items })) }
+    ensures writes { (lost : List ℕ) × (writes : Writes connection pass.old unwritten.old.items (L.pushed link.old) pass.new unwritten.new.items (L.pushed link.new) lost) × (is_lost result.ended ≡ false → (lost ≡ []) × (timer.new ≡ record timer.old { since = since_after_all timer.old.now connection timer.old.since writes.items })) × (result.ended ≡ Ended.Open → NoneCloses connection writes.items) }
     ensures pulled { L.pulled link.new ≡ L.pulled link.old }
 {
     match push_rest(link, unwritten) {
@@ -58,7 +60,7 @@ pub fn write_out<N: Name, L: Link, A: Allocator + Copy, R: Wait>(
         Flow::Waits => return none_taken(Ended::Open),
         Flow::Broken => return none_taken(Ended::Over),
     }
-    let taken = take_out(rt, exchange, pass, connection, unwritten, bell);
+    let taken = take_out(rt, exchange, pass, connection, unwritten, timer);
     let flow = push_rest(link, unwritten);
     Written {
         ended: ended_at(taken.ended, flow),
@@ -66,15 +68,17 @@ pub fn write_out<N: Name, L: Link, A: Allocator + Copy, R: Wait>(
     }
 }
 
+/// The result where no more outputs are taken.
 fn none_taken(ended: Ended) -> Written
     ensures { result.ended ≡ ended }
 {
     Written { ended, more: false }
 }
 
-/// How the writing ended, by how the taking did and whether the link took what was left.
+/// How the writing ended, by how the taking of outputs ended and whether the link took their octets.
 fn ended_at(taking: Ended, flow: Flow) -> Ended
-    ensures { is_lost result ≡ is_lost taking }
+    ensures lost { is_lost result ≡ is_lost taking }
+    ensures stays { result ≡ Ended.Open → taking ≡ Ended.Open }
 {
     match (taking, flow) {
         (Ended::Lost, _) => Ended::Lost,
@@ -83,22 +87,22 @@ fn ended_at(taking: Ended, flow: Flow) -> Ended
     }
 }
 
-/// Takes outputs, and appends the octets of those for this connection.
+/// Takes at most 64 outputs, and appends the octets of those for this connection to the unwritten ones.
 fn take_out<N: Name, A: Allocator + Copy, R: Wait>(
     rt: &R,
     exchange: &Exchange<N, A>,
     pass: &mut LinePass<N, A>,
     connection: u64,
     unwritten: &mut Vec<u8, A>,
-    bell: &mut Bell,
+    timer: &mut AnswerTimer,
 ) -> Written
-    ensures { (lost : List ℕ) × (fills : Fills connection pass.old unwritten.old.items pass.new unwritten.new.items lost) × (is_lost result.ended ≡ false → (lost ≡ []) × (bell.new ≡ record bell.old { since = rung bell.old.now connection bell.old.since fills.items })) }
+    ensures { (lost : List ℕ) × (fills : Fills connection pass.old unwritten.old.items pass.new unwritten.new.items lost) × (is_lost result.ended ≡ false → (lost ≡ []) × (timer.new ≡ record timer.old { since = since_after_all timer.old.now connection timer.old.since fills.items })) × (result.ended ≡ Ended.Open → NoneCloses connection fills.items) }
 {
     for _output in 0..MOST_OUTPUTS {
         let Some(item) = exchange.next_out(rt, pass) else {
             return none_taken(Ended::Open);
         };
-        match put_item(connection, &item, unwritten, bell) {
+        match put_item(connection, &item, unwritten, timer) {
             Ok(false) => {}
             Ok(true) => return none_taken(Ended::Over),
             Err(_) => return none_taken(Ended::Lost),
@@ -110,15 +114,20 @@ fn take_out<N: Name, A: Allocator + Copy, R: Wait>(
     }
 }
 
-/// Appends the octets of an output: whether the connection is to be closed.
+/// Appends the octets of an output, if it is for this connection. Returns whether the output closes this connection.
+///
+/// # Errors
+///
+/// `AllocError` if an allocation fails. Then nothing is appended.
 fn put_item<A: Allocator + Copy>(
     connection: u64,
     item: &Outgoing<A>,
     unwritten: &mut Vec<u8, A>,
-    bell: &mut Bell,
+    timer: &mut AnswerTimer,
 ) -> Result<bool, AllocError>
     ensures ok { OnOk result (unwritten.new.items ≡ unwritten.old.items ++ carried connection item.now) }
-    ensures rung { OnOk result (bell.new ≡ record bell.old { since = cond (item.now.connection == connection) (rings_by bell.old.now bell.old.since item.now.put) bell.old.since }) }
+    ensures since_after_all { OnOk result (timer.new ≡ record timer.old { since = cond (item.now.connection == connection) (since_after_put timer.old.now timer.old.since item.now.put) timer.old.since }) }
+    ensures closes { IfOk result (λ over. over ≡ closes connection item.now) }
     ensures err { OnErr result (unwritten.new.items ≡ unwritten.old.items) }
 {
     if item.connection != connection {
@@ -127,7 +136,7 @@ fn put_item<A: Allocator + Copy>(
     match &item.put {
         Put::Send { identifier, packet } => {
             put_packet(*identifier, packet, unwritten)?;
-            bell.hear(packet);
+            timer.packet_written(packet);
             Ok(false)
         }
         Put::Close => Ok(true),
@@ -135,6 +144,10 @@ fn put_item<A: Allocator + Copy>(
 }
 
 /// Appends the frame of a packet.
+///
+/// # Errors
+///
+/// `AllocError` if an allocation fails. Then nothing is appended.
 fn put_packet<A: Allocator + Copy>(
     identifier: u16,
     packet: &Packet<A>,

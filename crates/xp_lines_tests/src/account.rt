@@ -3,7 +3,7 @@
 use std::alloc::{AllocError, Global};
 use std::test::Fail;
 use xp_core::{Entry, What};
-use xp_lines::Why;
+use xp_lines::EndReason;
 use xp_lock::Book;
 use xp_packets::Packet;
 use xp_subs::{LineNo, Subs};
@@ -43,13 +43,13 @@ fn packet_letter(packet: &Packet) -> u8 {
 }
 
 /// The letter of why a line's thread has ended.
-pub fn why_letter(why: Why) -> u8 {
+pub fn why_letter(why: EndReason) -> u8 {
     match why {
-        Why::Turns => b'T',
-        Why::Halted => b'H',
-        Why::Journal => b'J',
-        Why::Port => b'P',
-        Why::NotStarted => b'N',
+        EndReason::Turns => b'T',
+        EndReason::Halted => b'H',
+        EndReason::Journal => b'J',
+        EndReason::Port => b'P',
+        EndReason::NotStarted => b'N',
     }
 }
 

@@ -1,6 +1,6 @@
 //! What is seen of the lines while their threads run.
 
-use crate::plan::Act;
+use crate::plan::Scenario;
 use std::sync::atomic::{AtomicBool, AtomicU64, AtomicUsize, Ordering};
 use xp_subs::LineNo;
 
@@ -99,8 +99,8 @@ impl Board {
     }
 
     /// Whether each line's link got all octets that are wanted there, and no others.
-    pub fn as_wanted(&self, act: Act) -> bool {
-        for (seen, plan) in self.lines.iter().zip(act.plans()) {
+    pub fn as_wanted(&self, scenario: Scenario) -> bool {
+        for (seen, plan) in self.lines.iter().zip(scenario.plans()) {
             if seen.front() != Some(plan.wants.len()) {
                 return false;
             }

@@ -2,7 +2,7 @@
 
 use crate::board::Board;
 use crate::frames::{CALL_NOBODY, NOT_OBTAINABLE};
-use crate::plan::{Act, FLAWLESS, NO_LINK, Piece, Plan, SILENT};
+use crate::plan::{FLAWLESS, NO_LINK, Piece, Plan, SILENT, Scenario};
 use crate::serving::{Serving, USUALLY, serve};
 use crate::turning::{Playing, play};
 use std::sync::Arc;
@@ -12,7 +12,7 @@ use std::test::Fail;
 fn turns_with_nothing_to_read_let_time_pass(rt: HostRuntime) -> Result<(), Fail> {
     let board = Arc::new(rt.alloc(), Board::new())?;
     let playing = Playing {
-        act: Act::Faults,
+        scenario: Scenario::Faults,
         flaws: [FLAWLESS, FLAWLESS],
         turns: 6,
     };
@@ -54,7 +54,7 @@ fn wanted_records_halt_the_exchange(rt: HostRuntime) -> Result<(), Fail> {
     for (turns, records, told, counts) in &COUNTED {
         let board = Arc::new(rt.alloc(), Board::new())?;
         let serving = Serving {
-            act: Act::Refused,
+            scenario: Scenario::Refused,
             turns: *turns,
             records: *records,
             ..USUALLY
@@ -67,7 +67,7 @@ fn wanted_records_halt_the_exchange(rt: HostRuntime) -> Result<(), Fail> {
             "{records}"
         );
         assert_eq!(rt; board.of(0).counts(), *counts, "{records}");
-        assert!(rt; board.as_wanted(Act::Refused), "{records}");
+        assert!(rt; board.as_wanted(Scenario::Refused), "{records}");
     }
     Ok(())
 }

@@ -4,7 +4,7 @@ use crate::board::Board;
 use crate::frames::{
     ACCEPTED, CALL_WITH_DATA, CLEAR, CONFIRMATION, CONNECTED_AND_CONFIRMATION, INCOMING_AND_CLEAR,
 };
-use crate::plan::{Act, FLAWLESS, Flaws, Piece, Plan, SILENT};
+use crate::plan::{FLAWLESS, Flaws, Piece, Plan, SILENT, Scenario};
 use crate::turning::{Playing, play};
 use std::alloc::Global;
 use std::process::Abort;
@@ -100,7 +100,7 @@ fn faults(
         let failing = flaws(at_push, number);
         let other = flaws(at_push, u64::MAX);
         let playing = Playing {
-            act: Act::Faults,
+            scenario: Scenario::Faults,
             flaws: if line == 0 {
                 [failing, other]
             } else {
@@ -117,7 +117,7 @@ fn faults(
         assert!(rt; board.of(line).front().is_some(), "{number}");
         if !board.of(line).failed.load(Ordering::SeqCst) {
             assert_eq!(rt; played.events.as_str(), "UUCAXY\n");
-            assert!(rt; board.as_wanted(Act::Faults));
+            assert!(rt; board.as_wanted(Scenario::Faults));
             return Ok(number);
         }
     }

@@ -1,7 +1,7 @@
 //! Clocks and gates of the lines.
 
 use crate::board::Board;
-use crate::plan::Act;
+use crate::plan::Scenario;
 use std::alloc::AllocError;
 use std::sync::Arc;
 use std::sync::atomic::{AtomicBool, Ordering};
@@ -53,25 +53,25 @@ impl Clock for Ticking {
 
 /// A gate that lets packets go as its line's plan tells.
 #[derive(Drop)]
-pub struct Told {
+pub struct PlannedGate {
     board: Arc<Board>,
-    act: Act,
+    scenario: Scenario,
     met: bool,
 }
 
-impl Told {
-    pub fn new(board: &Arc<Board>, act: Act) -> Result<Told, AllocError> {
-        Ok(Told {
+impl PlannedGate {
+    pub fn new(board: &Arc<Board>, scenario: Scenario) -> Result<PlannedGate, AllocError> {
+        Ok(PlannedGate {
             board: Arc::try_clone(board)?,
-            act,
+            scenario,
             met: false,
         })
     }
 }
 
-impl Gate for Told {
+impl Gate for PlannedGate {
     fn may_go(&mut self, line: LineNo) -> bool {
-        let leave = self.act.plan(line).leave;
+        let leave = self.scenario.plan(line).leave;
         self.board.of(line).entered.store(true, Ordering::SeqCst);
         if !self.met {
             self.met = true;

@@ -2,7 +2,9 @@
 
 use crate::counts::REFUSED;
 use crate::faults::FAULTS;
-use crate::served::{BROKEN_PORT, FIVE_AT_ONCE, FULL_JOURNAL, HALTED, NO_ANSWER, TWO_CALLS};
+use crate::served::{
+    BROKEN_PORT, FIVE_AT_ONCE, FULL_JOURNAL, HALTED, LOST_LINK, NO_ANSWER, TWO_CALLS,
+};
 use crate::slow::SLOW;
 use xp_subs::LineNo;
 
@@ -26,7 +28,7 @@ pub enum Comes {
 
 /// When the gate of a line lets its packets go.
 #[derive(Clone, Copy)]
-pub struct Leave {
+pub struct GateRule {
     /// The first time it answers only once the gates of these lines were asked too.
     pub meets: &'static [LineNo],
     /// Then it answers yes once these lines were pulled from,
@@ -36,7 +38,7 @@ pub struct Leave {
 }
 
 /// Packets go at once.
-pub const FREELY: Leave = Leave {
+pub const FREELY: GateRule = GateRule {
     meets: &[],
     pulled: &[],
     given: (0, 0),
@@ -51,7 +53,9 @@ pub struct Plan {
     pub count: usize,
     /// All octets that it is to be given.
     pub wants: &'static [u8],
-    pub leave: Leave,
+    pub leave: GateRule,
+    /// How it fails, where its line is served on a thread.
+    pub flaws: Flaws,
 }
 
 /// A link that gives nothing and is given nothing.
@@ -61,6 +65,7 @@ pub const SILENT: Plan = Plan {
     count: 0,
     wants: &[],
     leave: FREELY,
+    flaws: FLAWLESS,
 };
 
 /// A port that gives nothing.
@@ -69,13 +74,14 @@ pub const NO_LINK: Plan = Plan {
     ..SILENT
 };
 
-/// What the links of all lines do. Links, ports and gates have an act and look their plan up in it: they go to threads as
+/// What the links of all lines do. Links, ports and gates have a scenario and look their plan up in it: they go to threads as
 /// type arguments, where the prover covers no type that holds a borrow.
 #[derive(Clone, Copy)]
-pub enum Act {
+pub enum Scenario {
     TwoCalls,
     FiveAtOnce,
     NoAnswer,
+    LostLink,
     BrokenPort,
     FullJournal,
     Halted,
@@ -84,19 +90,20 @@ pub enum Act {
     Slow,
 }
 
-impl Act {
+impl Scenario {
     /// The plan of each line.
     pub fn plans(self) -> &'static [Plan; 5] {
         match self {
-            Act::TwoCalls => &TWO_CALLS,
-            Act::FiveAtOnce => &FIVE_AT_ONCE,
-            Act::NoAnswer => &NO_ANSWER,
-            Act::BrokenPort => &BROKEN_PORT,
-            Act::FullJournal => &FULL_JOURNAL,
-            Act::Halted => &HALTED,
-            Act::Refused => &REFUSED,
-            Act::Faults => &FAULTS,
-            Act::Slow => &SLOW,
+            Scenario::TwoCalls => &TWO_CALLS,
+            Scenario::FiveAtOnce => &FIVE_AT_ONCE,
+            Scenario::NoAnswer => &NO_ANSWER,
+            Scenario::LostLink => &LOST_LINK,
+            Scenario::BrokenPort => &BROKEN_PORT,
+            Scenario::FullJournal => &FULL_JOURNAL,
+            Scenario::Halted => &HALTED,
+            Scenario::Refused => &REFUSED,
+            Scenario::Faults => &FAULTS,
+            Scenario::Slow => &SLOW,
         }
     }
 
@@ -107,7 +114,7 @@ impl Act {
     /// The first lines of the subscriptions' file.
     pub fn head(self) -> &'static str {
         match self {
-            Act::FullJournal => "journal = 9\n",
+            Scenario::FullJournal => "journal = 9\n",
             _ => "",
         }
     }

@@ -6,7 +6,7 @@ use crate::frames::{
     CONNECTED, CONNECTED_AND_CONFIRMATION, INCOMING_AND_CLEAR, INCOMING_AND_EXPIRED, INCOMING_AT_B,
     INCOMING_AT_H, INCOMING_WITH_DATA, OUT_OF_ORDER,
 };
-use crate::plan::{Act, Comes, FREELY, Leave, NO_LINK, Piece, Plan, SILENT};
+use crate::plan::{Comes, FREELY, Flaws, GateRule, NO_LINK, Piece, Plan, SILENT, Scenario};
 use crate::serving::{Serving, USUALLY, serve};
 use std::sync::Arc;
 use std::sync::atomic::Ordering;
@@ -29,7 +29,7 @@ pub static TWO_CALLS: [Plan; 5] = [
         }],
         count: 1,
         wants: OUT_OF_ORDER,
-        leave: Leave {
+        leave: GateRule {
             meets: &[2],
             pulled: &[3],
             given: (2, 15),
@@ -52,7 +52,7 @@ pub static TWO_CALLS: [Plan; 5] = [
         }],
         count: 1,
         wants: CONNECTED,
-        leave: Leave {
+        leave: GateRule {
             meets: &[0],
             pulled: &[1],
             given: (2, 0),
@@ -79,7 +79,7 @@ const CONFIRMS: Plan = Plan {
     }],
     count: 1,
     wants: CONFIRMED_IDLE,
-    leave: Leave {
+    leave: GateRule {
         meets: &[0, 1, 2, 3, 4],
         ..FREELY
     },
@@ -88,23 +88,46 @@ const CONFIRMS: Plan = Plan {
 
 pub static FIVE_AT_ONCE: [Plan; 5] = [CONFIRMS, CONFIRMS, CONFIRMS, CONFIRMS, CONFIRMS];
 
-/// a1 calls b1 once all other lines are up; b1 takes all and answers nothing.
-pub static NO_ANSWER: [Plan; 5] = [
-    Plan {
-        gives: &[Piece {
-            after: 0,
-            octets: CALL_WITH_DATA,
-        }],
-        count: 1,
-        wants: CALLER_EXPIRED,
-        leave: Leave {
-            pulled: &[1, 2, 3, 4],
-            ..FREELY
-        },
-        ..SILENT
+/// a1 calls b1 once all other lines are up.
+const CALLS: Plan = Plan {
+    gives: &[Piece {
+        after: 0,
+        octets: CALL_WITH_DATA,
+    }],
+    count: 1,
+    wants: CALLER_EXPIRED,
+    leave: GateRule {
+        pulled: &[1, 2, 3, 4],
+        ..FREELY
     },
+    ..SILENT
+};
+
+/// b1 takes all and answers nothing.
+pub static NO_ANSWER: [Plan; 5] = [
+    CALLS,
     Plan {
         wants: INCOMING_AND_EXPIRED,
+        ..SILENT
+    },
+    SILENT,
+    SILENT,
+    SILENT,
+];
+
+/// b1's link, which takes an octet at a time, fails within the incoming call.
+pub static LOST_LINK: [Plan; 5] = [
+    Plan {
+        wants: OUT_OF_ORDER,
+        ..CALLS
+    },
+    Plan {
+        wants: &[0x00, 0x00, 0x00, 0x16, 0x10],
+        flaws: Flaws {
+            pull: None,
+            push: Some(5),
+            most: 1,
+        },
         ..SILENT
     },
     SILENT,
@@ -126,7 +149,7 @@ const CALLS_LAST: Plan = Plan {
     ],
     count: 2,
     wants: CONNECTED_AND_CONFIRMATION,
-    leave: Leave {
+    leave: GateRule {
         pulled: &[1, 2, 3, 4],
         ..FREELY
     },
@@ -173,17 +196,17 @@ pub static HALTED: [Plan; 5] = [
 ];
 
 /// How the lines are served, and why each has ended, its own events and the records.
-static SERVED: [(Serving, &str); 6] = [
+static SERVED: [(Serving, &str); 7] = [
     (
         Serving {
-            act: Act::TwoCalls,
+            scenario: Scenario::TwoCalls,
             ..USUALLY
         },
         "HHHHH\nUC\nUA\nUC\nUD\n\nrecord 2 a1 h2 2080030 caller 0 0 09 0\n",
     ),
     (
         Serving {
-            act: Act::FiveAtOnce,
+            scenario: Scenario::FiveAtOnce,
             turns: 1000,
             ..USUALLY
         },
@@ -191,7 +214,7 @@ static SERVED: [(Serving, &str); 6] = [
     ),
     (
         Serving {
-            act: Act::NoAnswer,
+            scenario: Scenario::NoAnswer,
             step: 1,
             ..USUALLY
         },
@@ -199,7 +222,14 @@ static SERVED: [(Serving, &str); 6] = [
     ),
     (
         Serving {
-            act: Act::Halted,
+            scenario: Scenario::LostLink,
+            ..USUALLY
+        },
+        "HHHHH\nUC\nUD\nU\nU\nU\nrecord 1 a1 b1 2080020 caller 0 0 09 0\n",
+    ),
+    (
+        Serving {
+            scenario: Scenario::Halted,
             halted: true,
             ..USUALLY
         },
@@ -207,14 +237,14 @@ static SERVED: [(Serving, &str); 6] = [
     ),
     (
         Serving {
-            act: Act::BrokenPort,
+            scenario: Scenario::BrokenPort,
             ..USUALLY
         },
         "HHHHP\nUCX\nUA\nU\nU\n\nrecord 1 a1 b1 2080020 caller 0 0 00 0\n",
     ),
     (
         Serving {
-            act: Act::FullJournal,
+            scenario: Scenario::FullJournal,
             ..USUALLY
         },
         "HJHHH\nUC\nU\nU\nU\nU\n",
@@ -227,7 +257,7 @@ fn lines_on_threads(rt: HostRuntime) -> Result<(), Fail> {
         let board = Arc::new(rt.alloc(), Board::new())?;
         let text = serve(&rt, rt.alloc(), serving, &board)?;
         assert_eq!(rt; text.as_str(), *told);
-        assert!(rt; board.as_wanted(serving.act), "{told}");
+        assert!(rt; board.as_wanted(serving.scenario), "{told}");
         assert!(rt; !board.late.load(Ordering::SeqCst), "{told}");
     }
     Ok(())

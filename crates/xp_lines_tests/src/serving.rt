@@ -4,22 +4,22 @@ ghost use Rattle.std.specs.Prelude.{◌≡◌};
 
 use crate::account::{subs, tell_lines, tell_records, why_letter};
 use crate::board::Board;
-use crate::pace::{Ticking, Told};
-use crate::plan::Act;
-use crate::wire::Once;
+use crate::pace::{PlannedGate, Ticking};
+use crate::plan::Scenario;
+use crate::wire::PlannedPort;
 use std::alloc::{AllocError, Global};
 use std::marker::Brand;
 use std::sync::{Arc, Wait};
 use std::test::Fail;
 use std::thread::Threads;
-use xp_lines::{LineEnd, Part, serve_all};
-use xp_lock::{Blanks, Exchange, LinePass, Name, prepare};
+use xp_lines::{LineEnd, ThreadInputs, serve_all};
+use xp_lock::{Exchange, LinePass, Name, PreparedExchange, prepare};
 
 /// How lines are served.
 #[derive(Clone, Copy)]
 pub struct Serving {
     /// What their links do.
-    pub act: Act,
+    pub scenario: Scenario,
     /// By how many seconds a clock goes on where its line has nothing to do.
     pub step: u64,
     /// Whether the exchange is halted before they are served.
@@ -30,7 +30,7 @@ pub struct Serving {
 
 /// Two calls, served as most acts are.
 pub const USUALLY: Serving = Serving {
-    act: Act::TwoCalls,
+    scenario: Scenario::TwoCalls,
     step: 0,
     halted: false,
     turns: 5_000_000,
@@ -41,13 +41,13 @@ fn part<N: Name>(
     pass: LinePass<N>,
     serving: &Serving,
     board: &Arc<Board>,
-) -> Result<Part<N, Once, Ticking, Told>, AllocError> {
+) -> Result<ThreadInputs<N, PlannedPort, Ticking, PlannedGate>, AllocError> {
     let line = pass.line();
-    Ok(Part {
+    Ok(ThreadInputs {
         pass,
-        port: Once::new(serving.act, line, board)?,
+        port: PlannedPort::new(serving.scenario, line, board)?,
         clock: Ticking::new(board, line, serving.step)?,
-        gate: Told::new(board, serving.act)?,
+        gate: PlannedGate::new(board, serving.scenario)?,
     })
 }
 
@@ -56,7 +56,7 @@ fn parts<N: Name>(
     passes: Vec<LinePass<N>>,
     serving: &Serving,
     board: &Arc<Board>,
-) -> Result<Vec<Part<N, Once, Ticking, Told>>, AllocError> {
+) -> Result<Vec<ThreadInputs<N, PlannedPort, Ticking, PlannedGate>>, AllocError> {
     let mut parts = Vec::new(alloc);
     for pass in passes {
         parts.push(part(pass, serving, board)?)?;
@@ -83,15 +83,15 @@ fn passes<N: Name>(
 fn serves<N: Name + Send + Sync, R: Threads + Wait + Sync>(
     rt: &R,
     alloc: Global,
-    blanks: Blanks<Global>,
+    prepared: PreparedExchange<Global>,
     serving: &Serving,
     board: &Arc<Board>,
 ) -> Result<Vec<u8>, AllocError>
-    requires subs { N.subs ≡ blanks.subs }
-    requires word { N.word ≡ blanks.word }
-    requires queues { N.queues ≡ blanks.queues }
+    requires subs { N.subs ≡ prepared.subs }
+    requires history_length { N.history_length ≡ prepared.history_length }
+    requires queues { N.queues ≡ prepared.queues }
 {
-    let (exchange, all) = Exchange::<N, Global>::start(alloc, blanks)?;
+    let (exchange, all) = Exchange::<N, Global>::start(alloc, prepared)?;
     if serving.halted {
         exchange.halt(rt);
     }
@@ -115,7 +115,7 @@ pub fn serve<R: Threads + Wait + Sync>(
     serving: &Serving,
     board: &Arc<Board>,
 ) -> Result<String, Fail> {
-    let blanks = prepare(alloc, subs(alloc, serving.act.head())?)?;
-    let text = serves::<Brand, R>(rt, alloc, blanks, serving, board)?;
+    let prepared = prepare(alloc, subs(alloc, serving.scenario.head())?)?;
+    let text = serves::<Brand, R>(rt, alloc, prepared, serving, board)?;
     Ok(String::from_utf8(text)?)
 }

@@ -2,7 +2,7 @@
 
 use crate::board::Board;
 use crate::frames::{ACCEPTED, CALL_WITH_DATA};
-use crate::plan::{Act, FLAWLESS, Flaws, Piece, Plan, SILENT};
+use crate::plan::{FLAWLESS, Flaws, Piece, Plan, SILENT, Scenario};
 use crate::turning::{Playing, play};
 use std::sync::Arc;
 use std::sync::atomic::Ordering;
@@ -109,7 +109,7 @@ pub static SLOW: [Plan; 5] = [
 fn link_that_takes_nothing(rt: HostRuntime) -> Result<(), Fail> {
     let board = Arc::new(rt.alloc(), Board::new())?;
     let playing = Playing {
-        act: Act::Slow,
+        scenario: Scenario::Slow,
         flaws: [
             FLAWLESS,
             Flaws {

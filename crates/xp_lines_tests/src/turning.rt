@@ -4,8 +4,8 @@ ghost use Rattle.std.specs.Prelude.{◌≡◌};
 
 use crate::account::{subs, tell_all, tell_records};
 use crate::board::Board;
-use crate::pace::{Ticking, Told};
-use crate::plan::{Act, Flaws};
+use crate::pace::{PlannedGate, Ticking};
+use crate::plan::{Flaws, Scenario};
 use crate::wire::Wire;
 use std::alloc::{AllocError, Global};
 use std::marker::Brand;
@@ -13,13 +13,13 @@ use std::sync::{Arc, Wait};
 use std::test::Fail;
 use xp_core::{Event, Outgoing, Put, What};
 use xp_frames::Deframer;
-use xp_lines::{After, Session, turn};
-use xp_lock::{Blanks, Done, Exchange, LinePass, Name, OfferFault, prepare};
+use xp_lines::{Session, TurnOutcome, turn};
+use xp_lock::{Exchange, LinePass, Name, OfferFault, PreparedExchange, Receipt, prepare};
 
 /// How a1 and b1 have their turns.
 #[derive(Clone, Copy)]
 pub struct Playing {
-    pub act: Act,
+    pub scenario: Scenario,
     pub flaws: [Flaws; 2],
     /// How many turns each has.
     pub turns: u64,
@@ -42,8 +42,8 @@ struct Seat<N: Name> {
     pass: LinePass<N>,
     session: Session<Wire>,
     clock: Ticking,
-    gate: Told,
-    after: After,
+    gate: PlannedGate,
+    after: TurnOutcome,
 }
 
 /// The line comes up.
@@ -51,7 +51,7 @@ fn offer_up<N: Name>(
     rt: &impl Wait,
     exchange: &Exchange<N>,
     pass: &mut LinePass<N>,
-) -> Result<Done, OfferFault> {
+) -> Result<Receipt, OfferFault> {
     let line = pass.line();
     let what = What::Up;
     exchange.offer(rt, pass, Event { line, what })
@@ -69,7 +69,7 @@ fn make_seat<N: Name>(
     alloc: Global,
     pass: LinePass<N>,
     connection: u64,
-    act: Act,
+    scenario: Scenario,
     flaws: Flaws,
     board: &Arc<Board>,
 ) -> Result<Seat<N>, AllocError> {
@@ -77,22 +77,22 @@ fn make_seat<N: Name>(
     Ok(Seat {
         pass,
         session: Session {
-            link: Wire::new(act, line, flaws, board)?,
+            link: Wire::new(scenario, line, flaws, board)?,
             connection,
             frames: Deframer::new(alloc),
             waiting: None,
             unwritten: Vec::new(alloc),
-            ringing: None,
+            unanswered_since: None,
         },
         clock: Ticking::new(board, line, 0)?,
-        gate: Told::new(board, act)?,
-        after: After::Linked,
+        gate: PlannedGate::new(board, scenario)?,
+        after: TurnOutcome::Linked,
     })
 }
 
 /// A turn of the line, while it has its link.
 fn go<N: Name>(rt: &impl Wait, exchange: &Exchange<N>, seat: &mut Seat<N>) {
-    if seat.after == After::Linked {
+    if seat.after == TurnOutcome::Linked {
         let turned = turn(
             rt,
             exchange,
@@ -139,17 +139,17 @@ fn is_close(item: &Outgoing) -> bool {
 fn plays<N: Name>(
     rt: &impl Wait,
     alloc: Global,
-    blanks: Blanks<Global>,
+    prepared: PreparedExchange<Global>,
     playing: &Playing,
     board: &Arc<Board>,
     events: &mut Vec<u8>,
     records: &mut Vec<u8>,
 ) -> Result<(usize, bool), AllocError>
-    requires subs { N.subs ≡ blanks.subs }
-    requires word { N.word ≡ blanks.word }
-    requires queues { N.queues ≡ blanks.queues }
+    requires subs { N.subs ≡ prepared.subs }
+    requires history_length { N.history_length ≡ prepared.history_length }
+    requires queues { N.queues ≡ prepared.queues }
 {
-    let (exchange, passes) = Exchange::<N, Global>::start(alloc, blanks)?;
+    let (exchange, passes) = Exchange::<N, Global>::start(alloc, prepared)?;
     let mut rest = passes.into_iter();
     let (Some(mut a1), Some(mut b1)) = (rest.next(), rest.next()) else {
         return Ok((0, false));
@@ -157,8 +157,8 @@ fn plays<N: Name>(
     let [a1_flaws, b1_flaws] = playing.flaws;
     let first = come_up(rt, &exchange, &mut a1);
     let second = come_up(rt, &exchange, &mut b1);
-    let mut a1 = make_seat(alloc, a1, first, playing.act, a1_flaws, board)?;
-    let mut b1 = make_seat(alloc, b1, second, playing.act, b1_flaws, board)?;
+    let mut a1 = make_seat(alloc, a1, first, playing.scenario, a1_flaws, board)?;
+    let mut b1 = make_seat(alloc, b1, second, playing.scenario, b1_flaws, board)?;
     go_on(rt, &exchange, &mut a1, &mut b1, playing.turns);
     let kept = kept(rt, &exchange, &mut b1.pass);
     let mut all = Vec::new(alloc);
@@ -181,13 +181,13 @@ pub fn play(
     playing: &Playing,
     board: &Arc<Board>,
 ) -> Result<Played, Fail> {
-    let blanks = prepare(alloc, subs(alloc, playing.act.head())?)?;
+    let prepared = prepare(alloc, subs(alloc, playing.scenario.head())?)?;
     let mut events = Vec::new(alloc);
     let mut records = Vec::new(alloc);
     let (kept, closes) = plays::<Brand>(
         rt,
         alloc,
-        blanks,
+        prepared,
         playing,
         board,
         &mut events,

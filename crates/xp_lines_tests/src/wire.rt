@@ -4,7 +4,7 @@ ghost use Rattle.std.specs.Prelude.{◌≤◌, length};
 ghost use Rattle.xp_lines.specs.Counts.{pulled_count};
 
 use crate::board::{Board, Seen};
-use crate::plan::{Act, Comes, FLAWLESS, Flaws, Piece, Plan};
+use crate::plan::{Comes, Flaws, Piece, Plan, Scenario};
 use std::alloc::AllocError;
 use std::sync::Arc;
 use std::sync::atomic::Ordering;
@@ -14,7 +14,7 @@ use xp_subs::LineNo;
 /// A link that does what its line's plan tells.
 #[derive(Drop)]
 pub struct Wire {
-    act: Act,
+    scenario: Scenario,
     line: LineNo,
     flaws: Flaws,
     board: Arc<Board>,
@@ -25,23 +25,23 @@ pub struct Wire {
 
 impl Wire {
     pub fn new(
-        act: Act,
+        scenario: Scenario,
         line: LineNo,
         flaws: Flaws,
         board: &Arc<Board>,
     ) -> Result<Wire, AllocError> {
         Ok(Wire {
-            act,
+            scenario,
             line,
             flaws,
             board: Arc::try_clone(board)?,
             next: 0,
-            left: act.plan(line).count,
+            left: scenario.plan(line).count,
         })
     }
 
     fn plan(&self) -> &'static Plan {
-        self.act.plan(self.line)
+        self.scenario.plan(self.line)
     }
 
     fn seen(&self) -> &Seen {
@@ -114,21 +114,25 @@ impl Link for Wire {
 
 /// A port that gives at most one link.
 #[derive(Drop)]
-pub struct Once {
-    act: Act,
+pub struct PlannedPort {
+    scenario: Scenario,
     line: LineNo,
     wire: Option<Wire>,
     board: Arc<Board>,
 }
 
-impl Once {
-    pub fn new(act: Act, line: LineNo, board: &Arc<Board>) -> Result<Once, AllocError> {
-        let wire = match act.plan(line).comes {
-            Comes::Link => Some(Wire::new(act, line, FLAWLESS, board)?),
+impl PlannedPort {
+    pub fn new(
+        scenario: Scenario,
+        line: LineNo,
+        board: &Arc<Board>,
+    ) -> Result<PlannedPort, AllocError> {
+        let wire = match scenario.plan(line).comes {
+            Comes::Link => Some(Wire::new(scenario, line, scenario.plan(line).flaws, board)?),
             Comes::Nothing | Comes::Fault => None,
         };
-        Ok(Once {
-            act,
+        Ok(PlannedPort {
+            scenario,
             line,
             wire,
             board: Arc::try_clone(board)?,
@@ -136,14 +140,14 @@ impl Once {
     }
 }
 
-impl Port for Once {
+impl Port for PlannedPort {
     type Link = Wire;
 
     fn next(&mut self) -> Arrived<Wire> {
         if let Some(wire) = self.wire.take() {
             return Arrived::Came(wire);
         }
-        match self.act.plan(self.line).comes {
+        match self.scenario.plan(self.line).comes {
             Comes::Fault => {
                 let seen = self.board.of(self.line);
                 seen.pulls.fetch_add(1, Ordering::SeqCst);

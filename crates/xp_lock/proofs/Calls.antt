@@ -6,16 +6,16 @@ use Rattle.xp_causes.specs.declared.clearing_cause.TheConstants.{NUMBER_BUSY}
 use Rattle.xp_causes.specs.declared.diagnostic.TheConstants.{CALL_COLLISION}
 use Rattle.xp_subs.specs.Tables.{Tables}
 use Rattle.xp_core.specs.declared.entry.Entry.{Entry}
-use Rattle.xp_core.specs.Changes.{Change, Rises, Leaves, Begins, IsRefused, Connects, Ends, IsFree, Way, all_changed, changed}
-use Rattle.xp_core.specs.Channel.{Ready, call_of}
-use Rattle.xp_core.specs.Coupling.{IsEnd, IsHeld}
+use Rattle.xp_machine.specs.Changes.{Change, Rises, Leaves, Begins, IsRefused, Connects, Ends, IsFree, NoCallState, all_changed, changed}
+use Rattle.xp_machine.specs.Channel.{Ready, call_of}
+use Rattle.xp_machine.specs.Coupling.{IsEnd, IsHeld}
 use Rattle.xp_core.specs.Outcomes.{taken_by}
-use Rattle.xp_core.specs.Setting.{setting}
+use Rattle.xp_core.specs.StepContext.{step_context}
 use Rattle.xp_core.specs.Step.{Step}
 use Rattle.xp_core.specs.Table.{action_at}
-use Rattle.xp_core.specs.World.{Call, World, call_numbered, call_on, far_end, numbered, state_at}
-use Rattle.xp_core.proofs.InCall.{called_shows, caller_shows, end_of, pair, same_number, shown_on}
-use Rattle.xp_core.proofs.Maps.{new_or_old, was_there}
+use Rattle.xp_machine.specs.World.{Call, World, call_numbered, call_on, far_end, numbered, state_at}
+use Rattle.xp_machine.proofs.InCall.{called_shows, caller_shows, end_of, pair, same_number, shown_on}
+use Rattle.xp_machine.proofs.Maps.{new_or_old, was_there}
 use Rattle.xp_core.proofs.Shapes.{ComesOf, cancelled_by, none, one, two}
 use Rattle.xp_core.proofs.Sounds.{IsRight, shape_of}
 use Rattle.xp_lock.proofs.Trio.{Among, among_either, among_left, among_right, among_taken, far_of, goes_here, near_to, taken_among, trio}
@@ -47,9 +47,9 @@ module _ {A : Type 0} (tables : Tables) (before : List (Entry A)) (world : World
   AllCome w = (number : ℕ) (call : Call) → call_numbered w number ≡ Some call → ComesFrom number call
 
   abbrev Comes : Change → Type 0
-  Comes change = ComesOf (setting tables before world line) entry.event.what (action_at world entry.event) entry.outcome step.told change
+  Comes change = ComesOf (step_context tables before world line) entry.event.what (action_at world entry.event) entry.outcome step.told change
 
-  ends_come : (w : World) (n : ℕ) (c : Call) (l : ℕ) (cause diagnostic : ℕ) → AllCome w → (way : Way) → AllCome (changed (Ends n c l way cause diagnostic) w)
+  ends_come : (w : World) (n : ℕ) (c : Call) (l : ℕ) (cause diagnostic : ℕ) → AllCome w → (way : NoCallState) → AllCome (changed (Ends n c l way cause diagnostic) w)
   ends_come w n c l cause diagnostic all way number call live = all number call (was_there w.calls n number call live).1
 
   change_comes : (change : Change) (w : World) → Comes change → AllCome w → AllCome (changed change w)
@@ -141,8 +141,8 @@ module _ {A : Type 0} (tables : Tables) (before : List (Entry A)) (world : World
             let same : found.0 ≡ number = same_number world y (far_end found.1 line) found.0 number is (end_shows y end) far in
             let there_is : call_numbered world number ≡ Some found.1 = ap (call_numbered world) (sym same) ∙ shown.1 in
             let call_is : found.1 ≡ call = cc in
-            let mine : IsEnd call line = subst (λ c. IsEnd c line) call_is (end_of tables world right.coupled line found.0 found.1 shown.0 shown.1) in
-            both_ends number call (on_it line mine) mine held.two other there
+            let own_entries : IsEnd call line = subst (λ c. IsEnd c line) call_is (end_of tables world right.coupled line found.0 found.1 shown.0 shown.1) in
+            both_ends number call (on_it line own_entries) own_entries held.two other there
 
   pub closed : AreClosed three next
   closed number call live = elim (all_come number call live) [

@@ -6,9 +6,9 @@ use Rattle.std.proofs.lemmas.List.Elements.{All-head, All-tail}
 use Rattle.xp_subs.specs.Tables.{Tables, line_count}
 use Rattle.xp_core.specs.declared.entry.Entry.{Entry}
 use Rattle.xp_core.specs.Run.{Run, RunFrom}
-use Rattle.xp_core.specs.World.{World, opening}
+use Rattle.xp_machine.specs.World.{World, opening}
 use Rattle.xp_core.proofs.Sounds.{IsRight, run_right, step_right}
-use Rattle.xp_lock.specs.Closing.{AreTold, HasAll, IsTold, NoneTwice, all_handed, handed_together, has_line, mine_together}
+use Rattle.xp_lock.specs.Closing.{PassesMatch, HasAll, PassMatches, NoneTwice, all_handed, handed_together, has_line, own_entries_together}
 use Rattle.xp_lock.specs.Handed.{handed, is_stall}
 use Rattle.xp_lock.specs.Passes.{Pass}
 
@@ -126,11 +126,11 @@ module _ {A : Type 0} where
       let those = to_one entry entries passes (all entry.event.line each.0) once in
       omega (arith, rest, this, those)
 
-  by_theirs : (history : List (Entry A)) (passes : List (Pass A)) → AreTold history passes → by_passes passes history ≡ mine_together passes
+  by_theirs : (history : List (Entry A)) (passes : List (Pass A)) → PassesMatch history passes → by_passes passes history ≡ own_entries_together passes
   by_theirs history [] told = refl
   by_theirs history (pass ∷ passes) told =
-      let rest = by_theirs history passes (All-tail (IsTold history) pass passes told) in
-      let here = ap length (All-head (IsTold history) pass passes told).own in
+      let rest = by_theirs history passes (All-tail (PassMatches history) pass passes told) in
+      let here = ap length (All-head (PassMatches history) pass passes told).own in
       omega (arith, rest, here)
 
   counted_each : (lines : ℕ) (entries : List (Entry A)) → EachOf lines entries → length (all_handed entries) ≡ handed_together lines entries
@@ -150,6 +150,6 @@ module _ {A : Type 0} where
 
   -- each line's entries are those of its one pass
   pub together : (tables : Tables) (history : List (Entry A)) (world : World) (passes : List (Pass A)) → Run tables history world
-      → HasAll (line_count tables) passes → NoneTwice passes → AreTold history passes → length (all_handed history) ≡ mine_together passes
+      → HasAll (line_count tables) passes → NoneTwice passes → PassesMatch history passes → length (all_handed history) ≡ own_entries_together passes
   together tables history world passes run all once told =
       shared (line_count tables) passes all once history (each_in tables history world run) ∙ by_theirs history passes told

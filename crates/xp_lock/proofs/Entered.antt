@@ -10,24 +10,26 @@ use Rattle.xp_core.specs.declared.event.What.{What}
 use Rattle.xp_core.specs.declared.event.What.TheVariants as events
 use Rattle.xp_core.specs.declared.output.Outgoing.{Outgoing}
 use Rattle.xp_core.specs.declared.stepped.Stepped.{Stepped}
-use Rattle.xp_core.specs.Channel.{is_off}
-use Rattle.xp_core.specs.Coupling.{AreCoupled}
-use Rattle.xp_core.specs.Few.{AreFew}
+use Rattle.xp_machine.specs.Channel.{is_off}
+use Rattle.xp_machine.specs.Coupling.{AreCoupled}
+use Rattle.xp_core.specs.OutputsPerLine.{AreFew}
 use Rattle.xp_core.specs.Exchange.{Advances, Exchange, world_of}
 use Rattle.xp_core.specs.Records.{records_of}
 use Rattle.xp_core.specs.Run.{Run}
 use Rattle.xp_core.specs.Stalls.{left_after}
 use Rattle.xp_core.specs.Worlds.{world_after}
 use Rattle.xp_core.specs.Step.{Step}
-use Rattle.xp_core.specs.World.{line_at, state_at}
-use Rattle.xp_lock.specs.declared.done.Done.{Done}
-use Rattle.xp_lock.specs.Boxes.{AreKept, HasRoomFor, IsPut, PLACES_KEPT, box_at}
+use Rattle.xp_machine.specs.World.{line_at, state_at}
+use Rattle.xp_lock.specs.declared.receipt.Receipt.{Receipt}
+use Rattle.xp_lock.specs.Outboxes.{PLACES_KEPT, outbox_at}
+use Rattle.xp_lock.specs.steps.Outboxes.{OutboxesMatch, HasRoomFor, IsPut}
 use Rattle.xp_lock.specs.Forced.{IsQuiet, Stalls}
-use Rattle.xp_lock.specs.Given.{AreGiven, IsGivenToFew}
+use Rattle.xp_lock.specs.Given.{AreGiven}
+use Rattle.xp_lock.specs.steps.Given.{IsGivenToFew}
 use Rattle.xp_lock.specs.Handed.{is_stall}
 use Rattle.xp_lock.specs.Outgoing.{put_out_to, to_line}
-use Rattle.xp_lock.specs.Stalling.{CanEnter, HasEntered, HasStalled, switch_of}
-use Rattle.xp_lock.specs.Switch.{IsGiven, Switch, Takes, is_up}
+use Rattle.xp_lock.specs.steps.Stalling.{CanEnter, HasEntered, HasStalled, with_outboxes}
+use Rattle.xp_lock.specs.CoreWithOutboxes.{IsGiven, CoreWithOutboxes, Takes, is_up}
 use Rattle.xp_lock.proofs.Touches.{Touches, touches}
 
 pub take_front : {X : Type 0} (xs ys : List X) → take (length xs) (xs ++ ys) ≡ xs
@@ -49,17 +51,17 @@ left_others (events.WrongFrame wrong) stalls kind = refl
 left_others events.Expire stalls kind = refl
 
 -- stalls are prepared
-module _ {A : Type 0} (old new : Exchange A) (same : new ≡ record old { stalls = new.stalls }) (event : Event A) (boxes : List (Putting (Outgoing A))) where
-  pub can_still : CanEnter old event boxes → CanEnter new event boxes
+module _ {A : Type 0} (old new : Exchange A) (same : new ≡ record old { stalls = new.stalls }) (event : Event A) (outboxes : List (Putting (Outgoing A))) where
+  pub can_still : CanEnter old event outboxes → CanEnter new event outboxes
   can_still can =
-      let P : Exchange A → Type 0 = λ e. CanEnter e event boxes in
+      let P : Exchange A → Type 0 = λ e. CanEnter e event outboxes in
       subst P (sym same) (record { kept = can.kept; places = can.places; kind = can.kind; room = can.room })
 
-  pub takes_still : (done : Done) (last : Switch A) → Takes (switch_of new boxes) event done last → Takes (switch_of old boxes) event done last
-  takes_still done last takes = subst (λ s. Takes s event done last) (ap (λ e. switch_of e boxes) same) takes
+  pub takes_still : (done : Receipt) (last : CoreWithOutboxes A) → Takes (with_outboxes new outboxes) event done last → Takes (with_outboxes old outboxes) event done last
+  takes_still done last takes = subst (λ s. Takes s event done last) (ap (λ e. with_outboxes e outboxes) same) takes
 
-module _ {A : Type 0} (old mid : Exchange A) (event : Event A) (told : Stepped A) (boxes : List (Putting (Outgoing A)))
-    (can : CanEnter old event boxes) (coupled : AreCoupled old.subs (world_of old)) (step : Advances old event mid told)
+module _ {A : Type 0} (old mid : Exchange A) (event : Event A) (told : Stepped A) (outboxes : List (Putting (Outgoing A)))
+    (can : CanEnter old event outboxes) (coupled : AreCoupled old.subs (world_of old)) (step : Advances old event mid told)
     (small : AreFew told.outputs) (run : Run old.subs old.history (world_of old)) where
   touched : Touches (world_of old) step.entry (world_of mid)
   touched = touches old.subs old.history (world_of old) step.entry (world_of mid) coupled step.step
@@ -71,22 +73,22 @@ module _ {A : Type 0} (old mid : Exchange A) (event : Event A) (told : Stepped A
   served : (line : ℕ) → 0 < length (to_line line told.outputs) → is_off (state_at (world_of old) line) ≡ false
   served line some = touched.served line (subst (λ os. 0 < length (to_line line os)) step.outputs some)
 
-  pub room_for : HasRoomFor told.outputs boxes
+  pub room_for : HasRoomFor told.outputs outboxes
   room_for line = elim (cases_lt 0 (length (to_line line told.outputs))) [
-    | inl some ↦ let enough : 24 ≤ (box_at boxes line).free = can.kept.places line (served line some) in omega (arith, few line, enough)
+    | inl some ↦ let enough : 24 ≤ (outbox_at outboxes line).free = can.kept.places line (served line some) in omega (arith, few line, enough)
     | inr none ↦ omega (arith, none)
   ]
 
   -- a line that is in service afterwards had its places
-  had : (line : ℕ) → is_off (state_at (world_of mid) line) ≡ false → 24 ≤ (box_at boxes line).free
+  had : (line : ℕ) → is_off (state_at (world_of mid) line) ≡ false → 24 ≤ (outbox_at outboxes line).free
   had line on = elim (touched.rises line on) [
     | inl was ↦ can.kept.places line was
     | inr up ↦
-        subst (λ l. 24 ≤ (box_at boxes l).free) (sym (up.1 ∙ ap (λ e. e.line) step.event_is)) (can.room (ap (λ e. is_up e.what) (sym step.event_is) ∙ up.0))
+        subst (λ l. 24 ≤ (outbox_at outboxes l).free) (sym (up.1 ∙ ap (λ e. e.line) step.event_is)) (can.room (ap (λ e. is_up e.what) (sym step.event_is) ∙ up.0))
   ]
 
-  module _ (between : List (Putting (Outgoing A))) (from : ℕ) (count : from ≡ length old.history) (put : IsPut told.outputs boxes between) where
-    free_between : (line : ℕ) → (box_at between line).free ≡ (box_at boxes line).free - length (to_line line told.outputs)
+  module _ (between : List (Putting (Outgoing A))) (from : ℕ) (count : from ≡ length old.history) (put : IsPut told.outputs outboxes between) where
+    free_between : (line : ℕ) → (outbox_at between line).free ≡ (outbox_at outboxes line).free - length (to_line line told.outputs)
     free_between line = ap (λ b. b.free) (put.each line)
 
     pub entered : HasEntered mid from between
@@ -125,7 +127,7 @@ module _ {A : Type 0} (old mid : Exchange A) (event : Event A) (told : Stepped A
       pub line_there : event.line < line_count old.subs → event.line < line_count new.subs
       line_there within = subst (λ t. event.line < line_count t) (sym (stalled.subs ∙ step.subs)) within
 
-    module _ (new : Exchange A) (after : List (Putting (Outgoing A))) (stalled : HasStalled mid from between new after) (done : Done)
+    module _ (new : Exchange A) (after : List (Putting (Outgoing A))) (stalled : HasStalled mid from between new after) (done : Receipt)
         (number : done.entry ≡ told.entry) (records : done.records ≡ length (records_of new.history))
         (connection : done.connection ≡ (line_at (world_of new) event.line).connection) (given : AreGiven (drop from new.history) done.given.items) where
       before_is : take from mid.history ≡ old.history
@@ -140,25 +142,25 @@ module _ {A : Type 0} (old mid : Exchange A) (event : Event A) (told : Stepped A
       got : (line : ℕ) → to_line line told.outputs ≡ to_line line step.entry.outputs
       got line = ap (to_line line) step.outputs
 
-      box_given : (line : ℕ) → IsGiven (put_out_to line (step.entry ∷ stalled.stalls)) (stalled.known line) (box_at boxes line) (box_at after line)
+      box_given : (line : ℕ) → IsGiven (put_out_to line (step.entry ∷ stalled.stalls)) (stalled.known line) (outbox_at outboxes line) (outbox_at after line)
       box_given line =
           let was = put.each line in
           let one = to_line line step.entry.outputs in
           let more = put_out_to line stalled.stalls in
-          let free : (box_at after line).free + length (put_out_to line (step.entry ∷ stalled.stalls)) ≡ stalled.known line =
-          subst (λ xs. (box_at after line).free + length (put_out_to line (xs ++ stalled.stalls)) ≡ stalled.known line) since_is (stalled.free line) in
-          let least : (box_at between line).free + length (put_out_to line (step.entry ∷ [])) ≤ stalled.known line =
-          subst (λ xs. (box_at between line).free + length (put_out_to line xs) ≤ stalled.known line) since_is (stalled.least line) in
+          let free : (outbox_at after line).free + length (put_out_to line (step.entry ∷ stalled.stalls)) ≡ stalled.known line =
+          subst (λ xs. (outbox_at after line).free + length (put_out_to line (xs ++ stalled.stalls)) ≡ stalled.known line) since_is (stalled.free line) in
+          let least : (outbox_at between line).free + length (put_out_to line (step.entry ∷ [])) ≤ stalled.known line =
+          subst (λ xs. (outbox_at between line).free + length (put_out_to line xs) ≤ stalled.known line) since_is (stalled.least line) in
           let long : length (one ++ []) ≡ length (to_line line told.outputs) = ap length (append-nil one ∙ sym (got line)) in
           record {
             queue = stalled.queues line ∙ ap (λ b. b.queue) was;
             capacity = stalled.capacities line ∙ ap (λ b. b.capacity) was;
-            put = stalled.put line ∙ ap (λ xs. xs ++ more) (ap (λ b. b.put) was ∙ ap (λ xs. (box_at boxes line).put ++ xs) (got line)) ∙ append_assoc (box_at boxes line).put one more;
+            put = stalled.put line ∙ ap (λ xs. xs ++ more) (ap (λ b. b.put) was ∙ ap (λ xs. (outbox_at outboxes line).put ++ xs) (got line)) ∙ append_assoc (outbox_at outboxes line).put one more;
             free = free;
             known = let left = free_between line in let room = room_for line in omega (arith, least, long, left, room);
           }
 
-      pub taken : Takes (switch_of old boxes) event done (switch_of new after)
+      pub taken : Takes (with_outboxes old outboxes) event done (with_outboxes new after)
       taken = record {
         running = refl;
         places = can.places;
@@ -178,7 +180,7 @@ module _ {A : Type 0} (old mid : Exchange A) (event : Event A) (told : Stepped A
         };
         few = stalled.few;
         count = stalled.count ∙ put.count;
-        boxes = box_given;
+        outboxes = box_given;
         room = λ up. let enough = can.room up in let least = (box_given event.line).known in omega (arith, enough, least);
         subs = stalled.subs ∙ step.subs;
         halted = refl;
@@ -189,26 +191,27 @@ module _ {A : Type 0} (old mid : Exchange A) (event : Event A) (told : Stepped A
       }
 
       -- a line in service has its places
-      places_kept : (line : ℕ) → is_off (state_at (world_of new) line) ≡ false → PLACES_KEPT ≤ (box_at after line).free
+      places_kept : (line : ℕ) → is_off (state_at (world_of new) line) ≡ false → PLACES_KEPT ≤ (outbox_at after line).free
       places_kept line on =
           let given_to = box_given line in
           let items : ℕ = length (put_out_to line (step.entry ∷ stalled.stalls)) in
-          let free : (box_at after line).free + items ≡ stalled.known line = given_to.free in
-          let places : 24 ≤ (box_at boxes line).free = had line (stalled.stays line on) in
+          let free : (outbox_at after line).free + items ≡ stalled.known line = given_to.free in
+          let places : 24 ≤ (outbox_at outboxes line).free = had line (stalled.stays line on) in
           let quiet = subst (λ xs. IsQuiet (world_of new) stalled.known (xs ++ stalled.stalls)) since_is stalled.quiet line in
           elim (cases_lt (stalled.known line) (24 + items)) [
             | inl short ↦ elim (cases_lt 0 items) [
               | inl some ↦ absurd (quiet (record { in_service = on; given = some; short = short }))
-              | inr none ↦ let known : (box_at boxes line).free ≤ stalled.known line = given_to.known in omega (arith, free, places, none, known)
+              | inr none ↦ let known : (outbox_at outboxes line).free ≤ stalled.known line = given_to.known in omega (arith, free, places, none, known)
             ]
             | inr long ↦ omega (arith, free, long)
           ]
 
-      pub kept : AreKept new.subs new.history after
+      pub kept : OutboxesMatch new.subs new.history after
       kept = record {
         count = stalled.count ∙ put.count ∙ can.kept.count ∙ ap line_count (sym (stalled.subs ∙ step.subs));
+        capacities = λ line within. (box_given line).capacity ∙ can.kept.capacities line (subst (λ t. line < line_count t) (stalled.subs ∙ step.subs) within);
         put = λ line within.
-            let was : (box_at boxes line).put ≡ put_out_to line old.history =
+            let was : (outbox_at outboxes line).put ≡ put_out_to line old.history =
             can.kept.put line (let same = stalled.count in let before = put.count in omega (arith, within, same, before)) in
             (box_given line).put ∙ ap (λ xs. xs ++ put_out_to line (step.entry ∷ stalled.stalls)) was
             ∙ sym (flat_map-append (λ (e : Entry A). to_line line e.outputs) old.history (step.entry ∷ stalled.stalls)) ∙ ap (put_out_to line) (sym grown);

@@ -8,13 +8,14 @@ use Rattle.xp_core.specs.declared.entry.Entry.{Entry}
 use Rattle.xp_core.specs.declared.event.Event.{Event}
 use Rattle.xp_core.specs.Records.{records_of}
 use Rattle.xp_core.specs.Worlds.{world_after}
-use Rattle.xp_core.specs.World.{World, line_at}
-use Rattle.xp_lock.specs.declared.done.Done.{Done}
+use Rattle.xp_machine.specs.World.{World, line_at}
+use Rattle.xp_lock.specs.declared.receipt.Receipt.{Receipt}
 use Rattle.xp_lock.specs.Forced.{Stalls}
 use Rattle.xp_lock.specs.Handed.{handed, is_stall}
-use Rattle.xp_lock.specs.Passes.{AreStalls, Freshens, IsLegal, Pass}
-use Rattle.xp_lock.specs.Switch.{Switch, Takes}
-use Rattle.xp_lock.specs.Views.{IsGrown, StartsWith}
+use Rattle.xp_lock.specs.Passes.{AreStalls, GainsEvent, IsLegal, Pass}
+use Rattle.xp_lock.specs.CoreWithOutboxes.{CoreWithOutboxes, Takes}
+use Rattle.xp_lock.specs.Views.{StartsWith}
+use Rattle.xp_lock.specs.steps.Views.{IsGrown}
 use Rattle.xp_lock.proofs.Lists.{handed-append}
 
 module _ {A : Type 0} where
@@ -55,7 +56,7 @@ module _ {A : Type 0} where
       ∙ ap (λ b. cond (not b) (entry ∷ handed line stalls) (handed line stalls)) kind
       ∙ ap (λ xs. entry ∷ xs) (handed_stalls line stalls h)
 
-  module _ (old : Switch A) (event : Event A) (done : Done) (new : Switch A) (takes : Takes old event done new) where
+  module _ (old : CoreWithOutboxes A) (event : Event A) (done : Receipt) (new : CoreWithOutboxes A) (takes : Takes old event done new) where
     stalls_are : AllStalls takes.stalls
     stalls_are = all_stalls old.subs old.history takes.forces.next takes.known (takes.entry ∷ []) takes.stalls _ takes.forces.forced
 
@@ -69,7 +70,7 @@ module _ {A : Type 0} where
 
     pub freshened : (pass after : Pass A) (subs : Tables) → new.subs ≡ subs → is_stall event.what ≡ false → event.line ≡ pass.line → StartsWith old.history pass.seen
         → handed pass.line old.history ≡ handed pass.line pass.seen → IsLegal new.subs new.history
-        → after.line ≡ pass.line → after.taken ≡ pass.taken → after.seen ≡ new.history → Freshens subs pass event done after
+        → after.line ≡ pass.line → after.taken ≡ pass.taken → after.seen ≡ new.history → GainsEvent subs pass event done after
     freshened pass after subs same kind own front all legal line taken seen =
         let own_entry = handed_own pass.line takes.entry takes.stalls stalls_are (ap (λ e. e.line) takes.event_is ∙ own) (ap (λ e. is_stall e.what) takes.event_is ∙ kind) in
         let Of : Tables → List (Entry A) → Type 0 = λ t xs. IsLegal t xs in
@@ -83,7 +84,7 @@ module _ {A : Type 0} where
           are_stalls = are_stalls takes.stalls stalls_are;
           few = takes.few;
           seen = seen ∙ takes.history ∙ ap (λ xs. xs ++ takes.entry ∷ takes.stalls) front.1;
-          mine_is =
+          own_entries_are =
               ap (λ l. handed l after.seen) line ∙ ap (handed pass.line) (seen ∙ takes.history)
               ∙ handed-append pass.line old.history (takes.entry ∷ takes.stalls)
               ∙ ap (λ xs. xs ++ handed pass.line (takes.entry ∷ takes.stalls)) all

@@ -20,14 +20,14 @@ module _ {X : Type 0} where
 
   -- after a write, of the one written and of all others
   pub each_set : (F : ℕ → X → Type 0) (xs : List X) (at : ℕ) (x : X) → F at x → ((j : ℕ) (y : X) → j ≢ at → get_elem? xs j ≡ some y → F j y) → Each F (set xs at x)
-  each_set F xs at x mine others j y e =
-      ⊎_elim (λ (t : (j ≡ at) × (x ≡ y)). subst (λ (p : ℕ × X). F p.0 p.1) (λ i. (sym t.0 i, t.1 i)) mine)
+  each_set F xs at x own_entries others j y e =
+      ⊎_elim (λ (t : (j ≡ at) × (x ≡ y)). subst (λ (p : ℕ × X). F p.0 p.1) (λ i. (sym t.0 i, t.1 i)) own_entries)
       (λ (t : (j ≢ at) × (get_elem? xs j ≡ some y)). others j y t.0 t.1) (at_set xs at j x y e)
 
   -- after one more was put last
   pub each_new : (F : ℕ → X → Type 0) (xs : List X) (x : X) → F (length xs) x → Each F xs → Each F (xs ++ x ∷ [])
-  each_new F xs x mine others j y e =
-      ⊎_elim (λ t. others j y t) (λ (t : (j ≡ length xs) × (x ≡ y)). subst (λ (p : ℕ × X). F p.0 p.1) (λ i. (sym t.0 i, t.1 i)) mine) (at_new xs x y j e)
+  each_new F xs x own_entries others j y e =
+      ⊎_elim (λ t. others j y t) (λ (t : (j ≡ length xs) × (x ≡ y)). subst (λ (p : ℕ × X). F p.0 p.1) (λ i. (sym t.0 i, t.1 i)) own_entries) (at_new xs x y j e)
 
 module _ {A : Type 0} where
   pub handed-append : (line : ℕ) (xs ys : List (Entry A)) → handed line (xs ++ ys) ≡ handed line xs ++ handed line ys

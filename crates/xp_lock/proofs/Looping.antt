@@ -8,17 +8,18 @@ use Rattle.xp_core.specs.declared.entry.Entry.{Entry}
 use Rattle.xp_core.specs.declared.event.What.TheVariants.{Stall}
 use Rattle.xp_core.specs.declared.output.Outgoing.{Outgoing}
 use Rattle.xp_core.specs.declared.stepped.Stepped.{Stepped}
-use Rattle.xp_core.specs.Channel.{is_off}
+use Rattle.xp_machine.specs.Channel.{is_off}
 use Rattle.xp_core.specs.Exchange.{Advances, Exchange, world_of}
-use Rattle.xp_core.specs.Stalls.{stall_of}
+use Rattle.xp_core.specs.steps.Stalls.{stall_of}
 use Rattle.xp_core.specs.Step.{Step}
 use Rattle.xp_core.specs.Worlds.{world_after}
-use Rattle.xp_core.specs.World.{World, state_at}
+use Rattle.xp_machine.specs.World.{World, state_at}
 use Rattle.xp_core.proofs.Sounds.{IsRight, run_right, step_right}
-use Rattle.xp_lock.specs.Boxes.{HasRoomFor, IsPut, box_at}
+use Rattle.xp_lock.specs.Outboxes.{outbox_at}
+use Rattle.xp_lock.specs.steps.Outboxes.{HasRoomFor, IsPut}
 use Rattle.xp_lock.specs.Forced.{IsDue, IsLowestDue, Stalls}
 use Rattle.xp_lock.specs.Outgoing.{put_out_to, to_line}
-use Rattle.xp_lock.specs.Stalling.{HasEntered, HasStalled, IsLowestShort, IsSearched, IsShort}
+use Rattle.xp_lock.specs.steps.Stalling.{HasEntered, HasStalled, IsLowestShort, IsSearched, IsShort}
 use Rattle.xp_lock.proofs.Calls.{AreClosed, closed}
 use Rattle.xp_lock.proofs.Entered.{drop_front, take_front}
 use Rattle.xp_lock.proofs.GivenLines.{is_from}
@@ -26,7 +27,7 @@ use Rattle.xp_lock.proofs.Putting.{box_there}
 use Rattle.xp_lock.proofs.Stalled.{EachLine, closed_next, each_push, each_weaker, few, goes_among, off_after, one_less, one_up, rises, served, stalls_grow, stalls_push, stays_off, up, up_most}
 use Rattle.xp_lock.proofs.Trio.{Among, goes_to, trio, trio_few}
 
-module _ {A : Type 0} (core : Exchange A) (from : ℕ) (boxes : List (Putting (Outgoing A))) where
+module _ {A : Type 0} (core : Exchange A) (from : ℕ) (outboxes : List (Putting (Outgoing A))) where
   abbrev since : List (Entry A)
   since = drop from core.history
 
@@ -47,16 +48,16 @@ module _ {A : Type 0} (core : Exchange A) (from : ℕ) (boxes : List (Putting (O
     pub left : length stalls + up (world_of now) lines ≤ 3
     pub gone : EachLine (λ line. is_off (state_at (world_of now) line) ≡ true) stalls
     pub journal : length now.history + 3 ≤ core.subs.journal + length stalls
-    pub places : (line : ℕ) → is_off (state_at (world_of now) line) ≡ false → 7 ≤ (box_at after line).free + 2 * length stalls
+    pub places : (line : ℕ) → is_off (state_at (world_of now) line) ≡ false → 7 ≤ (outbox_at after line).free + 2 * length stalls
     pub stays : (line : ℕ) → is_off (state_at (world_of now) line) ≡ false → is_off (state_at (world_of core) line) ≡ false
-    pub count : length after ≡ length boxes
-    pub queues : (line : ℕ) → (box_at after line).queue ≡ (box_at boxes line).queue
-    pub capacities : (line : ℕ) → (box_at after line).capacity ≡ (box_at boxes line).capacity
-    pub put : (line : ℕ) → (box_at after line).put ≡ (box_at boxes line).put ++ put_out_to line stalls
-    pub free : (line : ℕ) → (box_at after line).free + length (put_out_to line (since ++ stalls)) ≡ known line
-    pub least : (line : ℕ) → (box_at boxes line).free + length (put_out_to line since) ≤ known line
+    pub count : length after ≡ length outboxes
+    pub queues : (line : ℕ) → (outbox_at after line).queue ≡ (outbox_at outboxes line).queue
+    pub capacities : (line : ℕ) → (outbox_at after line).capacity ≡ (outbox_at outboxes line).capacity
+    pub put : (line : ℕ) → (outbox_at after line).put ≡ (outbox_at outboxes line).put ++ put_out_to line stalls
+    pub free : (line : ℕ) → (outbox_at after line).free + length (put_out_to line (since ++ stalls)) ≡ known line
+    pub least : (line : ℕ) → (outbox_at outboxes line).free + length (put_out_to line since) ≤ known line
 
-  module _ (entered : HasEntered core from boxes) where
+  module _ (entered : HasEntered core from outboxes) where
     before_is : take from core.history ≡ entered.before
     before_is = ap (λ n. take n core.history) entered.count ∙ ap (take (length entered.before)) entered.history ∙ take_front entered.before (entered.entry ∷ [])
 
@@ -82,13 +83,13 @@ module _ {A : Type 0} (core : Exchange A) (from : ℕ) (boxes : List (Putting (O
     right_before : IsRight core.subs (length entered.before) old_world
     right_before = run_right core.subs entered.before old_world entered.run
 
-    pub begins : 3 ≤ core.stalls → Looping core boxes
+    pub begins : 3 ≤ core.stalls → Looping core outboxes
     begins prepared =
         let three = trio old_world entered.entry.event.line entered.entry.outcome in
         let none : since ++ [] ≡ since = append-nil since in
         record {
           stalls = [];
-          known = λ line. (box_at boxes line).free + length (put_out_to line since);
+          known = λ line. (outbox_at outboxes line).free + length (put_out_to line since);
           lines = three;
           few_lines = trio_few old_world entered.entry.event.line entered.entry.outcome;
           forced = refl;
@@ -110,15 +111,15 @@ module _ {A : Type 0} (core : Exchange A) (from : ℕ) (boxes : List (Putting (O
           count = refl;
           queues = λ line. refl;
           capacities = λ line. refl;
-          put = λ line. sym (append-nil (box_at boxes line).put);
-          free = λ line. ap (λ xs. (box_at boxes line).free + length (put_out_to line xs)) none;
+          put = λ line. sym (append-nil (outbox_at outboxes line).put);
+          free = λ line. ap (λ xs. (outbox_at outboxes line).free + length (put_out_to line xs)) none;
           least = λ line. omega arith;
         }
 
     -- free places are looked at
     pub looked : (now : Exchange A) (between after : List (Putting (Outgoing A))) → Looping now between → IsSearched now between after → Looping now after
     looked now between after loop search =
-        let known : ℕ → ℕ = λ line. (box_at after line).free + length (put_out_to line (since ++ loop.stalls)) in
+        let known : ℕ → ℕ = λ line. (outbox_at after line).free + length (put_out_to line (since ++ loop.stalls)) in
         let grows : (line : ℕ) → loop.known line ≤ known line =
         λ line. let was = loop.free line in let more = (search.alike.each line).free in omega (arith, was, more) in
         record {
@@ -170,7 +171,7 @@ module _ {A : Type 0} (core : Exchange A) (from : ℕ) (boxes : List (Putting (O
 
       -- ---- none is due any more
 
-      pub ends : ((line : ℕ) → line < length after → IsShort now from after line → ⊥) → HasStalled core from boxes now after
+      pub ends : ((line : ℕ) → line < length after → IsShort now from after line → ⊥) → HasStalled core from outboxes now after
       ends none = record {
         stalls = loop.stalls;
         known = loop.known;
@@ -178,7 +179,7 @@ module _ {A : Type 0} (core : Exchange A) (from : ℕ) (boxes : List (Putting (O
         quiet = λ line due.
             let enough = loop.places line due.in_service in
             let most = loop.left in
-            let some : 0 < (box_at after line).free = omega (arith, enough, most) in
+            let some : 0 < (outbox_at after line).free = omega (arith, enough, most) in
             none line (box_there after line some) (short_is line due);
         few = let most = loop.left in omega (arith, most);
         given = record { lines = loop.lines; few = loop.few_lines; goes = λ line some. is_from loop.lines line (loop.goes line some) };
@@ -287,7 +288,7 @@ module _ {A : Type 0} (core : Exchange A) (from : ℕ) (boxes : List (Putting (O
             gone_now : is_off (state_at (world_of next) advances.entry.event.line) ≡ true
             gone_now = off_after now.subs now.history (world_of now) advances.entry (world_of next) right_now advances.step what on
 
-            free_last : (l : ℕ) → (box_at last l).free ≡ (box_at after l).free - length (to_line l told.outputs)
+            free_last : (l : ℕ) → (outbox_at last l).free ≡ (outbox_at after l).free - length (to_line l told.outputs)
             free_last l = ap (λ b. b.free) (put.each l)
 
             pub goes_on : Looping next last
@@ -329,8 +330,8 @@ module _ {A : Type 0} (core : Exchange A) (from : ℕ) (boxes : List (Putting (O
               capacities = λ l. ap (λ b. b.capacity) (put.each l) ∙ loop.capacities l;
               put = λ l.
                   ap (λ b. b.put) (put.each l) ∙ ap (λ xs. xs ++ to_line l told.outputs) (loop.put l)
-                  ∙ append_assoc (box_at boxes l).put (put_out_to l loop.stalls) (to_line l told.outputs)
-                  ∙ ap (λ xs. (box_at boxes l).put ++ xs)
+                  ∙ append_assoc (outbox_at outboxes l).put (put_out_to l loop.stalls) (to_line l told.outputs)
+                  ∙ ap (λ xs. (outbox_at outboxes l).put ++ xs)
                   (ap (λ xs. put_out_to l loop.stalls ++ xs) (ap (to_line l) advances.outputs ∙ sym (append-nil (to_line l advances.entry.outputs)))
                   ∙ sym (flat_map-append (λ (e : Entry A). to_line l e.outputs) loop.stalls (advances.entry ∷ [])));
               free = λ l. let was = loop.free l in let fits = room l in omega (arith, was, fits, free_last l, more_out l);

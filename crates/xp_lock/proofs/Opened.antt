@@ -7,10 +7,12 @@ use Rattle.std.specs.Prelude.{replicate, slice_get}
 use Rattle.xp_outbox.specs.Ends.{Putting, Taking}
 use Rattle.xp_subs.specs.Tables.{Tables, line_count}
 use Rattle.xp_core.specs.declared.output.Outgoing.{Outgoing}
-use Rattle.xp_core.specs.Channel.{is_off}
-use Rattle.xp_core.specs.World.{off_line, opening, state_at}
-use Rattle.xp_lock.specs.Boxes.{AreKept, no_box}
-use Rattle.xp_lock.specs.Opening.{AreFirst, AreNew, first_pass}
+use Rattle.xp_machine.specs.Channel.{is_off}
+use Rattle.xp_machine.specs.World.{off_line, opening, state_at}
+use Rattle.xp_lock.specs.Outboxes.{CAPACITY, no_outbox}
+use Rattle.xp_lock.specs.steps.Outboxes.{OutboxesMatch}
+use Rattle.xp_lock.specs.Opening.{AreFirst, first_pass}
+use Rattle.xp_lock.specs.steps.Opening.{AreNew}
 use Rattle.xp_lock.specs.Passes.{Pass}
 
 all_off : (count line : ℕ) → is_off (state_at (opening count) line) ≡ true
@@ -32,26 +34,28 @@ drop_rest (y ∷ ys) zero x rest e = cc
 drop_rest (y ∷ ys) (suc n) x rest e = drop_rest ys n x rest e
 
 module _ {A : Type 0} where
-  pub new_kept : (subs : Tables) (boxes : List (Putting (Outgoing A))) (ends : List (Taking (Outgoing A))) → AreNew (line_count subs) boxes ends → AreKept {A = A} subs [] boxes
-  new_kept subs boxes ends new = record {
+  pub new_kept : (subs : Tables) (outboxes : List (Putting (Outgoing A))) (ends : List (Taking (Outgoing A))) → AreNew (line_count subs) outboxes ends → OutboxesMatch {A = A} subs [] outboxes
+  new_kept subs outboxes ends new = record {
     count = new.box_count;
-    put = λ line within. All-get_or (λ (box : Putting (Outgoing A)). box.put ≡ []) boxes line no_box within new.put;
+    capacities = λ line within. All-get_or (λ (box : Putting (Outgoing A)). box.capacity ≡ CAPACITY) outboxes line no_outbox (let count = new.box_count in omega (arith, within, count)) new.capacities;
+    put = λ line within. All-get_or (λ (box : Putting (Outgoing A)). box.put ≡ []) outboxes line no_outbox within new.put;
     places = λ line on. absurd (true≢false (sym (all_off (line_count subs) line) ∙ on));
     few = omega arith;
   }
 
-  pub new_push : (lines : ℕ) (boxes : List (Putting (Outgoing A))) (ends : List (Taking (Outgoing A))) (box : Putting (Outgoing A)) (end : Taking (Outgoing A))
-      → AreNew lines boxes ends → box.queue ≡ end.queue → box.put ≡ [] → end.taken ≡ [] → AreNew (lines + 1) (boxes ++ box ∷ []) (ends ++ end ∷ [])
-  new_push lines boxes ends box end new tied put taken =
-      let one = length-append boxes (box ∷ []) in
+  pub new_push : (lines : ℕ) (outboxes : List (Putting (Outgoing A))) (ends : List (Taking (Outgoing A))) (box : Putting (Outgoing A)) (end : Taking (Outgoing A))
+      → AreNew lines outboxes ends → box.queue ≡ end.queue → box.capacity ≡ CAPACITY → box.put ≡ [] → end.taken ≡ [] → AreNew (lines + 1) (outboxes ++ box ∷ []) (ends ++ end ∷ [])
+  new_push lines outboxes ends box end new tied capacity put taken =
+      let one = length-append outboxes (box ∷ []) in
       let other = length-append ends (end ∷ []) in
       let was = new.box_count in
       let had = new.end_count in
       record {
         box_count = omega (arith, one, was);
         end_count = omega (arith, other, had);
-        queues = map-append (λ (e : Taking (Outgoing A)). e.queue) ends (end ∷ []) ∙ (λ i. new.queues i ++ sym tied i ∷ []) ∙ sym (map-append (λ (b : Putting (Outgoing A)). b.queue) boxes (box ∷ []));
-        put = All-push (λ (b : Putting (Outgoing A)). b.put ≡ []) boxes box new.put put;
+        queues = map-append (λ (e : Taking (Outgoing A)). e.queue) ends (end ∷ []) ∙ (λ i. new.queues i ++ sym tied i ∷ []) ∙ sym (map-append (λ (b : Putting (Outgoing A)). b.queue) outboxes (box ∷ []));
+        capacities = All-push (λ (b : Putting (Outgoing A)). b.capacity ≡ CAPACITY) outboxes box new.capacities capacity;
+        put = All-push (λ (b : Putting (Outgoing A)). b.put ≡ []) outboxes box new.put put;
         taken = All-push (λ (e : Taking (Outgoing A)). e.taken ≡ []) ends end new.taken taken;
       }
 

@@ -6,15 +6,16 @@ use Rattle.std.proofs.lemmas.List.{get_or_past}
 use Rattle.xp_outbox.specs.Ends.{Putting}
 use Rattle.xp_core.specs.declared.output.Outgoing.{Outgoing}
 use Rattle.xp_core.specs.declared.output.Output.{Output}
-use Rattle.xp_lock.specs.Boxes.{HasRoomFor, IsPut, box_at, no_box, with_items}
+use Rattle.xp_lock.specs.Outboxes.{outbox_at, no_outbox}
+use Rattle.xp_lock.specs.steps.Outboxes.{HasRoomFor, IsPut, with_items}
 use Rattle.xp_lock.specs.Outgoing.{to_line}
 
 module _ {A : Type 0} where
   -- a line whose outbox has a free place is there
-  pub box_there : (boxes : List (Putting (Outgoing A))) (line : ℕ) → 0 < (box_at boxes line).free → line < length boxes
-  box_there boxes line free = elim (cases_lt line (length boxes)) [
+  pub box_there : (outboxes : List (Putting (Outgoing A))) (line : ℕ) → 0 < (outbox_at outboxes line).free → line < length outboxes
+  box_there outboxes line free = elim (cases_lt line (length outboxes)) [
     | inl within ↦ within
-    | inr past ↦ let none : (box_at boxes line).free ≡ 0 = ap (λ b. b.free) (get_or_past boxes line no_box past) in absurd (omega (arith, free, none))
+    | inr past ↦ let none : (outbox_at outboxes line).free ≡ 0 = ap (λ b. b.free) (get_or_past outboxes line no_outbox past) in absurd (omega (arith, free, none))
   ]
 
   pub with_items_more : (box : Putting (Outgoing A)) (xs ys : List (Outgoing A)) → with_items (with_items box xs) ys ≡ with_items box (xs ++ ys)
@@ -35,56 +36,56 @@ module _ {A : Type 0} where
   to_line_other line output rest other =
       ap (λ b. map (λ (o : Output A). o.outgoing) (cond b (output ∷ filter (λ o. eqb o.line line) rest) (filter (λ o. eqb o.line line) rest))) (ne_eqb output.line line other)
 
-  pub room_first : (output : Output A) (rest : List (Output A)) (boxes : List (Putting (Outgoing A))) → HasRoomFor (output ∷ rest) boxes → 0 < (box_at boxes output.line).free
-  room_first output rest boxes room =
+  pub room_first : (output : Output A) (rest : List (Output A)) (outboxes : List (Putting (Outgoing A))) → HasRoomFor (output ∷ rest) outboxes → 0 < (outbox_at outboxes output.line).free
+  room_first output rest outboxes room =
       let many : length (to_line output.line (output ∷ rest)) ≡ length (output.outgoing ∷ to_line output.line rest) = ap length (to_line_same output.line output rest refl) in
       let enough = room output.line in
       omega (arith, many, enough)
 
   abbrev pub put_first : Output A → List (Putting (Outgoing A)) → List (Putting (Outgoing A))
-  put_first output boxes = set boxes output.line (with_items (box_at boxes output.line) (output.outgoing ∷ []))
+  put_first output outboxes = set outboxes output.line (with_items (outbox_at outboxes output.line) (output.outgoing ∷ []))
 
   -- one output, and then the others
-  first_at : (output : Output A) (rest : List (Output A)) (boxes : List (Putting (Outgoing A))) → HasRoomFor (output ∷ rest) boxes → (line : ℕ)
-      → (with_items (box_at (put_first output boxes) line) (to_line line rest) ≡ with_items (box_at boxes line) (to_line line (output ∷ rest)))
-      × (length (to_line line rest) ≤ (box_at (put_first output boxes) line).free)
-  first_at output rest boxes room line =
-      let given = with_items (box_at boxes output.line) (output.outgoing ∷ []) in
+  first_at : (output : Output A) (rest : List (Output A)) (outboxes : List (Putting (Outgoing A))) → HasRoomFor (output ∷ rest) outboxes → (line : ℕ)
+      → (with_items (outbox_at (put_first output outboxes) line) (to_line line rest) ≡ with_items (outbox_at outboxes line) (to_line line (output ∷ rest)))
+      × (length (to_line line rest) ≤ (outbox_at (put_first output outboxes) line).free)
+  first_at output rest outboxes room line =
+      let given = with_items (outbox_at outboxes output.line) (output.outgoing ∷ []) in
       elim (cases_eq line output.line) [
         | inl same ↦
-            let now : box_at (put_first output boxes) line ≡ given =
-            get_or-set_at boxes output.line line given no_box same (box_there boxes output.line (room_first output rest boxes room)) in
+            let now : outbox_at (put_first output outboxes) line ≡ given =
+            get_or-set_at outboxes output.line line given no_outbox same (box_there outboxes output.line (room_first output rest outboxes room)) in
             let items = to_line_same line output rest (sym same) in
             let many : length (to_line line (output ∷ rest)) ≡ length (output.outgoing ∷ to_line line rest) = ap length items in
-            let enough : length (to_line line (output ∷ rest)) ≤ (box_at boxes line).free = room line in
-            let left : (box_at (put_first output boxes) line).free ≡ (box_at boxes output.line).free - 1 = ap (λ b. b.free) now in
-            let place : (box_at boxes line).free ≡ (box_at boxes output.line).free = ap (λ l. (box_at boxes l).free) same in (
+            let enough : length (to_line line (output ∷ rest)) ≤ (outbox_at outboxes line).free = room line in
+            let left : (outbox_at (put_first output outboxes) line).free ≡ (outbox_at outboxes output.line).free - 1 = ap (λ b. b.free) now in
+            let place : (outbox_at outboxes line).free ≡ (outbox_at outboxes output.line).free = ap (λ l. (outbox_at outboxes l).free) same in (
               ap (λ b. with_items b (to_line line rest)) now
-                  ∙ with_items_more (box_at boxes output.line) (output.outgoing ∷ []) (to_line line rest)
-                  ∙ ap (λ l. with_items (box_at boxes l) (output.outgoing ∷ to_line line rest)) (sym same)
-                  ∙ ap (with_items (box_at boxes line)) (sym items),
+                  ∙ with_items_more (outbox_at outboxes output.line) (output.outgoing ∷ []) (to_line line rest)
+                  ∙ ap (λ l. with_items (outbox_at outboxes l) (output.outgoing ∷ to_line line rest)) (sym same)
+                  ∙ ap (with_items (outbox_at outboxes line)) (sym items),
               omega (arith, many, enough, left, place),
             )
         | inr other ↦
-            let now : box_at (put_first output boxes) line ≡ box_at boxes line = get_or-set_other boxes output.line line given no_box other in
+            let now : outbox_at (put_first output outboxes) line ≡ outbox_at outboxes line = get_or-set_other outboxes output.line line given no_outbox other in
             let items = to_line_other line output rest (λ same. other (sym same)) in
             let many : length (to_line line (output ∷ rest)) ≡ length (to_line line rest) = ap length items in
-            let enough : length (to_line line (output ∷ rest)) ≤ (box_at boxes line).free = room line in
-            let left : (box_at (put_first output boxes) line).free ≡ (box_at boxes line).free = ap (λ b. b.free) now in (
-              ap (λ b. with_items b (to_line line rest)) now ∙ ap (with_items (box_at boxes line)) (sym items),
+            let enough : length (to_line line (output ∷ rest)) ≤ (outbox_at outboxes line).free = room line in
+            let left : (outbox_at (put_first output outboxes) line).free ≡ (outbox_at outboxes line).free = ap (λ b. b.free) now in (
+              ap (λ b. with_items b (to_line line rest)) now ∙ ap (with_items (outbox_at outboxes line)) (sym items),
               omega (arith, many, enough, left),
             )
       ]
 
-  pub room_rest : (output : Output A) (rest : List (Output A)) (boxes : List (Putting (Outgoing A))) → HasRoomFor (output ∷ rest) boxes → HasRoomFor rest (put_first output boxes)
-  room_rest output rest boxes room line = (first_at output rest boxes room line).1
+  pub room_rest : (output : Output A) (rest : List (Output A)) (outboxes : List (Putting (Outgoing A))) → HasRoomFor (output ∷ rest) outboxes → HasRoomFor rest (put_first output outboxes)
+  room_rest output rest outboxes room line = (first_at output rest outboxes room line).1
 
-  pub put_rest : (output : Output A) (rest : List (Output A)) (boxes after : List (Putting (Outgoing A))) → HasRoomFor (output ∷ rest) boxes
-      → IsPut rest (put_first output boxes) after → IsPut (output ∷ rest) boxes after
-  put_rest output rest boxes after room put = record {
-    count = put.count ∙ length-set boxes output.line (with_items (box_at boxes output.line) (output.outgoing ∷ []));
-    each = λ line. put.each line ∙ (first_at output rest boxes room line).0;
+  pub put_rest : (output : Output A) (rest : List (Output A)) (outboxes after : List (Putting (Outgoing A))) → HasRoomFor (output ∷ rest) outboxes
+      → IsPut rest (put_first output outboxes) after → IsPut (output ∷ rest) outboxes after
+  put_rest output rest outboxes after room put = record {
+    count = put.count ∙ length-set outboxes output.line (with_items (outbox_at outboxes output.line) (output.outgoing ∷ []));
+    each = λ line. put.each line ∙ (first_at output rest outboxes room line).0;
   }
 
-  pub put_none : (boxes : List (Putting (Outgoing A))) → IsPut [] boxes boxes
-  put_none boxes = record { count = refl; each = λ line. sym (with_none (box_at boxes line)) }
+  pub put_none : (outboxes : List (Putting (Outgoing A))) → IsPut [] outboxes outboxes
+  put_none outboxes = record { count = refl; each = λ line. sym (with_none (outbox_at outboxes line)) }

@@ -4,45 +4,45 @@ use Rattle.atomic_table.specs.Seated.{TableId}
 use Rattle.xp_outbox.specs.Ends.{Putting}
 use Rattle.xp_core.specs.declared.event.Event.{Event}
 use Rattle.xp_core.specs.declared.output.Outgoing.{Outgoing}
-use Rattle.xp_lock.specs.declared.done.Done.{Done}
+use Rattle.xp_lock.specs.declared.receipt.Receipt.{Receipt}
 use Rattle.xp_lock.specs.declared.fault.OfferFault.{OfferFault}
 use Rattle.xp_lock.specs.declared.fault.OfferFault.TheVariants.{Halted, JournalFull, NoRoom, Memory}
-use Rattle.xp_lock.specs.Boxes.{LooksIf, box_at}
-use Rattle.xp_lock.specs.Switch.{Refuses, Switch, Takes, is_up}
+use Rattle.xp_lock.specs.Outboxes.{LooksIf, outbox_at}
+use Rattle.xp_lock.specs.CoreWithOutboxes.{Refuses, CoreWithOutboxes, Takes, is_up}
 use Rattle.xp_lock.proofs.Ready.{alike, as_many}
 
 module _ {A : Type 0} where
   abbrev pub queues : List (Putting (Outgoing A)) → List TableId
-  queues boxes = map (λ box. box.queue) boxes
+  queues outboxes = map (λ box. box.queue) outboxes
 
-  same_queues : (boxes after : List (Putting (Outgoing A))) → length after ≡ length boxes
-      → ((line : ℕ) → (box_at after line).queue ≡ (box_at boxes line).queue) → queues after ≡ queues boxes
+  same_queues : (outboxes after : List (Putting (Outgoing A))) → length after ≡ length outboxes
+      → ((line : ℕ) → (outbox_at after line).queue ≡ (outbox_at outboxes line).queue) → queues after ≡ queues outboxes
   same_queues [] [] count same = refl
   same_queues [] (x ∷ after) count same = absurd (omega (arith, count))
-  same_queues (x ∷ boxes) [] count same = absurd (omega (arith, count))
-  same_queues (x ∷ boxes) (y ∷ after) count same =
-      λ i. same 0 i ∷ same_queues boxes after (omega (arith, count)) (λ line. same (suc line)) i
+  same_queues (x ∷ outboxes) [] count same = absurd (omega (arith, count))
+  same_queues (x ∷ outboxes) (y ∷ after) count same =
+      λ i. same 0 i ∷ same_queues outboxes after (omega (arith, count)) (λ line. same (suc line)) i
 
-  pub queues_taken : (old : Switch A) (event : Event A) (done : Done) (new : Switch A) → Takes old event done new → queues new.boxes ≡ queues old.boxes
-  queues_taken old event done new takes = same_queues old.boxes new.boxes takes.count (λ line. (takes.boxes line).queue)
+  pub queues_taken : (old : CoreWithOutboxes A) (event : Event A) (done : Receipt) (new : CoreWithOutboxes A) → Takes old event done new → queues new.outboxes ≡ queues old.outboxes
+  queues_taken old event done new takes = same_queues old.outboxes new.outboxes takes.count (λ line. (takes.outboxes line).queue)
 
   -- what a refusal leaves as it was
-  pub record IsLeft (old new : Switch A) : Type 0 where
-    pub queues_same : queues new.boxes ≡ queues old.boxes
+  pub record IsLeft (old new : CoreWithOutboxes A) : Type 0 where
+    pub queues_same : queues new.outboxes ≡ queues old.outboxes
     pub history : new.history ≡ old.history
     pub subs : new.subs ≡ old.subs
 
-  all_left : (old new : Switch A) → new ≡ old → IsLeft old new
-  all_left old new same = record { queues_same = ap (λ s. queues s.boxes) same; history = ap (λ s. s.history) same; subs = ap (λ s. s.subs) same }
+  all_left : (old new : CoreWithOutboxes A) → new ≡ old → IsLeft old new
+  all_left old new same = record { queues_same = ap (λ s. queues s.outboxes) same; history = ap (λ s. s.history) same; subs = ap (λ s. s.subs) same }
 
-  looked_left : (old new : Switch A) (up : Bool) (line : ℕ) → new ≡ record old { boxes = new.boxes } → LooksIf up line old.boxes new.boxes → IsLeft old new
+  looked_left : (old new : CoreWithOutboxes A) (up : Bool) (line : ℕ) → new ≡ record old { outboxes = new.outboxes } → LooksIf up line old.outboxes new.outboxes → IsLeft old new
   looked_left old new up line same looks = record {
-    queues_same = same_queues old.boxes new.boxes (as_many up line old.boxes new.boxes looks) (λ other. (alike up line old.boxes new.boxes looks other).queue);
+    queues_same = same_queues old.outboxes new.outboxes (as_many up line old.outboxes new.outboxes looks) (λ other. (alike up line old.outboxes new.outboxes looks other).queue);
     history = ap (λ s. s.history) same;
     subs = ap (λ s. s.subs) same;
   }
 
-  pub queues_left : (old : Switch A) (event : Event A) (fault : OfferFault A) (new : Switch A) → Refuses old event fault new → IsLeft old new
+  pub queues_left : (old : CoreWithOutboxes A) (event : Event A) (fault : OfferFault A) (new : CoreWithOutboxes A) → Refuses old event fault new → IsLeft old new
   queues_left old event (Halted back) new h = all_left old new h.2
   queues_left old event (JournalFull back) new h = all_left old new h.3
   queues_left old event (NoRoom back) new h = looked_left old new true event.line h.4.0 h.4.1

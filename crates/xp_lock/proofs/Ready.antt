@@ -6,10 +6,11 @@ use Rattle.xp_subs.specs.Tables.{Tables}
 use Rattle.xp_core.specs.declared.entry.Entry.{Entry}
 use Rattle.xp_core.specs.declared.event.Event.{Event}
 use Rattle.xp_core.specs.declared.output.Outgoing.{Outgoing}
-use Rattle.xp_lock.specs.declared.done.Done.{Done}
-use Rattle.xp_lock.specs.Boxes.{AreKept, IsAlike, IsLookedAt, LooksAt, LooksIf, box_at}
+use Rattle.xp_lock.specs.declared.receipt.Receipt.{Receipt}
+use Rattle.xp_lock.specs.Outboxes.{IsLookedAt, LooksAt, LooksIf, outbox_at}
+use Rattle.xp_lock.specs.steps.Outboxes.{OutboxesMatch, IsAlike}
 use Rattle.xp_lock.specs.Outgoing.{put_out_to}
-use Rattle.xp_lock.specs.Switch.{Switch, Takes}
+use Rattle.xp_lock.specs.CoreWithOutboxes.{CoreWithOutboxes, Takes}
 
 module _ {A : Type 0} where
   pub alike_looked : (box after : Putting (Outgoing A)) → IsLookedAt box after → IsAlike box after
@@ -31,43 +32,44 @@ module _ {A : Type 0} where
     free = let a = one.free in let b = other.free in omega (arith, a, b);
   }
 
-  alike_at : (line : ℕ) (boxes after : List (Putting (Outgoing A))) → LooksAt line boxes after → (other : ℕ) → IsAlike (box_at boxes other) (box_at after other)
-  alike_at line boxes after looks other = elim (cases_eq other line) [
-    | inl same ↦ subst (λ l. IsAlike (box_at boxes l) (box_at after l)) (sym same) (record {
+  alike_at : (line : ℕ) (outboxes after : List (Putting (Outgoing A))) → LooksAt line outboxes after → (other : ℕ) → IsAlike (outbox_at outboxes other) (outbox_at after other)
+  alike_at line outboxes after looks other = elim (cases_eq other line) [
+    | inl same ↦ subst (λ l. IsAlike (outbox_at outboxes l) (outbox_at after l)) (sym same) (record {
       queue = ap (λ b. b.queue) looks.box.after_is;
       capacity = ap (λ b. b.capacity) looks.box.after_is;
       put = ap (λ b. b.put) looks.box.after_is;
       free = looks.box.no_less;
     })
-    | inr apart ↦ subst (λ b. IsAlike (box_at boxes other) b) (sym (looks.others other apart)) (record { queue = refl; capacity = refl; put = refl; free = omega arith })
+    | inr apart ↦ subst (λ b. IsAlike (outbox_at outboxes other) b) (sym (looks.others other apart)) (record { queue = refl; capacity = refl; put = refl; free = omega arith })
   ]
 
-  pub alike : (up : Bool) (line : ℕ) (boxes after : List (Putting (Outgoing A))) → LooksIf up line boxes after → (other : ℕ) → IsAlike (box_at boxes other) (box_at after other)
-  alike true line boxes after looks other = alike_at line boxes after looks other
-  alike false line boxes after same other =
-      subst (λ bs. IsAlike (box_at boxes other) (box_at bs other)) (sym same) (record { queue = refl; capacity = refl; put = refl; free = omega arith })
+  pub alike : (up : Bool) (line : ℕ) (outboxes after : List (Putting (Outgoing A))) → LooksIf up line outboxes after → (other : ℕ) → IsAlike (outbox_at outboxes other) (outbox_at after other)
+  alike true line outboxes after looks other = alike_at line outboxes after looks other
+  alike false line outboxes after same other =
+      subst (λ bs. IsAlike (outbox_at outboxes other) (outbox_at bs other)) (sym same) (record { queue = refl; capacity = refl; put = refl; free = omega arith })
 
-  pub as_many : (up : Bool) (line : ℕ) (boxes after : List (Putting (Outgoing A))) → LooksIf up line boxes after → length after ≡ length boxes
-  as_many true line boxes after looks = looks.count
-  as_many false line boxes after same = ap length same
+  pub as_many : (up : Bool) (line : ℕ) (outboxes after : List (Putting (Outgoing A))) → LooksIf up line outboxes after → length after ≡ length outboxes
+  as_many true line outboxes after looks = looks.count
+  as_many false line outboxes after same = ap length same
 
-  pub kept_ready : (subs : Tables) (history : List (Entry A)) (up : Bool) (line : ℕ) (boxes after : List (Putting (Outgoing A)))
-      → LooksIf up line boxes after → AreKept subs history boxes → AreKept subs history after
-  kept_ready subs history up line boxes after looks kept =
-      let same = as_many up line boxes after looks in
+  pub kept_ready : (subs : Tables) (history : List (Entry A)) (up : Bool) (line : ℕ) (outboxes after : List (Putting (Outgoing A)))
+      → LooksIf up line outboxes after → OutboxesMatch subs history outboxes → OutboxesMatch subs history after
+  kept_ready subs history up line outboxes after looks kept =
+      let same = as_many up line outboxes after looks in
       record {
         count = same ∙ kept.count;
-        put = λ other within. (alike up line boxes after looks other).put ∙ kept.put other (omega (arith, within, same));
-        places = λ other on. let was : 24 ≤ (box_at boxes other).free = kept.places other on in let more = (alike up line boxes after looks other).free in omega (arith, was, more);
+        capacities = λ other within. (alike up line outboxes after looks other).capacity ∙ kept.capacities other within;
+        put = λ other within. (alike up line outboxes after looks other).put ∙ kept.put other (omega (arith, within, same));
+        places = λ other on. let was : 24 ≤ (outbox_at outboxes other).free = kept.places other on in let more = (alike up line outboxes after looks other).free in omega (arith, was, more);
         few = kept.few;
       }
 
   -- what a take does since the look, it does since before
-  pub takes_ready : (subs : Tables) (history : List (Entry A)) (halted up : Bool) (line : ℕ) (boxes after : List (Putting (Outgoing A))) (event : Event A) (done : Done) (new : Switch A)
-      → LooksIf up line boxes after
-      → Takes (record { subs = subs; history = history; boxes = after; halted = halted }) event done new
-      → Takes (record { subs = subs; history = history; boxes = boxes; halted = halted }) event done new
-  takes_ready subs history halted up line boxes after event done new looks takes = record {
+  pub takes_ready : (subs : Tables) (history : List (Entry A)) (halted up : Bool) (line : ℕ) (outboxes after : List (Putting (Outgoing A))) (event : Event A) (done : Receipt) (new : CoreWithOutboxes A)
+      → LooksIf up line outboxes after
+      → Takes (record { subs = subs; history = history; outboxes = after; halted = halted }) event done new
+      → Takes (record { subs = subs; history = history; outboxes = outboxes; halted = halted }) event done new
+  takes_ready subs history halted up line outboxes after event done new looks takes = record {
     running = takes.running;
     places = takes.places;
     entry = takes.entry;
@@ -77,10 +79,10 @@ module _ {A : Type 0} where
     known = takes.known;
     forces = takes.forces;
     few = takes.few;
-    count = takes.count ∙ as_many up line boxes after looks;
-    boxes = λ other.
-        let was = alike up line boxes after looks other in
-        let given = takes.boxes other in
+    count = takes.count ∙ as_many up line outboxes after looks;
+    outboxes = λ other.
+        let was = alike up line outboxes after looks other in
+        let given = takes.outboxes other in
         record {
           queue = given.queue ∙ was.queue;
           capacity = given.capacity ∙ was.capacity;

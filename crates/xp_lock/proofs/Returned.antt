@@ -3,11 +3,11 @@ use Rattle.std.proofs.Common.{◌≡◌, ◌≢◌, ℕ, true, false, true≢fal
 use Rattle.std.proofs.lemmas.Bool.{ne_eqb}
 use Rattle.std.specs.Prelude.{◌||◌}
 use Rattle.xp_core.specs.declared.entry.Entry.{Entry}
-use Rattle.xp_lock.specs.declared.word.View.{View}
+use Rattle.xp_lock.specs.declared.history_length.View.{View}
 use Rattle.xp_lock.specs.Closing.{NoneTwice, has_line}
 use Rattle.xp_lock.specs.Given.{is_among}
 use Rattle.xp_lock.specs.Passes.{Pass}
-use Rattle.xp_lock.specs.Sight.{Sighted}
+use Rattle.xp_lock.specs.steps.HistorySeat.{SeatState}
 use Rattle.xp_lock.specs.Views.{closing, keeping}
 
 module _ {A : Type 0} where
@@ -32,19 +32,19 @@ module _ {A : Type 0} where
   none_twice passes come = (none_again [] passes come).0
 
   -- only which claims were given back is another
-  abbrev pub Keeps : Sighted A → Sighted A → Type 0
+  abbrev pub Keeps : SeatState A → SeatState A → Type 0
   Keeps first now = now ≡ record first { knows = closing first.knows.next first.knows.all now.knows.returned }
 
-  pub keeps_first : (first : Sighted A) (next : ℕ) (all : List (Entry A)) → first.knows ≡ keeping next all → Keeps first first
+  pub keeps_first : (first : SeatState A) (next : ℕ) (all : List (Entry A)) → first.knows ≡ keeping next all → Keeps first first
   keeps_first first next all is =
       ap (λ (v : View A). record first { knows = v }) (is ∙ (λ i. closing (sym (ap (λ v. v.next) is) i) (sym (ap (λ v. v.all) is) i) (sym (ap (λ v. v.returned) is) i)))
 
-  pub keeps_on : (first now after : Sighted A) (line : ℕ) → Keeps first now
+  pub keeps_on : (first now after : SeatState A) (line : ℕ) → Keeps first now
       → after ≡ record now { knows = closing now.knows.next now.knows.all (line ∷ now.knows.returned) } → Keeps first after
   keeps_on first now after line was step =
       step ∙ (λ i. record (was i) { knows = closing (was i).knows.next (was i).knows.all (line ∷ now.knows.returned) })
       ∙ (λ i. record first { knows = closing first.knows.next first.knows.all (sym (ap (λ s. s.knows.returned) step) i) })
 
-  pub keeps_all : (first now : Sighted A) → Keeps first now → now.knows ≡ closing now.knows.next now.knows.all now.knows.returned
+  pub keeps_all : (first now : SeatState A) → Keeps first now → now.knows ≡ closing now.knows.next now.knows.all now.knows.returned
   keeps_all first now was =
       ap (λ s. s.knows) was ∙ (λ i. closing (sym (ap (λ s. s.knows.next) was) i) (sym (ap (λ s. s.knows.all) was) i) now.knows.returned)

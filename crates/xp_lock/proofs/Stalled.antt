@@ -7,30 +7,30 @@ use Rattle.xp_causes.specs.declared.clearing_cause.TheConstants.{OUT_OF_ORDER}
 use Rattle.xp_causes.specs.declared.diagnostic.TheConstants.{NO_ADDITIONAL_INFORMATION}
 use Rattle.xp_channel.specs.declared.action.Action.{Action}
 use Rattle.xp_channel.specs.declared.action.Action.TheVariants.{Fall}
-use Rattle.xp_channel.specs.declared.kind.Kind.TheVariants as kinds
+use Rattle.xp_channel.specs.declared.kind.EventKind.TheVariants as kinds
 use Rattle.xp_channel.specs.Table.{cell}
 use Rattle.xp_packets.specs.declared.packet.Packet.{Packet}
 use Rattle.xp_subs.specs.Tables.{Tables}
 use Rattle.xp_core.specs.declared.entry.Entry.{Entry}
 use Rattle.xp_core.specs.declared.event.What.TheVariants.{Stall}
 use Rattle.xp_core.specs.declared.output.Output.{Output}
-use Rattle.xp_core.specs.Acts.{Acts, IsPlain, told_of_fall}
-use Rattle.xp_core.specs.Changes.{GoesOut, all_changed, changed}
-use Rattle.xp_core.specs.Channel.{State, Off, Ready, Waiting, Ringing, Talking, Cleared, channel_of, is_off}
-use Rattle.xp_core.specs.Coupling.{IsEnd}
-use Rattle.xp_core.specs.Does.{does, leaves}
+use Rattle.xp_core.specs.Acts.{Acts, IsPlain, outputs_of_fall}
+use Rattle.xp_machine.specs.Changes.{GoesOut, all_changed, changed}
+use Rattle.xp_machine.specs.Channel.{State, Off, Ready, Waiting, Ringing, Talking, Cleared, channel_of, is_off}
+use Rattle.xp_machine.specs.Coupling.{IsEnd}
+use Rattle.xp_core.specs.Effects.{effects_of, leaves}
 use Rattle.xp_core.specs.Outcomes.{taken_by}
-use Rattle.xp_core.specs.Setting.{Setting, setting}
+use Rattle.xp_core.specs.StepContext.{StepContext, step_context}
 use Rattle.xp_core.specs.Step.{Step}
 use Rattle.xp_core.specs.Table.{action_at, kind_of}
-use Rattle.xp_core.specs.Stalling.{told_of_stall}
-use Rattle.xp_core.specs.Told.{outputs_of, send_far}
-use Rattle.xp_core.specs.World.{Call, Line, World, call_on, far_end, off_line, state_at}
-use Rattle.xp_core.proofs.InCall.{end_of, shown_on}
+use Rattle.xp_core.specs.steps.Stalling.{outputs_of_stall}
+use Rattle.xp_core.specs.EventOutputs.{outputs_of, send_far}
+use Rattle.xp_machine.specs.World.{Call, Line, World, call_on, far_end, off_line, state_at}
+use Rattle.xp_machine.proofs.InCall.{end_of, shown_on}
 use Rattle.xp_core.proofs.Sounds.{IsRight}
 use Rattle.xp_lock.specs.Forced.{IsLowestDue, Stalls}
 use Rattle.xp_lock.specs.Outgoing.{to_line}
-use Rattle.xp_lock.specs.Switch.{is_up}
+use Rattle.xp_lock.specs.CoreWithOutboxes.{is_up}
 use Rattle.xp_lock.proofs.Calls.{AreClosed, HasBoth, all_come}
 use Rattle.xp_lock.proofs.Touches.{Touches, touches}
 use Rattle.xp_lock.proofs.Trio.{Among, among_either, far_of, goes_to, taken_among}
@@ -85,13 +85,13 @@ module _ {A : Type 0} (tables : Tables) (before : List (Entry A)) (world : World
   abbrev line : ℕ
   line = stall.event.line
 
-  abbrev at : Setting A
-  at = setting tables before world line
+  abbrev at : StepContext A
+  at = step_context tables before world line
 
   action_is : action_at world stall.event ≡ Fall
   action_is = ap (λ w. cell (channel_of (state_at world line)) (kind_of w)) is ∙ falls (state_at world line) on
 
-  acts : IsPlain (told_of_fall at stall.event.what) stall.outcome step.told
+  acts : IsPlain (outputs_of_fall at stall.event.what) stall.outcome step.told
   acts = let P : Action → Type 0 = λ a. Acts at stall.event.what a stall.outcome step.told in subst P action_is step.acts
 
   untaken : taken_by stall.outcome ≡ None
@@ -102,17 +102,17 @@ module _ {A : Type 0} (tables : Tables) (before : List (Entry A)) (world : World
 
   -- ---- what it puts out
 
-  outputs_are : stall.outputs ≡ outputs_of (told_of_stall at)
-  outputs_are = step.outputs ∙ ap outputs_of acts.1 ∙ ap (λ w. outputs_of (told_of_fall at w)) is
+  outputs_are : stall.outputs ≡ outputs_of (outputs_of_stall at)
+  outputs_are = step.outputs ∙ ap outputs_of acts.1 ∙ ap (λ w. outputs_of (outputs_of_fall at w)) is
 
   pub few : (l : ℕ) → length (to_line l stall.outputs) ≤ 2
   few l =
       let each : length (to_line l stall.outputs) ≤ length stall.outputs = to_line_few l stall.outputs in
-      let all : length stall.outputs ≡ length (outputs_of (told_of_stall at)) = ap length outputs_are in
-      let two : length (outputs_of (told_of_stall at)) ≤ 2 = two_at_most (call_on world line) _ in
+      let all : length stall.outputs ≡ length (outputs_of (outputs_of_stall at)) = ap length outputs_are in
+      let two : length (outputs_of (outputs_of_stall at)) ≤ 2 = two_at_most (call_on world line) _ in
       omega (arith, each, all, two)
     where
-      two_at_most : (found : Option (ℕ × Call)) (packet : Packet A) → length (outputs_of (record (told_of_stall at) { far = send_far world line found packet })) ≤ 2
+      two_at_most : (found : Option (ℕ × Call)) (packet : Packet A) → length (outputs_of (record (outputs_of_stall at) { far = send_far world line found packet })) ≤ 2
       two_at_most None packet = omega arith
       two_at_most (Some found) packet = omega arith
 
@@ -152,7 +152,7 @@ module _ {A : Type 0} (tables : Tables) (before : List (Entry A)) (world : World
 
   pub off_after : is_off (state_at next line) ≡ true
   off_after =
-      let P : Action → Type 0 = λ a. next ≡ all_changed (does at stall.event.what a stall.outcome) world in
+      let P : Action → Type 0 = λ a. next ≡ all_changed (effects_of at stall.event.what a stall.outcome) world in
       let leads = subst P action_is step.leads in
       ap (λ w. is_off (state_at w line)) leads ∙ gone_out line (call_on world line) world step.line
 

@@ -1,4 +1,4 @@
--- Each step on the word keeps its rule.
+-- Each step on the history length keeps its rule.
 use Rattle.std.proofs.Common.{◌≡◌, ◌≢◌, ℕ, ◌+◌, ◌<◌, true, false, true≢false, cond, eqb, List, [], ◌∷◌, ◌++◌, length, set, sym, refl, ap, ◌∙◌, subst, ⊎_elim, arith, length-append, length-set, get_or-set_same, eq-eqb}
 use Rattle.std.proofs.lemmas.Bool.{ne_eqb}
 use Rattle.std.specs.Prelude.{◌||◌, slice_index}
@@ -9,10 +9,11 @@ use Rattle.atomic_table.proofs.Lists.{at_set, exchanged}
 use Rattle.atomic_table.specs.Table.{Allows, Joins, Splits, keeps}
 use Rattle.xp_core.specs.declared.entry.Entry.{Entry}
 use Rattle.xp_core.specs.Exchange.{Exchange}
-use Rattle.xp_lock.specs.declared.word.View.{View}
+use Rattle.xp_lock.specs.declared.history_length.View.{View}
 use Rattle.xp_lock.specs.Given.{is_among}
 use Rattle.xp_lock.specs.Handed.{handed}
-use Rattle.xp_lock.specs.Views.{Fits, HasSeenOwn, IsChecked, IsGrown, IsShared, IsShown, StartsWith, claim_of, closing, joined, keeping, next_claim, nobody, one_further, unclaimed}
+use Rattle.xp_lock.specs.Views.{StartsWith, closing, keeping, next_claim, one_further}
+use Rattle.xp_lock.specs.steps.Views.{Fits, HasSeenOwn, IsChecked, IsGrown, IsShared, IsPublished, claim_of, joined, nobody, unclaimed}
 use Rattle.xp_lock.proofs.Lists.{Each, each_new, each_set, handed-none, starts_empty, starts_longer, starts_whole}
 
 off : false ≡ true → ⊥
@@ -29,7 +30,7 @@ given_else : (owner : ℕ → ℕ) (line seat other : ℕ) → other ≢ line �
 given_else owner line seat other apart = ap (λ b. cond b seat (owner other)) (ne_eqb other line apart)
 
 module _ {A : Type 0} where
-  -- making the word
+  -- making the history length
   pub begins : IsShared {A = A} (0 ∷ []) (keeping 0 [] ∷ [])
   begins = record {
     keeper_seat = 0;
@@ -38,7 +39,7 @@ module _ {A : Type 0} where
     history = [];
     returned = [];
     one = omega arith;
-    word = refl;
+    history_length = refl;
     each = λ seat view e. each_new (Fits 0 (λ _. 0) 0 [] []) [] (keeping 0 []) (record { keeps = λ _. (refl, refl, refl, refl); claims = λ c. absurd (off c) })
         (λ j u none. absurd (some-ne-none u (sym none))) seat view e;
   }
@@ -48,7 +49,7 @@ module _ {A : Type 0} where
     pub starts : (seat : ℕ) (v : View A) → get_elem? views seat ≡ some v → v.keeps ≡ true → v.all ≡ [] → v.returned ≡ []
         → IsShared words (set views seat (one_further v) ++ next_claim v ∷ [])
     starts seat v at may none back =
-        let mine = (h.each seat v at).keeps may in
+        let own_entries = (h.each seat v at).keeps may in
         let vs : List (View A) = set views seat (one_further v) in
         let owner : ℕ → ℕ = given_to h.owner v.next (length vs) in
         let F : ℕ → View A → Type 0 = Fits h.keeper_seat owner (v.next + 1) h.history h.returned in
@@ -59,25 +60,25 @@ module _ {A : Type 0} where
           history = h.history;
           returned = h.returned;
           one = h.one;
-          word = h.word;
+          history_length = h.history_length;
           each = each_new F vs (next_claim v)
               (record {
                 keeps = λ k. absurd (off k);
                 claims = λ _. record {
                   owned = given_here h.owner v.next (length vs);
                   given = omega arith;
-                  out = ap (is_among v.next) (sym mine.3 ∙ back);
+                  out = ap (is_among v.next) (sym own_entries.3 ∙ back);
                   front = starts_empty h.history;
-                  own = ap (handed v.next) (sym mine.1 ∙ none);
+                  own = ap (handed v.next) (sym own_entries.1 ∙ none);
                 };
               })
               (each_set F views seat (one_further v)
-              (record { keeps = λ _. (mine.0, mine.1, refl, mine.3); claims = λ c. absurd (off c) })
+              (record { keeps = λ _. (own_entries.0, own_entries.1, refl, own_entries.3); claims = λ c. absurd (off c) })
               (λ j u other e. record {
-                keeps = λ k. absurd (other (((h.each j u e).keeps k).0 ∙ sym mine.0));
+                keeps = λ k. absurd (other (((h.each j u e).keeps k).0 ∙ sym own_entries.0));
                 claims = λ c. let was = (h.each j u e).claims c in record {
-                  owned = given_else h.owner v.next (length vs) u.line (λ same. let below : u.line < h.next = was.given in omega (arith, below, same, mine.2)) ∙ was.owned;
-                  given = let below : u.line < h.next = was.given in omega (arith, below, mine.2);
+                  owned = given_else h.owner v.next (length vs) u.line (λ same. let below : u.line < h.next = was.given in omega (arith, below, same, own_entries.2)) ∙ was.owned;
+                  given = let below : u.line < h.next = was.given in omega (arith, below, own_entries.2);
                   out = was.out;
                   front = was.front;
                   own = was.own;
@@ -89,7 +90,7 @@ module _ {A : Type 0} where
     pub gives : (seat : ℕ) (v : View A) → get_elem? views seat ≡ some v → v.claims ≡ true
         → IsShared words (set views seat (unclaimed v) ++ claim_of v ∷ [])
     gives seat v at may =
-        let mine = (h.each seat v at).claims may in
+        let own_entries = (h.each seat v at).claims may in
         let vs : List (View A) = set views seat (unclaimed v) in
         let owner : ℕ → ℕ = given_to h.owner v.line (length vs) in
         let F : ℕ → View A → Type 0 = Fits h.keeper_seat owner h.next h.history h.returned in
@@ -100,18 +101,18 @@ module _ {A : Type 0} where
           history = h.history;
           returned = h.returned;
           one = h.one;
-          word = h.word;
+          history_length = h.history_length;
           each = each_new F vs (claim_of v)
               (record {
                 keeps = λ k. absurd (off k);
-                claims = λ _. record { owned = given_here h.owner v.line (length vs); given = mine.given; out = mine.out; front = mine.front; own = mine.own };
+                claims = λ _. record { owned = given_here h.owner v.line (length vs); given = own_entries.given; out = own_entries.out; front = own_entries.front; own = own_entries.own };
               })
               (each_set F views seat (unclaimed v)
               (record { keeps = λ k. (h.each seat v at).keeps k; claims = λ c. absurd (off c) })
               (λ j u other e. record {
                 keeps = λ k. (h.each j u e).keeps k;
                 claims = λ c. let was = (h.each j u e).claims c in record {
-                  owned = given_else h.owner v.line (length vs) u.line (λ same. other (sym was.owned ∙ ap h.owner same ∙ mine.owned)) ∙ was.owned;
+                  owned = given_else h.owner v.line (length vs) u.line (λ same. other (sym was.owned ∙ ap h.owner same ∙ own_entries.owned)) ∙ was.owned;
                   given = was.given;
                   out = was.out;
                   front = was.front;
@@ -152,7 +153,7 @@ module _ {A : Type 0} where
           history = h.history;
           returned = h.returned;
           one = h.one;
-          word = h.word;
+          history_length = h.history_length;
           each = each_set F (set views seat (joined v u)) other nobody
               (record { keeps = λ k. absurd (off k); claims = λ c. absurd (off c) })
               (λ j w apart e. inner j w e apart);
@@ -183,7 +184,7 @@ module _ {A : Type 0} where
           history = now;
           returned = h.returned;
           one = subst (λ k. 0 < k) (sym (length-set words 0 n)) h.one;
-          word = get_or-set_same words 0 n 0 h.one ∙ long ∙ ap (λ xs. length xs + length more) kept.1 ∙ sym (length-append h.history more);
+          history_length = get_or-set_same words 0 n 0 h.one ∙ long ∙ ap (λ xs. length xs + length more) kept.1 ∙ sym (length-append h.history more);
           each = each_set F views seat (record v { all = v.all ++ more; seen = v.all ++ more })
               (record {
                 keeps = λ _. (kept.0, ap (λ xs. xs ++ more) kept.1, kept.2, kept.3);
@@ -226,7 +227,7 @@ module _ {A : Type 0} where
           history = h.history;
           returned = returned;
           one = subst (λ k. 0 < k) (sym (length-set words 0 n)) h.one;
-          word = get_or-set_same words 0 n 0 h.one ∙ h.word;
+          history_length = get_or-set_same words 0 n 0 h.one ∙ h.history_length;
           each = each_set F views seat (closing v.next v.all (v.line ∷ v.returned))
               (record { keeps = λ _. (kept.0, kept.1, kept.2, ap (λ xs. v.line ∷ xs) kept.3); claims = λ c. absurd (off c) })
               (λ j u other e. record {
@@ -256,18 +257,18 @@ module _ {A : Type 0} where
 
   pub shows : (slots seat : ℕ) (me : View A × List (ℕ × Exchange A)) (core : Exchange A) (before count : ℕ) → me.0.keeps ≡ true → me.0.claims ≡ true
       → before ≡ length me.0.all → count ≡ length core.history → IsGrown me.0.line me.0.all core.history
-      → Allows {S = Exchange A} (λ s. IsShared s.words s.views) slots seat me 0 (λ n. either (eqb n before) count n) (λ _ m. IsShown core.history me.0 m.0 × (m.1 ≡ me.1))
+      → Allows {S = Exchange A} (λ s. IsShared s.words s.views) slots seat me 0 (λ n. either (eqb n before) count n) (λ _ m. IsPublished core.history me.0 m.0 × (m.1 ≡ me.1))
   shows slots seat me core before count may claims was now grown s h long at below =
       let v = me.0 in
       let n : ℕ = slice_index s.words 0 in
       let after : View A = record v { all = core.history; seen = core.history } in
-      let Shown : ℕ → List (Entry A) → Type 0 = λ word xs. IsShared (set s.words 0 word) (set s.views seat (record v { all = xs; seen = xs })) in
-      let found : n ≡ before = h.word ∙ ap length (sym ((h.each seat v at).keeps may).1) ∙ sym was in
+      let Shown : ℕ → List (Entry A) → Type 0 = λ history_length xs. IsShared (set s.words 0 history_length) (set s.views seat (record v { all = xs; seen = xs })) in
+      let found : n ≡ before = h.history_length ∙ ap length (sym ((h.each seat v at).keeps may).1) ∙ sym was in
       let added = adds_to s.words s.views h seat v grown.more count at may claims (now ∙ ap length grown.grown_is ∙ length-append v.all grown.more) grown.others in (
         after,
         keeps,
         tt,
-        exchanged n before count (λ word. Shown word core.history) (λ _. subst (Shown count) (sym grown.grown_is) added) (λ other. absurd (other found)),
+        exchanged n before count (λ history_length. Shown history_length core.history) (λ _. subst (Shown count) (sym grown.grown_is) added) (λ other. absurd (other found)),
         (record { shown = refl; seen = seen_own s.words s.views h seat v at may claims }, refl),
       )
 

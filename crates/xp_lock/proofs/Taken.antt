@@ -11,16 +11,17 @@ use mathlib.Core.List.{IsPrefix}
 use Rattle.xp_charge.specs.Lines.{HasLines as NamesLines}
 use Rattle.xp_subs.specs.Tables.{Tables, line_count}
 use Rattle.xp_core.specs.declared.entry.Entry.{Entry}
-use Rattle.xp_core.specs.Few.{AreFew}
+use Rattle.xp_core.specs.OutputsPerLine.{AreFew}
 use Rattle.xp_core.specs.Lines.{HasLines}
 use Rattle.xp_core.specs.Records.{records_of}
 use Rattle.xp_core.specs.Run.{Run}
 use Rattle.xp_core.specs.Step.{Step}
-use Rattle.xp_core.specs.World.{World, opening}
+use Rattle.xp_machine.specs.World.{World, opening}
 use Rattle.xp_core.proofs.Agreed.{run_agreed}
 use Rattle.xp_core.proofs.Few.{few_of_step}
 use Rattle.xp_core.proofs.RunLemmas.{run_keeps, run_push}
-use Rattle.xp_lock.specs.Closing.{AreCounted, AreTold, AreWithin, Closed, IsCounted, IsTold, taken_by}
+use Rattle.xp_lock.specs.Closing.{AreCounted, PassesMatch, Closed, IsCounted, PassMatches, taken_by}
+use Rattle.xp_lock.specs.steps.Closing.{AreWithin}
 use Rattle.xp_lock.specs.Given.{is_among}
 use Rattle.xp_lock.specs.Outgoing.{put_out_to, to_line}
 use Rattle.xp_lock.specs.Passes.{Pass}
@@ -127,19 +128,19 @@ module _ {A : Type 0} where
   abbrev pub AreNoted : List ℕ → List (Pass A) → Type 0
   AreNoted counts passes = All (IsNoted counts) passes
 
-  counted_one : (book : Closed A) (pass : Pass A) → IsTold book.history pass → IsNoted book.taken pass → IsCounted book pass
+  counted_one : (book : Closed A) (pass : Pass A) → PassMatches book.history pass → IsNoted book.taken pass → IsCounted book pass
   counted_one book pass told count = record {
     count = count;
     first = sym (take-append_seam pass.taken told.taken.0) ∙ ap (λ n. take n (pass.taken ++ told.taken.0)) (sym count)
         ∙ ap (λ xs. take (taken_by book.taken pass.line) xs) told.taken.1;
   }
 
-  pub counted_all : (book : Closed A) (passes : List (Pass A)) → AreTold book.history passes → AreNoted book.taken passes → AreCounted book passes
+  pub counted_all : (book : Closed A) (passes : List (Pass A)) → PassesMatch book.history passes → AreNoted book.taken passes → AreCounted book passes
   counted_all book [] told noted = All-nil (IsCounted book)
   counted_all book (pass ∷ passes) told noted =
       All-cons (IsCounted book) pass passes
-      (counted_one book pass (All-head (IsTold book.history) pass passes told) (All-head (IsNoted book.taken) pass passes noted))
-      (counted_all book passes (All-tail (IsTold book.history) pass passes told) (All-tail (IsNoted book.taken) pass passes noted))
+      (counted_one book pass (All-head (PassMatches book.history) pass passes told) (All-head (IsNoted book.taken) pass passes noted))
+      (counted_all book passes (All-tail (PassMatches book.history) pass passes told) (All-tail (IsNoted book.taken) pass passes noted))
 
   -- ---- the lines that records name
 

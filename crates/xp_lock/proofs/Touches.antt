@@ -6,8 +6,8 @@ use Rattle.std.proofs.Common.{get_or-set_other}
 use Rattle.std.specs.List.{AllByRecursion}
 use Rattle.xp_channel.specs.declared.action.Action.{Action}
 use Rattle.xp_channel.specs.declared.action.Action.TheVariants.{Nothing, Rise}
-use Rattle.xp_channel.specs.declared.kind.Kind.{Kind}
-use Rattle.xp_channel.specs.declared.kind.Kind.TheVariants as kinds
+use Rattle.xp_channel.specs.declared.kind.EventKind.{EventKind}
+use Rattle.xp_channel.specs.declared.kind.EventKind.TheVariants as kinds
 use Rattle.xp_channel.specs.Kinds.{kind_of as packet_kind}
 use Rattle.xp_channel.specs.Table.{cell}
 use Rattle.xp_packets.specs.declared.end.End.{End}
@@ -20,22 +20,22 @@ use Rattle.xp_core.specs.declared.event.What.{What}
 use Rattle.xp_core.specs.declared.event.What.TheVariants as events
 use Rattle.xp_core.specs.declared.output.Output.{Output}
 use Rattle.xp_core.specs.Acts.{Acts}
-use Rattle.xp_core.specs.Carried.{line_at_end}
-use Rattle.xp_core.specs.Changes.{Change, Rises, Leaves, Begins, IsRefused, Connects, Ends, all_changed, changed}
-use Rattle.xp_core.specs.Channel.{State, Off, Ready, Waiting, Ringing, Talking, Cleared, channel_of, is_off}
-use Rattle.xp_core.specs.Coupling.{AreCoupled}
-use Rattle.xp_core.specs.Setting.{Setting, setting}
+use Rattle.xp_machine.specs.CallEnds.{line_at_end}
+use Rattle.xp_machine.specs.Changes.{Change, Rises, Leaves, Begins, IsRefused, Connects, Ends, all_changed, changed}
+use Rattle.xp_machine.specs.Channel.{State, Off, Ready, Waiting, Ringing, Talking, Cleared, channel_of, is_off}
+use Rattle.xp_machine.specs.Coupling.{AreCoupled}
+use Rattle.xp_core.specs.StepContext.{StepContext, step_context}
 use Rattle.xp_core.specs.Step.{Step}
-use Rattle.xp_core.specs.Does.{changes_of, does}
+use Rattle.xp_core.specs.Effects.{changes_of, effects_of}
 use Rattle.xp_core.specs.Table.{action_at, kind_of, packet_in}
-use Rattle.xp_core.specs.Told.{nothing_told, outputs_of}
-use Rattle.xp_core.specs.World.{Call, Line, World, call_numbered, call_on, far_end, off_line, state_at}
-use Rattle.xp_core.proofs.Carried.{of_carried}
-use Rattle.xp_core.proofs.InCall.{shown_on}
+use Rattle.xp_core.specs.EventOutputs.{no_outputs, outputs_of}
+use Rattle.xp_machine.specs.World.{Call, Line, World, call_numbered, call_on, far_end, off_line, state_at}
+use Rattle.xp_core.proofs.RelayedPackets.{of_carried}
+use Rattle.xp_machine.proofs.InCall.{shown_on}
 use Rattle.xp_core.proofs.Idle.{IsReadyFor, taken_ready}
 use Rattle.xp_core.proofs.Origins.{ComesOf, IsSent, all_come, all_sent, closing, confirming, clearing, refusing, clearing_far, carrying_on, connecting, ringing, carrying}
 use Rattle.xp_lock.specs.Outgoing.{to_line}
-use Rattle.xp_lock.specs.Switch.{is_up}
+use Rattle.xp_lock.specs.CoreWithOutboxes.{is_up}
 
 pub record Touches {A : Type 0} (world : World) (entry : Entry A) (next : World) : Type 0 where
   -- what is put out goes to lines in service
@@ -102,12 +102,12 @@ kind_up events.Expire e = absurd (cc)
 kind_up events.Stall e = absurd (cc)
 
 -- a line out of service only comes into it
-data AtLine (state : State) (kind : Kind) : Type 0 where
+data AtLine (state : State) (kind : EventKind) : Type 0 where
   in_service : is_off state ≡ false → AtLine state kind
   rising : kind ≡ kinds.Up → cell (channel_of state) kind ≡ Rise → AtLine state kind
   unmoved : cell (channel_of state) kind ≡ Nothing → AtLine state kind
 
-at_line : (state : State) (kind : Kind) → AtLine state kind
+at_line : (state : State) (kind : EventKind) → AtLine state kind
 at_line Off kinds.Up = rising refl refl
 at_line Off kinds.Down = unmoved refl
 at_line Off kinds.Call = unmoved refl
@@ -116,7 +116,7 @@ at_line Off kinds.Clear = unmoved refl
 at_line Off kinds.ClearConfirm = unmoved refl
 at_line Off kinds.Relayed = unmoved refl
 at_line Off kinds.Expire = unmoved refl
-at_line Off (kinds.Wrong diagnostic) = unmoved refl
+at_line Off (kinds.Malformed diagnostic) = unmoved refl
 at_line Ready kind = in_service refl
 at_line (Waiting number) kind = in_service refl
 at_line (Ringing number) kind = in_service refl
@@ -133,7 +133,7 @@ module _ {A : Type 0} where
         (subst (λ b. 0 < length (map (λ (o : Output A). o.outgoing) (cond b (output ∷ filter (λ o. eqb o.line l) outputs) (filter (λ o. eqb o.line l) outputs)))) (ne_eqb output.line l other) some)
   ]
 
-module _ {A : Type 0} (at : Setting A) (what : What A) where
+module _ {A : Type 0} (at : StepContext A) (what : What A) where
   -- ---- whom it goes to, and whom the changes move
 
   module _ (coupled : AreCoupled at.tables at.world) (P : ℕ → Type 0) (served : Brought P at.world.lines) (own : P at.line) where
@@ -191,8 +191,8 @@ module _ {A : Type 0} (at : Setting A) (what : What A) where
         changes_bring changes (changed change world) from.1 (change_brings P change world (moves_on change from.0) was)
 
 module _ {A : Type 0} (tables : Tables) (before : List (Entry A)) (world : World) (entry : Entry A) (next : World) (coupled : AreCoupled tables world) (step : Step tables before world entry next) where
-  abbrev here : Setting A
-  here = setting tables before world entry.event.line
+  abbrev here : StepContext A
+  here = step_context tables before world entry.event.line
 
   abbrev action : Action
   action = action_at world entry.event
@@ -205,7 +205,7 @@ module _ {A : Type 0} (tables : Tables) (before : List (Entry A)) (world : World
   base line on = inl on
 
   -- nothing is told
-  silent : step.told ≡ nothing_told → (line : ℕ) → 0 < length (to_line line entry.outputs) → On world.lines line
+  silent : step.told ≡ no_outputs → (line : ℕ) → 0 < length (to_line line entry.outputs) → On world.lines line
   silent is line some =
       sent_to (On world.lines) [] (All-nil (λ (o : Output A). On world.lines o.line)) line (subst (λ os. 0 < length (to_line line os)) (step.outputs ∙ ap outputs_of is) some)
 
@@ -231,6 +231,6 @@ module _ {A : Type 0} (tables : Tables) (before : List (Entry A)) (world : World
         record { served = silent acts.1; rises = moved (inr (kind_up entry.event.what up, refl)) }
     | unmoved is ↦
         let acts : Acts here entry.event.what Nothing entry.outcome step.told = subst (λ a. Acts here entry.event.what a entry.outcome step.told) is step.acts in
-        let same : next ≡ world = step.leads ∙ ap (λ a. all_changed (does here entry.event.what a entry.outcome) world) is in
+        let same : next ≡ world = step.leads ∙ ap (λ a. all_changed (effects_of here entry.event.what a entry.outcome) world) is in
         record { served = silent acts.1; rises = subst (λ (w : World). Brought Known w.lines) (sym same) base }
   ]

@@ -19,20 +19,21 @@ use Rattle.xp_core.specs.declared.event.What.TheVariants as events
 use Rattle.xp_core.specs.declared.outcome.Outcome.{Outcome}
 use Rattle.xp_core.specs.declared.outcome.Outcome.TheVariants.{Plain, Put, Refused, Connected, Declined, Exceeded}
 use Rattle.xp_core.specs.declared.output.Output.{Output}
-use Rattle.xp_core.specs.Acts.{Acts, Answers, CarriesAs, Confirms, IsAnswered, IsPlain, IsRequested, Requests, cancelled_told, closed, told_both, told_of_error, told_of_fall}
-use Rattle.xp_core.specs.Carried.{Carried, carried_by, line_at_end, turn_of_carried}
-use Rattle.xp_core.specs.Channel.{Ready}
-use Rattle.xp_core.specs.Coupling.{AreCoupled}
+use Rattle.xp_core.specs.Acts.{Acts, Answers, CarriesAs, Confirms, IsAnswered, IsPlain, IsRequested, Requests, outputs_of_cancel, closed, outputs_to_both, outputs_of_error, outputs_of_fall}
+use Rattle.xp_core.specs.RelayedPackets.{RelayedPacket, relayed_by, turn_of_relayed}
+use Rattle.xp_machine.specs.CallEnds.{line_at_end}
+use Rattle.xp_machine.specs.Channel.{Ready}
+use Rattle.xp_machine.specs.Coupling.{AreCoupled}
 use Rattle.xp_core.specs.Outcomes.{taken_by}
 use Rattle.xp_core.specs.Segments.{is_past_limit}
-use Rattle.xp_core.specs.Setting.{Setting, setting}
+use Rattle.xp_core.specs.StepContext.{StepContext, step_context}
 use Rattle.xp_core.specs.Step.{Step}
 use Rattle.xp_core.specs.Table.{CallAccepted, CallRequest, ClearRequest, accepted_in, action_at, clear_in, packet_in, request_in}
-use Rattle.xp_core.specs.Told.{Told, carried_told, clear_indication, nothing_told, outputs_of, send_far, send_on}
-use Rattle.xp_core.specs.World.{Call, World, call_on, far_end, state_at}
-use Rattle.xp_core.proofs.Carried.{of_carried}
+use Rattle.xp_core.specs.EventOutputs.{EventOutputs, outputs_of_relayed, clear_indication, no_outputs, outputs_of, send_far, send_on}
+use Rattle.xp_machine.specs.World.{Call, World, call_on, far_end, state_at}
+use Rattle.xp_core.proofs.RelayedPackets.{of_carried}
 use Rattle.xp_core.proofs.Idle.{taken_ready}
-use Rattle.xp_core.proofs.InCall.{end_of, shown_on}
+use Rattle.xp_machine.proofs.InCall.{end_of, shown_on}
 use Rattle.xp_lock.specs.Outgoing.{to_line}
 use Rattle.xp_lock.proofs.Touches.{sent_to}
 
@@ -89,7 +90,7 @@ taken_among None line h = absurd h
 taken_among (Some called) line (inl is) = ap (λ l. Some l) (sym is)
 taken_among (Some called) line (inr none) = absurd none
 
-module _ {A : Type 0} (at : Setting A) where
+module _ {A : Type 0} (at : StepContext A) where
   abbrev near : List ℕ
   near = near_to at.world at.line
 
@@ -97,7 +98,7 @@ module _ {A : Type 0} (at : Setting A) where
   ToNear outputs = All (λ (o : Output A). Among near o.line) outputs
 
   -- whom an event tells what, and that a line that a call is put to was ready
-  pub record Goes (outcome : Outcome) (told : Told A) : Type 0 where
+  pub record Goes (outcome : Outcome) (told : EventOutputs A) : Type 0 where
     pub carried : ToNear told.carried
     pub own : ToNear told.own
     pub far : ToNear told.far
@@ -118,7 +119,7 @@ module _ {A : Type 0} (at : Setting A) where
   send_far_near (Some found) is packet = one_near _ (far_near found is)
 
   -- nothing is taken
-  untaken : (outcome : Outcome) (this told : Told A) → taken_by outcome ≡ None → told ≡ this → ToNear this.carried → ToNear this.own → ToNear this.far → this.taken ≡ []
+  untaken : (outcome : Outcome) (this told : EventOutputs A) → taken_by outcome ≡ None → told ≡ this → ToNear this.carried → ToNear this.own → ToNear this.far → this.taken ≡ []
       → Goes outcome told
   untaken outcome this told none is carried own far nothing =
       subst (Goes outcome) (sym is) (record {
@@ -129,21 +130,21 @@ module _ {A : Type 0} (at : Setting A) where
         ready = λ called taken. absurd (cc);
       })
 
-  plain_goes : (outcome : Outcome) (this told : Told A) → IsPlain this outcome told → ToNear this.carried → ToNear this.own → ToNear this.far → this.taken ≡ [] → Goes outcome told
+  plain_goes : (outcome : Outcome) (this told : EventOutputs A) → IsPlain this outcome told → ToNear this.carried → ToNear this.own → ToNear this.far → this.taken ≡ [] → Goes outcome told
   plain_goes outcome this told is carried own far nothing = untaken outcome this told (ap taken_by is.0) is.1 carried own far nothing
 
-  none_goes : (outcome : Outcome) (told : Told A) → IsPlain nothing_told outcome told → Goes outcome told
-  none_goes outcome told is = plain_goes outcome nothing_told told is none_near none_near none_near refl
+  none_goes : (outcome : Outcome) (told : EventOutputs A) → IsPlain no_outputs outcome told → Goes outcome told
+  none_goes outcome told is = plain_goes outcome no_outputs told is none_near none_near none_near refl
 
-  both_go : (outcome : Outcome) (near_cause far_cause diagnostic : ℕ) (told : Told A) → taken_by outcome ≡ None → told ≡ told_both at near_cause far_cause diagnostic → Goes outcome told
+  both_go : (outcome : Outcome) (near_cause far_cause diagnostic : ℕ) (told : EventOutputs A) → taken_by outcome ≡ None → told ≡ outputs_to_both at near_cause far_cause diagnostic → Goes outcome told
   both_go outcome near_cause far_cause diagnostic told none is =
-      untaken outcome (told_both at near_cause far_cause diagnostic) told none is none_near (one_near _ (inl refl))
+      untaken outcome (outputs_to_both at near_cause far_cause diagnostic) told none is none_near (one_near _ (inl refl))
       (send_far_near (call_on at.world at.line) refl _) refl
 
-  error_goes : (outcome : Outcome) (diagnostic : ℕ) (told : Told A) → taken_by outcome ≡ None → told ≡ told_of_error at diagnostic → Goes outcome told
+  error_goes : (outcome : Outcome) (diagnostic : ℕ) (told : EventOutputs A) → taken_by outcome ≡ None → told ≡ outputs_of_error at diagnostic → Goes outcome told
   error_goes outcome diagnostic told none is = both_go outcome LOCAL_PROCEDURE_ERROR REMOTE_PROCEDURE_ERROR diagnostic told none is
 
-  request_goes : (far : List (Output A)) (request : CallRequest A) (outcome : Outcome) (told : Told A) → ToNear far
+  request_goes : (far : List (Output A)) (request : CallRequest A) (outcome : Outcome) (told : EventOutputs A) → ToNear far
       → IsRequested at.tables at.world at.line far request outcome told → Goes outcome told
   request_goes far request (Put called setup) told to_far is =
       subst (Goes (Put called setup)) (sym is.told_is) (record {
@@ -161,7 +162,7 @@ module _ {A : Type 0} (at : Setting A) where
   request_goes far request (Declined diagnostic) told to_far is = absurd is
   request_goes far request Exceeded told to_far is = absurd is
 
-  requests_go : (far : List (Output A)) (asked : Option (CallRequest A)) (outcome : Outcome) (told : Told A) → ToNear far
+  requests_go : (far : List (Output A)) (asked : Option (CallRequest A)) (outcome : Outcome) (told : EventOutputs A) → ToNear far
       → Requests at.tables at.world at.line far asked outcome told → Goes outcome told
   requests_go far None outcome told to_far is = none_goes outcome told is
   requests_go far (Some request) outcome told to_far is = request_goes far request outcome told to_far is
@@ -175,7 +176,7 @@ module _ {A : Type 0} (at : Setting A) where
         subst (Among near) far (far_near found is)
   ]
 
-  answer_goes : (answer : CallAccepted A) (found : ℕ × Call) (outcome : Outcome) (told : Told A) → call_on at.world at.line ≡ Some found
+  answer_goes : (answer : CallAccepted A) (found : ℕ × Call) (outcome : Outcome) (told : EventOutputs A) → call_on at.world at.line ≡ Some found
       → IsAnswered at answer found.1 outcome told → Goes outcome told
   answer_goes answer found (Connected agreement) told on is =
       untaken (Connected agreement) _ told refl is.told_is none_near none_near (one_near _ (caller_near found on)) refl
@@ -185,13 +186,13 @@ module _ {A : Type 0} (at : Setting A) where
   answer_goes answer found (Refused why) told on is = absurd is
   answer_goes answer found Exceeded told on is = absurd is
 
-  answers_go : (accepted : Option (CallAccepted A)) (found : Option (ℕ × Call)) (outcome : Outcome) (told : Told A) → call_on at.world at.line ≡ found
+  answers_go : (accepted : Option (CallAccepted A)) (found : Option (ℕ × Call)) (outcome : Outcome) (told : EventOutputs A) → call_on at.world at.line ≡ found
       → Answers at accepted found outcome told → Goes outcome told
   answers_go None found outcome told on is = none_goes outcome told is
   answers_go (Some answer) None outcome told on is = none_goes outcome told is
   answers_go (Some answer) (Some found) outcome told on is = answer_goes answer found outcome told on is
 
-  confirms_go : (clear : Option (ClearRequest A)) (found : Option (ℕ × Call)) (outcome : Outcome) (told : Told A) → call_on at.world at.line ≡ found
+  confirms_go : (clear : Option (ClearRequest A)) (found : Option (ℕ × Call)) (outcome : Outcome) (told : EventOutputs A) → call_on at.world at.line ≡ found
       → Confirms at clear found outcome told → Goes outcome told
   confirms_go None found outcome told on is = none_goes outcome told is
   confirms_go (Some clear) None outcome told on is = plain_goes outcome _ told is none_near (one_near _ (inl refl)) none_near refl
@@ -213,13 +214,13 @@ module _ {A : Type 0} (at : Setting A) where
     end_near call Caller caller called = caller
     end_near call Called caller called = called
 
-    carried_goes : (carried : Option (Carried A)) → carried_by at.line (call_on at.world at.line) (packet_in what) ≡ carried → (outcome : Outcome) (told : Told A)
-        → IsPlain (carried_told at.tables at.before at.world carried) outcome told → Goes outcome told
+    carried_goes : (carried : Option (RelayedPacket A)) → relayed_by at.line (call_on at.world at.line) (packet_in what) ≡ carried → (outcome : Outcome) (told : EventOutputs A)
+        → IsPlain (outputs_of_relayed at.tables at.before at.world carried) outcome told → Goes outcome told
     carried_goes None by outcome told is = none_goes outcome told is
     carried_goes (Some carried) by outcome told is =
         let it = of_carried at.line (call_on at.world at.line) (packet_in what) carried by in
         let found : ℕ × Call = (carried.number, carried.call) in
-        let moves = (turn_of_carried at.tables at.before carried).moves in
+        let moves = (turn_of_relayed at.tables at.before carried).moves in
         plain_goes outcome _ told is
         (All-map (λ (o : Output A). Among near o.line) (send_on at.world carried.call) moves
         (All-from_recursion (λ m. Among near (line_at_end carried.call m.side)) moves
@@ -230,17 +231,17 @@ module _ {A : Type 0} (at : Setting A) where
         each [] all = tt
         each (x ∷ xs) all = (all x, each xs all)
 
-    carries_goes : (carried : Option (Carried A)) → carried_by at.line (call_on at.world at.line) (packet_in what) ≡ carried → (past : Bool) (outcome : Outcome) (told : Told A)
+    carries_goes : (carried : Option (RelayedPacket A)) → relayed_by at.line (call_on at.world at.line) (packet_in what) ≡ carried → (past : Bool) (outcome : Outcome) (told : EventOutputs A)
         → CarriesAs at carried past outcome told → Goes outcome told
     carries_goes carried by false outcome told is = carried_goes carried by outcome told is
     carries_goes carried by true outcome told is =
         both_go outcome NETWORK_CONGESTION NETWORK_CONGESTION NO_ADDITIONAL_INFORMATION told (ap taken_by is.0) is.1
 
-    pub goes : (action : Action) (outcome : Outcome) (told : Told A) → Acts at what action outcome told → Goes outcome told
+    pub goes : (action : Action) (outcome : Outcome) (told : EventOutputs A) → Acts at what action outcome told → Goes outcome told
     goes Nothing outcome told acts = none_goes outcome told acts
     goes Rise outcome told acts = none_goes outcome told acts
     goes Fall outcome told acts =
-        plain_goes outcome (told_of_fall at what) told acts none_near (close_near what) (send_far_near (call_on at.world at.line) refl _) refl
+        plain_goes outcome (outputs_of_fall at what) told acts none_near (close_near what) (send_far_near (call_on at.world at.line) refl _) refl
       where
         close_near : (what : What A) → ToNear (closed at.world at.line what)
         close_near events.Stall = one_near _ (inl refl)
@@ -251,21 +252,21 @@ module _ {A : Type 0} (at : Setting A) where
         close_near events.Expire = none_near
     goes NewCall outcome told acts = requests_go [] (request_in what) outcome told none_near acts
     goes Collision outcome told acts =
-        requests_go (cancelled_told at.world at.line) (request_in what) outcome told
+        requests_go (outputs_of_cancel at.world at.line) (request_in what) outcome told
         (send_far_near (call_on at.world at.line) refl (clear_indication NUMBER_BUSY CALL_COLLISION)) acts
     goes Answer outcome told acts = answers_go (accepted_in what) (call_on at.world at.line) outcome told refl acts
     goes Confirm outcome told acts = confirms_go (clear_in what) (call_on at.world at.line) outcome told refl acts
     goes Free outcome told acts = none_goes outcome told acts
     goes (Error diagnostic) outcome told acts = error_goes outcome diagnostic told (ap taken_by acts.0) acts.1
     goes Relayed outcome told acts =
-        let carried = carried_by at.line (call_on at.world at.line) (packet_in what) in
+        let carried = relayed_by at.line (call_on at.world at.line) (packet_in what) in
         carries_goes carried refl (is_past_limit at.tables at.before carried) outcome told acts
     goes Expired outcome told acts = error_goes outcome TIMER_EXPIRED_FOR_INCOMING_CALL told (ap taken_by acts.0) acts.1
 
 module _ {A : Type 0} (tables : Tables) (before : List (Entry A)) (world : World) (entry : Entry A) (next : World) (coupled : AreCoupled tables world)
     (step : Step tables before world entry next) where
-  abbrev here : Setting A
-  here = setting tables before world entry.event.line
+  abbrev here : StepContext A
+  here = step_context tables before world entry.event.line
 
   pub goes_here : Goes here entry.outcome step.told
   goes_here = goes here entry.event.what coupled (action_at world entry.event) entry.outcome step.told step.acts

@@ -1,12 +1,13 @@
--- What a line handed in.
+-- The entries of the events that a line offered (`handed`).
 use Rattle.std.specs.Prelude.{ℕ, ◌==◌, ◌&&◌, not, Bool, List, filter}
 use Rattle.xp_core.specs.declared.entry.Entry.{Entry}
 pub use Rattle.xp_core.specs.Stalls.{is_stall}
 
 module _ {A : Type 0} where
+  -- whether an entry is of an event that this line offered
   abbrev pub is_from : ℕ → Entry A → Bool
   is_from line entry = (entry.event.line == line) && not (is_stall entry.event.what)
 
-  -- the entries of a line's own events, in order: no line hands in a stall
+  -- the entries of the events that a line offered, in order: no line offers a stall
   abbrev pub handed : ℕ → List (Entry A) → List (Entry A)
   handed line history = filter (is_from line) history

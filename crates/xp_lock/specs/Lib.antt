@@ -1,13 +1,12 @@
-pub mod Boxes
 pub mod Closing
+pub mod CoreWithOutboxes
 pub mod Faults
 pub mod Forced
 pub mod Given
 pub mod Handed
 pub mod Opening
+pub mod Outboxes
 pub mod Outgoing
 pub mod Passes
-pub mod Sight
-pub mod Stalling
-pub mod Switch
 pub mod Views
+pub mod steps

@@ -1,4 +1,4 @@
--- What a line's pass shows, and what an event that was taken adds to it.
+-- The pass of a line as contracts see it (`Pass`), and what an event that was taken adds to it (`GainsEvent`).
 use Rattle.std.specs.Prelude.{◌≡◌, ℕ, ◌≤◌, true, List, [], ◌∷◌, ◌++◌, All, length}
 use Rattle.xp_subs.specs.Tables.{Tables}
 use Rattle.xp_core.specs.declared.entry.Entry.{Entry}
@@ -7,35 +7,35 @@ use Rattle.xp_core.specs.declared.output.Outgoing.{Outgoing}
 use Rattle.xp_core.specs.Records.{records_of}
 use Rattle.xp_core.specs.Run.{Run}
 use Rattle.xp_core.specs.Worlds.{world_after}
-use Rattle.xp_core.specs.World.{line_at}
-use Rattle.xp_lock.specs.declared.done.Done.{Done}
+use Rattle.xp_machine.specs.World.{line_at}
+use Rattle.xp_lock.specs.declared.receipt.Receipt.{Receipt}
 use Rattle.xp_lock.specs.Given.{AreGiven}
 use Rattle.xp_lock.specs.Handed.{handed, is_stall}
 
--- no subscriptions
-abbrev pub no_tables : Tables
-no_tables = record { stations = []; lines = []; groups = []; segment_limit = 0; journal = 0; host = [] }
-
+-- the pass of a line
 pub record Pass (A : Type 0) : Type 0 where
   pub line : ℕ
-  -- the history as this line last saw it
+  -- the history as the line last saw it
   pub seen : List (Entry A)
-  -- what the line took from its outbox
+  -- the outputs that the line took from its outbox
   pub taken : List (Outgoing A)
 
 module _ {A : Type 0} where
-  -- the entries of the line's own events
-  abbrev pub mine : Pass A → List (Entry A)
-  mine pass = handed pass.line pass.seen
+  -- the entries of the line's own events, as far as it has seen
+  abbrev pub own_entries : Pass A → List (Entry A)
+  own_entries pass = handed pass.line pass.seen
 
+  -- the history is a run of the exchange machine over these subscriptions
   abbrev pub IsLegal : Tables → List (Entry A) → Type 0
   IsLegal subs history = Run subs history (world_after subs history)
 
+  -- all these entries are stalls
   abbrev pub AreStalls : List (Entry A) → Type 0
   AreStalls entries = All (λ entry. is_stall entry.event.what ≡ true) entries
 
-  -- what is seen grows by what others handed in, the event's entry and the stalls that it forced
-  pub record Freshens (subs : Tables) (old : Pass A) (event : Event A) (done : Done) (new : Pass A) : Type 0 where
+  -- What the line has seen grows by the entries of others, then the event's entry and the stalls that it forced. None but the
+  -- event's entry is one of the line's own
+  pub record GainsEvent (subs : Tables) (old : Pass A) (event : Event A) (done : Receipt) (new : Pass A) : Type 0 where
     pub line : new.line ≡ old.line
     pub taken : new.taken ≡ old.taken
     pub between : List (Entry A)
@@ -45,9 +45,9 @@ module _ {A : Type 0} where
     pub are_stalls : AreStalls stalls
     pub few : length stalls ≤ 3
     pub seen : new.seen ≡ (old.seen ++ between) ++ entry ∷ stalls
-    pub mine_is : mine new ≡ mine old ++ entry ∷ []
+    pub own_entries_are : own_entries new ≡ own_entries old ++ entry ∷ []
     pub legal : IsLegal subs new.seen
-    -- and this is told
+    -- the receipt is this
     pub number : done.entry ≡ entry.number
     pub records : done.records ≡ length (records_of new.seen)
     pub connection : done.connection ≡ (line_at (world_after subs new.seen) event.line).connection

@@ -1,24 +1,32 @@
-//! The closed book of an exchange.
+//! The book of a closed exchange.
 
 ghost use Rattle.std.specs.Prelude.{◌≡◌, ◌≤◌, All, length};
-ghost use Rattle.xp_charge.specs.Lines.{HasLines};
+ghost use Rattle.xp_charge.specs.Lines.{HasLines as NamesLines};
 ghost use Rattle.xp_subs.specs.Tables.{line_count};
-ghost use Rattle.xp_core.specs.Coupling.{AreCoupled};
+ghost use Rattle.xp_core.specs.Agreed.{AllHaveTerms};
+ghost use Rattle.xp_machine.specs.Coupling.{AreCoupled};
+ghost use Rattle.xp_core.specs.Delivered.{AreDelivered};
+ghost use Rattle.xp_core.specs.Joined.{AreJoined};
+ghost use Rattle.xp_core.specs.Lines.{HasLines};
 ghost use Rattle.xp_core.specs.Records.{OneRecordEach, records_of};
 ghost use Rattle.xp_core.specs.Run.{Run};
 ghost use Rattle.xp_core.specs.Worlds.{world_after};
-ghost use Rattle.xp_core.specs.View.{flow_at, view_of};
-ghost use Rattle.xp_core.specs.World.{line_at};
-ghost use Rattle.xp_lock.specs.Closing.{AreWithin, taken_by};
+ghost use Rattle.xp_core.specs.View.{flow_at};
+ghost use Rattle.xp_machine.specs.View.{view_of};
+ghost use Rattle.xp_machine.specs.World.{line_at};
+ghost use Rattle.xp_core.specs.Writable.{AreWritable};
+ghost use Rattle.xp_lock.specs.Closing.{taken_by};
+ghost use Rattle.xp_lock.specs.steps.Closing.{AreWithin};
 ghost use Rattle.xp_lock.specs.Outgoing.{put_out_to};
 
 use std::alloc::{Allocator, Global};
 use std::marker::Model;
 use xp_charge::Record;
-use xp_core::{Core, Entry, LineView};
+use xp_core::{Core, Entry};
+use xp_machine::LineView;
 use xp_subs::{LineNo, Subs};
 
-/// What a closed exchange leaves: its history, and all that can be read off it.
+/// The book of a closed exchange: its history, and all that can be read from it.
 #[derive(Drop)]
 pub struct Book<A: Allocator = Global> {
     core: Core<A>,
@@ -30,7 +38,7 @@ impl<A: Allocator> Model for Book<A> {
 
     ghost Value = { Closed A };
 
-    ghost use Rattle.xp_lock.specs.Closing.{AreWithin};
+    ghost use Rattle.xp_lock.specs.steps.Closing.{AreWithin};
 
     ghost view = { λ b. record { subs = b.core.subs; history = b.core.history; taken = b.taken.items } };
 
@@ -38,6 +46,7 @@ impl<A: Allocator> Model for Book<A> {
 }
 
 impl<A: Allocator> Book<A> {
+    /// The book of this core, with the counts of the outputs that the lines took, by line.
     pub(crate) fn new(core: Core<A>, taken: Vec<u64, A>) -> Book<A>
         requires { AreWithin taken.items core.history }
         ensures { result ≡ record { subs = core.subs; history = core.history; taken = taken.items } }
@@ -45,27 +54,35 @@ impl<A: Allocator> Book<A> {
         Book { core, taken }
     }
 
-    /// All entries, which lead to the last state.
+    /// Returns all entries of the history, a run of the exchange machine that leads to the last state. Each packet that an
+    /// entry puts out can be encoded, and each line that an entry names is one of the subscriptions. Closed user groups let
+    /// the stations of each live call, and of each line that a call was ever put to, be joined. The sizes of each live call
+    /// are in their ranges, and what a connected call accepts arrives.
     pub fn history(&self) -> &[Entry<A>]
         ensures entries { result.now ≡ self.now.history }
         ensures run { Run self.now.subs self.now.history (world_after self.now.subs self.now.history) }
+        ensures writable { All (λ entry. AreWritable entry.outputs) self.now.history }
+        ensures lines { All (HasLines (line_count self.now.subs)) self.now.history }
+        ensures joined { AreJoined self.now.subs self.now.history (world_after self.now.subs self.now.history) }
+        ensures terms { AllHaveTerms (world_after self.now.subs self.now.history) }
+        ensures delivered { AreDelivered self.now.subs self.now.history (world_after self.now.subs self.now.history) }
     {
         self.core.history()
     }
 
-    /// The records of the ended calls, in the order in which they ended: one for each of them, and no other. Their lines
-    /// are lines of the subscriptions.
+    /// Returns the charging records, in the order in which the calls ended: one for each call that ended, and no other. They
+    /// name lines of the subscriptions.
     pub fn records(&self) -> &[Record]
         ensures records { result.now ≡ records_of self.now.history }
         ensures one_each { OneRecordEach self.now.subs self.now.history (world_after self.now.subs self.now.history) }
-        ensures lines { All (HasLines (line_count self.now.subs)) result.now }
+        ensures lines { All (NamesLines (line_count self.now.subs)) result.now }
     {
         let core = &self.core;
         let _entries = core.history();
         core.records()
     }
 
-    /// What could be seen of a line at last.
+    /// Returns the last state of a line.
     pub fn line(&self, line: LineNo) -> LineView
         ensures view { result ≡ view_of (line_at (world_after self.now.subs self.now.history) line) (flow_at self.now.subs self.now.history (world_after self.now.subs self.now.history) line) }
         ensures coupled { AreCoupled self.now.subs (world_after self.now.subs self.now.history) }
@@ -73,8 +90,8 @@ impl<A: Allocator> Book<A> {
         self.core.line(line)
     }
 
-    /// How many outputs the pass of a line took: the first so many of all that were put out to the line. None of a line
-    /// that there is not.
+    /// Returns how many outputs the pass of a line took. These are the first of all outputs to the line. It returns 0 for a
+    /// line that does not exist.
     pub fn taken(&self, line: LineNo) -> u64
         ensures count { result ≡ taken_by self.now.taken line }
         ensures within { result ≤ length (put_out_to line self.now.history) }
@@ -82,7 +99,7 @@ impl<A: Allocator> Book<A> {
         self.taken.get(line as usize).copied().unwrap_or(0)
     }
 
-    /// The subscriptions.
+    /// Returns the subscriptions.
     pub fn subs(&self) -> &Subs
         ensures { result.now ≡ self.now.subs }
     {

@@ -1,36 +1,36 @@
-//! Entering an event, with all that follows of it.
+//! How an event is entered, with all that follows from it.
 
 ghost use Rattle.std.specs.Prelude.{◌≡◌, ◌<◌, IfOk, IfErr, OnErr, OnOk};
 ghost use Rattle.xp_subs.specs.Tables.{line_count};
 ghost use Rattle.xp_core.specs.Exchange.{IsReadable};
-ghost use Rattle.xp_lock.specs.Boxes.{AreKept};
-ghost use Rattle.xp_lock.specs.Stalling.{CanEnter, switch_of};
-ghost use Rattle.xp_lock.specs.Switch.{Takes};
+ghost use Rattle.xp_lock.specs.steps.Outboxes.{OutboxesMatch};
+ghost use Rattle.xp_lock.specs.steps.Stalling.{CanEnter, with_outboxes};
+ghost use Rattle.xp_lock.specs.CoreWithOutboxes.{Takes};
 
-use crate::boxes::{Box, put_all};
-use crate::done::Done;
 use crate::fault::OfferFault;
+use crate::outboxes::{OutboxPutEnd, put_all};
+use crate::receipt::Receipt;
 use crate::stalling::stall_all;
 use std::alloc::Allocator;
 use std::sync::Wait;
 use xp_core::{Core, Event, StepFault};
 
-/// Enters an event, puts out what it puts out, and enters the stalls that it forces. These are prepared first, so that
-/// nothing can fail once the event is entered.
+/// Enters an event, puts its outputs into the outboxes, and enters the stalls that it forces. The stalls are prepared
+/// first, so that nothing can fail once the event is entered.
 pub fn enter<A: Allocator + Copy, R: Wait>(
     rt: &R,
     core: &mut Core<A>,
-    boxes: &mut Vec<Box<A>, A>,
+    outboxes: &mut Vec<OutboxPutEnd<A>, A>,
     event: Event<A>,
-) -> Result<Done, OfferFault<A>>
+) -> Result<Receipt, OfferFault<A>>
     requires line { event.line < line_count core.old.subs }
     requires readable { IsReadable event.what }
-    requires can { CanEnter core.old event boxes.old.items }
-    ensures ok { IfOk result (λ done. Takes (switch_of core.old boxes.old.items) event done (switch_of core.new boxes.new.items)) }
-    ensures kept { OnOk result (AreKept core.new.subs core.new.history boxes.new.items) }
+    requires can { CanEnter core.old event outboxes.old.items }
+    ensures ok { IfOk result (λ done. Takes (with_outboxes core.old outboxes.old.items) event done (with_outboxes core.new outboxes.new.items)) }
+    ensures kept { OnOk result (OutboxesMatch core.new.subs core.new.history outboxes.new.items) }
     ensures err { IfErr result (λ fault. fault ≡ OfferFault.Memory event) }
     ensures core { OnErr result (core.new ≡ record core.old { stalls = core.new.stalls }) }
-    ensures boxes { OnErr result (boxes.new.items ≡ boxes.old.items) }
+    ensures outboxes { OnErr result (outboxes.new.items ≡ outboxes.old.items) }
 {
     if core.reserve_stalls().is_err() {
         return Err(OfferFault::Memory(event));
@@ -44,7 +44,7 @@ pub fn enter<A: Allocator + Copy, R: Wait>(
             OfferFault::Memory(event),
         ),
     };
-    put_all(rt, boxes, told.outputs);
-    stall_all(rt, core, boxes, from);
-    Ok(Done::new(told.entry, core, line, from))
+    put_all(rt, outboxes, told.outputs);
+    stall_all(rt, core, outboxes, from);
+    Ok(Receipt::new(told.entry, core, line, from))
 }

@@ -1,23 +1,22 @@
 //! The exchange that threads share.
 
 ghost use Rattle.std.specs.Prelude.{◌≡◌, [], ◌∷◌, ◌++◌, false, IfErr, IfNone, IfOk, IfSome, OnErr, length, replicate};
-ghost use Rattle.xp_outbox.specs.Rule.{HeldAtSomeMoment, taker};
 ghost use Rattle.xp_subs.specs.Tables.{line_count};
 ghost use Rattle.xp_core.specs.Exchange.{IsReadable};
-ghost use Rattle.xp_lock.specs.Closing.{AreCounted, AreTold, HasAll, IsMissing, NoneTwice, all_handed, handed_together, mine_together};
+ghost use Rattle.xp_lock.specs.Closing.{AreCounted, PassesMatch, HasAll, IsMissing, NoneTwice, all_handed, handed_together, own_entries_together};
 ghost use Rattle.xp_lock.specs.Faults.{event_in};
 ghost use Rattle.xp_lock.specs.Handed.{is_stall};
-ghost use Rattle.xp_lock.specs.Passes.{Freshens, IsLegal};
+ghost use Rattle.xp_lock.specs.Passes.{GainsEvent, IsLegal};
 
 use crate::book::Book;
-use crate::done::Done;
 use crate::fault::{CloseFault, OfferFault};
 use crate::guard::ExchangeGuard;
+use crate::history_length::HistoryLength;
 use crate::keeper::Keeper;
 use crate::missing::first_missing;
 use crate::name::Name;
 use crate::pass::LinePass;
-use crate::word::Word;
+use crate::receipt::Receipt;
 use std::alloc::{Allocator, Global};
 use std::marker::Model;
 use std::sync::atomic::AtomicBool;
@@ -27,18 +26,19 @@ use std::thread;
 use xp_core::{Event, Outgoing};
 use xp_subs::LineNo;
 
-/// How often a thread tries to take the lock, and lets others run in between, before it sleeps until the lock is free.
+/// How often a thread tries to take the lock before it sleeps until the lock is free. Between two tries it lets other
+/// threads run.
 const MOST_TRIES: u32 = 100;
 
-/// The exchange that threads share.
+/// The exchange that threads share. `N` names it.
 #[derive(Drop)]
 pub struct Exchange<N: Name, A: Allocator = Global> {
     lock: Mutex<Keeper<N, A>>,
-    /// That the keeper refuses every event, told beside the lock: each line asks for it in each of its turns.
+    /// Whether the keeper refuses every event. It stands beside the lock, since each line reads it in each of its turns.
     halted: AtomicBool,
-    word: Word<A>,
+    history_length: HistoryLength<A>,
     lines: LineNo,
-    /// Room to count, at the end, what each line took: closing takes no memory.
+    /// Room for the counts of what the lines took, so that closing allocates nothing.
     taken: Vec<u64, A>,
 }
 
@@ -50,88 +50,89 @@ impl<N: Name, A: Allocator> Model for Exchange<N, A> {
 
     ghost view = { λ _. 0 };
 
-    ghost invariant = { λ x. (x.word ≡ N.word) × (x.lines ≡ line_count N.subs) × (x.taken.items ≡ replicate (line_count N.subs) 0) };
+    ghost invariant = { λ x. (x.history_length ≡ N.history_length) × (x.lines ≡ line_count N.subs) × (x.taken.items ≡ replicate (line_count N.subs) 0) };
 }
 
 impl<N: Name, A: Allocator + Copy> Exchange<N, A> {
+    /// The exchange around this keeper.
     pub(crate) fn new(
         keeper: Keeper<N, A>,
-        word: Word<A>,
+        history_length: HistoryLength<A>,
         lines: LineNo,
         taken: Vec<u64, A>,
     ) -> Exchange<N, A>
-        requires word { word ≡ N.word }
+        requires history_length { history_length ≡ N.history_length }
         requires lines { lines ≡ line_count N.subs }
         requires taken { taken.items ≡ replicate (line_count N.subs) 0 }
     {
         Exchange {
             lock: Mutex::new(keeper),
             halted: AtomicBool::new(false),
-            word,
+            history_length,
             lines,
             taken,
         }
     }
 
-    /// Takes the lock, and one event of the pass's line, with the stalls that it forces.
+    /// Takes the lock, and enters one event of the pass's line with the stalls that the event forces.
     ///
     /// # Errors
     ///
-    /// Those of `Keeper::take`. Then the event comes back, and the pass is as it was.
+    /// Those of `Keeper::take`. The fault gives the event back, and the pass stays as it was.
     pub fn offer<R: Wait>(
         &self,
         rt: &R,
         pass: &mut LinePass<N, A>,
         event: Event<A>,
-    ) -> Result<Done, OfferFault<A>>
+    ) -> Result<Receipt, OfferFault<A>>
         requires line { event.line ≡ pass.old.line }
         requires readable { IsReadable event.what }
         requires kind { is_stall event.what ≡ false }
-        ensures ok { IfOk result (λ done. Freshens N.subs pass.old event done pass.new) }
+        ensures ok { IfOk result (λ done. GainsEvent N.subs pass.old event done pass.new) }
         ensures err { IfErr result (λ fault. event_in fault ≡ event) }
         ensures pass { OnErr result (pass.new ≡ pass.old) }
     {
         self.lock(rt).offer(rt, pass, event)
     }
 
-    /// Takes the lock, which is held for some microseconds. A thread that sleeps on it costs more than many tries, between
-    /// which others run: whoever holds it, or the ends that packets come from.
+    /// Takes the lock. A thread holds it for some microseconds. To put a thread to sleep costs more than many tries, and
+    /// between two tries other threads run: the one that holds the lock, or those that packets come from.
     pub fn lock<R: Wait>(&self, rt: &R) -> ExchangeGuard<'_, N, A> {
         for _try in 0..MOST_TRIES {
             if let Some(keeper) = self.lock.try_lock() {
-                return ExchangeGuard::new(keeper, &self.word);
+                return ExchangeGuard::new(keeper, &self.history_length);
             }
             thread::yield_now();
         }
-        ExchangeGuard::new(self.lock.lock(rt), &self.word)
+        ExchangeGuard::new(self.lock.lock(rt), &self.history_length)
     }
 
-    /// Takes the oldest output of the pass's line. It takes no lock.
+    /// Takes the oldest output from the outbox of the pass's line, or returns `None` where it finds none. It takes no lock.
     pub fn next_out<R: Wait>(&self, rt: &R, pass: &mut LinePass<N, A>) -> Option<Outgoing<A>>
         ensures item { IfSome result (λ item. pass.new ≡ record pass.old { taken = pass.old.taken ++ item ∷ [] }) }
         ensures none { IfNone result (pass.new ≡ pass.old) }
-        ensures empty { IfNone result (HeldAtSomeMoment (taker pass.old.taken) 0) }
     {
         pass.next_out(rt)
     }
 
-    /// Refuses every later offer.
+    /// Makes the exchange refuse every later offer.
     pub fn halt<R: Wait>(&self, rt: &R) {
         self.lock.lock(rt).halt();
         self.halted.store(true, SeqCst);
     }
 
-    /// Whether every offer is refused: so from the end of a `halt` on. It takes no lock.
+    /// Whether the exchange refuses every offer, as it does once a `halt` has ended. It takes no lock.
     pub fn halted(&self) -> bool {
         self.halted.load(SeqCst)
     }
 
-    /// Closes the exchange, where all passes are here: each line's own entries are those that its one pass knows, and
-    /// what the pass took is the first so many outputs to the line as the book tells.
+    /// Closes the exchange if the passes of all lines are here, and returns its book. In the book's history each line has
+    /// the own entries that its one pass knows. What the pass took are the first outputs to its line, as many as the book
+    /// counts.
     ///
     /// # Errors
     ///
-    /// The lowest line whose pass is not here. Then all is handed back.
+    /// `CloseFault` with the lowest line whose pass is not here. The fault gives the exchange and the passes back.
     pub fn close<R: Wait>(
         self,
         rt: &R,
@@ -141,10 +142,10 @@ impl<N: Name, A: Allocator + Copy> Exchange<N, A> {
         ensures once { IfOk result (λ _. NoneTwice passes.items) }
         ensures subs { IfOk result (λ book. book.subs ≡ N.subs) }
         ensures legal { IfOk result (λ book. IsLegal book.subs book.history) }
-        ensures told { IfOk result (λ book. AreTold book.history passes.items) }
+        ensures told { IfOk result (λ book. PassesMatch book.history passes.items) }
         ensures taken { IfOk result (λ book. AreCounted book passes.items) }
         ensures counted { IfOk result (λ book. length (all_handed book.history) ≡ handed_together (line_count N.subs) book.history) }
-        ensures together { IfOk result (λ book. length (all_handed book.history) ≡ mine_together passes.items) }
+        ensures together { IfOk result (λ book. length (all_handed book.history) ≡ own_entries_together passes.items) }
         ensures missing { IfErr result (λ fault. IsMissing (line_count N.subs) passes.items fault.line) }
         ensures passes { IfErr result (λ fault. fault.passes.items ≡ passes.items) }
     {
@@ -158,11 +159,11 @@ impl<N: Name, A: Allocator + Copy> Exchange<N, A> {
         let Exchange {
             lock,
             halted: _,
-            word,
+            history_length,
             lines: _,
             taken,
         } = self;
-        let book = lock.into_inner().close(rt, &word, passes, taken);
+        let book = lock.into_inner().close(rt, &history_length, passes, taken);
         let _legal = book.history();
         Ok(book)
     }

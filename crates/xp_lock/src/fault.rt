@@ -1,3 +1,5 @@
+//! Why an event is refused, and why an exchange is not closed.
+
 use crate::exchange::Exchange;
 use crate::name::Name;
 use crate::pass::LinePass;
@@ -6,24 +8,30 @@ use thiserror::Error;
 use xp_core::Event;
 use xp_subs::LineNo;
 
-/// Why an event was not taken. It comes back, and nothing has changed.
+/// Why an event was refused. The fault gives the event back.
 #[derive(Debug, Drop, Error)]
 pub enum OfferFault<A: Allocator = Global> {
+    /// The exchange was halted.
     #[error("the exchange is halted")]
     Halted(Event<A>),
+    /// Fewer than four places of the history are left.
     #[error("the journal is full")]
     JournalFull(Event<A>),
+    /// The event is an Up, and the outbox of its line has fewer than 24 free places.
     #[error("the line's outbox has too little room")]
     NoRoom(Event<A>),
+    /// An allocation failed.
     #[error("out of memory")]
     Memory(Event<A>),
 }
 
-/// Why an exchange was not closed: the pass of a line is not here. The exchange and the passes come back.
+/// Why an exchange was not closed: the pass of a line is not here. The fault gives the exchange and the passes back.
 #[derive(Drop)]
 pub struct CloseFault<N: Name, A: Allocator = Global> {
-    /// The line.
+    /// The lowest line whose pass is not here.
     pub line: LineNo,
+    /// The exchange, which is still open.
     pub exchange: Exchange<N, A>,
+    /// The passes that were here.
     pub passes: Vec<LinePass<N, A>, A>,
 }

@@ -1,7 +1,8 @@
-//! The lines that some entries put something out to.
+//! The lines to which some entries put something out.
 
 ghost use Rattle.std.specs.Prelude.{◌≡◌, ◌<◌, true, false, [], length};
-ghost use Rattle.xp_lock.specs.Given.{AddFew, AreAdded, AreApart, AreGiven, IsGivenToFew, is_among};
+ghost use Rattle.xp_lock.specs.Given.{AreApart, AreGiven, is_among};
+ghost use Rattle.xp_lock.specs.steps.Given.{AddFew, AreAdded, IsGivenToFew};
 ghost use Rattle.xp_lock.specs.Outgoing.{put_out_to, to_line};
 
 use arrayvec::ArrayVec;
@@ -9,13 +10,14 @@ use std::alloc::Allocator;
 use xp_core::{Entry, Output};
 use xp_subs::LineNo;
 
-/// For how many lines there is room. One event, with the stalls that it forces, puts something out to three at most.
+/// For how many lines a `GivenLines` has room. One event, with the stalls that it forces, puts something out to three lines
+/// at most.
 pub const MOST_GIVEN: usize = 4;
 
-/// Lines that were given something, each once.
+/// The lines to which something was put out, each once.
 pub type GivenLines = ArrayVec<LineNo, MOST_GIVEN>;
 
-/// The lines that these entries put something out to.
+/// Returns the lines to which these entries put something out, each once.
 pub fn given_lines<A: Allocator>(entries: &[Entry<A>]) -> GivenLines
     requires { IsGivenToFew entries.now }
     ensures { AreGiven entries.now result.items }
@@ -27,7 +29,7 @@ pub fn given_lines<A: Allocator>(entries: &[Entry<A>]) -> GivenLines
     given
 }
 
-/// Adds the lines of these outputs.
+/// Adds the lines of these outputs that are not there yet.
 fn add_lines<A: Allocator>(given: &mut GivenLines, outputs: &[Output<A>])
     requires few { AddFew given.old.items outputs.now }
     requires once { AreApart given.old.items }
@@ -40,6 +42,7 @@ fn add_lines<A: Allocator>(given: &mut GivenLines, outputs: &[Output<A>])
     }
 }
 
+/// Whether a line is among these lines.
 fn is_there(lines: &[LineNo], line: LineNo) -> bool
     ensures { result ≡ is_among line lines.now }
 {

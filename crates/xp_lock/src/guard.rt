@@ -1,28 +1,28 @@
-//! The exchange while its lock is held.
+//! The exchange while a thread holds its lock.
 
 ghost use Rattle.std.specs.Prelude.{◌≡◌, false, IfErr, IfOk, OnErr};
 ghost use Rattle.xp_core.specs.Exchange.{IsReadable};
 ghost use Rattle.xp_lock.specs.Faults.{event_in};
 ghost use Rattle.xp_lock.specs.Handed.{is_stall};
-ghost use Rattle.xp_lock.specs.Passes.{Freshens};
+ghost use Rattle.xp_lock.specs.Passes.{GainsEvent};
 
-use crate::done::Done;
 use crate::fault::OfferFault;
+use crate::history_length::HistoryLength;
 use crate::keeper::Keeper;
 use crate::name::Name;
 use crate::pass::LinePass;
-use crate::word::Word;
+use crate::receipt::Receipt;
 use std::alloc::{Allocator, Global};
 use std::marker::Model;
 use std::sync::{MutexGuard, Wait};
 use xp_core::Event;
 
-/// The exchange while its lock is held, which ends as the guard is dropped. Who has several events to offer takes the lock
-/// once for all of them, and until then no other thread's are taken.
+/// The exchange while a thread holds its lock. The thread frees the lock as it drops the guard. A thread that has several
+/// events to offer takes the lock once for all of them. Until it drops the guard, no other thread's events are entered.
 #[derive(Drop)]
 pub struct ExchangeGuard<'a, N: Name, A: Allocator = Global> {
     keeper: MutexGuard<'a, Keeper<N, A>>,
-    word: &'a Word<A>,
+    history_length: &'a HistoryLength<A>,
 }
 
 impl<'a, N: Name, A: Allocator> Model for ExchangeGuard<'a, N, A> {
@@ -32,37 +32,41 @@ impl<'a, N: Name, A: Allocator> Model for ExchangeGuard<'a, N, A> {
 
     ghost view = { λ _. 0 };
 
-    ghost invariant = { λ guard. guard.word.now ≡ N.word };
+    ghost invariant = { λ guard. guard.history_length.now ≡ N.history_length };
 }
 
 impl<'a, N: Name, A: Allocator + Copy> ExchangeGuard<'a, N, A> {
+    /// The guard of this keeper.
     pub(crate) fn new(
         keeper: MutexGuard<'a, Keeper<N, A>>,
-        word: &'a Word<A>,
+        history_length: &'a HistoryLength<A>,
     ) -> ExchangeGuard<'a, N, A>
-        requires word { word.now ≡ N.word }
+        requires history_length { history_length.now ≡ N.history_length }
     {
-        ExchangeGuard { keeper, word }
+        ExchangeGuard {
+            keeper,
+            history_length,
+        }
     }
 
-    /// Takes one event of the pass's line, with the stalls that it forces.
+    /// Enters one event of the pass's line with the stalls that the event forces.
     ///
     /// # Errors
     ///
-    /// Those of `Keeper::take`. Then the event comes back, and the pass is as it was.
+    /// Those of `Keeper::take`. The fault gives the event back, and the pass stays as it was.
     pub fn offer<R: Wait>(
         &mut self,
         rt: &R,
         pass: &mut LinePass<N, A>,
         event: Event<A>,
-    ) -> Result<Done, OfferFault<A>>
+    ) -> Result<Receipt, OfferFault<A>>
         requires line { event.line ≡ pass.old.line }
         requires readable { IsReadable event.what }
         requires kind { is_stall event.what ≡ false }
-        ensures ok { IfOk result (λ done. Freshens N.subs pass.old event done pass.new) }
+        ensures ok { IfOk result (λ done. GainsEvent N.subs pass.old event done pass.new) }
         ensures err { IfErr result (λ fault. event_in fault ≡ event) }
         ensures pass { OnErr result (pass.new ≡ pass.old) }
     {
-        self.keeper.take(rt, self.word, pass, event)
+        self.keeper.take(rt, self.history_length, pass, event)
     }
 }

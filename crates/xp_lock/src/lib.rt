@@ -1,31 +1,31 @@
-//! The exchange that many threads share: one lock, one pass for each line.
+//! The exchange that many threads share: one lock, and one pass for each line.
 #![tactic(auto)]
 
-mod blanks;
 mod book;
-mod boxes;
-mod done;
+mod core_with_outboxes;
 mod entering;
 mod exchange;
 mod fault;
 mod given;
 mod guard;
+mod history_length;
 mod keeper;
 mod missing;
 mod name;
+mod outboxes;
 mod pass;
+mod prepared;
+mod receipt;
 mod stalling;
 mod start;
-mod switch;
-mod word;
 
-pub use blanks::{Blanks, prepare};
 pub use book::Book;
-pub use done::Done;
 pub use exchange::Exchange;
 pub use fault::{CloseFault, OfferFault};
 pub use guard::ExchangeGuard;
+pub use history_length::HistoryLength;
 pub use keeper::Keeper;
 pub use name::Name;
 pub use pass::LinePass;
-pub use word::Word;
+pub use prepared::{PreparedExchange, prepare};
+pub use receipt::Receipt;

@@ -1,4 +1,4 @@
-//! Which pass is missing.
+//! Which pass is missing as an exchange is to be closed.
 
 ghost use Rattle.std.specs.Prelude.{◌≡◌, IfNone, IfSome};
 ghost use Rattle.xp_lock.specs.Closing.{HasAll, IsMissing, has_line};
@@ -8,7 +8,7 @@ use crate::pass::LinePass;
 use std::alloc::Allocator;
 use xp_subs::LineNo;
 
-/// The lowest of so many lines whose pass is not here.
+/// Returns the lowest of so many lines whose pass is not here, or `None` if all are here.
 pub fn first_missing<N: Name, A: Allocator>(
     lines: LineNo,
     passes: &[LinePass<N, A>],
@@ -24,6 +24,7 @@ pub fn first_missing<N: Name, A: Allocator>(
     None
 }
 
+/// Whether the pass of a line is here.
 fn is_here<N: Name, A: Allocator>(line: LineNo, passes: &[LinePass<N, A>]) -> bool
     ensures { result ≡ has_line line passes.now }
 {

@@ -1,7 +1,9 @@
+//! The name of an exchange, which ties its passes to it.
+
 use std::marker::Brand;
 
-/// Names one exchange: its subscriptions, the word beside its lock, and its outboxes. The exchange, what lies under its
-/// lock and its passes carry one name.
+/// Names one exchange by its subscriptions, the history length beside its lock, and the queues of its outboxes. The exchange,
+/// what its lock protects and its passes have one name, so no pass of another exchange can be passed in.
 pub trait Name {
     ghost use Rattle.std.specs.Prelude.{List};
     ghost use Rattle.atomic_table.specs.Seated.{TableId};
@@ -9,7 +11,7 @@ pub trait Name {
 
     ghost subs: { Tables };
 
-    ghost word: { TableId };
+    ghost history_length: { TableId };
 
     ghost queues: { List TableId };
 }
@@ -17,11 +19,11 @@ pub trait Name {
 impl Name for Brand {
     ghost use Rattle.std.specs.Prelude.{[]};
     ghost use Rattle.xp_lock.specs.Views.{no_table};
-    ghost use Rattle.xp_lock.specs.Passes.{no_tables};
+    ghost use Rattle.xp_lock.specs.steps.Passes.{no_tables};
 
     ghost subs = { no_tables };
 
-    ghost word = { no_table };
+    ghost history_length = { no_table };
 
     ghost queues = { [] };
 }

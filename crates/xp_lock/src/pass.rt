@@ -1,11 +1,10 @@
-//! The pass of a line: who has it speaks for the line.
+//! The pass of a line: the thread that has it acts for the line.
 
 ghost use Rattle.std.specs.Prelude.{◌≡◌, ◌<◌, ◌++◌, ◌∷◌, [], IfNone, IfSome};
-ghost use Rattle.xp_outbox.specs.Rule.{HeldAtSomeMoment, taker};
 ghost use Rattle.xp_subs.specs.Tables.{line_count};
 
+use crate::history_length::HistorySeat;
 use crate::name::Name;
-use crate::word::Sight;
 use std::alloc::{Allocator, Global};
 use std::marker::{Model, PhantomData};
 use std::sync::Wait;
@@ -13,13 +12,13 @@ use xp_core::Outgoing;
 use xp_outbox::TakeEnd;
 use xp_subs::LineNo;
 
-/// The pass of a line.
+/// The pass of a line. It has what the line saw of the history, and the end of the outbox from which the line takes outputs.
 #[derive(Drop)]
 pub struct LinePass<N: Name, A: Allocator = Global> {
     pub(crate) line: LineNo,
-    pub(crate) sight: Sight<A>,
+    pub(crate) history_seat: HistorySeat<A>,
     pub(crate) outbox: TakeEnd<Outgoing<A>, A>,
-    /// How many outputs it took, as far as the number reaches: a journal's outputs to a line are fewer.
+    /// How many outputs it took. The number stays at its greatest value once there, which no journal reaches.
     pub(crate) count: u64,
     pub(crate) name: PhantomData<N>,
 }
@@ -33,13 +32,13 @@ impl<N: Name, A: Allocator> Model for LinePass<N, A> {
 
     ghost use Rattle.xp_lock.specs.Views.{claiming};
 
-    ghost view = { λ p. record { line = p.line; seen = p.sight.knows.seen; taken = p.outbox.taken } };
+    ghost view = { λ p. record { line = p.line; seen = p.history_seat.knows.seen; taken = p.outbox.taken } };
 
-    ghost invariant = { λ p. (p.sight.word ≡ N.word) × (p.sight.knows ≡ claiming p.line p.sight.knows.seen) × (p.line < line_count N.subs) × (slice_get N.queues p.line ≡ Some p.outbox.queue) × (p.count ≡ min (length p.outbox.taken) (2 ^ 64 - 1)) };
+    ghost invariant = { λ p. (p.history_seat.history_length ≡ N.history_length) × (p.history_seat.knows ≡ claiming p.line p.history_seat.knows.seen) × (p.line < line_count N.subs) × (slice_get N.queues p.line ≡ Some p.outbox.queue) × (p.count ≡ min (length p.outbox.taken) (2 ^ 64 - 1)) };
 }
 
 impl<N: Name, A: Allocator> LinePass<N, A> {
-    /// The line, one of the subscriptions'.
+    /// Returns the number of the line, which is a line of the subscriptions.
     pub fn line(&self) -> LineNo
         ensures line { result ≡ self.now.line }
         ensures within { result < line_count N.subs }
@@ -47,11 +46,10 @@ impl<N: Name, A: Allocator> LinePass<N, A> {
         self.line
     }
 
-    /// Takes the oldest output from the line's outbox.
+    /// Takes the oldest output from the line's outbox, or returns `None` where it finds none.
     pub(crate) fn next_out<R: Wait>(&mut self, rt: &R) -> Option<Outgoing<A>>
         ensures item { IfSome result (λ item. self.new ≡ record self.old { taken = self.old.taken ++ item ∷ [] }) }
         ensures none { IfNone result (self.new ≡ self.old) }
-        ensures empty { IfNone result (HeldAtSomeMoment (taker self.old.taken) 0) }
     {
         let item = self.outbox.take(rt)?;
         self.count = self.count.saturating_add(1);

@@ -1,17 +1,17 @@
-//! The start of an exchange.
+//! How an exchange is started.
 
 ghost use Rattle.std.specs.Prelude.{◌≡◌, ◌≤◌, [], All, IfOk, OnOk, length, map};
 ghost use Rattle.xp_subs.specs.Tables.{line_count};
 ghost use Rattle.xp_lock.specs.Opening.{AreFirst};
 ghost use Rattle.xp_lock.specs.Views.{keeping};
 
-use crate::blanks::Blanks;
+use crate::core_with_outboxes::CoreWithOutboxes;
 use crate::exchange::Exchange;
+use crate::history_length::{HistoryLength, HistorySeat};
 use crate::keeper::Keeper;
 use crate::name::Name;
 use crate::pass::LinePass;
-use crate::switch::Switch;
-use crate::word::{Sight, Word};
+use crate::prepared::PreparedExchange;
 use std::alloc::{AllocError, Allocator};
 use std::marker::PhantomData;
 use xp_core::Outgoing;
@@ -19,55 +19,62 @@ use xp_outbox::TakeEnd;
 use xp_subs::LineNo;
 
 impl<N: Name, A: Allocator + Copy> Exchange<N, A> {
-    /// The exchange that N names, with an empty history, and the passes of its lines, in order.
+    /// Starts the exchange that `N` names, with an empty history, and returns it with the passes of its lines, in order.
+    ///
+    /// # Errors
+    ///
+    /// `AllocError` if an allocation fails.
     pub fn start(
         alloc: A,
-        blanks: Blanks<A>,
+        prepared: PreparedExchange<A>,
     ) -> Result<(Exchange<N, A>, Vec<LinePass<N, A>, A>), AllocError>
-        requires subs { N.subs ≡ blanks.subs }
-        requires word { N.word ≡ blanks.word }
-        requires queues { N.queues ≡ blanks.queues }
+        requires subs { N.subs ≡ prepared.subs }
+        requires history_length { N.history_length ≡ prepared.history_length }
+        requires queues { N.queues ≡ prepared.queues }
         ensures { IfOk result (λ started. AreFirst (line_count N.subs) started.1.items) }
     {
-        let Blanks {
+        let PreparedExchange {
             core,
-            word,
-            sight,
-            boxes,
+            history_length,
+            history_seat,
+            outboxes,
             ends,
             taken,
             lines,
-        } = blanks;
-        let mut sight = sight;
-        let passes = first_passes(alloc, &word, &mut sight, ends)?;
-        let keeper = Keeper::new(Switch::new(core, boxes), sight);
-        Ok((Exchange::new(keeper, word, lines as LineNo, taken), passes))
+        } = prepared;
+        let mut history_seat = history_seat;
+        let passes = first_passes(alloc, &history_length, &mut history_seat, ends)?;
+        let keeper = Keeper::new(CoreWithOutboxes::new(core, outboxes), history_seat);
+        Ok((
+            Exchange::new(keeper, history_length, lines as LineNo, taken),
+            passes,
+        ))
     }
 }
 
-/// The passes of the lines, in order, each with its claim and its end of its outbox.
+/// Makes the passes of the lines, in order. Each has the claim of its line and the take end of its outbox.
 fn first_passes<N: Name, A: Allocator>(
     alloc: A,
-    word: &Word<A>,
-    keeper: &mut Sight<A>,
+    history_length: &HistoryLength<A>,
+    keeper: &mut HistorySeat<A>,
     ends: Vec<TakeEnd<Outgoing<A>, A>, A>,
 ) -> Result<Vec<LinePass<N, A>, A>, AllocError>
-    requires word { word.now ≡ N.word }
-    requires keeper { keeper.old ≡ record { word = N.word; knows = keeping 0 [] } }
+    requires history_length { history_length.now ≡ N.history_length }
+    requires keeper { keeper.old ≡ record { history_length = N.history_length; knows = keeping 0 [] } }
     requires queues { map (λ end. end.queue) ends.items ≡ N.queues }
     requires taken { All (λ end. end.taken ≡ []) ends.items }
     requires count { length ends.items ≡ line_count N.subs }
     requires few { line_count N.subs ≤ 512 }
-    ensures keeper { OnOk result (keeper.new ≡ record { word = N.word; knows = keeping (line_count N.subs) [] }) }
+    ensures keeper { OnOk result (keeper.new ≡ record { history_length = N.history_length; knows = keeping (line_count N.subs) [] }) }
     ensures passes { IfOk result (λ passes. AreFirst (line_count N.subs) passes.items) }
 {
     let mut passes = Vec::with_capacity(alloc, ends.len())?;
     for outbox in ends {
         let line = passes.len() as LineNo;
-        let sight = word.next_claim(keeper);
+        let history_seat = history_length.next_claim(keeper);
         passes.push(LinePass {
             line,
-            sight,
+            history_seat,
             outbox,
             count: 0,
             name: PhantomData,

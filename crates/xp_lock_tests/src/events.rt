@@ -6,9 +6,9 @@ ghost use Rattle.xp_core.specs.Stalls.{is_stall};
 
 use std::alloc::{Allocator, Global};
 use std::sync::Wait;
-use xp_core::{Event, What};
-use xp_lock::{Done, Exchange, LinePass, Name, OfferFault};
-use xp_packets::{PacketFault, decode};
+use xp_core::{Event, Outgoing, Put, What};
+use xp_lock::{Exchange, LinePass, Name, OfferFault, Receipt};
+use xp_packets::{Packet, PacketFault, decode};
 
 /// A call request for 2080020, which is b1's.
 pub const CALL: [u8; 13] = [
@@ -17,9 +17,6 @@ pub const CALL: [u8; 13] = [
 
 /// A call accepted packet.
 pub const ACCEPTED: [u8; 3] = [0x10, 0x01, 0x0f];
-
-/// A clear request.
-pub const CLEAR: [u8; 5] = [0x10, 0x01, 0x13, 0x00, 0x00];
 
 /// A clear confirmation.
 pub const CLEAR_CONFIRM: [u8; 3] = [0x10, 0x01, 0x17];
@@ -53,7 +50,7 @@ pub fn offer<N: Name>(
     exchange: &Exchange<N, Global>,
     pass: &mut LinePass<N, Global>,
     what: What,
-) -> Result<Done, OfferFault>
+) -> Result<Receipt, OfferFault>
     requires readable { IsReadable what }
     requires kind { is_stall what ≡ false }
 {
@@ -97,6 +94,7 @@ pub fn is_refused<N: Name>(
 /// Why an offer is refused.
 #[derive(Clone, Copy)]
 pub enum Reason {
+    /// The exchange is halted, and the call accepted packet that was offered comes back.
     Halted,
     NoRoom,
 }
@@ -105,8 +103,34 @@ impl Reason {
     /// By reference: of a value that is looked into, the prover takes each kind of packet apart as it is dropped.
     fn is_of(self, fault: &OfferFault) -> bool {
         match self {
-            Reason::Halted => matches!(fault, OfferFault::Halted(_)),
+            Reason::Halted => matches!(
+                fault,
+                OfferFault::Halted(Event {
+                    line: 1,
+                    what: What::Frame {
+                        identifier: 1,
+                        packet: Packet::Accepted {
+                            d: false,
+                            block: None
+                        },
+                    },
+                })
+            ),
             Reason::NoRoom => matches!(fault, OfferFault::NoRoom(_)),
         }
     }
+}
+
+/// Whether an output is an incoming call.
+pub fn is_call(item: &Option<Outgoing>) -> bool {
+    matches!(
+        item,
+        Some(Outgoing {
+            put: Put::Send {
+                packet: Packet::Call { .. },
+                ..
+            },
+            ..
+        })
+    )
 }

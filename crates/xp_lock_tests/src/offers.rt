@@ -3,69 +3,83 @@
 ghost use Rattle.std.specs.Prelude.{◌≡◌};
 
 use crate::closing::closes_in_two;
-use crate::events::{Reason, entered, is_refused};
-use std::alloc::{AllocError, Global};
+use crate::events::{ACCEPTED, CALL, Reason, entered, is_call, is_refused, packet};
+use std::alloc::Global;
 use std::marker::Brand;
 use std::sync::Wait;
 use std::test::Fail;
 use xp_core::What;
-use xp_lock::{Blanks, Exchange, LinePass, Name, prepare};
+use xp_lock::{Exchange, LinePass, Name, PreparedExchange, prepare};
 use xp_subs::Subs;
 use xp_testing::THREE_STATIONS;
 
-/// What came of a line that comes up, a halt, and a closing without its pass and with it.
+/// What came of a call, a halt before its answer, and a closing without the last pass and with it.
 #[derive(Debug, Default, Drop, PartialEq)]
 struct Seen {
     halted_before: bool,
-    came_up: Option<u64>,
+    called: Option<u64>,
     halted: bool,
     refused: bool,
+    rung: bool,
     missing: Option<u16>,
     entries: Option<usize>,
 }
 
-/// The line comes up, and the exchange is halted.
+/// a1 calls b1, and the exchange is halted before b1 answers.
 fn halts_at<N: Name>(
     rt: &impl Wait,
+    alloc: Global,
     exchange: &Exchange<N>,
-    pass: &mut LinePass<N>,
+    passes: &mut [LinePass<N>],
     seen: &mut Seen,
-) {
+) -> Result<(), Fail> {
+    let [a1, b1, ..] = passes else {
+        return Ok(());
+    };
+    let _up = entered(rt, exchange, a1, What::Up);
+    let _up = entered(rt, exchange, b1, What::Up);
     seen.halted_before = exchange.halted();
-    seen.came_up = entered(rt, exchange, pass, What::Up);
+    seen.called = entered(rt, exchange, a1, packet(alloc, &CALL)?);
     exchange.halt(rt);
     seen.halted = exchange.halted();
-    seen.refused = is_refused(rt, exchange, pass, What::Down, Reason::Halted);
+    let answer = packet(alloc, &ACCEPTED)?;
+    seen.refused = is_refused(rt, exchange, b1, answer, Reason::Halted);
+    seen.rung = is_call(&exchange.next_out(rt, b1));
+    Ok(())
 }
 
-fn halts<N: Name>(rt: &impl Wait, alloc: Global, blanks: Blanks<Global>) -> Result<Seen, AllocError>
-    requires subs { N.subs ≡ blanks.subs }
-    requires word { N.word ≡ blanks.word }
-    requires queues { N.queues ≡ blanks.queues }
+fn halts<N: Name>(
+    rt: &impl Wait,
+    alloc: Global,
+    prepared: PreparedExchange<Global>,
+) -> Result<Seen, Fail>
+    requires subs { N.subs ≡ prepared.subs }
+    requires history_length { N.history_length ≡ prepared.history_length }
+    requires queues { N.queues ≡ prepared.queues }
 {
     let mut seen = Seen::default();
-    let (exchange, mut passes) = Exchange::<N, Global>::start(alloc, blanks)?;
-    let mut last = passes.pop();
-    if let Some(pass) = &mut last {
-        halts_at(rt, &exchange, pass, &mut seen);
-    }
+    let (exchange, mut passes) = Exchange::<N, Global>::start(alloc, prepared)?;
+    let played = halts_at(rt, alloc, &exchange, &mut passes, &mut seen);
+    let last = passes.pop();
     (seen.missing, seen.entries) = closes_in_two(rt, exchange, passes, last);
+    played?;
     Ok(seen)
 }
 
 #[test]
 fn halted_exchange(rt: HostRuntime) -> Result<(), Fail> {
-    let blanks = prepare(rt.alloc(), Subs::read(rt.alloc(), THREE_STATIONS)?)?;
-    let seen = halts::<Brand>(&rt, rt.alloc(), blanks)?;
+    let prepared = prepare(rt.alloc(), Subs::read(rt.alloc(), THREE_STATIONS)?)?;
+    let seen = halts::<Brand>(&rt, rt.alloc(), prepared)?;
     assert_eq!(rt;
         seen,
         Seen {
             halted_before: false,
-            came_up: Some(1),
+            called: Some(3),
             halted: true,
             refused: true,
+            rung: true,
             missing: Some(4),
-            entries: Some(1),
+            entries: Some(3),
         }
     );
     Ok(())

@@ -5,13 +5,14 @@ ghost use Rattle.xp_core.specs.Exchange.{IsReadable};
 ghost use Rattle.xp_core.specs.Stalls.{is_stall};
 
 use crate::closing::entries_at_close;
-use crate::events::{ACCEPTED, CALL, CLEAR, CLEAR_CONFIRM, packet};
+use crate::events::{ACCEPTED, CALL, data, packet, ready};
+use crate::slow::{PACKETS, take_all};
 use std::alloc::Allocator;
 use std::marker::Brand;
 use std::sync::Wait;
 use std::test::Fail;
 use xp_core::{Event, What};
-use xp_lock::{Blanks, Exchange, LinePass, Name, OfferFault, prepare};
+use xp_lock::{Exchange, LinePass, Name, OfferFault, PreparedExchange, prepare};
 use xp_subs::Subs;
 use xp_testing::{Refusing, THREE_STATIONS};
 
@@ -53,7 +54,7 @@ fn what<A: Allocator + Copy>(alloc: A, octets: &[u8]) -> Result<What<A>, Fail>
 struct Told {
     /// The number of the last entry.
     last: u64,
-    /// Whether each number was the next one.
+    /// Whether each number was greater than the one before.
     in_order: bool,
     /// Whether one of them was refused for memory.
     refused: bool,
@@ -67,13 +68,13 @@ impl Told {
             self.in_order = false;
             return;
         };
-        self.in_order = self.in_order && entry.checked_sub(1) == Some(self.last);
+        self.in_order = self.in_order && entry > self.last;
         self.last = entry;
         self.refused = self.refused || refused;
     }
 }
 
-/// a1 calls b1, which accepts; a1 clears the call.
+/// a1 calls b1, and sends it packets that b1 acknowledges; a1 takes its outputs at once, and b1, which takes none, is stalled.
 fn call<N: Name, A: Allocator + Copy>(
     rt: &impl Wait,
     alloc: A,
@@ -91,8 +92,11 @@ fn call<N: Name, A: Allocator + Copy>(
     told.note(offer(rt, exchange, b1, What::Up));
     told.note(offer(rt, exchange, a1, what(alloc, &CALL)?));
     told.note(offer(rt, exchange, b1, what(alloc, &ACCEPTED)?));
-    told.note(offer(rt, exchange, a1, what(alloc, &CLEAR)?));
-    told.note(offer(rt, exchange, b1, what(alloc, &CLEAR_CONFIRM)?));
+    for number in 0..PACKETS {
+        told.note(offer(rt, exchange, a1, what(alloc, &data(number % 8))?));
+        told.note(offer(rt, exchange, b1, what(alloc, &ready((number + 1) % 8))?));
+        take_all(rt, exchange, a1);
+    }
     Ok(told)
 }
 
@@ -100,13 +104,13 @@ fn call<N: Name, A: Allocator + Copy>(
 fn plays<N: Name, A: Allocator + Copy>(
     rt: &impl Wait,
     alloc: A,
-    blanks: Blanks<A>,
+    prepared: PreparedExchange<A>,
 ) -> Result<Option<Told>, Fail>
-    requires subs { N.subs ≡ blanks.subs }
-    requires word { N.word ≡ blanks.word }
-    requires queues { N.queues ≡ blanks.queues }
+    requires subs { N.subs ≡ prepared.subs }
+    requires history_length { N.history_length ≡ prepared.history_length }
+    requires queues { N.queues ≡ prepared.queues }
 {
-    let Ok((exchange, mut passes)) = Exchange::<N, A>::start(alloc, blanks) else {
+    let Ok((exchange, mut passes)) = Exchange::<N, A>::start(alloc, prepared) else {
         return Ok(None);
     };
     let told = call(rt, alloc, &exchange, &mut passes);
@@ -119,16 +123,16 @@ fn plays<N: Name, A: Allocator + Copy>(
 #[test]
 fn refused_offers_change_nothing(rt: HostRuntime) -> Result<(), Fail> {
     let mut refused = 0usize;
-    for number in 1..300u64 {
+    for number in 1..5000u64 {
         let scarce = Refusing::new(rt.alloc(), number);
         let subs = Subs::read(rt.alloc(), THREE_STATIONS)?;
-        let Ok(blanks) = prepare(&scarce, subs) else {
+        let Ok(prepared) = prepare(&scarce, subs) else {
             continue;
         };
-        let Some(told) = plays::<Brand, _>(&rt, &scarce, blanks)? else {
+        let Some(told) = plays::<Brand, _>(&rt, &scarce, prepared)? else {
             continue;
         };
-        assert_eq!(rt; (told.last, told.in_order, told.entries), (6, true, 6));
+        assert_eq!(rt; (told.last, told.in_order, told.entries), (85, true, 85));
         refused = refused.saturating_add(usize::from(told.refused));
         if scarce.is_pending() {
             break;

@@ -3,18 +3,18 @@
 ghost use Rattle.std.specs.Prelude.{◌≡◌};
 
 use crate::events::{ACCEPTED, CALL, Reason, data, is_refused, offer, packet, ready};
-use std::alloc::Global;
+use std::alloc::{Allocator, Global};
 use std::marker::Brand;
 use std::sync::Wait;
 use std::test::Fail;
 use xp_core::{Outgoing, Put, What};
-use xp_lock::{Blanks, Book, Done, Exchange, LinePass, Name, OfferFault, prepare};
+use xp_lock::{Book, Exchange, LinePass, Name, OfferFault, PreparedExchange, Receipt, prepare};
 use xp_packets::Packet;
 use xp_subs::{LineNo, Subs};
 use xp_testing::THREE_STATIONS;
 
 /// How many data packets a1 sends.
-const PACKETS: u8 = 40;
+pub const PACKETS: u8 = 40;
 
 /// What came of the data packets from a1 to b1.
 #[derive(Debug, Default, Drop, PartialEq)]
@@ -39,11 +39,11 @@ struct Seen {
 }
 
 /// Takes all outputs of the pass's line: how many there were, and the last.
-fn take_all<N: Name>(
+pub fn take_all<N: Name, A: Allocator + Copy>(
     rt: &impl Wait,
-    exchange: &Exchange<N, Global>,
-    pass: &mut LinePass<N, Global>,
-) -> (usize, Option<Outgoing>) {
+    exchange: &Exchange<N, A>,
+    pass: &mut LinePass<N, A>,
+) -> (usize, Option<Outgoing<A>>) {
     let mut count = 0;
     let mut last = None;
     for taken in 0..100usize {
@@ -83,7 +83,7 @@ fn closes(item: &Option<Outgoing>) -> bool {
 }
 
 /// The first line that was given something.
-fn rung(taken: Result<Done, OfferFault>) -> Option<LineNo> {
+fn rung(taken: Result<Receipt, OfferFault>) -> Option<LineNo> {
     if let Ok(done) = taken {
         return done.given().first().copied();
     }
@@ -189,14 +189,14 @@ fn note_book(seen: &mut Seen, book: &Book) {
 fn plays<N: Name>(
     rt: &impl Wait,
     alloc: Global,
-    blanks: Blanks<Global>,
+    prepared: PreparedExchange<Global>,
     at_once: bool,
 ) -> Result<Seen, Fail>
-    requires subs { N.subs ≡ blanks.subs }
-    requires word { N.word ≡ blanks.word }
-    requires queues { N.queues ≡ blanks.queues }
+    requires subs { N.subs ≡ prepared.subs }
+    requires history_length { N.history_length ≡ prepared.history_length }
+    requires queues { N.queues ≡ prepared.queues }
 {
-    let (exchange, mut passes) = Exchange::<N, Global>::start(alloc, blanks)?;
+    let (exchange, mut passes) = Exchange::<N, Global>::start(alloc, prepared)?;
     let seen = talk(rt, alloc, &exchange, &mut passes, at_once);
     let book = exchange.close(rt, passes);
     let mut seen = seen?;
@@ -208,11 +208,11 @@ fn plays<N: Name>(
 
 #[test]
 fn slow_line_is_stalled(rt: HostRuntime) -> Result<(), Fail> {
-    let blanks = prepare(rt.alloc(), Subs::read(rt.alloc(), THREE_STATIONS)?)?;
+    let prepared = prepare(rt.alloc(), Subs::read(rt.alloc(), THREE_STATIONS)?)?;
     // two connections, the call and its answer, forty packets with thirty-nine acknowledgements between them; a1 takes the
     // answer, these acknowledgements and the clear indication, b1 the call, the packets and what closes its connection
     assert_eq!(rt;
-        plays::<Brand>(&rt, rt.alloc(), blanks, false)?,
+        plays::<Brand>(&rt, rt.alloc(), prepared, false)?,
         Seen {
             rung: Some(1),
             kept: 42,
@@ -231,9 +231,9 @@ fn slow_line_is_stalled(rt: HostRuntime) -> Result<(), Fail> {
 
 #[test]
 fn line_that_takes_at_once_is_not_stalled(rt: HostRuntime) -> Result<(), Fail> {
-    let blanks = prepare(rt.alloc(), Subs::read(rt.alloc(), THREE_STATIONS)?)?;
+    let prepared = prepare(rt.alloc(), Subs::read(rt.alloc(), THREE_STATIONS)?)?;
     assert_eq!(rt;
-        plays::<Brand>(&rt, rt.alloc(), blanks, true)?,
+        plays::<Brand>(&rt, rt.alloc(), prepared, true)?,
         Seen {
             rung: Some(1),
             kept: 0,

@@ -1,42 +1,61 @@
 //! Two threads that offer at the same time.
 
-ghost use Rattle.std.specs.Prelude.{◌≡◌};
+ghost use Rattle.std.specs.Prelude.{◌≡◌, false};
+ghost use Rattle.xp_core.specs.Exchange.{IsReadable};
+ghost use Rattle.xp_core.specs.Stalls.{is_stall};
 
-use crate::closing::entries_at_close;
-use crate::events::entered;
+use crate::events::{CLEAR_CONFIRM, entered, packet};
+use crate::slow::take_all;
 use std::alloc::{AllocError, Global};
 use std::marker::Brand;
 use std::sync::Wait;
 use std::test::Fail;
 use std::thread::{Threads, join};
-use xp_core::What;
-use xp_lock::{Blanks, Exchange, LinePass, Name, prepare};
-use xp_subs::Subs;
+use xp_core::{Entry, What};
+use xp_lock::{Exchange, LinePass, Name, PreparedExchange, prepare};
+use xp_subs::{LineNo, Subs};
 use xp_testing::THREE_STATIONS;
 
-/// How many events each line offers.
-const EVENTS: usize = 101;
+/// How many clear confirmations each line offers: an error in p1, and then what confirms its clear indication.
+const CONFIRMATIONS: usize = 100;
 
-/// Brings the line up, and then lets nothing happen on it: whether all was taken, under rising numbers.
+/// Offers what comes on the line, and takes all that is put out to it: the number of the entry, where it is greater.
+fn offer_next<N: Name>(
+    rt: &impl Wait,
+    exchange: &Exchange<N, Global>,
+    pass: &mut LinePass<N, Global>,
+    what: What,
+    number: u64,
+) -> Option<u64>
+    requires readable { IsReadable what }
+    requires kind { is_stall what ≡ false }
+{
+    let entry = entered(rt, exchange, pass, what)?;
+    take_all(rt, exchange, pass);
+    if entry > number { Some(entry) } else { None }
+}
+
+/// Brings the line up, and offers the confirmations: whether all was taken, under rising numbers.
 fn offer_all<N: Name, R: Wait>(
     rt: &R,
+    alloc: Global,
     exchange: &Exchange<N, Global>,
     pass: &mut LinePass<N, Global>,
 ) -> bool {
-    let mut number = 0;
-    for place in 0..EVENTS {
-        let what = if place == 0 { What::Up } else { What::Expire };
-        match entered(rt, exchange, pass, what) {
-            Some(entry) if entry > number => number = entry,
-            _ => return false,
-        }
+    let mut number = offer_next(rt, exchange, pass, What::Up, 0);
+    for _confirmation in 0..CONFIRMATIONS {
+        let (Some(last), Ok(what)) = (number, packet(alloc, &CLEAR_CONFIRM)) else {
+            return false;
+        };
+        number = offer_next(rt, exchange, pass, what, last);
     }
-    true
+    number.is_some()
 }
 
 /// The first two lines do so at the same time.
 fn offer_both<N: Name + Send + Sync>(
     rt: &(impl Threads + Wait + Sync),
+    alloc: Global,
     exchange: &Exchange<N, Global>,
     passes: &mut [LinePass<N, Global>],
 ) -> (bool, bool) {
@@ -45,31 +64,67 @@ fn offer_both<N: Name + Send + Sync>(
     };
     join(
         rt,
-        || offer_all(rt, exchange, a1),
-        || offer_all(rt, exchange, b1),
+        || offer_all(rt, alloc, exchange, a1),
+        || offer_all(rt, alloc, exchange, b1),
     )
+}
+
+/// How many events of the line there are, where the first is its connection and the others are packets.
+fn own_events(history: &[Entry], line: LineNo) -> Option<usize> {
+    let mut count = 0usize;
+    for entry in history {
+        if entry.event.line == line {
+            if matches!(entry.event.what, What::Up) != (count == 0) {
+                return None;
+            }
+            count = count.saturating_add(1);
+        }
+    }
+    Some(count)
+}
+
+/// How many entries there are, how many events of each line, and how many outputs each took.
+#[derive(Debug, Default, Drop, PartialEq)]
+struct Counts {
+    offered: (bool, bool),
+    entries: usize,
+    events: (Option<usize>, Option<usize>),
+    taken: (u64, u64),
 }
 
 fn both<N: Name + Send + Sync>(
     rt: &(impl Threads + Wait + Sync),
     alloc: Global,
-    blanks: Blanks<Global>,
-) -> Result<((bool, bool), Option<usize>), AllocError>
-    requires subs { N.subs ≡ blanks.subs }
-    requires word { N.word ≡ blanks.word }
-    requires queues { N.queues ≡ blanks.queues }
+    prepared: PreparedExchange<Global>,
+) -> Result<Counts, AllocError>
+    requires subs { N.subs ≡ prepared.subs }
+    requires history_length { N.history_length ≡ prepared.history_length }
+    requires queues { N.queues ≡ prepared.queues }
 {
-    let (exchange, mut passes) = Exchange::<N, Global>::start(alloc, blanks)?;
-    let taken = offer_both(rt, &exchange, &mut passes);
-    Ok((taken, entries_at_close(rt, exchange, passes)))
+    let (exchange, mut passes) = Exchange::<N, Global>::start(alloc, prepared)?;
+    let mut counts = Counts {
+        offered: offer_both(rt, alloc, &exchange, &mut passes),
+        ..Counts::default()
+    };
+    if let Ok(book) = exchange.close(rt, passes) {
+        counts.entries = book.history().len();
+        counts.events = (own_events(book.history(), 0), own_events(book.history(), 1));
+        counts.taken = (book.taken(0), book.taken(1));
+    }
+    Ok(counts)
 }
 
 #[test]
 fn two_threads_history(rt: HostRuntime) -> Result<(), Fail> {
-    let blanks = prepare(rt.alloc(), Subs::read(rt.alloc(), THREE_STATIONS)?)?;
+    let prepared = prepare(rt.alloc(), Subs::read(rt.alloc(), THREE_STATIONS)?)?;
     assert_eq!(rt;
-        both::<Brand>(&rt, rt.alloc(), blanks)?,
-        ((true, true), Some(202))
+        both::<Brand>(&rt, rt.alloc(), prepared)?,
+        Counts {
+            offered: (true, true),
+            entries: 202,
+            events: (Some(101), Some(101)),
+            taken: (50, 50),
+        }
     );
     Ok(())
 }

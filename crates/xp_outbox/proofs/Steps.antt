@@ -1,11 +1,11 @@
 -- Each step keeps the rule of an outbox.
-use Rattle.std.proofs.Common.{◌≡◌, ◌≢◌, ℕ, zero, suc, true, true≢false, List, [], ◌∷◌, ◌++◌, length, set, sym, refl, ap, ◌∙◌, subst, ⊎_elim, append_assoc}
+use Rattle.std.proofs.Common.{◌≡◌, ◌≢◌, ℕ, zero, suc, true, true≢false, List, [], ◌∷◌, ◌++◌, ◌≤◌, arith, length, length-append, set, sym, refl, ap, ◌∙◌, subst, ⊎_elim, append_assoc}
 use mathlib.Core.Option.{some, some-ne-none}
 use lib.ListN.{get_elem?}
 use Rattle.crossbeam_queue.specs.Fifo.{Pushes, Pops, Forks, Merges, Learns}
 use Rattle.crossbeam_queue.proofs.Lists.{at_set, at_snoc}
 use Rattle.xp_outbox.specs.declared.rule.EndView.{EndView}
-use Rattle.xp_outbox.specs.Rule.{Fits, IsHeldWith, IsInOrder, putter, spent, taker, whole}
+use Rattle.xp_outbox.specs.steps.Rule.{Fits, IsInOrder, putter, spent, taker, whole}
 
 module _ {T : Type 0} where
   -- a place that the longer list has and the shorter has not is its end
@@ -70,9 +70,15 @@ module _ {T : Type 0} where
       } in
       (taker (v.taken ++ x ∷ []), order, refl)
 
-  -- a look, and a take that finds none
-  pub looks : (seat : ℕ) (v : EndView T) → Learns IsInOrder seat v (IsHeldWith v)
-  looks seat v items views h at = record { views = views; seat = seat; order = h; here = at }
+  -- a look of the put end
+  pub looks : (seat : ℕ) (v : EndView T) → v.puts ≡ true → Learns IsInOrder seat v (λ items. length items ≤ length v.put)
+  looks seat v may items views h at =
+      let all = ap length (((h.each seat v at).puts may).1 ∙ h.held) in
+      omega (arith, all, length-append h.taken items)
+
+  -- a put that is refused, and a take that finds none
+  pub learns_none : (seat : ℕ) (v : EndView T) → Learns {T = T} IsInOrder seat v (λ items. Unit {0})
+  learns_none seat v items views h at = tt
 
   -- splitting into two ends
   pub splits : (seat : ℕ) (v : EndView T) → v.puts ≡ true → v.takes ≡ true → Forks IsInOrder seat v (putter v.put) (taker v.taken)

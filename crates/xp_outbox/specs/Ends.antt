@@ -1,16 +1,17 @@
--- What an end of an outbox shows.
+-- The two ends of an outbox as contracts see them: `Putting` is the state of the end that puts items, `Taking` the state of
+-- the end that takes them.
 use Rattle.std.specs.Prelude.{ℕ, List}
 use Rattle.atomic_table.specs.Seated.{TableId}
 
--- the put end: which queue it is, how many items the queue has room for, all that was put, and the places that are
--- known to be free
+-- the put end: the name of its queue, how many items the queue has room for, all items that were put, and how many places
+-- this end knows to be free
 pub record Putting (T : Type 0) : Type 0 where
   pub queue : TableId
   pub capacity : ℕ
   pub put : List T
   pub free : ℕ
 
--- the take end: which queue it is, how many items it has room for, and all that was taken
+-- the take end: the name of its queue, how many items the queue has room for, and all items that were taken
 pub record Taking (T : Type 0) : Type 0 where
   pub queue : TableId
   pub capacity : ℕ

@@ -7,9 +7,9 @@ use crate::take::TakeEnd;
 use std::alloc::Allocator;
 use std::sync::Wait;
 
-/// Puts the two ends of one outbox together, and tells how many items were put and not taken. What was taken is a front
-/// of what was put. The put end is as it was.
-pub fn settle<T: Drop, A: Allocator, R: Wait>(
+/// Joins the two ends of one outbox, and returns how many items were put and not taken. The items taken are the first of
+/// the items put. The put end stays as it was.
+pub fn count_untaken<T: Drop, A: Allocator, R: Wait>(
     rt: &R,
     put: &mut PutEnd<T, A>,
     taken: TakeEnd<T, A>,

@@ -1,4 +1,4 @@
-//! The queue from the exchange to one of its lines: one thread puts, another takes.
+//! The queue from the exchange to one of its lines. One thread puts items into it, and another takes them out.
 #![tactic(auto)]
 
 mod closing;
@@ -6,6 +6,6 @@ mod put;
 mod rule;
 mod take;
 
-pub use closing::settle;
+pub use closing::count_untaken;
 pub use put::{PutEnd, outbox};
 pub use take::TakeEnd;

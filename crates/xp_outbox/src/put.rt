@@ -1,5 +1,4 @@
-ghost use Rattle.std.specs.Prelude.{◌≡◌, ◌+◌, ◌-◌, ◌<◌, ◌≤◌, [], ◌∷◌, ◌++◌, IfOk};
-ghost use Rattle.xp_outbox.specs.Rule.{HeldAtSomeMoment, putter};
+ghost use Rattle.std.specs.Prelude.{◌≡◌, ◌+◌, ◌-◌, ◌<◌, ◌≤◌, [], ◌∷◌, ◌++◌, IfOk, length};
 
 use crate::rule::{EndView, Ends, Looks, Puts, Queue};
 use crate::take::TakeEnd;
@@ -9,7 +8,7 @@ use std::marker::Model;
 use std::sync::{Arc, Wait};
 use std::thread;
 
-/// The end of an outbox that the exchange puts items into.
+/// The end of an outbox into which the exchange puts items.
 #[derive(Drop)]
 pub struct PutEnd<T, A: Allocator> {
     pub(crate) queue: Arc<Queue<T, A>, A>,
@@ -25,14 +24,18 @@ impl<T, A: Allocator> Model for PutEnd<T, A> {
 
     ghost Value = { Putting T };
 
-    ghost use Rattle.xp_outbox.specs.Rule.{putter};
+    ghost use Rattle.xp_outbox.specs.steps.Rule.{putter};
 
     ghost view = { λ e. record { queue = e.pass.table_id; capacity = ruled_capacity (arc_value e.queue); put = (known e.pass).put; free = e.free } };
 
     ghost invariant = { λ e. IsPassOf (arc_value e.queue) e.pass × (known e.pass ≡ putter (known e.pass).put) × (e.free ≤ ruled_capacity (arc_value e.queue)) };
 }
 
-/// An outbox with room for so many items, as its two ends.
+/// Allocates an outbox with room for `capacity` items, and returns its two ends.
+///
+/// # Errors
+///
+/// `AllocError` if an allocation fails.
 pub fn outbox<T: Drop, A: Allocator + Copy>(
     alloc: A,
     capacity: usize,
@@ -55,25 +58,28 @@ pub fn outbox<T: Drop, A: Allocator + Copy>(
 }
 
 impl<T: Drop, A: Allocator> PutEnd<T, A> {
-    /// Looks at how many places are free. Only this end fills places, so as many are free until it puts an item.
+    /// Looks at how many places are free, and returns their number. This end alone fills places. So at least as many stay
+    /// free until it puts an item.
     pub fn room<R: Wait>(&mut self, rt: &R) -> usize
         ensures known { self.new ≡ record self.old { free = result } }
         ensures most { result ≤ self.old.capacity }
-        ensures moment { HeldAtSomeMoment (putter self.old.put) (self.old.capacity - result) }
+        ensures least { self.old.capacity ≤ result + length self.old.put }
     {
         let held = self.queue.len_as::<Looks, R>(rt, &mut self.pass);
         self.free = self.queue.capacity() - held;
         self.free
     }
 
-    /// The places that are known to be free: those of the last look, less the items put since.
+    /// Returns how many places this end knows to be free: as many as the last look found, less the items put since. Before
+    /// the first look all places were free.
     pub fn free(&self) -> usize
         ensures { result ≡ self.now.free }
     {
         self.free
     }
 
-    /// Puts an item behind all others, into a place that is known to be free.
+    /// Puts an item behind all others, into a place that this end knows to be free. While the queue refuses the item, it
+    /// tries again.
     pub fn put<R: Wait>(&mut self, rt: &R, item: T)
         requires { 0 < self.old.free }
         ensures { self.new ≡ record self.old { put = self.old.put ++ item ∷ []; free = self.old.free - 1 } }

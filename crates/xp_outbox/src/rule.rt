@@ -1,11 +1,11 @@
-//! The rule of an outbox: what was taken, followed by what it holds, is what was put.
+//! The rule of an outbox: the items taken, followed by the items that it holds, are the items put.
 
 use crossbeam_queue::RuledArrayQueue;
 use crossbeam_queue::protocol::{Join, Lesson, Outcome, Protocol, Split};
 use std::collections::LinkedList;
 
-/// What an end of an outbox knows: whether it puts and whether it takes, all that it put, and all that it took. No value
-/// of it is made.
+/// What an end of an outbox knows: whether it puts, whether it takes, all items that it put, and all items that it took.
+/// Contracts alone speak of it. The program makes no value of it.
 pub struct EndView<T> {
     pub puts: bool,
     pub takes: bool,
@@ -13,23 +13,23 @@ pub struct EndView<T> {
     pub taken: LinkedList<T>,
 }
 
-/// The rule.
+/// The rule of an outbox.
 pub struct InOrder;
 
 impl<T> Protocol<T, EndView<T>> for InOrder {
     ghost use Rattle.std.specs.Prelude.{[]};
-    ghost use Rattle.xp_outbox.specs.Rule.{IsInOrder, whole};
+    ghost use Rattle.xp_outbox.specs.steps.Rule.{IsInOrder, whole};
 
     ghost holds = { IsInOrder };
 
     ghost first = { whole [] [] };
 }
 
-/// The two ends of one outbox, apart and together again.
+/// The two ends of one outbox: split at first, and joined at last.
 pub struct Ends;
 
 impl<T> Split<EndView<T>> for Ends {
-    ghost use Rattle.xp_outbox.specs.Rule.{putter, taker};
+    ghost use Rattle.xp_outbox.specs.steps.Rule.{putter, taker};
 
     ghost left = { λ v. putter v.put };
 
@@ -37,7 +37,7 @@ impl<T> Split<EndView<T>> for Ends {
 }
 
 impl<T> Join<EndView<T>> for Ends {
-    ghost use Rattle.xp_outbox.specs.Rule.{spent, whole};
+    ghost use Rattle.xp_outbox.specs.steps.Rule.{spent, whole};
 
     ghost both = { λ v w. whole v.put w.taken };
 
@@ -49,7 +49,7 @@ pub struct Puts;
 
 impl<T> Outcome<T, EndView<T>> for Puts {
     ghost use Rattle.std.specs.Prelude.{◌≡◌, [], ◌∷◌, ◌++◌};
-    ghost use Rattle.xp_outbox.specs.Rule.{putter};
+    ghost use Rattle.xp_outbox.specs.steps.Rule.{putter};
 
     ghost then = { λ v x w. w ≡ putter (v.put ++ x ∷ []) };
 }
@@ -59,33 +59,29 @@ pub struct Takes;
 
 impl<T> Outcome<T, EndView<T>> for Takes {
     ghost use Rattle.std.specs.Prelude.{◌≡◌, [], ◌∷◌, ◌++◌};
-    ghost use Rattle.xp_outbox.specs.Rule.{taker};
+    ghost use Rattle.xp_outbox.specs.steps.Rule.{taker};
 
     ghost then = { λ v x w. w ≡ taker (v.taken ++ x ∷ []) };
 }
 
-/// What the outbox holds is looked at.
+/// A look at how many items the outbox holds. The put end learns that it holds no more than were put.
 pub struct Looks;
 
 impl<T> Lesson<T, EndView<T>> for Looks {
-    ghost use Rattle.xp_outbox.specs.Rule.{IsHeldWith};
+    ghost use Rattle.std.specs.Prelude.{◌≤◌, length};
 
-    ghost fact = { IsHeldWith };
+    ghost fact = { λ v items. length items ≤ length v.put };
 }
 
 impl<T> Lesson<T, EndView<T>> for Puts {
-    ghost use Rattle.xp_outbox.specs.Rule.{IsHeldWith};
-
-    ghost fact = { IsHeldWith };
+    ghost fact = { λ _ _. Unit {0} };
 }
 
 impl<T> Lesson<T, EndView<T>> for Takes {
-    ghost use Rattle.xp_outbox.specs.Rule.{IsHeldWith};
-
-    ghost fact = { IsHeldWith };
+    ghost fact = { λ _ _. Unit {0} };
 }
 
-/// What an outbox holds once both ends are together again: what was put and not taken.
+/// A look at the items that an outbox holds once its ends are joined: those that were put and not taken.
 pub struct Rest;
 
 impl<T> Lesson<T, EndView<T>> for Rest {

@@ -1,7 +1,7 @@
 ghost use Rattle.std.specs.Prelude.{◌≡◌, [], ◌∷◌, ◌++◌, IfNone, IfSome};
 ghost use Rattle.std.specs.Arc.{arc_value};
 ghost use Rattle.crossbeam_queue.specs.Passes.{view, IsPassOf, ruled_capacity};
-ghost use Rattle.xp_outbox.specs.Rule.{HeldAtSomeMoment, taker};
+ghost use Rattle.xp_outbox.specs.steps.Rule.{taker};
 
 use crate::rule::{EndView, Queue, Takes};
 use crossbeam_queue::Pass;
@@ -9,7 +9,7 @@ use std::alloc::Allocator;
 use std::marker::Model;
 use std::sync::{Arc, Wait};
 
-/// The end of an outbox that its line takes items from.
+/// The end of an outbox from which its line takes items.
 #[derive(Drop)]
 pub struct TakeEnd<T, A: Allocator> {
     queue: Arc<Queue<T, A>, A>,
@@ -24,7 +24,7 @@ impl<T, A: Allocator> Model for TakeEnd<T, A> {
 
     ghost Value = { Taking T };
 
-    ghost use Rattle.xp_outbox.specs.Rule.{taker};
+    ghost use Rattle.xp_outbox.specs.steps.Rule.{taker};
 
     ghost view = { λ e. record { queue = e.pass.table_id; capacity = ruled_capacity (arc_value e.queue); taken = (known e.pass).taken } };
 
@@ -39,11 +39,11 @@ impl<T, A: Allocator> TakeEnd<T, A> {
         TakeEnd { queue, pass }
     }
 
-    /// Takes the oldest item.
+    /// Takes the oldest item, or returns `None` where it finds none. No clause says when it finds none: this end does not
+    /// know which items were put.
     pub fn take<R: Wait>(&mut self, rt: &R) -> Option<T>
         ensures item { IfSome result (λ item. self.new ≡ record self.old { taken = self.old.taken ++ item ∷ [] }) }
         ensures none { IfNone result (self.new ≡ self.old) }
-        ensures empty { IfNone result (HeldAtSomeMoment (taker self.old.taken) 0) }
     {
         self.queue.pop_as::<Takes, R>(rt, &mut self.pass)
     }

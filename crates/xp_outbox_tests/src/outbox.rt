@@ -5,7 +5,7 @@ use std::process::Abort;
 use std::sync::Wait;
 use std::test::Fail;
 use std::thread;
-use xp_outbox::{PutEnd, TakeEnd, outbox, settle};
+use xp_outbox::{PutEnd, TakeEnd, count_untaken, outbox};
 use xp_testing::Refusing;
 
 const PLACES: usize = 64;
@@ -71,7 +71,7 @@ fn two_threads_hand_items_over_in_order(rt: HostRuntime) -> Result<(), Fail> {
             ensures { result.0.queue ≡ taken.queue }
         { take_all(&rt, taken, into) },
     );
-    assert_eq!(rt; settle(&rt, &mut put, taken), 0);
+    assert_eq!(rt; count_untaken(&rt, &mut put, taken), 0);
     assert_eq!(rt; items.len(), ITEMS);
     for (place, item) in items.iter().enumerate() {
         assert_eq!(rt; place, *item);

@@ -35,7 +35,7 @@ data_bits ps pr false small little =
     let both : pr * 32 + 0 ≡ (2 * pr) * 16 = omega arith in
     rw (received, sent, or_shifted pr 5 0 (omega arith), both, or_shifted (2 * pr) 4 (ps * 2) (omega arith)) (omega arith)
 
--- two digits in the halves of an octet
+-- two digits in the half-octets of an octet
 pub half_bits : (high low : ℕ) → high < 10 → low < 10 → bit_or (high * 16 % 256) low ≡ 16 * high + low
 half_bits high low upper lower =
     let shifted : high * 16 % 256 ≡ high * 16 = omega arith in

@@ -6,13 +6,13 @@ use Rattle.std.proofs.lemmas.List.{take-append-drop, length-append, length-take-
 use Rattle.std.proofs.lemmas.List.Folds.{list_all-append}
 use Rattle.std.proofs.Math.Seq.{take-add}
 use Rattle.xp_packets.specs.declared.block.Block.{Block}
-use Rattle.xp_packets.specs.declared.fault.Wrong.{Wrong}
-use Rattle.xp_packets.specs.declared.fault.Wrong.TheVariants.{Address, Facilities, Long}
-use Rattle.xp_packets.specs.Digits.{halves, filling, octets_for, SpellsAddresses}
+use Rattle.xp_packets.specs.declared.fault.Malformed.{Malformed}
+use Rattle.xp_packets.specs.declared.fault.Malformed.TheVariants.{Address, Facilities, Long}
+use Rattle.xp_packets.specs.Digits.{half_octets, filling, octets_for, SpellsAddresses}
 use Rattle.xp_packets.specs.Spelling.{SpellsFields, BlockBy}
 use Rattle.xp_packets.specs.Examination.{first_of, digit_octets, after_digits, has_wrong_address, has_wrong_size, after_facilities}
-use Rattle.xp_packets.specs.Reading.{◌>>=◌, digits_at, addresses_at, fields_at, block_at, optional_block_at}
-use Rattle.xp_packets.proofs.HalfOctets.{is_digit, length-halves, length-filling, drop_count, AreDigits-from_all, all-from_AreDigits}
+use Rattle.xp_packets.specs.steps.Reading.{◌>>=◌, digits_at, addresses_at, fields_at, block_at, optional_block_at}
+use Rattle.xp_packets.proofs.HalfOctets.{is_digit, length-half_octets, length-filling, drop_count, AreDigits-from_all, all-from_AreDigits}
 use Rattle.xp_packets.proofs.Results.{bind_ok, guard_ok, ok_is, error_of, error_guard}
 
 -- ---- addresses
@@ -24,11 +24,11 @@ is_zero half = eqb half 0
 abbrev wrong_run : ℕ → List ℕ → Bool
 wrong_run count all = not (list_all is_digit (take count all)) || not (list_all is_zero (drop count all))
 
-abbrev read_run : ℕ → ℕ → List ℕ → List ℕ → Result (List ℕ × List ℕ × List ℕ) Wrong
+abbrev read_run : ℕ → ℕ → List ℕ → List ℕ → Result (List ℕ × List ℕ × List ℕ) Malformed
 read_run called calling all rest = cond (wrong_run (called + calling) all) (Err Address) (Ok (take called all, take calling (drop called all), rest))
 
 -- the tests one after another, and all at once
-abbrev read_in_turn : Bool → Bool → Bool → List ℕ → List ℕ → List ℕ → Result (List ℕ × List ℕ × List ℕ) Wrong
+abbrev read_in_turn : Bool → Bool → Bool → List ℕ → List ℕ → List ℕ → Result (List ℕ × List ℕ × List ℕ) Malformed
 read_in_turn a b w x y r = (cond a (Ok x) (Err Address)) >>= λ t. (cond b (Ok y) (Err Address)) >>= λ u. cond w (Err Address) (Ok (t, u, r))
 
 tests_at_once : (a b w : Bool) (x y r : List ℕ) → read_in_turn a b w x y r ≡ cond (not (a && b) || w) (Err Address) (Ok (x, y, r))
@@ -48,14 +48,14 @@ filled all count len =
       | inr even ↦ rw (drop_count all count len, even) refl
     ]
 
-length-run : (octets : List ℕ) (n : ℕ) → n ≤ length octets → length (halves (take n octets)) ≡ 2 * n
-length-run octets n within = omega (arith, length-halves (take n octets), length-take-le n octets within)
+length-run : (octets : List ℕ) (n : ℕ) → n ≤ length octets → length (half_octets (take n octets)) ≡ 2 * n
+length-run octets n within = omega (arith, length-half_octets (take n octets), length-take-le n octets within)
 
-addresses_are : (called calling : ℕ) (octets : List ℕ) → addresses_at called calling octets ≡ cond (ltb (length octets) (octets_for (called + calling))) (Err Address) (read_run called calling (halves (take (octets_for (called + calling)) octets)) (drop (octets_for (called + calling)) octets))
+addresses_are : (called calling : ℕ) (octets : List ℕ) → addresses_at called calling octets ≡ cond (ltb (length octets) (octets_for (called + calling))) (Err Address) (read_run called calling (half_octets (take (octets_for (called + calling)) octets)) (drop (octets_for (called + calling)) octets))
 unfolding addresses_at digits_at
 addresses_are called calling octets =
     let n : ℕ = octets_for (called + calling) in
-    let all : List ℕ = halves (take n octets) in
+    let all : List ℕ = half_octets (take n octets) in
     elim (cases_Bool (ltb (length octets) n)) [
       | inl short ↦ rw short refl
       | inr long ↦
@@ -86,7 +86,7 @@ addresses_takes called calling octets x called_most calling_most e =
     let count : ℕ = called + calling in
     let n : ℕ = octets_for count in
     let run : List ℕ = take n octets in
-    let all : List ℕ = halves run in
+    let all : List ℕ = half_octets run in
     let long = guard_ok (ltb (length octets) n) Address _ x (sym (addresses_are called calling octets) ∙ e) in
     let right = guard_ok (wrong_run count all) Address _ x long.1 in
     let len : length all ≡ 2 * n = length-run octets n (ltb-false _ _ long.0) in
@@ -118,7 +118,7 @@ addresses_again digits called calling rest spelled =
     let count : ℕ = length called + length calling in
     let n : ℕ = octets_for count in
     let fill : List ℕ = filling count in
-    let len : length digits ≡ n = omega (arith, length-halves digits, ap length spelled.coded, length-append (called ++ calling) fill, length-append called calling, length-filling count) in
+    let len : length digits ≡ n = omega (arith, length-half_octets digits, ap length spelled.coded, length-append (called ++ calling) fill, length-append called calling, length-filling count) in
     let long : ltb (length (digits ++ rest)) n ≡ false = le-ltb _ _ (omega (arith, length-append digits rest)) in
     let both : length (called ++ calling) ≡ count = length-append called calling in
     let front : take count ((called ++ calling) ++ fill) ≡ called ++ calling = take_at (called ++ calling) fill count both in
@@ -170,7 +170,7 @@ AreOctets octets = (i : ℕ) → get_or octets i 0 < 256
 abbrev pub block_with : {A : Type 0} → List ℕ × List ℕ × List ℕ → List ℕ × List ℕ → Block A
 block_with addresses fields = record { called = addresses.0; calling = addresses.1; facilities = fields.0; user = fields.1 }
 
-abbrev pub ok_block : {A : Type 0} → Block A → Result (Block A) Wrong
+abbrev pub ok_block : {A : Type 0} → Block A → Result (Block A) Malformed
 ok_block block = Ok block
 
 -- a block with so much user data at most
@@ -210,7 +210,7 @@ abbrev pub TakesOption : (A : Type 0) → ℕ → List ℕ → Option (Block A) 
 TakesOption A most octets None = octets ≡ []
 TakesOption A most octets (Some block) = TakesBlock A most octets block
 
-abbrev ok_option : {A : Type 0} → Option (Block A) → Result (Option (Block A)) Wrong
+abbrev ok_option : {A : Type 0} → Option (Block A) → Result (Option (Block A)) Malformed
 ok_option block = Ok block
 
 pub option_takes : (A : Type 0) (most : ℕ) (octets : List ℕ) (block : Option (Block A)) → most ≤ 128 → AreOctets octets → optional_block_at most octets ≡ Ok block → TakesOption A most octets block
@@ -236,13 +236,13 @@ user_most A octets block spelled = within spelled.rest spelled.fields
 -- ---- what is wrong with a block
 
 -- one fault for two conditions
-merged : {X Y : Type 0} (s w : Bool) (x : X) (g : X → Result Y Wrong) → ((cond s (Err Address) (cond w (Err Address) (Ok x))) >>= g) ≡ cond (s || w) (Err Address) (g x)
+merged : {X Y : Type 0} (s w : Bool) (x : X) (g : X → Result Y Malformed) → ((cond s (Err Address) (cond w (Err Address) (Ok x))) >>= g) ≡ cond (s || w) (Err Address) (g x)
 merged true w x g = refl
 merged false true x g = refl
 merged false false x g = refl
 
 -- a test before a last step that cannot fail
-moved_in : {X Y : Type 0} (b : Bool) (w : Wrong) (r : Result X Wrong) (f : X → Result Y Wrong) → ((cond b (Err w) r) >>= f) ≡ cond b (Err w) (r >>= f)
+moved_in : {X Y : Type 0} (b : Bool) (w : Malformed) (r : Result X Malformed) (f : X → Result Y Malformed) → ((cond b (Err w) r) >>= f) ≡ cond b (Err w) (r >>= f)
 moved_in true w r f = refl
 moved_in false w r f = refl
 
@@ -251,7 +251,7 @@ facilities_of [] = []
 facilities_of (size ∷ rest) = take size rest
 
 -- the fields in one choice
-fields_are : {Y : Type 0} (most : ℕ) (octets : List ℕ) (f : List ℕ × List ℕ → Result Y Wrong) → (fields_at most octets >>= f) ≡ cond (has_wrong_size octets) (Err Facilities) (cond (ltb most (length (after_facilities octets))) (Err Long) (f (facilities_of octets, after_facilities octets)))
+fields_are : {Y : Type 0} (most : ℕ) (octets : List ℕ) (f : List ℕ × List ℕ → Result Y Malformed) → (fields_at most octets >>= f) ≡ cond (has_wrong_size octets) (Err Facilities) (cond (ltb most (length (after_facilities octets))) (Err Long) (f (facilities_of octets, after_facilities octets)))
 unfolding fields_at facilities_of
 fields_are most [] f = sym (cond-false _ (Err Long) (f ([], [])) (le-ltb most 0 (omega arith)))
 fields_are most (size ∷ rest) f = moved_in (ltb 109 size || ltb (length rest) size) Facilities _ f ∙ ap (λ r. cond (ltb 109 size || ltb (length rest) size) (Err Facilities) r) (moved_in (ltb most (length (drop size rest))) Long _ f)
@@ -259,7 +259,7 @@ fields_are most (size ∷ rest) f = moved_in (ltb 109 size || ltb (length rest) 
 -- the block where nothing is wrong
 plain_block : {A : Type 0} → ℕ → List ℕ → Block A
 plain_block lengths rest =
-    let all : List ℕ = halves (digit_octets (lengths ∷ rest)) in
+    let all : List ℕ = half_octets (digit_octets (lengths ∷ rest)) in
     record { called = take (lengths % 16) all; calling = take (lengths / 16) (drop (lengths % 16) all); facilities = facilities_of (after_digits (lengths ∷ rest)); user = after_facilities (after_digits (lengths ∷ rest)) }
 
 -- the block in one choice
@@ -267,14 +267,14 @@ block_is : (A : Type 0) (most lengths : ℕ) (rest : List ℕ) → block_at most
 unfolding block_at plain_block
 block_is A most lengths rest =
     let n : ℕ = octets_for (lengths % 16 + lengths / 16) in
-    let all : List ℕ = halves (take n rest) in
+    let all : List ℕ = half_octets (take n rest) in
     let x : List ℕ × List ℕ × List ℕ = (take (lengths % 16) all, take (lengths / 16) (drop (lengths % 16) all), drop n rest) in
     let g = λ (z : List ℕ × List ℕ × List ℕ). fields_at most z.2 >>= λ (y : List ℕ × List ℕ). ok_block (block_with {A = A} z y) in
     rw (addresses_are (lengths % 16) (lengths / 16) rest, merged {Y = Block A} (ltb (length rest) n) (wrong_run (lengths % 16 + lengths / 16) all) x g, fields_are most (drop n rest) (λ (y : List ℕ × List ℕ). ok_block (block_with {A = A} x y))) refl
 
-abbrev pub block_conditions : ℕ → List ℕ → List (Bool × Wrong)
+abbrev pub block_conditions : ℕ → List ℕ → List (Bool × Malformed)
 block_conditions most octets = (has_wrong_address octets, Address) ∷ (has_wrong_size (after_digits octets), Facilities) ∷ (ltb most (length (after_facilities (after_digits octets))), Long) ∷ []
 
 pub block_error : (A : Type 0) (most lengths : ℕ) (rest : List ℕ) → error_of (block_at {A = A} most (lengths ∷ rest)) ≡ first_of (block_conditions most (lengths ∷ rest))
 block_error A most lengths rest =
-    ap (λ (r : Result (Block A) Wrong). error_of r) (block_is A most lengths rest) ∙ error_guard (has_wrong_address (lengths ∷ rest)) Address _ _ (error_guard (has_wrong_size (after_digits (lengths ∷ rest))) Facilities _ _ (error_guard (ltb most (length (after_facilities (after_digits (lengths ∷ rest))))) Long _ None refl))
+    ap (λ (r : Result (Block A) Malformed). error_of r) (block_is A most lengths rest) ∙ error_guard (has_wrong_address (lengths ∷ rest)) Address _ _ (error_guard (has_wrong_size (after_digits (lengths ∷ rest))) Facilities _ _ (error_guard (ltb most (length (after_facilities (after_digits (lengths ∷ rest))))) Long _ None refl))

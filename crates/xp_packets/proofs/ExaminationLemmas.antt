@@ -2,8 +2,8 @@
 use Rattle.std.proofs.Common.{◌≡◌, ℕ, Bool, true, false, cond, eqb, ltb, ◌&&◌, List, [], ◌∷◌, length, Option, Some, None, Result, Ok, Err, refl, ◌∙◌, arith}
 use Rattle.std.specs.Prelude.{is_none}
 use Rattle.std.proofs.lemmas.Bool.{ne_eqb, lt-ltb, le-ltb}
-use Rattle.xp_packets.specs.declared.fault.Wrong.{Wrong}
-use Rattle.xp_packets.specs.declared.fault.Wrong.TheVariants.{Short, Format, Unknown, Address, Facilities, Long}
+use Rattle.xp_packets.specs.declared.fault.Malformed.{Malformed}
+use Rattle.xp_packets.specs.declared.fault.Malformed.TheVariants.{Short, Format, Unknown, Address, Facilities, Long}
 use Rattle.xp_packets.specs.declared.header.Header.{Header}
 use Rattle.xp_packets.specs.declared.kind.Kind.{Kind}
 use Rattle.xp_packets.specs.declared.kind.Kind.TheVariants as kinds
@@ -13,12 +13,12 @@ use Rattle.xp_packets.specs.declared.packet.Packet.TheVariants.{Call, Accepted, 
 use Rattle.xp_packets.specs.Kinds.{kind_of}
 use Rattle.xp_packets.specs.Heading.{wrong_format}
 use Rattle.xp_packets.specs.Examination.{first_of, after_digits, has_wrong_address, has_wrong_size, block_octets, needs_octet, most_octets, bounded_octets, conditions}
-use Rattle.xp_packets.specs.Reading.{◌>>=◌, known_header, header_at, block_at, optional_block_at, call_at, accepted_at, clear_at, confirm_at, data_at, interrupt_at, reset_at, alone_at, body_by, packet_at}
+use Rattle.xp_packets.specs.steps.Reading.{◌>>=◌, known_header, header_at, block_at, optional_block_at, call_at, accepted_at, clear_at, clear_confirm_at, data_at, interrupt_at, reset_at, header_only_at, body_by, packet_at}
 use Rattle.xp_packets.proofs.BlockLemmas.{block_conditions, block_error}
 use Rattle.xp_packets.proofs.Results.{error_of, error_guard, error_bind}
 
 -- the conditions on what stands after the type
-abbrev rest_conditions : Option Kind → List ℕ → List (Bool × Wrong)
+abbrev rest_conditions : Option Kind → List ℕ → List (Bool × Malformed)
 rest_conditions kind rest = (is_none kind, Unknown) ∷ (needs_octet kind && eqb (length rest) 0, Short) ∷ (has_wrong_address (block_octets kind rest), Address) ∷ (has_wrong_size (after_digits (block_octets kind rest)), Facilities) ∷ (ltb (most_octets kind) (length (bounded_octets kind rest)), Long) ∷ []
 
 some_left : (octet : ℕ) (rest : List ℕ) → eqb (length (octet ∷ rest)) 0 ≡ false
@@ -45,8 +45,8 @@ clear_error A (cause ∷ []) = refl
 clear_error A (cause ∷ diagnostic ∷ []) = refl
 clear_error A (cause ∷ diagnostic ∷ lengths ∷ rest) = rw (some_left cause (diagnostic ∷ lengths ∷ rest)) (error_bind (optional_block_at 128 (lengths ∷ rest)) (λ (block : Option (Block A)). Clear cause (Some diagnostic) block) ∙ option_error A 128 lengths rest)
 
-confirm_error : (A : Type 0) (rest : List ℕ) → error_of (confirm_at {A = A} rest) ≡ first_of (rest_conditions (Some kinds.ClearConfirm) rest)
-unfolding confirm_at optional_block_at
+confirm_error : (A : Type 0) (rest : List ℕ) → error_of (clear_confirm_at {A = A} rest) ≡ first_of (rest_conditions (Some kinds.ClearConfirm) rest)
+unfolding clear_confirm_at optional_block_at
 confirm_error A [] = refl
 confirm_error A (lengths ∷ rest) = error_bind (optional_block_at 0 (lengths ∷ rest)) (λ (block : Option (Block A)). ClearConfirm block) ∙ option_error A 0 lengths rest
 
@@ -69,8 +69,8 @@ reset_error A (cause ∷ diagnostic ∷ more ∷ rest) =
     rw (some_left cause (diagnostic ∷ more ∷ rest), long) refl
 
 -- a kind that has neither a block nor an octet that has to stand there
-alone_error : (A : Type 0) (packet : Packet A) (rest : List ℕ) → error_of (alone_at packet rest) ≡ cond (ltb 0 (length rest)) (Some Long) None
-unfolding alone_at
+alone_error : (A : Type 0) (packet : Packet A) (rest : List ℕ) → error_of (header_only_at packet rest) ≡ cond (ltb 0 (length rest)) (Some Long) None
+unfolding header_only_at
 alone_error A packet [] = refl
 alone_error A packet (octet ∷ rest) =
     let long : ltb 0 (length (octet ∷ rest)) ≡ true = lt-ltb _ _ (omega arith) in
@@ -90,10 +90,10 @@ body_error A kinds.Ready header rest = alone_error A (Ready _) rest
 body_error A kinds.NotReady header rest = alone_error A (NotReady _) rest
 body_error A kinds.Reject header rest = alone_error A (Reject _) rest
 
-abbrev ok_pair : {A : Type 0} → ℕ → Packet A → Result (ℕ × Packet A) Wrong
+abbrev ok_pair : {A : Type 0} → ℕ → Packet A → Result (ℕ × Packet A) Malformed
 ok_pair identifier packet = Ok (identifier, packet)
 
-abbrev go_on : {A : Type 0} → Header × List ℕ → Result (ℕ × Packet A) Wrong
+abbrev go_on : {A : Type 0} → Header × List ℕ → Result (ℕ × Packet A) Malformed
 go_on h = body_by h.0.kind h.0 h.1 >>= λ packet. ok_pair h.0.identifier packet
 
 known_error : (A : Type 0) (first number octet : ℕ) (rest : List ℕ) (kind : Option Kind) → error_of (known_header first number octet rest kind >>= λ (h : Header × List ℕ). go_on {A = A} h) ≡ first_of (rest_conditions kind rest)

@@ -1,9 +1,9 @@
--- What has a spelling is what nothing is unfit in, and what is written is spelled.
+-- What has a spelling is what has no encoding fault, and what is written is spelled.
 use Rattle.std.proofs.Common.{◌≡◌, ℕ, ◌+◌, ◌<◌, ◌≤◌, Bool, true, false, ltb, ◌||◌, List, [], ◌∷◌, ◌++◌, length, Some, None, refl, sym, ap, ◌∙◌, arith}
 use Rattle.std.proofs.lemmas.Bool.{ne_eqb, eqb-false, ltb-false, le-ltb, or_parts, or_from}
 use Rattle.std.proofs.lemmas.List.{length-append, nil_from_length}
-use Rattle.xp_packets.specs.declared.fault.Wrong.{Wrong}
-use Rattle.xp_packets.specs.declared.fault.Wrong.TheVariants.{Short, Format, Facilities, Long}
+use Rattle.xp_packets.specs.declared.fault.Malformed.{Malformed}
+use Rattle.xp_packets.specs.declared.fault.Malformed.TheVariants.{Short, Format, Facilities, Long}
 use Rattle.xp_packets.specs.declared.block.Block.{Block}
 use Rattle.xp_packets.specs.declared.packet.Packet.{Packet}
 use Rattle.xp_packets.specs.declared.packet.Packet.TheVariants.{Call, Accepted, Clear, ClearConfirm, DataPacket, Ready, NotReady, Reject, Interrupt, InterruptConfirm, Reset, ResetConfirm}
@@ -12,13 +12,13 @@ use Rattle.xp_packets.specs.Addresses.{AreAddresses, HasAddresses}
 use Rattle.xp_packets.specs.Heading.{Begins, heading}
 use Rattle.xp_packets.specs.Spelling.{WritesFields, SpellsFields, BlockBy, Spells, WrittenAs}
 use Rattle.xp_packets.specs.Examination.{first_of}
-use Rattle.xp_packets.specs.Fitness.{lacks_octet, has_wrong_number, block_of, has_long_facilities, is_too_long, unfit}
+use Rattle.xp_packets.specs.Encodability.{lacks_octet, has_wrong_number, block_of, has_long_facilities, is_too_long, encoding_fault}
 use Rattle.xp_packets.specs.Writing.{packed, written_block, written}
-use Rattle.xp_packets.proofs.HalfOctets.{AreDigits-append, halves-packed, same_halves}
+use Rattle.xp_packets.proofs.HalfOctets.{AreDigits-append, half_octets-packed, same_halves}
 
 -- ---- four conditions, none of which holds
 
-abbrev four : Bool → Bool → Bool → Bool → List (Bool × Wrong)
+abbrev four : Bool → Bool → Bool → Bool → List (Bool × Malformed)
 four short format facilities long = (short, Short) ∷ (format, Format) ∷ (facilities, Facilities) ∷ (long, Long) ∷ []
 
 none_holds : (short format facilities long : Bool) → short ≡ false → format ≡ false → facilities ≡ false → long ≡ false → first_of (four short format facilities long) ≡ None
@@ -51,7 +51,7 @@ block_fits A rest block spelled =
     let b = bounds spelled.rest block.facilities block.user spelled.fields in
     (le-ltb _ _ b.0, le-ltb _ _ b.1)
 
-pub spelled_fits : (A : Type 0) (octets : List ℕ) (identifier : ℕ) (packet : Packet A) → Spells octets identifier packet → unfit identifier packet ≡ None
+pub spelled_fits : (A : Type 0) (octets : List ℕ) (identifier : ℕ) (packet : Packet A) → Spells octets identifier packet → encoding_fault identifier packet ≡ None
 spelled_fits A octets identifier (Call d block) spelled =
     let b = block_fits A spelled.0 block spelled.2 in
     none_holds _ _ _ _ refl (small identifier spelled.1.0) b.0 b.1
@@ -96,7 +96,7 @@ block_written A block are short most =
         calling_most = are.calling_most;
         called_digits = are.called_digits;
         calling_digits = are.calling_digits;
-        coded = halves-packed (block.called ++ block.calling) digits_are ∙ ap (λ (n : ℕ). (block.called ++ block.calling) ++ filling n) both;
+        coded = half_octets-packed (block.called ++ block.calling) digits_are ∙ ap (λ (n : ℕ). (block.called ++ block.calling) ++ filling n) both;
       };
       fields = (refl, refl, ltb-false 109 (length block.facilities) short, most);
     }
@@ -104,7 +104,7 @@ block_written A block are short most =
 begun : (identifier : ℕ) (q d : Bool) (octet : ℕ) (rest : List ℕ) → ltb 4095 identifier ≡ false → Begins (heading q d identifier octet ++ rest) q d identifier octet rest
 begun identifier q d octet rest below = (let most = ltb-false 4095 identifier below in omega arith, refl)
 
--- nothing is unfit
+-- no encoding fault
 abbrev IsFit : (A : Type 0) → ℕ → Packet A → Type 0
 IsFit A identifier packet = AllFalse (lacks_octet packet) (has_wrong_number packet || ltb 4095 identifier) (has_long_facilities (block_of packet)) (is_too_long packet)
 
@@ -149,7 +149,7 @@ writes_fit A identifier (Reset cause None) are f = begun identifier false false 
 writes_fit A identifier (Reset cause (Some diagnostic)) are f = begun identifier false false 27 (cause ∷ diagnostic ∷ []) f.format
 writes_fit A identifier ResetConfirm are f = begun identifier false false 31 [] f.format
 
-pub written_fits : (A : Type 0) (identifier : ℕ) (packet : Packet A) → HasAddresses packet → unfit identifier packet ≡ None → WrittenAs (written identifier packet) identifier packet
+pub written_fits : (A : Type 0) (identifier : ℕ) (packet : Packet A) → HasAddresses packet → encoding_fault identifier packet ≡ None → WrittenAs (written identifier packet) identifier packet
 written_fits A identifier packet are fit = writes_fit A identifier packet are (all_false (lacks_octet packet) (has_wrong_number packet || ltb 4095 identifier) (has_long_facilities (block_of packet)) (is_too_long packet) fit)
 
 -- ---- a written spelling is spelled, and is the one that is written
@@ -195,7 +195,7 @@ block_is_written : (A : Type 0) (octets : List ℕ) (block : Block A) → BlockB
 block_is_written A octets block writes =
     let are = AreDigits-append block.called block.calling writes.addresses.called_digits writes.addresses.calling_digits in
     let both : length (block.called ++ block.calling) ≡ length block.called + length block.calling = length-append block.called block.calling in
-    let digits_are : writes.digits ≡ packed (block.called ++ block.calling) = same_halves _ _ (writes.addresses.coded ∙ sym (halves-packed (block.called ++ block.calling) are ∙ ap (λ (n : ℕ). (block.called ++ block.calling) ++ filling n) both)) in
+    let digits_are : writes.digits ≡ packed (block.called ++ block.calling) = same_halves _ _ (writes.addresses.coded ∙ sym (half_octets-packed (block.called ++ block.calling) are ∙ ap (λ (n : ℕ). (block.called ++ block.calling) ++ filling n) both)) in
     writes.whole ∙ rw (digits_are, fields_written writes.rest block.facilities block.user writes.fields) refl
 
 -- with a block behind these octets

@@ -4,16 +4,16 @@ use Rattle.std.specs.List.{list_all}
 use Rattle.std.proofs.lemmas.Bool.{eqb-true, eqb-false, cases_Bool, and_parts, and_from, lt-ltb, ltb-true, le-ltb}
 use Rattle.std.proofs.lemmas.List.{take_more, drop_more, drop_all, get_or-drop, get_or-take, drop-drop, length-take, length-drop}
 use Rattle.std.proofs.lemmas.List.Folds.{list_all_at, list_all_more}
-use Rattle.xp_packets.specs.Digits.{AreDigits, halves, filling, octets_for}
+use Rattle.xp_packets.specs.Digits.{AreDigits, half_octets, filling, octets_for}
 use Rattle.xp_packets.specs.Writing.{packed}
-use Rattle.xp_packets.specs.Reading.{digits_at}
+use Rattle.xp_packets.specs.steps.Reading.{digits_at}
 
 pub cond_same : (b : Bool) (x : ℕ) → x ≡ cond b x x
 cond_same true x = refl
 cond_same false x = refl
 
 -- an even place has the high half, an odd one the low half
-pub halves_at : (octets : List ℕ) (place : ℕ) → get_or (halves octets) place 0 ≡ cond (eqb (place % 2) 0) (get_or octets (place / 2) 0 / 16) (get_or octets (place / 2) 0 % 16)
+pub halves_at : (octets : List ℕ) (place : ℕ) → get_or (half_octets octets) place 0 ≡ cond (eqb (place % 2) 0) (get_or octets (place / 2) 0 / 16) (get_or octets (place / 2) 0 % 16)
 halves_at [] place = cond_same (eqb (place % 2) 0) 0
 halves_at (octet ∷ octets) zero = refl
 halves_at (octet ∷ octets) (suc zero) = refl
@@ -22,9 +22,9 @@ halves_at (octet ∷ octets) (suc (suc place)) =
     let half : suc (suc place) / 2 ≡ suc (place / 2) = omega arith in
     rw (even, half) (halves_at octets place)
 
-pub length-halves : (octets : List ℕ) → length (halves octets) ≡ 2 * length octets
-length-halves [] = refl
-length-halves (octet ∷ octets) = omega (arith, length-halves octets)
+pub length-half_octets : (octets : List ℕ) → length (half_octets octets) ≡ 2 * length octets
+length-half_octets [] = refl
+length-half_octets (octet ∷ octets) = omega (arith, length-half_octets octets)
 
 -- ---- one half-octet after another
 
@@ -119,27 +119,27 @@ even_on : (count : ℕ) → filling (suc (suc count)) ≡ filling count
 even_on count = let same : suc (suc count) % 2 ≡ count % 2 = omega arith in rw same refl
 
 -- packed digits are these half-octets and the filling
-pub halves-packed : (digits : List ℕ) → AreDigits digits → halves (packed digits) ≡ digits ++ filling (length digits)
-halves-packed [] are = refl
-halves-packed (high ∷ []) are =
+pub half_octets-packed : (digits : List ℕ) → AreDigits digits → half_octets (packed digits) ≡ digits ++ filling (length digits)
+half_octets-packed [] are = refl
+half_octets-packed (high ∷ []) are =
     let a : 16 * high / 16 ≡ high = omega arith in
     let b : 16 * high % 16 ≡ 0 = omega arith in
     rw (a, b) refl
-halves-packed (high ∷ low ∷ rest) are =
+half_octets-packed (high ∷ low ∷ rest) are =
     let below = are.1.0 in
     let a : (16 * high + low) / 16 ≡ high = omega arith in
     let b : (16 * high + low) % 16 ≡ low = omega arith in
-    rw (a, b, halves-packed rest are.1.1, even_on (length rest)) refl
+    rw (a, b, half_octets-packed rest are.1.1, even_on (length rest)) refl
 
 -- half-octets stand for one run of octets
-pub same_halves : (a b : List ℕ) → halves a ≡ halves b → a ≡ b
+pub same_halves : (a b : List ℕ) → half_octets a ≡ half_octets b → a ≡ b
 same_halves [] [] same = refl
 same_halves [] (y ∷ b) same = absurd cc
 same_halves (x ∷ a) [] same = absurd cc
 same_halves (x ∷ a) (y ∷ b) same =
     let high : x / 16 ≡ y / 16 = cc in
     let low : x % 16 ≡ y % 16 = cc in
-    let rest : halves a ≡ halves b = cc in
+    let rest : half_octets a ≡ half_octets b = cc in
     let one : x ≡ y = omega arith in
     rw (one, same_halves a b rest) refl
 
@@ -150,8 +150,8 @@ packs_on out before digits place high low within high_is low_is so_far =
     append_assoc out ((16 * high + low) ∷ []) (packed (drop (2 * (place + 1)) digits)) ∙ ap (λ (rest : List ℕ). out ++ rest) (rw (high_is, low_is) (sym (packed_more digits place within))) ∙ so_far
 
 -- what was read is what reading gives
-pub digits_read : (octets digits : List ℕ) (from count place : ℕ) → place ≡ count → list_all is_digit (take place (drop from (halves octets))) ≡ true → digits ≡ take place (drop from (halves octets)) → digits_at octets from count ≡ Ok digits
+pub digits_read : (octets digits : List ℕ) (from count place : ℕ) → place ≡ count → list_all is_digit (take place (drop from (half_octets octets))) ≡ true → digits ≡ take place (drop from (half_octets octets)) → digits_at octets from count ≡ Ok digits
 unfolding digits_at
 digits_read octets digits from count place done are is =
-    let those : list_all is_digit (take count (drop from (halves octets))) ≡ true = rw (← done) are in
+    let those : list_all is_digit (take count (drop from (half_octets octets))) ≡ true = rw (← done) are in
     rw (those, is, done) refl

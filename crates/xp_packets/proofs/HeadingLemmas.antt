@@ -2,13 +2,13 @@
 use Rattle.std.proofs.Common.{◌≡◌, ℕ, ◌+◌, ◌*◌, ◌/◌, ◌%◌, ◌<◌, Bool, true, false, not, cond, eqb, leb, List, [], ◌∷◌, ◌++◌, Option, Some, None, Ok, refl, subst, arith}
 use Rattle.std.proofs.lemmas.Bool.{eqb-true, eqb-false, eq-eqb, ne_eqb, leb-true, leb-false, le-leb, lt-leb, not-false, or_parts}
 use Rattle.std.proofs.lemmas.Option.{same_Some}
-use Rattle.xp_packets.specs.declared.fault.Wrong.TheVariants.{Format}
+use Rattle.xp_packets.specs.declared.fault.Malformed.TheVariants.{Format}
 use Rattle.xp_packets.specs.declared.header.Header.{Header}
 use Rattle.xp_packets.specs.declared.kind.Kind.{Kind}
 use Rattle.xp_packets.specs.declared.kind.Kind.TheVariants.{Call, Accepted, Clear, ClearConfirm, Interrupt, InterruptConfirm, Reset, ResetConfirm, Data, Ready, NotReady, Reject}
 use Rattle.xp_packets.specs.Kinds.{kind_of, whole_kind_of}
 use Rattle.xp_packets.specs.Heading.{bit, heading, Begins, wrong_flags, wrong_format}
-use Rattle.xp_packets.specs.Reading.{made_header, known_header, header_at}
+use Rattle.xp_packets.specs.steps.Reading.{made_header, known_header, header_at}
 use Rattle.xp_packets.proofs.BlockLemmas.{AreOctets}
 use Rattle.xp_packets.proofs.Results.{guard_ok, ok_is}
 

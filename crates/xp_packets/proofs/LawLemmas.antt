@@ -2,16 +2,16 @@
 use Rattle.std.proofs.Common.{◌≡◌, ℕ, List, None, Result, Ok, Err, refl, sym, ap, ◌∙◌, inl, inr}
 use Rattle.std.specs.Prelude.{◌⊎◌, IfOk}
 use Rattle.std.proofs.lemmas.Option.{same_Some}
-use Rattle.xp_packets.specs.declared.fault.Wrong.{Wrong}
+use Rattle.xp_packets.specs.declared.fault.Malformed.{Malformed}
 use Rattle.xp_packets.specs.declared.fault.PacketFault.{PacketFault}
 use Rattle.xp_packets.specs.declared.fault.PacketFault.TheVariants as faults
 use Rattle.xp_packets.specs.declared.packet.Packet.{Packet}
 use Rattle.xp_packets.specs.Decoding.{Decodes}
-use Rattle.xp_packets.specs.Examination.{IsWrong, first_of, conditions}
-use Rattle.xp_packets.specs.Fitness.{unfit}
-use Rattle.xp_packets.specs.Laws.{AreOctets, SpellsOnly, IsOnlyWrong, EitherSpelledOrWrong, OneWrittenSpelling, WrittenIsReadBack, SpelledIsFit, FitIsWritten}
+use Rattle.xp_packets.specs.Examination.{IsMalformed, first_of, conditions}
+use Rattle.xp_packets.specs.Encodability.{encoding_fault}
+use Rattle.xp_packets.specs.Laws.{AreOctets, SpellsOnly, IsOnlyMalformed, EitherSpelledOrMalformed, OneWrittenSpelling, WrittenIsReadBack, SpelledIsEncodable, EncodableIsWritten}
 use Rattle.xp_packets.specs.Owning.{owns_octets}
-use Rattle.xp_packets.specs.Reading.{Gives, packet_at}
+use Rattle.xp_packets.specs.steps.Reading.{MatchesReadingOrMemory, packet_at}
 use Rattle.xp_packets.specs.Spelling.{Spells}
 use Rattle.xp_packets.specs.Writing.{written}
 use Rattle.xp_packets.proofs.ExaminationLemmas.{packet_error}
@@ -21,23 +21,23 @@ use Rattle.xp_packets.proofs.Results.{error_of, ok_is}
 
 -- ---- what decode answers
 
-wrong_is : (A : Type 0) (octets : List ℕ) (wrong : Wrong) → packet_at {A = A} octets ≡ Err wrong → IsWrong octets wrong
-wrong_is A octets wrong read = sym (packet_error A octets) ∙ ap (λ (r : Result (ℕ × Packet A) Wrong). error_of r) read
+wrong_is : (A : Type 0) (octets : List ℕ) (wrong : Malformed) → packet_at {A = A} octets ≡ Err wrong → IsMalformed octets wrong
+wrong_is A octets wrong read = sym (packet_error A octets) ∙ ap (λ (r : Result (ℕ × Packet A) Malformed). error_of r) read
 
-pub decodes : (A : Type 0) (octets : List ℕ) (answer : Result (ℕ × Packet A) PacketFault) → AreOctets octets → Gives (λ (x : ℕ × Packet A). owns_octets x.1) answer (packet_at octets) → Decodes octets answer
+pub decodes : (A : Type 0) (octets : List ℕ) (answer : Result (ℕ × Packet A) PacketFault) → AreOctets octets → MatchesReadingOrMemory (λ (x : ℕ × Packet A). owns_octets x.1) answer (packet_at octets) → Decodes octets answer
 decodes A octets (Ok read) are given = packet_takes A octets read are given
-decodes A octets (Err (faults.Wrong wrong)) are given = wrong_is A octets wrong given
+decodes A octets (Err (faults.Malformed wrong)) are given = wrong_is A octets wrong given
 decodes A octets (Err faults.Memory) are given = (given.0.0, given.0.1, packet_takes A octets given.0 are given.1, given.2)
 
-pub decodes_fit : (A : Type 0) (octets : List ℕ) (answer : Result (ℕ × Packet A) PacketFault) → AreOctets octets → Gives (λ (x : ℕ × Packet A). owns_octets x.1) answer (packet_at octets) → IfOk answer (λ read. unfit read.0 read.1 ≡ None)
+pub decodes_fit : (A : Type 0) (octets : List ℕ) (answer : Result (ℕ × Packet A) PacketFault) → AreOctets octets → MatchesReadingOrMemory (λ (x : ℕ × Packet A). owns_octets x.1) answer (packet_at octets) → IfOk answer (λ read. encoding_fault read.0 read.1 ≡ None)
 decodes_fit A octets (Ok read) are given = spelled_fits A octets read.0 read.1 (packet_takes A octets read are given)
 decodes_fit A octets (Err fault) are given = tt
 
 -- ---- the laws
 
-no_fault : (A : Type 0) (octets : List ℕ) (identifier : ℕ) (packet : Packet A) → Spells octets identifier packet → (wrong : Wrong) → IsWrong octets wrong → ⊥
+no_fault : (A : Type 0) (octets : List ℕ) (identifier : ℕ) (packet : Packet A) → Spells octets identifier packet → (wrong : Malformed) → IsMalformed octets wrong → ⊥
 no_fault A octets identifier packet spelled wrong is =
-    let none : first_of (conditions octets) ≡ None = sym (packet_error A octets) ∙ ap (λ (r : Result (ℕ × Packet A) Wrong). error_of r) (packet_again A octets identifier packet spelled) in
+    let none : first_of (conditions octets) ≡ None = sym (packet_error A octets) ∙ ap (λ (r : Result (ℕ × Packet A) Malformed). error_of r) (packet_again A octets identifier packet spelled) in
     cc
 
 spells_only : (A : Type 0) (octets : List ℕ) (identifier : ℕ) (packet : Packet A) → Spells octets identifier packet → SpellsOnly A octets identifier packet
@@ -49,19 +49,19 @@ spells_only A octets identifier packet spelled = record {
   right = no_fault A octets identifier packet spelled;
 }
 
-only_wrong : (A : Type 0) (octets : List ℕ) (wrong : Wrong) → IsWrong octets wrong → IsOnlyWrong A octets wrong
+only_wrong : (A : Type 0) (octets : List ℕ) (wrong : Malformed) → IsMalformed octets wrong → IsOnlyMalformed A octets wrong
 only_wrong A octets wrong found = record {
   found = found;
   only = λ other also. same_Some other wrong (sym also ∙ found);
   unspelled = λ identifier packet spelled. no_fault A octets identifier packet spelled wrong found;
 }
 
-either : (A : Type 0) (octets : List ℕ) (read : Result (ℕ × Packet A) Wrong) → AreOctets octets → packet_at octets ≡ read → ((identifier : ℕ) × (packet : Packet A) × SpellsOnly A octets identifier packet) ⊎ ((wrong : Wrong) × IsOnlyWrong A octets wrong)
+either : (A : Type 0) (octets : List ℕ) (read : Result (ℕ × Packet A) Malformed) → AreOctets octets → packet_at octets ≡ read → ((identifier : ℕ) × (packet : Packet A) × SpellsOnly A octets identifier packet) ⊎ ((wrong : Malformed) × IsOnlyMalformed A octets wrong)
 either A octets (Ok x) are is = inl (x.0, x.1, spells_only A octets x.0 x.1 (packet_takes A octets x are is))
 either A octets (Err wrong) are is = inr (wrong, only_wrong A octets wrong (wrong_is A octets wrong is))
 
-pub either_spelled_or_wrong : (A : Type 0) → EitherSpelledOrWrong A
-either_spelled_or_wrong A octets are = either A octets (packet_at octets) are refl
+pub either_spelled_or_malformed : (A : Type 0) → EitherSpelledOrMalformed A
+either_spelled_or_malformed A octets are = either A octets (packet_at octets) are refl
 
 pub one_written_spelling : (A : Type 0) → OneWrittenSpelling A
 one_written_spelling A octets others identifier packet this that = written_is A octets identifier packet this ∙ sym (written_is A others identifier packet that)
@@ -69,8 +69,8 @@ one_written_spelling A octets others identifier packet this that = written_is A 
 pub written_is_read_back : (A : Type 0) → WrittenIsReadBack A
 written_is_read_back A octets identifier packet writes = spells_only A octets identifier packet (written_spelled A octets identifier packet writes)
 
-pub spelled_is_fit : (A : Type 0) → SpelledIsFit A
-spelled_is_fit A octets identifier packet spelled = spelled_fits A octets identifier packet spelled
+pub spelled_is_encodable : (A : Type 0) → SpelledIsEncodable A
+spelled_is_encodable A octets identifier packet spelled = spelled_fits A octets identifier packet spelled
 
-pub fit_is_written : (A : Type 0) → FitIsWritten A
-fit_is_written A identifier packet are fit = (written identifier packet, written_fits A identifier packet are fit)
+pub encodable_is_written : (A : Type 0) → EncodableIsWritten A
+encodable_is_written A identifier packet are fit = (written identifier packet, written_fits A identifier packet are fit)

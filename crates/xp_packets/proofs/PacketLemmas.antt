@@ -2,8 +2,8 @@
 use Rattle.std.proofs.Common.{◌≡◌, ℕ, suc, ◌+◌, ◌*◌, ◌/◌, ◌%◌, ◌<◌, ◌≤◌, Bool, true, false, not, eqb, ltb, ◌&&◌, ◌||◌, List, [], ◌∷◌, ◌++◌, length, Option, Some, None, Result, Ok, refl, ap, subst, ◌∙◌, arith, inl, inr}
 use Rattle.std.proofs.lemmas.Bool.{eqb-true, eqb-false, eq-eqb, ne_eqb, cases_Bool, or_parts, ltb-false, le-ltb}
 use Rattle.std.proofs.lemmas.List.{nil_from_length}
-use Rattle.xp_packets.specs.declared.fault.Wrong.{Wrong}
-use Rattle.xp_packets.specs.declared.fault.Wrong.TheVariants.{Long}
+use Rattle.xp_packets.specs.declared.fault.Malformed.{Malformed}
+use Rattle.xp_packets.specs.declared.fault.Malformed.TheVariants.{Long}
 use Rattle.xp_packets.specs.declared.header.Header.{Header}
 use Rattle.xp_packets.specs.declared.kind.Kind.{Kind}
 use Rattle.xp_packets.specs.declared.kind.Kind.TheVariants as kinds
@@ -13,12 +13,12 @@ use Rattle.xp_packets.specs.declared.packet.Packet.TheVariants.{Call, Accepted, 
 use Rattle.xp_packets.specs.Kinds.{kind_of, whole_kind_of}
 use Rattle.xp_packets.specs.Heading.{bit, heading, Begins, wrong_flags}
 use Rattle.xp_packets.specs.Spelling.{SpellsFields, BlockBy, Spells}
-use Rattle.xp_packets.specs.Reading.{◌>>=◌, header_at, block_at, optional_block_at, call_at, accepted_at, clear_at, confirm_at, data_at, interrupt_at, reset_at, alone_at, body_by, packet_at}
+use Rattle.xp_packets.specs.steps.Reading.{◌>>=◌, header_at, block_at, optional_block_at, call_at, accepted_at, clear_at, clear_confirm_at, data_at, interrupt_at, reset_at, header_only_at, body_by, packet_at}
 use Rattle.xp_packets.proofs.BlockLemmas.{AreOctets, TakesOption, block_takes, block_again, option_takes, some_again, user_most}
 use Rattle.xp_packets.proofs.HeadingLemmas.{IsKind, header_takes, header_again, data_kind, ready_kind, not_ready_kind, reject_kind}
 use Rattle.xp_packets.proofs.Results.{bind_ok, guard_ok, ok_is}
 
-abbrev ok_packet : {A : Type 0} → Packet A → Result (Packet A) Wrong
+abbrev ok_packet : {A : Type 0} → Packet A → Result (Packet A) Malformed
 ok_packet packet = Ok packet
 
 -- ---- what is read is spelled so
@@ -57,8 +57,8 @@ confirm_spelled : (A : Type 0) (octets : List ℕ) (identifier : ℕ) (rest : Li
 confirm_spelled A octets identifier rest None spelled begins = rw spelled at begins
 confirm_spelled A octets identifier rest (Some block) spelled begins = (rest, begins, spelled.0, nil_from_length block.user (omega (arith, spelled.1)))
 
-confirm_takes : (A : Type 0) (octets : List ℕ) (identifier : ℕ) (rest : List ℕ) (packet : Packet A) → AreOctets rest → Begins octets false false identifier 23 rest → confirm_at rest ≡ Ok packet → Spells octets identifier packet
-unfolding confirm_at
+confirm_takes : (A : Type 0) (octets : List ℕ) (identifier : ℕ) (rest : List ℕ) (packet : Packet A) → AreOctets rest → Begins octets false false identifier 23 rest → clear_confirm_at rest ≡ Ok packet → Spells octets identifier packet
+unfolding clear_confirm_at
 confirm_takes A octets identifier rest packet are begins e =
     let a = bind_ok (optional_block_at 0 rest) (λ (block : Option (Block A)). ok_packet (ClearConfirm block)) packet e in
     subst (λ (p : Packet A). Spells octets identifier p) (ok_is (ClearConfirm a.0) packet a.2) (confirm_spelled A octets identifier rest a.0 (option_takes A 0 rest a.0 (omega arith) are a.1) begins)
@@ -92,8 +92,8 @@ reset_takes A octets identifier (cause ∷ diagnostic ∷ []) packet begins e = 
 reset_takes A octets identifier (cause ∷ diagnostic ∷ more ∷ rest) packet begins e = absurd cc
 
 -- a packet after whose type nothing stands
-alone_takes : (A : Type 0) (octets : List ℕ) (identifier octet : ℕ) (rest : List ℕ) (one packet : Packet A) → (Begins octets false false identifier octet [] → Spells octets identifier one) → Begins octets false false identifier octet rest → alone_at one rest ≡ Ok packet → Spells octets identifier packet
-unfolding alone_at
+alone_takes : (A : Type 0) (octets : List ℕ) (identifier octet : ℕ) (rest : List ℕ) (one packet : Packet A) → (Begins octets false false identifier octet [] → Spells octets identifier one) → Begins octets false false identifier octet rest → header_only_at one rest ≡ Ok packet → Spells octets identifier packet
+unfolding header_only_at
 alone_takes A octets identifier octet [] one packet spells begins e = subst (λ (p : Packet A). Spells octets identifier p) (ok_is one packet e) (spells begins)
 alone_takes A octets identifier octet (more ∷ rest) one packet spells begins e = absurd cc
 
@@ -143,7 +143,7 @@ body_takes A octets kinds.Reject q d identifier octet rest packet are begins is 
     let whole : 32 * (octet / 32) + 9 ≡ octet = omega arith in
     alone_takes A octets identifier octet rest (Reject (octet / 32)) packet (λ b. (rw whole b, omega arith)) (plain octets q d identifier octet rest (omega arith) (λ h. omega arith) (λ h. omega arith) lawful begins) e
 
-abbrev ok_pair : {A : Type 0} → ℕ → Packet A → Result (ℕ × Packet A) Wrong
+abbrev ok_pair : {A : Type 0} → ℕ → Packet A → Result (ℕ × Packet A) Malformed
 ok_pair identifier packet = Ok (identifier, packet)
 
 after_heading : (octets : List ℕ) (q d : Bool) (identifier octet : ℕ) (rest : List ℕ) → AreOctets octets → Begins octets q d identifier octet rest → AreOctets rest
@@ -207,13 +207,13 @@ interrupt_again A (octet ∷ rest) some most =
     let short : ltb 32 (length (octet ∷ rest)) ≡ false = le-ltb _ _ most in
     rw short refl
 
-confirm_again : (A : Type 0) (rest : List ℕ) (block : Block A) → BlockBy SpellsFields A rest block → block.user ≡ [] → confirm_at rest ≡ Ok (ClearConfirm (Some block))
-unfolding confirm_at
+confirm_again : (A : Type 0) (rest : List ℕ) (block : Block A) → BlockBy SpellsFields A rest block → block.user ≡ [] → clear_confirm_at rest ≡ Ok (ClearConfirm (Some block))
+unfolding clear_confirm_at
 confirm_again A rest block spelled none =
     rw (some_again A 0 rest block spelled (omega (arith, ap length none))) refl
 
 pub packet_again : (A : Type 0) (octets : List ℕ) (identifier : ℕ) (packet : Packet A) → Spells octets identifier packet → packet_at octets ≡ Ok (identifier, packet)
-unfolding kind_of whole_kind_of call_at accepted_at clear_at confirm_at optional_block_at reset_at alone_at
+unfolding kind_of whole_kind_of call_at accepted_at clear_at clear_confirm_at optional_block_at reset_at header_only_at
 packet_again A octets identifier (Call d block) spelled =
     whole_again A octets false d identifier 11 kinds.Call spelled.0 (Call d block) spelled.1 refl refl (rw (block_again A 128 spelled.0 block spelled.2 (user_most A spelled.0 block spelled.2)) refl)
 packet_again A octets identifier (Accepted d None) spelled = whole_again A octets false d identifier 15 kinds.Accepted [] (Accepted d None) spelled refl refl refl

@@ -1,15 +1,15 @@
--- What decoding answers.
+-- The results of decoding.
 use Rattle.std.specs.Prelude.{◌≡◌, ℕ, true, List, Result, Ok, Err}
 use Rattle.xp_packets.specs.declared.fault.PacketFault.{PacketFault}
 use Rattle.xp_packets.specs.declared.fault.PacketFault.TheVariants as faults
 use Rattle.xp_packets.specs.declared.packet.Packet.{Packet}
-use Rattle.xp_packets.specs.Examination.{IsWrong}
+use Rattle.xp_packets.specs.Examination.{IsMalformed}
 use Rattle.xp_packets.specs.Owning.{owns_octets}
 use Rattle.xp_packets.specs.Spelling.{Spells}
 
--- The pair that the octets spell, or what is wrong with them. Memory is wanted only where they spell a packet that holds
--- octets.
+-- Decoding returns the identifier and the packet that the octets spell, or what is wrong with the octets. It reports
+-- out of memory only where they spell a packet that holds octets.
 abbrev pub Decodes : {A : Type 0} → List ℕ → Result (ℕ × Packet A) PacketFault → Type 0
 Decodes octets (Ok read) = Spells octets read.0 read.1
-Decodes octets (Err (faults.Wrong wrong)) = IsWrong octets wrong
+Decodes octets (Err (faults.Malformed wrong)) = IsMalformed octets wrong
 Decodes {A} octets (Err faults.Memory) = (identifier : ℕ) × (packet : Packet A) × Spells octets identifier packet × (owns_octets packet ≡ true)

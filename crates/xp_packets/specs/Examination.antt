@@ -1,26 +1,26 @@
--- Why octets are no packet: the first, in the order of examination, of conditions over the whole octets.
+-- Why octets are not a packet: the first that holds of a list of conditions over all the octets.
 use Rattle.std.specs.Prelude.{◌≡◌, ℕ, ◌+◌, ◌/◌, ◌%◌, ◌==◌, nat_lt, Bool, true, false, not, ◌&&◌, ◌||◌, if◌then◌else◌, List, [], ◌∷◌, length, take, drop, slice_index, Option, Some, None, is_none}
 use Rattle.std.specs.List.{list_all}
-use Rattle.xp_packets.specs.declared.fault.Wrong.{Wrong}
-use Rattle.xp_packets.specs.declared.fault.Wrong.TheVariants.{Short, Format, Unknown, Address, Facilities, Long}
+use Rattle.xp_packets.specs.declared.fault.Malformed.{Malformed}
+use Rattle.xp_packets.specs.declared.fault.Malformed.TheVariants.{Short, Format, Unknown, Address, Facilities, Long}
 use Rattle.xp_packets.specs.declared.kind.Kind.{Kind}
 use Rattle.xp_packets.specs.declared.kind.Kind.TheVariants.{Call, Accepted, Clear, ClearConfirm, Interrupt, Reset, Data}
-use Rattle.xp_packets.specs.Digits.{halves, octets_for}
+use Rattle.xp_packets.specs.Digits.{half_octets, octets_for}
 use Rattle.xp_packets.specs.Heading.{wrong_format}
 use Rattle.xp_packets.specs.Kinds.{kind_of}
 
--- the first condition that holds, of those in a list
-abbrev pub first_of : List (Bool × Wrong) → Option Wrong
+-- the fault of the first condition in a list that holds
+abbrev pub first_of : List (Bool × Malformed) → Option Malformed
 first_of [] = None
 first_of (condition ∷ conditions) = if condition.0 then Some condition.1 else first_of conditions
 
 -- ---- a block
 
--- how many digits its first octet says
+-- how many digits its first octet announces, of both addresses together
 abbrev pub digit_count : ℕ → ℕ
 digit_count lengths = lengths % 16 + lengths / 16
 
--- the octets of its digits
+-- the octets that hold its digits
 abbrev pub digit_octets : List ℕ → List ℕ
 digit_octets [] = []
 digit_octets (lengths ∷ rest) = take (octets_for (digit_count lengths)) rest
@@ -30,20 +30,20 @@ abbrev pub after_digits : List ℕ → List ℕ
 after_digits [] = []
 after_digits (lengths ∷ rest) = drop (octets_for (digit_count lengths)) rest
 
--- the digits pass the end, one is above 9, or the filling half-octet is not zero
+-- the digits go past the end, a digit is above 9, or the half-octet that fills the last octet is not zero
 abbrev pub has_wrong_address : List ℕ → Bool
 has_wrong_address [] = false
 has_wrong_address (lengths ∷ rest) =
     nat_lt (length rest) (octets_for (digit_count lengths))
-    || (not (list_all (λ half. nat_lt half 10) (take (digit_count lengths) (halves (digit_octets (lengths ∷ rest)))))
-    || not (list_all (λ half. half == 0) (drop (digit_count lengths) (halves (digit_octets (lengths ∷ rest))))))
+    || (not (list_all (λ half. nat_lt half 10) (take (digit_count lengths) (half_octets (digit_octets (lengths ∷ rest)))))
+    || not (list_all (λ half. half == 0) (drop (digit_count lengths) (half_octets (digit_octets (lengths ∷ rest))))))
 
--- the facility length is over 109 or passes the end
+-- the facility length is over 109 or goes past the end
 abbrev pub has_wrong_size : List ℕ → Bool
 has_wrong_size [] = false
 has_wrong_size (size ∷ rest) = nat_lt 109 size || nat_lt (length rest) size
 
--- what stands after the facilities
+-- the octets after the facilities
 abbrev pub after_facilities : List ℕ → List ℕ
 after_facilities [] = []
 after_facilities (size ∷ rest) = drop size rest
@@ -58,7 +58,7 @@ block_octets (Some Clear) rest = drop 2 rest
 block_octets (Some ClearConfirm) rest = rest
 block_octets _ rest = []
 
--- whether the cause, the block or an interrupt octet has to stand after the type
+-- whether a cause, a block or an interrupt octet must follow the type
 abbrev pub needs_octet : Option Kind → Bool
 needs_octet (Some Call) = true
 needs_octet (Some Clear) = true
@@ -66,7 +66,7 @@ needs_octet (Some Interrupt) = true
 needs_octet (Some Reset) = true
 needs_octet _ = false
 
--- how much may stand after the type, or after the facilities where there is a block
+-- how many octets may follow the type, or the facilities where there is a block
 abbrev pub most_octets : Option Kind → ℕ
 most_octets (Some Call) = 128
 most_octets (Some Accepted) = 128
@@ -76,7 +76,7 @@ most_octets (Some Reset) = 2
 most_octets (Some Data) = 1024
 most_octets _ = 0
 
--- the octets that are counted
+-- the octets to which that limit applies
 abbrev pub bounded_octets : Option Kind → List ℕ → List ℕ
 bounded_octets (Some Call) rest = after_facilities (after_digits rest)
 bounded_octets (Some Accepted) rest = after_facilities (after_digits rest)
@@ -90,8 +90,8 @@ kind_in octets = kind_of (slice_index octets 2)
 abbrev pub block_in : List ℕ → List ℕ
 block_in octets = block_octets (kind_in octets) (drop 3 octets)
 
--- the conditions in their order
-abbrev pub conditions : List ℕ → List (Bool × Wrong)
+-- the conditions, in the order in which they are checked
+abbrev pub conditions : List ℕ → List (Bool × Malformed)
 conditions octets =
     (nat_lt (length octets) 3, Short)
     ∷ (wrong_format (slice_index octets 0) (slice_index octets 2), Format)
@@ -102,6 +102,6 @@ conditions octets =
     ∷ (nat_lt (most_octets (kind_in octets)) (length (bounded_octets (kind_in octets) (drop 3 octets))), Long)
     ∷ []
 
--- it is the first that holds
-abbrev pub IsWrong : List ℕ → Wrong → Type 0
-IsWrong octets wrong = first_of (conditions octets) ≡ Some wrong
+-- this is the fault of the first condition that holds
+abbrev pub IsMalformed : List ℕ → Malformed → Type 0
+IsMalformed octets wrong = first_of (conditions octets) ≡ Some wrong

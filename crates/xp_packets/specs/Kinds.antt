@@ -3,7 +3,7 @@ use Rattle.std.specs.Prelude.{ℕ, ◌%◌, ◌==◌, if◌then◌else◌, Optio
 use Rattle.xp_packets.specs.declared.kind.Kind.{Kind}
 use Rattle.xp_packets.specs.declared.kind.Kind.TheVariants.{Call, Accepted, Clear, ClearConfirm, Interrupt, InterruptConfirm, Reset, ResetConfirm, Data, Ready, NotReady, Reject}
 
--- the type octet, with zero where it carries numbers
+-- the type octet of a kind, with zero where it carries numbers
 abbrev pub octet_of : Kind → ℕ
 octet_of Call = 11
 octet_of Accepted = 15
@@ -18,7 +18,7 @@ octet_of Ready = 1
 octet_of NotReady = 5
 octet_of Reject = 9
 
--- the kind of an octet that carries no number
+-- the kind of a type octet that carries no numbers
 unfoldable pub whole_kind_of : ℕ → Option Kind
 whole_kind_of octet =
     if octet == 11 then Some Call else
@@ -30,7 +30,7 @@ whole_kind_of octet =
     (if octet == 27 then Some Reset else
     (if octet == 31 then Some ResetConfirm else None)))))))
 
--- the kind of an octet: data where bit 1 is zero, a flow control packet by its last five bits
+-- the kind of a type octet: data where bit 1 is zero; flow control packets are known by the last five bits
 unfoldable pub kind_of : ℕ → Option Kind
 kind_of octet =
     if octet % 2 == 0 then Some Data else

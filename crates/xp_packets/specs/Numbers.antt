@@ -4,11 +4,11 @@ use Rattle.xp_packets.specs.declared.kind.Kind.{Kind}
 use Rattle.xp_packets.specs.Heading.{bit}
 use Rattle.xp_packets.specs.Kinds.{octet_of}
 
--- how many numbers there are
+-- how many sequence numbers there are: 0 to 7
 abbrev pub modulus : ℕ
 modulus = 8
 
--- a number that is none of them
+-- the number is over 7, so it is not a sequence number
 abbrev pub is_over : ℕ → Bool
 is_over number = nat_lt 7 number
 
@@ -19,12 +19,3 @@ data_octet ps pr more = 32 * pr + bit 16 more + 2 * ps
 -- P(R) in bits 8 to 6 of the octet of a flow control packet
 abbrev pub flow_octet : ℕ → Kind → ℕ
 flow_octet pr kind = 32 * pr + octet_of kind
-
-abbrev pub sent_number : ℕ → ℕ
-sent_number octet = octet / 2 % 8
-
-abbrev pub received_number : ℕ → ℕ
-received_number octet = octet / 32
-
-abbrev pub has_more : ℕ → Bool
-has_more octet = octet / 16 % 2 == 1

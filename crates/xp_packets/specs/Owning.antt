@@ -1,9 +1,9 @@
--- Which packets hold octets, and so own memory.
+-- Which packets hold octets, and so may need memory.
 use Rattle.std.specs.Prelude.{Bool, true, false, is_some}
 use Rattle.xp_packets.specs.declared.packet.Packet.{Packet}
 use Rattle.xp_packets.specs.declared.packet.Packet.TheVariants.{Call, Accepted, Clear, ClearConfirm, DataPacket, Interrupt}
 
--- a block, data or interrupt data
+-- whether the packet has a block, data or interrupt data
 abbrev pub owns_octets : {A : Type 0} → Packet A → Bool
 owns_octets (Call d block) = true
 owns_octets (Accepted d block) = is_some block

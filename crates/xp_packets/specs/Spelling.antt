@@ -1,4 +1,5 @@
--- Which octets spell which packet (X.25 clause 5), as a relation on whole texts.
+-- Which octets spell which packet, that is, are an encoding of it (X.25 clause 5), as a relation on whole octet
+-- strings.
 use Rattle.std.specs.Prelude.{◌≡◌, ℕ, ◌+◌, ◌*◌, ◌<◌, ◌≤◌, false, List, [], ◌∷◌, ◌++◌, length, Some, None}
 use Rattle.xp_packets.specs.declared.block.Block.{Block}
 use Rattle.xp_packets.specs.declared.packet.Packet.{Packet}
@@ -9,19 +10,19 @@ use Rattle.xp_packets.specs.Heading.{Begins}
 use Rattle.xp_packets.specs.Kinds.{octet_of}
 use Rattle.xp_packets.specs.Numbers.{modulus, data_octet, flow_octet}
 
--- The octet of facility length, the facilities, and user data up to the packet's end (clause 5.2.2).
+-- The facility length octet, the facilities, and user data up to the packet's end (clause 5.2.2).
 abbrev pub WritesFields : List ℕ → List ℕ → List ℕ → Type 0
 WritesFields [] facilities user = ⊥
 WritesFields (size ∷ rest) facilities user =
     (size ≡ length facilities) × (rest ≡ facilities ++ user) × (length facilities ≤ 109) × (length user ≤ 128)
 
--- The same; a packet that ends after the digits has neither.
+-- The same; or the packet ends after the digits, and has neither facilities nor user data.
 abbrev pub SpellsFields : List ℕ → List ℕ → List ℕ → Type 0
 SpellsFields [] facilities user = (facilities ≡ []) × (user ≡ [])
 SpellsFields (size ∷ rest) facilities user = WritesFields (size ∷ rest) facilities user
 
--- A block: one octet with the calling length in bits 8 to 5 and the called length in bits 4 to 1, the digits, and what
--- stands after them (clauses 5.2.1 and 5.2.2).
+-- A block: one octet with the calling length in bits 8 to 5 and the called length in bits 4 to 1, the digits, and
+-- then the fields that `Fields` describes (clauses 5.2.1 and 5.2.2).
 pub record BlockBy (Fields : List ℕ → List ℕ → List ℕ → Type 0) (A : Type 0) (octets : List ℕ) (block : Block A) : Type 0 where
   pub digits : List ℕ
   pub rest : List ℕ
@@ -29,7 +30,7 @@ pub record BlockBy (Fields : List ℕ → List ℕ → List ℕ → Type 0) (A :
   pub addresses : SpellsAddresses digits block.called block.calling
   pub fields : Fields rest block.facilities block.user
 
--- The octets, the identifier and the packet, where blocks end as said.
+-- The octets spell the identifier and the packet, where `Fields` says what follows the digits of a block.
 abbrev pub SpellsBy : {A : Type 0} → (List ℕ → List ℕ → List ℕ → Type 0) → List ℕ → ℕ → Packet A → Type 0
 SpellsBy {A} Fields octets identifier (Call d block) =
     (rest : List ℕ) × Begins octets false d identifier (octet_of kinds.Call) rest × BlockBy Fields A rest block
@@ -71,6 +72,6 @@ SpellsBy {A} Fields octets identifier ResetConfirm =
 abbrev pub Spells : {A : Type 0} → List ℕ → ℕ → Packet A → Type 0
 Spells octets identifier packet = SpellsBy SpellsFields octets identifier packet
 
--- They do, and every block has both length octets.
+-- They do, and every block has both its address length octet and its facility length octet.
 abbrev pub WrittenAs : {A : Type 0} → List ℕ → ℕ → Packet A → Type 0
 WrittenAs octets identifier packet = SpellsBy WritesFields octets identifier packet

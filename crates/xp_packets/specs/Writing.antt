@@ -1,4 +1,4 @@
--- Writing a packet.
+-- The octets that `encode` writes for a packet.
 use Rattle.std.specs.Prelude.{ℕ, ◌+◌, ◌*◌, Bool, false, List, [], ◌∷◌, ◌++◌, length, Option, Some, None}
 use Rattle.xp_packets.specs.declared.block.Block.{Block}
 use Rattle.xp_packets.specs.declared.packet.Packet.{Packet}
@@ -8,7 +8,7 @@ use Rattle.xp_packets.specs.Heading.{heading}
 use Rattle.xp_packets.specs.Kinds.{octet_of}
 use Rattle.xp_packets.specs.Numbers.{data_octet, flow_octet}
 
--- half-octets two by two, with a zero where the last has no other
+-- half-octets in pairs, one pair an octet; a zero follows the last where it has no partner
 abbrev pub packed : List ℕ → List ℕ
 packed [] = []
 packed (high ∷ []) = (16 * high) ∷ []
@@ -18,9 +18,9 @@ abbrev pub written_block : {A : Type 0} → Block A → List ℕ
 written_block block =
     (16 * length block.calling + length block.called) ∷ (packed (block.called ++ block.calling) ++ (length block.facilities ∷ (block.facilities ++ block.user)))
 
-abbrev pub written_option : {A : Type 0} → Option (Block A) → List ℕ
-written_option None = []
-written_option (Some block) = written_block block
+abbrev pub written_optional_block : {A : Type 0} → Option (Block A) → List ℕ
+written_optional_block None = []
+written_optional_block (Some block) = written_block block
 
 abbrev pub has_q : {A : Type 0} → Packet A → Bool
 has_q (DataPacket q d more ps pr octets) = q
@@ -32,7 +32,7 @@ has_d (Accepted d block) = d
 has_d (DataPacket q d more ps pr octets) = d
 has_d _ = false
 
--- the type octet, with its numbers
+-- the type octet, with the numbers that it carries
 abbrev pub type_of : {A : Type 0} → Packet A → ℕ
 type_of (Call d block) = octet_of kinds.Call
 type_of (Accepted d block) = octet_of kinds.Accepted
@@ -51,12 +51,12 @@ abbrev pub written_cause : ℕ → Option ℕ → List ℕ
 written_cause cause None = cause ∷ []
 written_cause cause (Some diagnostic) = cause ∷ diagnostic ∷ []
 
--- what stands after the type
+-- the octets after the type
 abbrev pub written_body : {A : Type 0} → Packet A → List ℕ
 written_body (Call d block) = written_block block
-written_body (Accepted d block) = written_option block
-written_body (Clear cause diagnostic block) = written_cause cause diagnostic ++ written_option block
-written_body (ClearConfirm block) = written_option block
+written_body (Accepted d block) = written_optional_block block
+written_body (Clear cause diagnostic block) = written_cause cause diagnostic ++ written_optional_block block
+written_body (ClearConfirm block) = written_optional_block block
 written_body (DataPacket q d more ps pr octets) = octets
 written_body (Interrupt octets) = octets
 written_body (Reset cause diagnostic) = written_cause cause diagnostic

@@ -2,60 +2,61 @@
 
 ghost use Rattle.std.specs.Prelude.{◌≡◌, ◌+◌, ◌*◌, ◌<◌, ◌≤◌, ◌++◌, length, slice_index, OnOk};
 ghost use Rattle.xp_packets.specs.Addresses.{AreAddresses};
-ghost use Rattle.xp_packets.specs.Digits.{AreDigits, halves};
-ghost use Rattle.xp_packets.specs.Reading.{Finds, addresses_at, digits_at};
+ghost use Rattle.xp_packets.specs.Digits.{AreDigits, half_octets};
+ghost use Rattle.xp_packets.specs.steps.Reading.{MatchesReading, addresses_at, digits_at};
 ghost use Rattle.xp_packets.specs.Writing.{packed};
 
 use crate::digits::Digits;
-use crate::fault::Wrong;
+use crate::fault::Malformed;
 use std::alloc::{AllocError, Allocator};
 
-/// Reads the called and the calling address, of so many digits each; the octets after them are the rest.
-#[tactic(auto, unfolding(crate::specs::Reading::addresses_at))]
+/// Reads the called and the calling address, which have `called` and `calling` digits. Also returns the octets after
+/// them.
+#[tactic(auto, unfolding(crate::specs::steps::Reading::addresses_at))]
 pub(crate) fn addresses_of(
     called: usize,
     calling: usize,
     octets: &[u8],
-) -> Result<(Digits, Digits, &[u8]), Wrong>
+) -> Result<(Digits, Digits, &[u8]), Malformed>
     requires called_most { called ≤ 15 }
     requires calling_most { calling ≤ 15 }
-    ensures { Finds (λ x. (x.0, x.1, x.2.now)) result (addresses_at called calling octets.now) }
+    ensures { MatchesReading (λ x. (x.0, x.1, x.2.now)) result (addresses_at called calling octets.now) }
 {
     let count = called + calling;
     let size = (count + 1) / 2;
     if octets.len() < size {
-        return Err(Wrong::Address);
+        return Err(Malformed::Address);
     }
     let (run, rest) = octets.split_at(size);
     let to = digits_of(run, 0, called)?;
     let by = digits_of(run, called, calling)?;
     if count % 2 == 1 && half_octet(run, count) != 0 {
-        return Err(Wrong::Address);
+        return Err(Malformed::Address);
     }
     Ok((to, by, rest))
 }
 
-/// So many half-octets from a place on, as digits.
-fn digits_of(octets: &[u8], from: usize, count: usize) -> Result<Digits, Wrong>
+/// Reads `count` half-octets, from half-octet `from` on, as digits.
+fn digits_of(octets: &[u8], from: usize, count: usize) -> Result<Digits, Malformed>
     requires within { from + count ≤ 2 * length octets.now }
     requires most { count ≤ 15 }
-    ensures { Finds (λ x. x) result (digits_at octets.now from count) }
+    ensures { MatchesReading (λ x. x) result (digits_at octets.now from count) }
 {
     let mut digits = Digits::new();
     for place in 0..count {
         let digit = half_octet(octets, from + place);
         if digit >= 10 {
-            return Err(Wrong::Address);
+            return Err(Malformed::Address);
         }
         digits.push(digit);
     }
     Ok(digits)
 }
 
-/// The half-octet at a place, the high half of an octet first.
+/// The half-octet at `place`. The high half of each octet comes first.
 fn half_octet(octets: &[u8], place: usize) -> u8
     requires { place < 2 * length octets.now }
-    ensures { result ≡ slice_index (halves octets.now) place }
+    ensures { result ≡ slice_index (half_octets octets.now) place }
 {
     let octet = octets[place / 2];
     if place % 2 == 0 {
@@ -65,7 +66,7 @@ fn half_octet(octets: &[u8], place: usize) -> u8
     }
 }
 
-/// Writes both addresses, and a zero half-octet where their count is odd.
+/// Writes both addresses, and a zero half-octet where their count of digits is odd.
 pub(crate) fn push_addresses<A: Allocator>(
     out: &mut Vec<u8, A>,
     called: &Digits,
@@ -85,7 +86,7 @@ pub(crate) fn push_addresses<A: Allocator>(
     Ok(())
 }
 
-/// The digit at a place of both addresses, zero after the last.
+/// The digit at `place` in the called address followed by the calling address; zero after the last digit.
 fn digit_at(called: &[u8], calling: &[u8], place: usize) -> u8
     requires called_digits { AreDigits called.now }
     requires calling_digits { AreDigits calling.now }

@@ -2,23 +2,23 @@
 
 ghost use Rattle.std.specs.Prelude.{◌≡◌, ◌≤◌, ◌++◌, false, is_some, length, true, OnOk};
 ghost use Rattle.xp_packets.specs.Addresses.{AreAddresses, BlockHasAddresses};
-ghost use Rattle.xp_packets.specs.Fitness.{has_long_facilities};
-ghost use Rattle.xp_packets.specs.Reading.{Finds, Gives, block_at, fields_at, optional_block_at};
-ghost use Rattle.xp_packets.specs.Writing.{written_block, written_option};
+ghost use Rattle.xp_packets.specs.Encodability.{has_long_facilities};
+ghost use Rattle.xp_packets.specs.steps.Reading.{MatchesReading, MatchesReadingOrMemory, block_at, fields_at, optional_block_at};
+ghost use Rattle.xp_packets.specs.Writing.{written_block, written_optional_block};
 
 use crate::address::{addresses_of, push_addresses};
 use crate::digits::Digits;
-use crate::fault::{PacketFault, Wrong};
+use crate::fault::{Malformed, PacketFault};
 use crate::octets::Octets;
 use std::alloc::{AllocError, Allocator, Global};
 
-/// Octets of facilities (clause 5.2.2).
+/// The most octets of facilities (clause 5.2.2).
 pub(crate) const MOST_FACILITIES: usize = 109;
 
-/// Octets of user data (clause 5.2.2).
+/// The most octets of user data (clause 5.2.2).
 pub(crate) const MOST_USER: usize = 128;
 
-/// Octets of user data in a clear confirmation (clause 5.2.5).
+/// The most octets of user data in a clear confirmation (clause 5.2.5): none.
 pub(crate) const NO_USER: usize = 0;
 
 /// The address block, facilities and user data of a call set-up or clearing packet
@@ -29,23 +29,24 @@ pub struct Block<A: Allocator = Global> {
     pub called: Digits,
     /// The calling address, 0 to 15 digits.
     pub calling: Digits,
-    /// At most 109 octets.
+    /// The facility field, at most 109 octets.
     pub facilities: Octets<A>,
     /// User data, at most 128 octets; none in a clear confirmation.
     pub user: Octets<A>,
 }
 
-/// Reads a block, which takes all the octets; its user data has at most so many. No copy is made before all is found right.
-#[tactic(auto, unfolding(crate::specs::Reading::block_at))]
+/// Reads a block, which must use all the octets. Its user data has at most `most` octets. Nothing is copied before
+/// every check has passed.
+#[tactic(auto, unfolding(crate::specs::steps::Reading::block_at))]
 pub(crate) fn block_of<A: Allocator + Copy>(
     alloc: A,
     octets: &[u8],
     most: usize,
 ) -> Result<Block<A>, PacketFault>
-    ensures { Gives (λ _. true) result (block_at most octets.now) }
+    ensures { MatchesReadingOrMemory (λ _. true) result (block_at most octets.now) }
 {
     match octets {
-        [] => Err(Wrong::Short.into()),
+        [] => Err(Malformed::Short.into()),
         [lengths, rest @ ..] => {
             let called = usize::from(*lengths & 0x0f);
             let calling = usize::from(*lengths >> 4);
@@ -63,14 +64,14 @@ pub(crate) fn block_of<A: Allocator + Copy>(
     }
 }
 
-/// Reads such a block where there are octets.
-#[tactic(auto, unfolding(crate::specs::Reading::optional_block_at))]
+/// Reads a block of at most `most` octets of user data. Returns `None` where there are no octets.
+#[tactic(auto, unfolding(crate::specs::steps::Reading::optional_block_at))]
 pub(crate) fn optional_block_of<A: Allocator + Copy>(
     alloc: A,
     octets: &[u8],
     most: usize,
 ) -> Result<Option<Block<A>>, PacketFault>
-    ensures { Gives is_some result (optional_block_at most octets.now) }
+    ensures { MatchesReadingOrMemory is_some result (optional_block_at most octets.now) }
 {
     match octets {
         [] => Ok(None),
@@ -78,28 +79,28 @@ pub(crate) fn optional_block_of<A: Allocator + Copy>(
     }
 }
 
-/// The facilities and the user data behind the addresses; the user data has at most so many octets.
-#[tactic(auto, unfolding(crate::specs::Reading::fields_at))]
-fn fields_of(octets: &[u8], most: usize) -> Result<(&[u8], &[u8]), Wrong>
-    ensures { Finds (λ x. (x.0.now, x.1.now)) result (fields_at most octets.now) }
+/// The facilities and the user data, which follow the addresses. The user data has at most `most` octets.
+#[tactic(auto, unfolding(crate::specs::steps::Reading::fields_at))]
+fn fields_of(octets: &[u8], most: usize) -> Result<(&[u8], &[u8]), Malformed>
+    ensures { MatchesReading (λ x. (x.0.now, x.1.now)) result (fields_at most octets.now) }
 {
     match octets {
         [] => Ok((octets, octets)),
         [size, rest @ ..] => {
             let size = usize::from(*size);
             if size > MOST_FACILITIES || rest.len() < size {
-                return Err(Wrong::Facilities);
+                return Err(Malformed::Facilities);
             }
             let (facilities, user) = rest.split_at(size);
             if user.len() > most {
-                return Err(Wrong::Long);
+                return Err(Malformed::Long);
             }
             Ok((facilities, user))
         }
     }
 }
 
-/// Writes a block, with both length octets.
+/// Writes a block, with its address length octet and its facility length octet.
 pub(crate) fn push_block<A: Allocator>(
     out: &mut Vec<u8, A>,
     block: &Block<A>,
@@ -118,7 +119,7 @@ pub(crate) fn push_block<A: Allocator>(
     push_octets(out, block.user.as_slice())
 }
 
-/// Writes octets as they are. Often there are none.
+/// Appends octets unchanged. Often there are none.
 pub(crate) fn push_octets<A: Allocator>(
     out: &mut Vec<u8, A>,
     octets: &[u8],
@@ -131,13 +132,13 @@ pub(crate) fn push_octets<A: Allocator>(
     out.extend_from_slice(octets)
 }
 
-/// Writes a block where there is one.
-pub(crate) fn push_option<A: Allocator>(
+/// Writes a block, if there is one.
+pub(crate) fn push_optional_block<A: Allocator>(
     out: &mut Vec<u8, A>,
     block: &Option<Block<A>>,
 ) -> Result<(), AllocError>
     requires { has_long_facilities block.now ≡ false }
-    ensures written { OnOk result (out.new.items ≡ out.old.items ++ written_option block.now) }
+    ensures written { OnOk result (out.new.items ≡ out.old.items ++ written_optional_block block.now) }
     ensures addressed { OnOk result (BlockHasAddresses block.now) }
 {
     match block {

@@ -26,10 +26,10 @@ impl Model for Digits {
 }
 
 impl Digits {
-    /// How many digits an address has at most.
+    /// The most digits that an address has.
     pub const MOST: usize = 15;
 
-    /// No digits.
+    /// An address of no digits.
     pub fn new() -> Digits
         ensures { result ≡ [] }
     {
@@ -38,7 +38,7 @@ impl Digits {
         }
     }
 
-    /// The digits that a text writes, if it is at most 15 characters 0 to 9.
+    /// Reads the digits from text. Returns `None` unless the text is at most 15 characters `0` to `9`.
     pub fn from_text(text: &str) -> Option<Digits>
         ensures { result ≡ digits_in text.now }
     {
@@ -52,7 +52,7 @@ impl Digits {
         Some(digits)
     }
 
-    /// How many digits there are.
+    /// The number of digits, 0 to 15.
     pub fn len(&self) -> usize
         ensures count { result ≡ length self.now }
         ensures most { length self.now ≤ 15 }
@@ -60,7 +60,7 @@ impl Digits {
         self.values.len()
     }
 
-    /// Whether there are none.
+    /// Whether there are no digits.
     pub fn is_empty(&self) -> bool
         ensures { IsTrue result ↔ (self.now ≡ []) }
     {
@@ -76,7 +76,7 @@ impl Digits {
         self.values.as_slice()
     }
 
-    /// Adds a digit at the end.
+    /// Adds a digit, 0 to 9, at the end.
     pub fn push(&mut self, digit: u8)
         requires room { length self.old < 15 }
         requires digit { digit < 10 }
@@ -90,7 +90,7 @@ impl Digits {
         ensures { result ≡ self.now }
     {
         let mut values = ArrayVec::new();
-        // There is room for as many digits as there are.
+        // This cannot fail: both arrays have the same capacity.
         let _ = values.try_extend_from_slice(self.as_slice());
         Digits { values }
     }

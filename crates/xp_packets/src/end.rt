@@ -4,6 +4,6 @@ pub enum End {
     /// The line that made the call request.
     #[default]
     Caller,
-    /// The line to which the call was put.
+    /// The line that the call is offered to.
     Called,
 }

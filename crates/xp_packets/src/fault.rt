@@ -1,46 +1,49 @@
 ghost use Rattle.std.specs.Prelude.{◌≡◌};
 ghost use Rattle.xp_packets.specs.Diagnostics.{diagnostic_of};
-ghost use Rattle.xp_packets.specs.declared.fault.PacketFault.TheVariants.{Memory, Wrong as Said};
+ghost use Rattle.xp_packets.specs.declared.fault.PacketFault.TheVariants.{Memory, Malformed as Said};
 
 use std::alloc::AllocError;
 use thiserror::Error;
 
-/// Why octets are no packet, or why a packet has no octets, in the order in which this is examined.
+/// Why octets are not a packet, or why a packet cannot be encoded. The variants are in the order of the checks,
+/// except that a missing cause, block or interrupt data is checked after the type.
 #[derive(Clone, Copy, Debug, PartialEq, Eq, Error)]
-pub enum Wrong {
-    /// Fewer than three octets, or a cause, a block or interrupt data that has to stand there is missing; diagnostic 38.
+pub enum Malformed {
+    /// There are fewer than three octets, or the cause, the block or the interrupt data that the packet must have is
+    /// missing; diagnostic 38.
     #[error("packet too short")]
     Short,
-    /// Another modulus than 8, or a Q or D bit that the packet cannot have; diagnostic 40.
+    /// The modulus is not 8, or the Q or D bit is set in a packet that cannot have it; diagnostic 40. To `encode`:
+    /// the identifier is over 4,095, or P(S) or P(R) is over 7.
     #[error("invalid general format identifier")]
     Format,
-    /// No packet has such a type; diagnostic 33.
+    /// No packet has this type; diagnostic 33.
     #[error("unidentifiable packet")]
     Unknown,
-    /// The digits pass the end of the packet, one is above 9, or what fills their last octet is not zero; diagnostic 67, also for the calling
-    /// address.
+    /// The digits go past the end of the packet, a digit is above 9, or the half-octet that fills their last octet is
+    /// not zero; diagnostic 67, also for the calling address.
     #[error("invalid address")]
     Address,
-    /// The facility length is over 109 or passes the end of the packet; diagnostic 69.
+    /// The facility length is over 109 or goes past the end of the packet; diagnostic 69.
     #[error("invalid facility length")]
     Facilities,
-    /// More octets than a packet of its kind has; diagnostic 39.
+    /// There are more octets than a packet of its kind may have; diagnostic 39.
     #[error("packet too long")]
     Long,
 }
 
-impl Wrong {
+impl Malformed {
     /// The diagnostic code of X.25 Annex E.
     pub fn diagnostic(self) -> u8
         ensures { result ≡ diagnostic_of self }
     {
         match self {
-            Wrong::Short => 38,
-            Wrong::Format => 40,
-            Wrong::Unknown => 33,
-            Wrong::Address => 67,
-            Wrong::Facilities => 69,
-            Wrong::Long => 39,
+            Malformed::Short => 38,
+            Malformed::Format => 40,
+            Malformed::Unknown => 33,
+            Malformed::Address => 67,
+            Malformed::Facilities => 69,
+            Malformed::Long => 39,
         }
     }
 }
@@ -48,19 +51,19 @@ impl Wrong {
 /// Why a packet was not read or written.
 #[derive(Clone, Copy, Debug, PartialEq, Eq, Error)]
 pub enum PacketFault {
-    /// The octets are no packet, or no octets spell the packet; the diagnostic is that of the reason.
+    /// The octets are not a packet, or the packet cannot be encoded; the reason gives the diagnostic.
     #[error("{0}")]
-    Wrong(Wrong),
-    /// No memory was left, which no diagnostic tells.
+    Malformed(Malformed),
+    /// An allocation failed. No diagnostic reports this.
     #[error("out of memory")]
     Memory,
 }
 
-impl From<Wrong> for PacketFault {
+impl From<Malformed> for PacketFault {
     ghost from_gives = { λ wrong fault. fault ≡ Said wrong };
 
-    fn from(wrong: Wrong) -> PacketFault {
-        PacketFault::Wrong(wrong)
+    fn from(wrong: Malformed) -> PacketFault {
+        PacketFault::Malformed(wrong)
     }
 }
 

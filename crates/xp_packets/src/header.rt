@@ -2,26 +2,25 @@
 
 ghost use Rattle.std.specs.Prelude.{◌≡◌, ◌<◌, ◌/◌, ◌%◌, ◌==◌, nat_le, ◌++◌, OnOk};
 ghost use Rattle.xp_packets.specs.Heading.{bit, heading, wrong_flags, wrong_format};
-ghost use Rattle.xp_packets.specs.Reading.{Finds, header_at};
+ghost use Rattle.xp_packets.specs.steps.Reading.{MatchesReading, header_at};
 
-use crate::fault::Wrong;
+use crate::fault::Malformed;
 use crate::kind::Kind;
 use std::alloc::{AllocError, Allocator};
 
-/// The qualifier bit, bit 8 of octet 1 (clause 5.1.1).
+/// The qualifier bit (Q): bit 8 of octet 1 (clause 5.1.1).
 const Q_BIT: u8 = 0x80;
 
-/// The delivery confirmation bit, bit 7 of octet 1.
+/// The delivery confirmation bit (D): bit 7 of octet 1.
 const D_BIT: u8 = 0x40;
 
-/// Bits 6 and 5 of octet 1 for modulo 8.
+/// The value of bits 6 and 5 of octet 1 for modulo 8.
 const MODULO_8: u8 = 1;
 
-/// Bits 4 to 1 of octet 1, the logical channel group number (clause 5.1.2).
+/// The logical channel group number: bits 4 to 1 of octet 1 (clause 5.1.2).
 const GROUP_BITS: u8 = 0x0f;
 
-/// What the general format identifier, the logical channel identifier and the packet type
-/// identifier say.
+/// The values of the general format identifier, the logical channel identifier and the packet type identifier.
 #[derive(Debug, Drop)]
 pub(crate) struct Header {
     pub(crate) identifier: u16,
@@ -32,15 +31,15 @@ pub(crate) struct Header {
     pub(crate) octet: u8,
 }
 
-/// Reads the header; the octets after it are the rest.
-#[tactic(auto, unfolding(crate::specs::Reading::header_at))]
-pub(crate) fn header_of(octets: &[u8]) -> Result<(Header, &[u8]), Wrong>
-    ensures { Finds (λ x. (x.0, x.1.now)) result (header_at octets.now) }
+/// Reads the header. Also returns the octets after it.
+#[tactic(auto, unfolding(crate::specs::steps::Reading::header_at))]
+pub(crate) fn header_of(octets: &[u8]) -> Result<(Header, &[u8]), Malformed>
+    ensures { MatchesReading (λ x. (x.0, x.1.now)) result (header_at octets.now) }
 {
     match octets {
         [first, number, octet, rest @ ..] => {
             if has_wrong_format(*first, *octet) {
-                return Err(Wrong::Format);
+                return Err(Malformed::Format);
             }
             match Kind::of(*octet) {
                 Some(kind) => {
@@ -53,15 +52,15 @@ pub(crate) fn header_of(octets: &[u8]) -> Result<(Header, &[u8]), Wrong>
                     };
                     Ok((header, rest))
                 }
-                None => Err(Wrong::Unknown),
+                None => Err(Malformed::Unknown),
             }
         }
-        _ => Err(Wrong::Short),
+        _ => Err(Malformed::Short),
     }
 }
 
-/// Whether the general format identifier is of another modulus, or has a Q or D bit that
-/// the packet cannot have (clause 5.1.1).
+/// Whether the general format identifier has a modulus other than 8, or a Q or D bit that the packet cannot have
+/// (clause 5.1.1).
 fn has_wrong_format(first: u8, octet: u8) -> bool
     ensures { result ≡ wrong_format first octet }
 {
@@ -80,7 +79,7 @@ fn has_d(first: u8) -> bool
     first & D_BIT != 0
 }
 
-/// Q is for data packets, D for data, call and accepted packets.
+/// Whether Q is set outside a data packet, or D outside a data, call or call accepted packet.
 fn has_wrong_flags(q: bool, d: bool, octet: u8) -> bool
     ensures { result ≡ wrong_flags q d octet }
 {
@@ -106,7 +105,7 @@ pub(crate) fn push_heading<A: Allocator>(
     Ok(())
 }
 
-/// A bit where it is set.
+/// The mask if the bit is set, otherwise zero.
 pub(crate) fn flagged(mask: u8, set: bool) -> u8
     ensures { result ≡ bit mask set }
 {

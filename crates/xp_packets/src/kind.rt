@@ -3,8 +3,8 @@
 ghost use Rattle.std.specs.Prelude.{◌≡◌};
 ghost use Rattle.xp_packets.specs.Kinds.{kind_of, whole_kind_of, octet_of};
 
-/// Which packet it is. The octet of the last four below also carries P(R), that of data
-/// P(S), P(R) and the M bit.
+/// The kinds of packets. The type octet of the last four kinds also carries P(R); that of a data packet also carries
+/// P(S) and the M bit.
 #[derive(Clone, Copy, Debug, PartialEq, Eq)]
 pub(crate) enum Kind {
     Call,
@@ -22,7 +22,7 @@ pub(crate) enum Kind {
 }
 
 impl Kind {
-    /// The kind that a type octet names.
+    /// The kind that the type octet gives, if there is one.
     #[tactic(auto, unfolding(crate::specs::Kinds::kind_of))]
     pub(crate) fn of(octet: u8) -> Option<Kind>
         ensures { result ≡ kind_of octet }
@@ -38,7 +38,7 @@ impl Kind {
         }
     }
 
-    /// The kind of an octet that carries no number.
+    /// The kind of a type octet that carries no numbers.
     #[tactic(auto, unfolding(crate::specs::Kinds::whole_kind_of))]
     fn of_whole(octet: u8) -> Option<Kind>
         ensures { result ≡ whole_kind_of octet }

@@ -1,31 +1,31 @@
-//! Laws of the spelling of packets, each the contract of a function with nothing to do.
+//! Laws of the encoding of packets. Each law is the contract of a function with an empty body.
 
-ghost use Rattle.xp_packets.specs.Laws.{EitherSpelledOrWrong, FitIsWritten, OneWrittenSpelling, SpelledIsFit, WrittenIsReadBack};
+ghost use Rattle.xp_packets.specs.Laws.{EitherSpelledOrMalformed, EncodableIsWritten, OneWrittenSpelling, SpelledIsEncodable, WrittenIsReadBack};
 
 use std::alloc::Allocator;
 
-/// All octets spell one identifier and packet, or one thing is wrong with them; never both.
-pub fn either_spelled_or_wrong<A: Allocator>()
-    ensures { EitherSpelledOrWrong A }
+/// Every string of octets either encodes exactly one identifier and packet, or has exactly one fault; never both.
+pub fn either_spelled_or_malformed<A: Allocator>()
+    ensures { EitherSpelledOrMalformed A }
 {}
 
-/// An identifier and a packet have at most one written spelling.
+/// An identifier and a packet have at most one encoding in which every block has both length octets.
 pub fn one_written_spelling<A: Allocator>()
     ensures { OneWrittenSpelling A }
 {}
 
-/// What is written for a packet spells it and nothing else, so what `encode` gives is decoded to
-/// what it was made from.
+/// The octets that `encode` returns for a packet encode that packet and no other. So `decode` returns what was
+/// encoded.
 pub fn written_is_read_back<A: Allocator>()
     ensures { WrittenIsReadBack A }
 {}
 
-/// A packet with any spelling has no reason against it.
-pub fn spelled_is_fit<A: Allocator>()
-    ensures { SpelledIsFit A }
+/// If any octets encode a packet, then `encode` finds no fault in it.
+pub fn spelled_is_encodable<A: Allocator>()
+    ensures { SpelledIsEncodable A }
 {}
 
-/// A packet with no reason against it has a written spelling.
-pub fn fit_is_written<A: Allocator>()
-    ensures { FitIsWritten A }
+/// If `encode` finds no fault in a packet, then it has an encoding in which every block has both length octets.
+pub fn encodable_is_written<A: Allocator>()
+    ensures { EncodableIsWritten A }
 {}

@@ -7,12 +7,12 @@ mod call;
 mod clear;
 mod data;
 mod digits;
+mod encodability;
 mod end;
 mod fault;
-mod few;
-mod fitness;
 mod flow;
 mod header;
+mod in_place;
 mod interrupt;
 mod kind;
 mod laws;
@@ -26,9 +26,9 @@ mod writing;
 pub use block::Block;
 pub use digits::Digits;
 pub use end::End;
-pub use fault::{PacketFault, Wrong};
+pub use fault::{Malformed, PacketFault};
 pub use laws::{
-    either_spelled_or_wrong, fit_is_written, one_written_spelling, spelled_is_fit,
+    either_spelled_or_malformed, encodable_is_written, one_written_spelling, spelled_is_encodable,
     written_is_read_back,
 };
 pub use octets::Octets;

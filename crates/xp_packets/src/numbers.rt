@@ -2,7 +2,8 @@
 
 ghost use Rattle.std.specs.Prelude.{◌≡◌, ◌<◌};
 ghost use Rattle.xp_packets.specs.Kinds.{octet_of};
-ghost use Rattle.xp_packets.specs.Numbers.{data_octet, flow_octet, has_more, is_over, modulus, received_number, sent_number};
+ghost use Rattle.xp_packets.specs.Numbers.{data_octet, flow_octet, is_over, modulus};
+ghost use Rattle.xp_packets.specs.steps.Numbers.{has_more, received_number, sent_number};
 
 use crate::header::flagged;
 use crate::kind::Kind;
@@ -13,7 +14,7 @@ const MORE_BIT: u8 = 0x10;
 /// The greatest P(S) or P(R).
 const MOST_NUMBER: u8 = 7;
 
-/// Whether it is no P(S) or P(R).
+/// Whether the number is over 7, so that it cannot be a P(S) or P(R).
 pub(crate) fn is_over(number: u8) -> bool
     ensures { result ≡ is_over number }
 {

@@ -1,48 +1,49 @@
 ghost use Rattle.std.specs.Prelude.{◌≡◌, ◌↔◌, [], IfOk, IsTrue, length};
 
-use crate::few::{Few, MOST_IN_PLACE};
+use crate::in_place::{InPlaceOctets, MOST_IN_PLACE};
 use std::alloc::{AllocError, Allocator, Global};
 use std::marker::Model;
 use std::sync::ArcSlice;
 
-/// Octets that a packet carries unchanged: user data, facilities, interrupt data. Copies share one block of memory.
+/// The octets that a packet carries unchanged: user data, facilities or interrupt data. Copies share one block of
+/// memory.
 #[derive(Debug, Drop)]
 pub struct Octets<A: Allocator = Global> {
-    held: Held<A>,
+    held: Storage<A>,
 }
 
-/// Where octets are: a few in place, and more in a block.
+/// Where the octets are stored: a few in place, more in a shared block.
 #[derive(Debug, Drop)]
-enum Held<A: Allocator> {
-    Few(Few),
-    Block(ArcSlice<u8, A>),
+enum Storage<A: Allocator> {
+    InPlace(InPlaceOctets),
+    Shared(ArcSlice<u8, A>),
 }
 
 impl<A: Allocator> Model for Octets<A> {
     ghost use Rattle.std.specs.Prelude.{List, ℕ};
-    ghost use Rattle.xp_packets.specs.Held.{octets_held};
+    ghost use Rattle.xp_packets.specs.Storage.{stored_octets};
 
     ghost Value = { List ℕ };
 
-    ghost view = { λ o. octets_held o.held };
+    ghost view = { λ o. stored_octets o.held };
 }
 
 impl<A: Allocator> Octets<A> {
-    /// No octets, which take no memory.
+    /// No octets. This allocates nothing.
     pub fn new(_alloc: A) -> Octets<A>
         ensures { result ≡ [] }
     {
         Octets {
-            held: Held::Few(Few::of(&[])),
+            held: Storage::InPlace(InPlaceOctets::of(&[])),
         }
     }
 
-    /// Ten octets, as charging information has (X.25 clause 7.2), which take no memory.
+    /// Ten octets, as many as charging information has (X.25 clause 7.2). This allocates nothing.
     pub fn of_ten(octets: [u8; 10]) -> Octets<A>
         ensures { result ≡ octets }
     {
         Octets {
-            held: Held::Few(Few::of(&octets)),
+            held: Storage::InPlace(InPlaceOctets::of(&octets)),
         }
     }
 
@@ -51,60 +52,72 @@ impl<A: Allocator> Octets<A> {
         ensures { result.now ≡ self.now }
     {
         match &self.held {
-            Held::Few(few) => few.as_slice(),
-            Held::Block(block) => block.as_slice(),
+            Storage::InPlace(few) => few.as_slice(),
+            Storage::Shared(block) => block.as_slice(),
         }
     }
 
-    /// How many octets there are.
+    /// The number of octets.
     pub fn len(&self) -> usize
         ensures { result ≡ length self.now }
     {
         self.as_slice().len()
     }
 
-    /// Whether there are none.
+    /// Whether there are no octets.
     pub fn is_empty(&self) -> bool
         ensures { IsTrue result ↔ (self.now ≡ []) }
     {
         self.as_slice().is_empty()
     }
 
-    /// An equal copy, which shares the block: it takes a count, and copies no octets.
+    /// An equal copy, which shares the block. It increments the block's count and copies no octets of the block.
+    ///
+    /// # Errors
+    ///
+    /// The block has no room to count another copy.
     pub fn copy(&self) -> Result<Octets<A>, AllocError>
         ensures { IfOk result (λ copied. copied ≡ self.now) }
     {
         let held = match &self.held {
-            Held::Few(few) => Held::Few(few.copy()),
-            Held::Block(block) => Held::Block(block.clone()?),
+            Storage::InPlace(few) => Storage::InPlace(few.copy()),
+            Storage::Shared(block) => Storage::Shared(block.clone()?),
         };
         Ok(Octets { held })
     }
 }
 
 impl<A: Allocator + Copy> Octets<A> {
-    /// The octets of a vector; memory is wanted only where there are more than a few.
+    /// The octets of a vector. This allocates only for more than 14 octets.
+    ///
+    /// # Errors
+    ///
+    /// An allocation failed.
     pub fn from_vec(octets: Vec<u8, A>) -> Result<Octets<A>, AllocError>
         ensures { IfOk result (λ held. held ≡ octets.items) }
     {
         if octets.len() <= MOST_IN_PLACE {
             return Ok(Octets {
-                held: Held::Few(Few::of(&octets)),
+                held: Storage::InPlace(InPlaceOctets::of(&octets)),
             });
         }
         let block = ArcSlice::from_vec(octets)?;
         Ok(Octets {
-            held: Held::Block(block),
+            held: Storage::Shared(block),
         })
     }
 
-    /// An owned copy of octets; memory is wanted only where there are more than a few.
+    /// A copy of a slice. This allocates only for more than 14 octets.
+    ///
+    /// # Errors
+    ///
+    /// An allocation failed.
     pub fn from_slice(alloc: A, octets: &[u8]) -> Result<Octets<A>, AllocError>
         ensures { IfOk result (λ held. held ≡ octets.now) }
     {
         if octets.len() <= MOST_IN_PLACE {
             return Ok(Octets {
-                held: Held::Few(Few::of(octets)),
+                held: Storage::InPlace(InPlaceOctets::of(octets)),
             });
         }
         Octets::from_vec(Vec::from_slice(alloc, octets)?)

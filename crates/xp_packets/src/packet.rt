@@ -19,7 +19,7 @@ pub enum Packet<A: Allocator = Global> {
         d: bool,
         block: Option<Block<A>>,
     },
-    /// Clear request and clear indication (clause 5.2.4). A block stands only behind a diagnostic.
+    /// Clear request and clear indication (clause 5.2.4). Only a packet with a diagnostic has a block.
     Clear {
         /// The clearing cause (clause 5.2.4).
         cause: u8,
@@ -27,7 +27,7 @@ pub enum Packet<A: Allocator = Global> {
         diagnostic: Option<u8>,
         block: Option<Block<A>>,
     },
-    /// Clear confirmation (clause 5.2.5), whose block has no user data.
+    /// Clear confirmation (clause 5.2.5). Its block has no user data.
     ClearConfirm {
         block: Option<Block<A>>,
     },
@@ -81,6 +81,10 @@ pub enum Packet<A: Allocator = Global> {
 
 impl<A: Allocator + Copy> Packet<A> {
     /// An equal copy, by the same allocator.
+    ///
+    /// # Errors
+    ///
+    /// As for [`Octets::copy`].
     pub fn copy(&self) -> Result<Packet<A>, AllocError>
         ensures { IfOk result (λ copied. copied ≡ self.now) }
     {

@@ -1,19 +1,19 @@
 //! Resets (X.25 clause 5.4.3).
 
 ghost use Rattle.std.specs.Prelude.{◌≡◌};
-ghost use Rattle.xp_packets.specs.Reading.{Finds, reset_at};
+ghost use Rattle.xp_packets.specs.steps.Reading.{MatchesReading, reset_at};
 
-use crate::fault::Wrong;
+use crate::fault::Malformed;
 use crate::packet::Packet;
 use std::alloc::Allocator;
 
-/// Reads what stands after the type of a reset.
-#[tactic(auto, unfolding(crate::specs::Reading::reset_at))]
-pub(crate) fn reset_of<A: Allocator>(rest: &[u8]) -> Result<Packet<A>, Wrong>
-    ensures { Finds (λ x. x) result (reset_at rest.now) }
+/// Reads the octets after the type of a reset.
+#[tactic(auto, unfolding(crate::specs::steps::Reading::reset_at))]
+pub(crate) fn reset_of<A: Allocator>(rest: &[u8]) -> Result<Packet<A>, Malformed>
+    ensures { MatchesReading (λ x. x) result (reset_at rest.now) }
 {
     match rest {
-        [] => Err(Wrong::Short),
+        [] => Err(Malformed::Short),
         [cause] => Ok(Packet::Reset {
             cause: *cause,
             diagnostic: None,
@@ -22,6 +22,6 @@ pub(crate) fn reset_of<A: Allocator>(rest: &[u8]) -> Result<Packet<A>, Wrong>
             cause: *cause,
             diagnostic: Some(*diagnostic),
         }),
-        [_, _, _, ..] => Err(Wrong::Long),
+        [_, _, _, ..] => Err(Malformed::Long),
     }
 }

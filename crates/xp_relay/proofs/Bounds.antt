@@ -1,15 +1,15 @@
--- What a received P(R) stands for, and how much a turn puts out.
+-- What a received P(R) stands for.
 use Rattle.std.proofs.Common.{◌≡◌, ℕ, suc, zero, ◌+◌, ◌-◌, ◌%◌, ◌<◌, ◌≤◌, ◌==◌, MatchOption, Option, Some, None, refl, sym, ap, ◌∙◌, inl, inr, arith}
 use Rattle.std.proofs.lemmas.Bool.{cases_Bool, cond-true, cond-false, eqb-true}
 use Rattle.xp_relay.specs.declared.terms.Modulus.{Modulus}
 use Rattle.xp_relay.specs.declared.terms.Modulus.TheVariants.{Eight, Long}
 use Rattle.xp_relay.specs.Bounds.{IsCount, IsTheCount}
-use Rattle.xp_relay.specs.Direction.{Direction, IsSound, first_count, told}
+use Rattle.xp_relay.specs.Direction.{Direction, IsSound, first_count, acknowledged_count}
 use Rattle.xp_relay.specs.Terms.{numbers}
 use Rattle.xp_relay.proofs.Residues.{found}
 use Rattle.xp_relay.proofs.Takes.{first_count-range}
 
--- two counts with one number, less than a modulus apart, are the same
+-- two counts with the same number, less than a modulus apart, are equal
 same_count : (m : Modulus) (least a b : ℕ) → least ≤ a → least ≤ b → a < least + numbers m → b < least + numbers m → a % numbers m ≡ b % numbers m → a ≡ b
 same_count Eight least a b h k p q e = omega arith
 same_count Long least a b h k p q e = omega arith
@@ -36,7 +36,7 @@ first_count-number modulus number count (suc most) c e =
     ]
 
 module _ {A : Type 0} where
-  stands_as : (d : Direction A) (number : ℕ) → IsSound d → (o : Option ℕ) → told number d ≡ o → MatchOption o ((count : ℕ) → IsCount number d count → ⊥) (λ count. IsTheCount number d count)
+  stands_as : (d : Direction A) (number : ℕ) → IsSound d → (o : Option ℕ) → acknowledged_count number d ≡ o → MatchOption o ((count : ℕ) → IsCount number d count → ⊥) (λ count. IsTheCount number d count)
   stands_as d number h None e = λ count is.
       let small : d.put - d.acknowledged < numbers d.terms.receiver = omega (arith, h.window, h.put, h.terms.receiver) in
       let sum : d.acknowledged + (count - d.acknowledged) ≡ count = omega (arith, is.least) in
@@ -51,5 +51,5 @@ module _ {A : Type 0} where
         only = λ other is. same_count d.terms.receiver d.acknowledged other c is.least range.0 (omega (arith, is.most, h.window, h.put, h.terms.receiver)) (omega (arith, range.1, h.acknowledged, h.window, h.put, h.terms.receiver)) (is.numbered ∙ sym same);
       }
 
-  pub stands_for_the_count : (d : Direction A) (number : ℕ) → IsSound d → MatchOption (told number d) ((count : ℕ) → IsCount number d count → ⊥) (λ count. IsTheCount number d count)
-  stands_for_the_count d number h = stands_as d number h (told number d) refl
+  pub stands_for_the_count : (d : Direction A) (number : ℕ) → IsSound d → MatchOption (acknowledged_count number d) ((count : ℕ) → IsCount number d count → ⊥) (λ count. IsTheCount number d count)
+  stands_for_the_count d number h = stands_as d number h (acknowledged_count number d) refl

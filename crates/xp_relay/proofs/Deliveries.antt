@@ -1,9 +1,9 @@
--- Each packet takes both directions on, and a run keeps what is seen of them.
+-- Over any run, each receiver gets what was accepted from its sender.
 use Rattle.std.proofs.Common.{◌≡◌, ℕ, ◌+◌, ◌-◌, ◌<◌, Bool, true, false, not, ◌&&◌, cond, ltb, List, [], ◌∷◌, ◌++◌, length, take, Option, Some, None, is_none, refl, sym, ap, subst, ◌∙◌, inl, inr, arith}
 use Rattle.std.proofs.lemmas.Bool.{and_parts, cases_Bool, cond_both, cond-true, cond-false, ltb-true}
-use Rattle.std.proofs.lemmas.List.{length-take}
+use Rattle.std.proofs.lemmas.List.{length-take, take_all}
 use Rattle.xp_causes.specs.declared.diagnostic.TheConstants.{INVALID_SEND_NUMBER, INVALID_RECEIVE_NUMBER, PACKET_TOO_LONG, INVALID_IN_D1, REJECT_NOT_SUBSCRIBED, UNAUTHORIZED_INTERRUPT_CONFIRMATION, UNAUTHORIZED_INTERRUPT}
-use Rattle.xp_causes.specs.Told.{diagnostic_told}
+use Rattle.xp_causes.specs.Indicated.{indicated_diagnostic}
 use Rattle.xp_packets.specs.declared.end.End.{End}
 use Rattle.xp_packets.specs.declared.end.End.TheVariants.{Caller, Called}
 use Rattle.xp_packets.specs.declared.packet.Packet.{Packet}
@@ -14,18 +14,19 @@ use Rattle.xp_relay.specs.declared.judged.Judged.{Judged}
 use Rattle.xp_relay.specs.declared.judged.Judged.TheVariants.{Accept, Discard, Reset as ResetWith}
 use Rattle.xp_relay.specs.declared.moves.Move.{Move}
 use Rattle.xp_relay.specs.declared.terms.Terms.{Terms}
-use Rattle.xp_relay.specs.declared.terms.Way.{Way}
+use Rattle.xp_relay.specs.declared.terms.DirectionTerms.{DirectionTerms}
 use Rattle.xp_relay.specs.Coupled.{Coupled, after, coupled, received_by, sent_by}
-use Rattle.xp_relay.specs.Direction.{Direction, IsSound, far, has_room, opening, told}
+use Rattle.xp_relay.specs.Direction.{Direction, IsSound, far, has_room, is_open, opening, acknowledged_count}
 use Rattle.xp_relay.specs.Judgement.{is_awaited, most_octets}
-use Rattle.xp_relay.specs.Runs.{Arrival, IsDelivered, Seen, data_to, nothing_seen, offered, resets, run, same_end, see, seen_over, turn_on, with_numbers}
-use Rattle.xp_relay.specs.Terms.{IsWithinTerms, IsWithinWay, numbers, way_from}
+use Rattle.xp_relay.specs.Runs.{Arrival, IsDelivered, Observed, data_to, nothing_observed, offered, ready_after, resets, run, same_end, observe, observed_over, turn_on, with_numbers}
+use Rattle.xp_relay.specs.Terms.{IsWithinTerms, AreDirectionTerms, numbers, terms_from}
 use Rattle.xp_relay.specs.Turns.{Turn, carries, data_as, flow, flow_as, interrupting, interrupts, is_idle, is_put_out, turn_of}
 use Rattle.xp_relay.proofs.Runs.{length-with_numbers}
+use Rattle.xp_relay.proofs.Readiness.{IsWhole, Stays, stay_turn}
 use Rattle.xp_relay.proofs.Steps.{GoesOn, TakesOn, put_of}
-use Rattle.xp_relay.proofs.Takes.{quiet_interrupts, takes_accepting, takes_acknowledging, takes_failing, takes_quiet, takes_resetting, takes_settling, takes_unchanged, told-range}
+use Rattle.xp_relay.proofs.Takes.{quiet_interrupts, takes_accepting, takes_acknowledging, takes_failing, takes_quiet, takes_resetting, takes_settling, takes_unchanged, acknowledged_range}
 
--- a judgement, by its tests
+-- the decision on a data packet, by its tests
 abbrev pub judged_by : Bool → Bool → Bool → Bool → Judged
 judged_by owing awaited unknown long =
     cond owing Discard (cond (not awaited) (ResetWith INVALID_SEND_NUMBER) (cond unknown (ResetWith INVALID_RECEIVE_NUMBER) (cond long (ResetWith PACKET_TOO_LONG) Accept)))
@@ -37,15 +38,15 @@ module _ {A : Type 0} where
   either : (s r : Direction A) (here : End) (new : List (Data A)) (b : Bool) (x y : Turn A) → (b ≡ true → TakesOn s r here new x) → (b ≡ false → TakesOn s r here new y) → TakesOn s r here new (cond b x y)
   either s r here new b x y h k = cond_both b x y (λ t. TakesOn s r here new t) h k
 
-  -- the window has room, by the test
+  -- the window has room for one more packet, by the test
   pub room_of : (ps : ℕ) (s : Direction A) → IsSound s → is_awaited ps s ≡ true → length s.accepted < s.acknowledged + s.terms.window
   room_of ps s h e =
       let parts = and_parts _ (has_room s) e in
       let below = ltb-true (length s.accepted - s.acknowledged) s.terms.window parts.1 in
       omega (arith, below, h.acknowledged, h.put)
 
-  -- a data packet of an end that owes nothing
-  takes_judged : (s r : Direction A) (here : End) (x : Data A) (ps pr : ℕ) → IsSound s → IsSound r → r.owes ≡ false → (o : Option ℕ) → told pr r ≡ o → TakesOn s r here (x ∷ []) (data_as here x (judged_by r.owes (is_awaited ps s) (is_none o) (ltb (most_octets s.terms) (length x.octets))) o s r)
+  -- a data packet of an end that owes no reset confirmation
+  takes_judged : (s r : Direction A) (here : End) (x : Data A) (ps pr : ℕ) → IsSound s → IsSound r → r.owes ≡ false → (o : Option ℕ) → acknowledged_count pr r ≡ o → TakesOn s r here (x ∷ []) (data_as here x (judged_by r.owes (is_awaited ps s) (is_none o) (ltb (most_octets s.terms) (length x.octets))) o s r)
   takes_judged s r here x ps pr hs hr free None e =
       let long = ltb (most_octets s.terms) (length x.octets) in
       on s r here (x ∷ []) (λ b. data_as here x (judged_by b (is_awaited ps s) true long) None s r) free
@@ -61,7 +62,7 @@ module _ {A : Type 0} where
             on s r here (x ∷ []) (λ b. data_as here x (judged_by false b false long) (Some c) s r) awaited
             (elim (cases_Bool long) [
               | inl over ↦ on s r here (x ∷ []) (λ b. data_as here x (judged_by false true false b) (Some c) s r) over (takes_failing s r here PACKET_TOO_LONG (x ∷ []) hs hr)
-              | inr within ↦ on s r here (x ∷ []) (λ b. data_as here x (judged_by false true false b) (Some c) s r) within (takes_accepting s r here x c hs hr (told-range r pr c hr e) (room_of ps s hs awaited))
+              | inr within ↦ on s r here (x ∷ []) (λ b. data_as here x (judged_by false true false b) (Some c) s r) within (takes_accepting s r here x c hs hr (acknowledged_range r pr c hr e) (room_of ps s hs awaited))
             ])
         | inr wrong ↦ on s r here (x ∷ []) (λ b. data_as here x (judged_by false b false long) (Some c) s r) wrong (takes_failing s r here INVALID_SEND_NUMBER (x ∷ []) hs hr)
       ])
@@ -71,25 +72,25 @@ module _ {A : Type 0} where
       elim (cases_Bool r.owes) [
         | inl owing ↦
             subst (λ new. TakesOn s r here new (carries here x ps pr s r)) (sym (ap (λ b. cond (not b) (x ∷ []) []) owing))
-            (on s r here [] (λ b. data_as here x (judged_by b (is_awaited ps s) (is_none (told pr r)) (ltb (most_octets s.terms) (length x.octets))) (told pr r) s r) owing (takes_unchanged s r here hs hr))
+            (on s r here [] (λ b. data_as here x (judged_by b (is_awaited ps s) (is_none (acknowledged_count pr r)) (ltb (most_octets s.terms) (length x.octets))) (acknowledged_count pr r) s r) owing (takes_unchanged s r here hs hr))
         | inr free ↦
             subst (λ new. TakesOn s r here new (carries here x ps pr s r)) (sym (ap (λ b. cond (not b) (x ∷ []) []) free))
-            (takes_judged s r here x ps pr hs hr free (told pr r) refl)
+            (takes_judged s r here x ps pr hs hr free (acknowledged_count pr r) refl)
       ]
 
-  takes_flow_as : (s r : Direction A) (here : End) (ready : Bool) (pr : ℕ) → IsSound s → IsSound r → (o : Option ℕ) → told pr r ≡ o → TakesOn s r here [] (flow_as here ready o s r)
+  takes_flow_as : (s r : Direction A) (here : End) (ready : Bool) (pr : ℕ) → IsSound s → IsSound r → (o : Option ℕ) → acknowledged_count pr r ≡ o → TakesOn s r here [] (flow_as here ready o s r)
   takes_flow_as s r here ready pr hs hr None e = takes_failing s r here INVALID_RECEIVE_NUMBER [] hs hr
-  takes_flow_as s r here ready pr hs hr (Some c) e = takes_acknowledging s r here ready c hs hr (told-range r pr c hr e)
+  takes_flow_as s r here ready pr hs hr (Some c) e = takes_acknowledging s r here ready c hs hr (acknowledged_range r pr c hr e)
 
   takes_flow : (s r : Direction A) (here : End) (ready : Bool) (pr : ℕ) → IsSound s → IsSound r → TakesOn s r here [] (flow here ready pr s r)
   takes_flow s r here ready pr hs hr =
-      either s r here [] r.owes _ _ (λ _. takes_unchanged s r here hs hr) (λ _. takes_flow_as s r here ready pr hs hr (told pr r) refl)
+      either s r here [] r.owes _ _ (λ _. takes_unchanged s r here hs hr) (λ _. takes_flow_as s r here ready pr hs hr (acknowledged_count pr r) refl)
 
   takes_interrupting : (s r : Direction A) (here : End) (octets : List ℕ) → IsSound s → IsSound r → TakesOn s r here [] (interrupting here octets s r)
   takes_interrupting s r here octets hs hr =
       takes_quiet s r here (cond s.owes (Held octets) PutOut) r.interrupt (interrupts (far here) (cond s.owes None (Some octets))) hs hr (quiet_interrupts (far here) (cond s.owes None (Some octets)))
 
-  -- each packet takes both directions on; of data, what its sender may send is accepted
+  -- what each packet does to both directions: data is accepted where its sender may send it
   takes_turn : (s r : Direction A) (here : End) (packet : Packet A) → IsSound s → IsSound r → TakesOn s r here (offered (not r.owes) packet) (turn_of here packet s r)
   takes_turn s r here (DataPacket q d more ps pr octets) hs hr =
       takes_carries s r here (record { q = q; d = d; more = more; octets = octets }) ps pr hs hr
@@ -106,7 +107,7 @@ module _ {A : Type 0} where
       (λ _. takes_quiet s r here s.interrupt Idle _ hs hr (record { unreset = refl; none = λ e. refl }))
       (λ _. takes_failing s r here UNAUTHORIZED_INTERRUPT_CONFIRMATION [] hs hr))
   takes_turn s r here (Reset cause diagnostic) hs hr =
-      either s r here [] r.owes _ _ (λ _. takes_settling s r here hs hr) (λ _. takes_resetting s r here cause (diagnostic_told diagnostic) hs hr)
+      either s r here [] r.owes _ _ (λ _. takes_settling s r here hs hr) (λ _. takes_resetting s r here cause (indicated_diagnostic diagnostic) hs hr)
   takes_turn s r here ResetConfirm hs hr =
       either s r here [] r.owes _ _ (λ _. takes_settling s r here hs hr) (λ _. takes_failing s r here INVALID_IN_D1 [] hs hr)
   takes_turn s r here _ hs hr = takes_unchanged s r here hs hr
@@ -115,16 +116,22 @@ module _ {A : Type 0} where
   offered_none (DataPacket q d more ps pr octets) = refl
   offered_none _ = refl
 
-  -- both directions are sound
+  -- in both directions the counts are in order
   pub record AreSound (call : Coupled A) : Type 0 where
     pub from_caller : IsSound call.from_caller
     pub from_called : IsSound call.from_called
 
-  -- what is seen of a direction
-  record Holds (way : Way) (d : Direction A) (seen : Seen A) : Type 0 where
+  -- both directions are whole: a receiver that takes data was sent all of it
+  record AreWhole (call : Coupled A) : Type 0 where
+    pub from_caller : IsWhole call.from_caller
+    pub from_called : IsWhole call.from_called
+
+  -- a direction is as its two ends see it
+  record Holds (way : DirectionTerms) (d : Direction A) (seen : Observed A) : Type 0 where
     pub terms : d.terms ≡ way
     pub accepted : d.accepted ≡ seen.accepted
     pub put : put_of d ≡ seen.put
+    pub ready : d.ready ≡ seen.ready
 
   goes_on : (sender here : End) (packet : Packet A) (call : Coupled A) → AreSound call → GoesOn (sent_by sender call) (sent_by sender (after here (turn_on call (record { here = here; packet = packet })))) (far sender) (offered (same_end sender here && not (received_by sender call).owes) packet) (turn_on call (record { here = here; packet = packet })).moves
   goes_on Caller Caller packet call h = (takes_turn call.from_caller call.from_called Caller packet h.from_caller h.from_called).sent
@@ -142,64 +149,101 @@ module _ {A : Type 0} where
     from_called = (goes_on Called here packet call h).sound;
   }
 
-  holds_on : (way : Way) (d next : Direction A) (receiver : End) (new : List (Data A)) (made : List (Move A)) (seen : Seen A) → Holds way d seen → GoesOn d next receiver new made → Holds way next (cond (resets made) nothing_seen (record { accepted = seen.accepted ++ new; put = seen.put ++ data_to receiver made }))
-  holds_on way d next receiver new made seen h g =
-      cond_both (resets made) nothing_seen (record { accepted = seen.accepted ++ new; put = seen.put ++ data_to receiver made }) (λ x. Holds way next x)
+  ready_still : (packet : Packet A) (ready : Bool) → ready_after false packet ready ≡ ready
+  ready_still (Ready pr) ready = refl
+  ready_still (NotReady pr) ready = refl
+  ready_still _ ready = refl
+
+  stays_on : (sender here : End) (packet : Packet A) (call : Coupled A) → AreWhole call → Stays (sent_by sender (after here (turn_on call (record { here = here; packet = packet })))) (ready_after (same_end (far sender) here && not (sent_by sender call).owes) packet (sent_by sender call).ready) (turn_on call (record { here = here; packet = packet })).moves
+  stays_on Caller Called packet call h = (stay_turn call.from_called call.from_caller Called packet h.from_called h.from_caller).received
+  stays_on Called Caller packet call h = (stay_turn call.from_caller call.from_called Caller packet h.from_caller h.from_called).received
+  stays_on Caller Caller packet call h =
+      let turn = turn_of Caller packet call.from_caller call.from_called in
+      subst (λ ready. Stays turn.sent ready turn.moves) (sym (ready_still packet call.from_caller.ready))
+      (stay_turn call.from_caller call.from_called Caller packet h.from_caller h.from_called).sent
+  stays_on Called Called packet call h =
+      let turn = turn_of Called packet call.from_called call.from_caller in
+      subst (λ ready. Stays turn.sent ready turn.moves) (sym (ready_still packet call.from_called.ready))
+      (stay_turn call.from_called call.from_caller Called packet h.from_called h.from_caller).sent
+
+  whole_after : (here : End) (packet : Packet A) (call : Coupled A) → AreWhole call → AreWhole (after here (turn_on call (record { here = here; packet = packet })))
+  whole_after here packet call h = record {
+    from_caller = (stays_on Caller here packet call h).whole;
+    from_called = (stays_on Called here packet call h).whole;
+  }
+
+  holds_on : (way : DirectionTerms) (d next : Direction A) (receiver : End) (new : List (Data A)) (made : List (Move A)) (tells : Bool) (packet : Packet A) (seen : Observed A) → Holds way d seen → GoesOn d next receiver new made → Stays next (ready_after tells packet d.ready) made → Holds way next (cond (resets made) nothing_observed (record { accepted = seen.accepted ++ new; put = seen.put ++ data_to receiver made; ready = ready_after tells packet seen.ready }))
+  holds_on way d next receiver new made tells packet seen h g still =
+      cond_both (resets made) nothing_observed (record { accepted = seen.accepted ++ new; put = seen.put ++ data_to receiver made; ready = ready_after tells packet seen.ready }) (λ x. Holds way next x)
       (λ reset. record {
         terms = g.terms ∙ h.terms;
         accepted = g.accepted ∙ cond-true (resets made) [] (d.accepted ++ new) reset;
         put = g.put ∙ cond-true (resets made) [] (put_of d ++ data_to receiver made) reset;
+        ready = still.ready ∙ cond-true (resets made) true (ready_after tells packet d.ready) reset;
       })
       (λ kept. record {
         terms = g.terms ∙ h.terms;
         accepted = g.accepted ∙ cond-false (resets made) [] (d.accepted ++ new) kept ∙ ap (λ xs. xs ++ new) h.accepted;
         put = g.put ∙ cond-false (resets made) [] (put_of d ++ data_to receiver made) kept ∙ ap (λ xs. xs ++ data_to receiver made) h.put;
+        ready = still.ready ∙ cond-false (resets made) true (ready_after tells packet d.ready) kept ∙ ap (λ ready. ready_after tells packet ready) h.ready;
       })
 
-  delivered : (terms : Terms) (sender : End) (call : Coupled A) (seen : Seen A) → IsSound (sent_by sender call) → Holds (way_from sender terms) (sent_by sender call) seen → IsDelivered terms sender call seen
-  delivered terms sender call seen sound h =
+  delivered : (terms : Terms) (sender : End) (call : Coupled A) (seen : Observed A) → IsSound (sent_by sender call) → IsWhole (sent_by sender call) → Holds (terms_from sender terms) (sent_by sender call) seen → IsDelivered terms sender call seen
+  delivered terms sender call seen sound whole h =
       let d = sent_by sender call in
       let m = numbers d.terms.receiver in
       let count : d.put ≡ length seen.put = omega (arith, length-with_numbers m 0 (take d.put d.accepted), length-take d.put d.accepted, ap length h.put, sound.put) in
+      let front : seen.put ≡ with_numbers (numbers (terms_from sender terms).receiver) 0 (take (length seen.put) seen.accepted) =
+      sym h.put
+      ∙ ap (λ way. with_numbers (numbers way.receiver) 0 (take d.put d.accepted)) h.terms
+      ∙ ap (λ n. with_numbers (numbers (terms_from sender terms).receiver) 0 (take n d.accepted)) count
+      ∙ ap (λ xs. with_numbers (numbers (terms_from sender terms).receiver) 0 (take (length seen.put) xs)) h.accepted in
       record {
         agreed = h.terms;
         kept = h.accepted;
         counted = count;
-        front =
-            sym h.put
-            ∙ ap (λ way. with_numbers (numbers way.receiver) 0 (take d.put d.accepted)) h.terms
-            ∙ ap (λ n. with_numbers (numbers (way_from sender terms).receiver) 0 (take n d.accepted)) count
-            ∙ ap (λ xs. with_numbers (numbers (way_from sender terms).receiver) 0 (take (length seen.put) xs)) h.accepted;
+        readiness = h.ready;
+        front = front;
+        whole = λ ready settled.
+            let opened : is_open d ≡ true = ap (λ b. b && not d.owes) (h.ready ∙ ready) ∙ ap (λ b. true && not b) settled in
+            let all : length seen.put ≡ length seen.accepted = sym count ∙ whole.all opened ∙ ap length h.accepted in
+            front ∙ ap (λ xs. with_numbers (numbers (terms_from sender terms).receiver) 0 xs) (take_all (length seen.put) seen.accepted (omega (arith, all)));
         acknowledged = omega (arith, sound.acknowledged, count);
         window = omega (arith, sound.window, ap length h.accepted, ap (λ way. way.window) h.terms);
       }
 
-  over : (terms : Terms) (sender : End) (call : Coupled A) (seen : Seen A) (arrivals : List (Arrival A)) → AreSound call → Holds (way_from sender terms) (sent_by sender call) seen → IsDelivered terms sender (run call arrivals) (seen_over sender call seen arrivals)
-  over terms Caller call seen [] sound h = delivered terms Caller call seen sound.from_caller h
-  over terms Called call seen [] sound h = delivered terms Called call seen sound.from_called h
-  over terms sender call seen (arrival ∷ rest) sound h =
+  over : (terms : Terms) (sender : End) (call : Coupled A) (seen : Observed A) (arrivals : List (Arrival A)) → AreSound call → AreWhole call → Holds (terms_from sender terms) (sent_by sender call) seen → IsDelivered terms sender (run call arrivals) (observed_over sender call seen arrivals)
+  over terms Caller call seen [] sound whole h = delivered terms Caller call seen sound.from_caller whole.from_caller h
+  over terms Called call seen [] sound whole h = delivered terms Called call seen sound.from_called whole.from_called h
+  over terms sender call seen (arrival ∷ rest) sound whole h =
       let next = after arrival.here (turn_on call arrival) in
-      over terms sender next (see sender call seen arrival) rest (sound_after arrival.here arrival.packet call sound)
-      (holds_on (way_from sender terms) (sent_by sender call) (sent_by sender next) (far sender) _ (turn_on call arrival).moves seen h (goes_on sender arrival.here arrival.packet call sound))
+      over terms sender next (observe sender call seen arrival) rest
+      (sound_after arrival.here arrival.packet call sound)
+      (whole_after arrival.here arrival.packet call whole)
+      (holds_on (terms_from sender terms) (sent_by sender call) (sent_by sender next) (far sender) _ (turn_on call arrival).moves
+      (same_end (far sender) arrival.here && not (sent_by sender call).owes) arrival.packet seen h
+      (goes_on sender arrival.here arrival.packet call sound)
+      (stays_on sender arrival.here arrival.packet call whole))
 
-  sound_opening : (way : Way) → IsWithinWay way → IsSound (opening {A = A} way)
+  sound_opening : (way : DirectionTerms) → AreDirectionTerms way → IsSound (opening {A = A} way)
   sound_opening way h = record { terms = h; acknowledged = omega arith; put = omega arith; window = omega arith }
 
-  opened : (terms : Terms) (sender : End) → Holds (way_from sender terms) (sent_by sender (coupled {A = A} terms)) nothing_seen
-  opened terms Caller = record { terms = refl; accepted = refl; put = refl }
-  opened terms Called = record { terms = refl; accepted = refl; put = refl }
+  opened : (terms : Terms) (sender : End) → Holds (terms_from sender terms) (sent_by sender (coupled {A = A} terms)) nothing_observed
+  opened terms Caller = record { terms = refl; accepted = refl; put = refl; ready = refl }
+  opened terms Called = record { terms = refl; accepted = refl; put = refl; ready = refl }
 
-  -- a run keeps both directions sound
+  -- after any run the counts are in order
   sound_over : (call : Coupled A) (arrivals : List (Arrival A)) → AreSound call → AreSound (run call arrivals)
   sound_over call [] h = h
   sound_over call (arrival ∷ rest) h = sound_over (after arrival.here (turn_on call arrival)) rest (sound_after arrival.here arrival.packet call h)
 
   pub sound_run : (terms : Terms) → IsWithinTerms terms → (arrivals : List (Arrival A)) → AreSound (run (coupled terms) arrivals)
   sound_run terms within arrivals =
-      sound_over (coupled terms) arrivals (record { from_caller = sound_opening (way_from Caller terms) within.from_caller; from_called = sound_opening (way_from Called terms) within.from_called })
+      sound_over (coupled terms) arrivals (record { from_caller = sound_opening (terms_from Caller terms) within.from_caller; from_called = sound_opening (terms_from Called terms) within.from_called })
 
-  pub everything_is_delivered : (terms : Terms) → IsWithinTerms terms → (arrivals : List (Arrival A)) (sender : End) → IsDelivered {A = A} terms sender (run (coupled terms) arrivals) (seen_over sender (coupled terms) nothing_seen arrivals)
+  pub everything_is_delivered : (terms : Terms) → IsWithinTerms terms → (arrivals : List (Arrival A)) (sender : End) → IsDelivered {A = A} terms sender (run (coupled terms) arrivals) (observed_over sender (coupled terms) nothing_observed arrivals)
   everything_is_delivered terms within arrivals sender =
-      over terms sender (coupled terms) nothing_seen arrivals
-      (record { from_caller = sound_opening (way_from Caller terms) within.from_caller; from_called = sound_opening (way_from Called terms) within.from_called })
+      over terms sender (coupled terms) nothing_observed arrivals
+      (record { from_caller = sound_opening (terms_from Caller terms) within.from_caller; from_called = sound_opening (terms_from Called terms) within.from_called })
+      (record { from_caller = record { all = λ _. refl }; from_called = record { all = λ _. refl } })
       (opened terms sender)

@@ -1,18 +1,18 @@
--- Each packet that a call puts out can be encoded.
+-- Each packet that a call sends to an end can be encoded.
 use Rattle.std.proofs.Common.{◌≡◌, ℕ, suc, ◌%◌, ◌≤◌, Bool, true, false, not, ◌&&◌, ◌||◌, ◌==◌, cond, eqb, ltb, List, [], ◌∷◌, ◌++◌, All, length, drop, Option, Some, None, refl, sym, ap, subst, arith}
 use Rattle.std.proofs.lemmas.Bool.{cond_both, eqb-false, le-ltb, ltb-false, ne_eqb, or_from}
 use Rattle.std.proofs.lemmas.List.Elements.{All-append, All-cons, All-drop, All-head, All-nil, All-push, All-tail}
 use Rattle.xp_causes.specs.declared.diagnostic.TheConstants.{INVALID_RECEIVE_NUMBER, INVALID_IN_D1, REJECT_NOT_SUBSCRIBED, UNAUTHORIZED_INTERRUPT_CONFIRMATION, UNAUTHORIZED_INTERRUPT}
 use Rattle.xp_causes.specs.declared.resetting_cause.TheConstants.{REMOTE_PROCEDURE_ERROR}
-use Rattle.xp_causes.specs.Told.{cause_told, diagnostic_told}
+use Rattle.xp_causes.specs.Indicated.{indicated_cause, indicated_diagnostic}
 use Rattle.xp_packets.specs.declared.end.End.{End}
 use Rattle.xp_packets.specs.declared.end.End.TheVariants.{Caller, Called}
-use Rattle.xp_packets.specs.declared.fault.Wrong.{Wrong}
-use Rattle.xp_packets.specs.declared.fault.Wrong.TheVariants.{Short, Format, Facilities, Long}
+use Rattle.xp_packets.specs.declared.fault.Malformed.{Malformed}
+use Rattle.xp_packets.specs.declared.fault.Malformed.TheVariants.{Short, Format, Facilities, Long}
 use Rattle.xp_packets.specs.declared.packet.Packet.{Packet}
 use Rattle.xp_packets.specs.declared.packet.Packet.TheVariants.{DataPacket, Ready, NotReady, Reject, Interrupt, InterruptConfirm, Reset, ResetConfirm}
 use Rattle.xp_packets.specs.Examination.{first_of}
-use Rattle.xp_packets.specs.Fitness.{CanBeEncoded}
+use Rattle.xp_packets.specs.Encodability.{CanBeEncoded}
 use Rattle.xp_relay.specs.declared.data.Data.{Data}
 use Rattle.xp_relay.specs.declared.data.Interruption.{Interruption}
 use Rattle.xp_relay.specs.declared.data.Interruption.TheVariants.{Idle, Held, PutOut}
@@ -21,16 +21,16 @@ use Rattle.xp_relay.specs.declared.judged.Judged.TheVariants.{Accept, Discard, R
 use Rattle.xp_relay.specs.declared.moves.Move.{Move}
 use Rattle.xp_relay.specs.declared.terms.Terms.{Terms}
 use Rattle.xp_relay.specs.Coupled.{Coupled, after, coupled}
-use Rattle.xp_relay.specs.Direction.{Direction, emptied, far, is_open, numbered, put_all, received_number, release, released, told}
+use Rattle.xp_relay.specs.Direction.{Direction, emptied, far, is_open, numbered, put_all, received_number, release, released, acknowledged_count}
 use Rattle.xp_relay.specs.Encodable.{CameEncoded, HasShortNumbers}
 use Rattle.xp_relay.specs.Judgement.{judgement}
 use Rattle.xp_relay.specs.Runs.{Arrival, run, turn_on}
 use Rattle.xp_relay.specs.Terms.{numbers}
-use Rattle.xp_relay.specs.Turns.{Turn, accepting, acknowledged_to, acknowledging, data_as, failing, flow, flow_as, flow_packet, held_interrupt, indicating, interrupts, interrupting, is_idle, is_news, is_put_out, put_out, resetting, settled, settling, telling, telling_not_ready, turn_of, unchanged, with_data}
+use Rattle.xp_relay.specs.Turns.{Turn, accepting, acknowledged_to, acknowledging, data_as, failing, flow, flow_as, flow_packet, held_interrupt, indicating, interrupts, interrupting, is_idle, is_news, is_put_out, put_out, resetting, settled, settling, flow_notice, not_ready_notice, turn_of, unchanged, with_data}
 
--- ---- four conditions, none of which holds
+-- ---- a packet can be encoded if none of four faults applies
 
-abbrev four : Bool → Bool → Bool → Bool → List (Bool × Wrong)
+abbrev four : Bool → Bool → Bool → Bool → List (Bool × Malformed)
 four short format facilities long = (short, Short) ∷ (format, Format) ∷ (facilities, Facilities) ∷ (long, Long) ∷ []
 
 none_holds : (short format facilities long : Bool) → short ≡ false → format ≡ false → facilities ≡ false → long ≡ false → first_of (four short format facilities long) ≡ None
@@ -49,11 +49,11 @@ not_long false false false false e = refl
 
 -- ---- packets
 
--- numbers modulo 8 are under 8
+-- a number modulo 8 is below 8
 under_eight : (count modulus : ℕ) → modulus ≡ 8 → ltb 7 (count % modulus) ≡ false
 under_eight count modulus e = subst (λ m. ltb 7 (count % m) ≡ false) (sym e) (le-ltb 7 (count % 8) (omega arith))
 
--- how many octets an interrupt that waits has
+-- an interrupt that waits has 1 to 32 octets
 abbrev InterruptFits : Option (List ℕ) → Type 0
 InterruptFits None = Unit {0}
 InterruptFits (Some octets) = (1 ≤ length octets) × (length octets ≤ 32)
@@ -102,7 +102,7 @@ module _ {A : Type 0} where
 
   -- ---- directions
 
-  -- what waits in a direction can go out, and both its lines number modulo 8
+  -- all that waits in a direction can be encoded, and both its lines number modulo 8
   record Fits (d : Direction A) : Type 0 where
     sender : numbers d.terms.sender ≡ 8
     receiver : numbers d.terms.receiver ≡ 8
@@ -131,7 +131,7 @@ module _ {A : Type 0} where
 
   -- ---- turns
 
-  -- a turn leaves what can go out, and puts out what can be encoded
+  -- after a turn all that waits can be encoded, and each of its moves can
   record TurnFits (identifier : ℕ) (turn : Turn A) : Type 0 where
     sent : Fits turn.sent
     received : Fits turn.received
@@ -140,13 +140,13 @@ module _ {A : Type 0} where
   fits_either : (identifier : ℕ) (b : Bool) (x y : Turn A) → TurnFits identifier x → TurnFits identifier y → TurnFits identifier (cond b x y)
   fits_either identifier b x y h k = cond_both b x y (λ turn. TurnFits identifier turn) (λ _. h) (λ _. k)
 
-  fine_telling : (identifier : ℕ) → ltb 4095 identifier ≡ false → (here : End) (changed : Bool) (s r : Direction A) → Fits r → All (Fine identifier) (telling here changed s r)
+  fine_telling : (identifier : ℕ) → ltb 4095 identifier ≡ false → (here : End) (changed : Bool) (s r : Direction A) → Fits r → All (Fine identifier) (flow_notice here changed s r)
   fine_telling identifier small here changed s r h =
       cond_both (changed && not s.owes) _ _ (λ made. All (Fine identifier) made)
       (λ _. one identifier _ (fine_flow A identifier small r.ready (received_number r) (under_eight r.acknowledged (numbers r.terms.sender) h.sender)))
       (λ _. All-nil (Fine identifier))
 
-  fine_not_ready : (identifier : ℕ) → ltb 4095 identifier ≡ false → (here : End) (s : Direction A) → Fits s → All (Fine identifier) (telling_not_ready here s)
+  fine_not_ready : (identifier : ℕ) → ltb 4095 identifier ≡ false → (here : End) (s : Direction A) → Fits s → All (Fine identifier) (not_ready_notice here s)
   fine_not_ready identifier small here s h =
       cond_both s.ready _ _ (λ made. All (Fine identifier) made)
       (λ _. All-nil (Fine identifier))
@@ -172,7 +172,7 @@ module _ {A : Type 0} where
   fits_resetting identifier small s r here cause diagnostic hs hr = record {
     sent = fits_emptied true s hs;
     received = fits_emptied false r hr;
-    moves = All-cons (Fine identifier) _ _ (none_holds _ _ _ _ refl small refl refl) (fine_indicating identifier small here (cause_told cause) diagnostic s);
+    moves = All-cons (Fine identifier) _ _ (none_holds _ _ _ _ refl small refl refl) (fine_indicating identifier small here (indicated_cause cause) diagnostic s);
   }
 
   fits_acknowledging : (identifier : ℕ) → ltb 4095 identifier ≡ false → (s r : Direction A) (here : End) (ready : Bool) (count : ℕ) → Fits s → Fits r → TurnFits identifier (acknowledging here ready count s r)
@@ -183,7 +183,7 @@ module _ {A : Type 0} where
         sent = hs;
         received = fits_release less fit;
         moves =
-            All-append (Fine identifier) (released here (received_number s) less) (telling here (is_news ready count r) s less)
+            All-append (Fine identifier) (released here (received_number s) less) (flow_notice here (is_news ready count r) s less)
             (fine_released identifier small here (received_number s) less (under_eight s.acknowledged (numbers s.terms.sender) hs.sender) fit)
             (fine_telling identifier small here (is_news ready count r) s less fit);
       }
@@ -199,7 +199,7 @@ module _ {A : Type 0} where
         sent = fits_release more fit_more;
         received = fit_less;
         moves =
-            All-append (Fine identifier) (released (far here) (received_number less) more) (telling here changed s less)
+            All-append (Fine identifier) (released (far here) (received_number less) more) (flow_notice here changed s less)
             (fine_released identifier small (far here) (received_number less) more (under_eight count (numbers r.terms.sender) hr.sender) fit_more)
             (fine_telling identifier small here changed s less fit_less);
       }
@@ -207,7 +207,7 @@ module _ {A : Type 0} where
   fits_settling : (identifier : ℕ) → ltb 4095 identifier ≡ false → (s r : Direction A) (here : End) → Fits s → Fits r → TurnFits identifier (settling here s r)
   fits_settling identifier small s r here hs hr =
       let fit : Fits (settled r) = record { sender = hr.sender; receiver = hr.receiver; accepted = hr.accepted; interrupt = none_waits r.interrupt } in
-      let first = telling_not_ready here s in
+      let first = not_ready_notice here s in
       let second : List (Move A) = interrupts here (held_interrupt r.interrupt) in
       record {
         sent = hs;
@@ -230,7 +230,7 @@ module _ {A : Type 0} where
 
   fits_flow : (identifier : ℕ) → ltb 4095 identifier ≡ false → (s r : Direction A) (here : End) (ready : Bool) (pr : ℕ) → Fits s → Fits r → TurnFits identifier (flow here ready pr s r)
   fits_flow identifier small s r here ready pr hs hr =
-      fits_either identifier r.owes _ _ (fits_unchanged identifier s r hs hr) (fits_flow_as identifier small s r here ready (told pr r) hs hr)
+      fits_either identifier r.owes _ _ (fits_unchanged identifier s r hs hr) (fits_flow_as identifier small s r here ready (acknowledged_count pr r) hs hr)
 
   fits_interrupting : (identifier : ℕ) → ltb 4095 identifier ≡ false → (s r : Direction A) (here : End) (octets : List ℕ) → InterruptFits (Some octets) → Fits s → Fits r → TurnFits identifier (interrupting here octets s r)
   fits_interrupting identifier small s r here octets h hs hr = record {
@@ -247,7 +247,7 @@ module _ {A : Type 0} where
   fits_turn : (identifier : ℕ) → ltb 4095 identifier ≡ false → (s r : Direction A) (here : End) (packet : Packet A) → (came : ℕ) → CanBeEncoded came packet → Fits s → Fits r → TurnFits identifier (turn_of here packet s r)
   fits_turn identifier small s r here (DataPacket q d more ps pr octets) came fit hs hr =
       let x : Data A = record { q = q; d = d; more = more; octets = octets } in
-      fits_data_as identifier small s r here x (judgement ps pr (length octets) s r) (told pr r) (record { most = data_came A came ps pr q d more octets fit }) hs hr
+      fits_data_as identifier small s r here x (judgement ps pr (length octets) s r) (acknowledged_count pr r) (record { most = data_came A came ps pr q d more octets fit }) hs hr
   fits_turn identifier small s r here (Ready pr) came fit hs hr = fits_flow identifier small s r here true pr hs hr
   fits_turn identifier small s r here (NotReady pr) came fit hs hr = fits_flow identifier small s r here false pr hs hr
   fits_turn identifier small s r here (Reject pr) came fit hs hr =
@@ -267,7 +267,7 @@ module _ {A : Type 0} where
       })
       (fits_failing identifier small s r here UNAUTHORIZED_INTERRUPT_CONFIRMATION hs hr))
   fits_turn identifier small s r here (Reset cause diagnostic) came fit hs hr =
-      fits_either identifier r.owes _ _ (fits_settling identifier small s r here hs hr) (fits_resetting identifier small s r here cause (diagnostic_told diagnostic) hs hr)
+      fits_either identifier r.owes _ _ (fits_settling identifier small s r here hs hr) (fits_resetting identifier small s r here cause (indicated_diagnostic diagnostic) hs hr)
   fits_turn identifier small s r here ResetConfirm came fit hs hr =
       fits_either identifier r.owes _ _ (fits_settling identifier small s r here hs hr) (fits_failing identifier small s r here INVALID_IN_D1 hs hr)
   fits_turn identifier small s r here _ came fit hs hr = fits_unchanged identifier s r hs hr

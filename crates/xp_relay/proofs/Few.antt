@@ -1,9 +1,9 @@
--- How much a turn puts out.
+-- How many moves a turn has.
 use Rattle.std.proofs.Common.{◌≡◌, ℕ, suc, ◌+◌, ◌-◌, ◌<◌, ◌≤◌, max, Bool, true, false, not, ◌&&◌, ◌==◌, cond, ltb, List, [], ◌∷◌, ◌++◌, length, drop, Option, Some, None, is_none, refl, sym, ap, subst, inl, inr, arith}
 use Rattle.std.proofs.lemmas.Bool.{cases_Bool, cond_both}
 use Rattle.std.proofs.lemmas.List.{length-append, length-drop}
 use Rattle.xp_causes.specs.declared.diagnostic.TheConstants.{INVALID_SEND_NUMBER, INVALID_RECEIVE_NUMBER, PACKET_TOO_LONG, INVALID_IN_D1, REJECT_NOT_SUBSCRIBED, UNAUTHORIZED_INTERRUPT_CONFIRMATION, UNAUTHORIZED_INTERRUPT}
-use Rattle.xp_causes.specs.Told.{cause_told, diagnostic_told}
+use Rattle.xp_causes.specs.Indicated.{indicated_cause, indicated_diagnostic}
 use Rattle.xp_causes.specs.declared.resetting_cause.TheConstants.{REMOTE_PROCEDURE_ERROR}
 use Rattle.xp_packets.specs.declared.end.End.{End}
 use Rattle.xp_packets.specs.declared.end.End.TheVariants.{Caller, Called}
@@ -13,11 +13,11 @@ use Rattle.xp_relay.specs.declared.data.Data.{Data}
 use Rattle.xp_relay.specs.declared.moves.Move.{Move}
 use Rattle.xp_relay.specs.declared.terms.Terms.{Terms}
 use Rattle.xp_relay.specs.Coupled.{coupled}
-use Rattle.xp_relay.specs.Direction.{Direction, IsSound, far, is_open, numbered, received_number, released, told}
+use Rattle.xp_relay.specs.Direction.{Direction, IsSound, far, is_open, numbered, received_number, released, acknowledged_count}
 use Rattle.xp_relay.specs.Judgement.{is_awaited, most_octets}
 use Rattle.xp_relay.specs.Runs.{Arrival, run, turn_on}
 use Rattle.xp_relay.specs.Terms.{IsWithinTerms, numbers}
-use Rattle.xp_relay.specs.Turns.{Turn, accepting, acknowledged_to, acknowledging, data_as, failing, flow, flow_as, held_interrupt, indicating, interrupts, interrupting, is_idle, is_news, is_put_out, resetting, settled, settling, telling, telling_not_ready, turn_of, unchanged, with_data}
+use Rattle.xp_relay.specs.Turns.{Turn, accepting, acknowledged_to, acknowledging, data_as, failing, flow, flow_as, held_interrupt, indicating, interrupts, interrupting, is_idle, is_news, is_put_out, resetting, settled, settling, flow_notice, not_ready_notice, turn_of, unchanged, with_data}
 use Rattle.xp_relay.proofs.Deliveries.{everything_is_delivered, judged_by, room_of, sound_run}
 
 length-interrupts : (A : Type 0) (side : End) (octets : Option (List ℕ)) → length (interrupts {A = A} side octets) ≤ 1
@@ -35,16 +35,16 @@ module _ {A : Type 0} where
       (λ _. omega (arith, length-numbered side (numbers d.terms.receiver) pr d.put (drop d.put d.accepted), length-drop d.put d.accepted))
       (λ _. omega arith)
 
-  length-telling : (here : End) (changed : Bool) (s r : Direction A) → length (telling here changed s r) ≤ 1
-  length-telling here changed s r = cond_both (changed && not s.owes) _ _ (λ made. length made ≤ 1) (λ _. omega arith) (λ _. omega arith)
+  length-flow_notice : (here : End) (changed : Bool) (s r : Direction A) → length (flow_notice here changed s r) ≤ 1
+  length-flow_notice here changed s r = cond_both (changed && not s.owes) _ _ (λ made. length made ≤ 1) (λ _. omega arith) (λ _. omega arith)
 
-  length-not_ready : (here : End) (s : Direction A) → length (telling_not_ready here s) ≤ 1
+  length-not_ready : (here : End) (s : Direction A) → length (not_ready_notice here s) ≤ 1
   length-not_ready here s = cond_both s.ready _ _ (λ made. length made ≤ 1) (λ _. omega arith) (λ _. omega arith)
 
   length-indicating : (here : End) (cause diagnostic : ℕ) (s : Direction A) → length (indicating here cause diagnostic s) ≤ 1
   length-indicating here cause diagnostic s = cond_both s.owes _ _ (λ made. length made ≤ 1) (λ _. omega arith) (λ _. omega arith)
 
-  -- a turn puts out no more than a window and two
+  -- a turn has no more moves than a window and two
   record IsFew (s r : Direction A) (turn : Turn A) : Type 0 where
     pub few : length turn.moves ≤ max s.terms.window r.terms.window + 2
 
@@ -61,14 +61,14 @@ module _ {A : Type 0} where
   few_failing s r here diagnostic = record { few = omega (arith, length-indicating here REMOTE_PROCEDURE_ERROR diagnostic s) }
 
   few_resetting : (s r : Direction A) (here : End) (cause diagnostic : ℕ) → IsFew s r (resetting here cause diagnostic s r)
-  few_resetting s r here cause diagnostic = record { few = omega (arith, length-indicating here (cause_told cause) diagnostic s) }
+  few_resetting s r here cause diagnostic = record { few = omega (arith, length-indicating here (indicated_cause cause) diagnostic s) }
 
   few_acknowledging : (s r : Direction A) (here : End) (ready : Bool) (count : ℕ) → IsSound r → IsFew s r (acknowledging here ready count s r)
   few_acknowledging s r here ready count hr =
       let less = acknowledged_to ready count r in
       let out = released here (received_number s) less in
-      let tells = telling here (is_news ready count r) s less in
-      record { few = omega (arith, length-append out tells, length-released here (received_number s) less, length-telling here (is_news ready count r) s less, hr.acknowledged, hr.put, hr.window) }
+      let tells = flow_notice here (is_news ready count r) s less in
+      record { few = omega (arith, length-append out tells, length-released here (received_number s) less, length-flow_notice here (is_news ready count r) s less, hr.acknowledged, hr.put, hr.window) }
 
   few_accepting : (s r : Direction A) (here : End) (packet : Data A) (count : ℕ) → IsSound s → length s.accepted < s.acknowledged + s.terms.window → IsFew s r (accepting here packet count s r)
   few_accepting s r here packet count hs room =
@@ -76,12 +76,12 @@ module _ {A : Type 0} where
       let less = acknowledged_to r.ready count r in
       let changed = not (count == r.acknowledged) && not (is_open s) in
       let out = released (far here) (received_number less) more in
-      let tells = telling here changed s less in
-      record { few = omega (arith, length-append out tells, length-released (far here) (received_number less) more, length-append s.accepted (packet ∷ []), length-telling here changed s less, hs.acknowledged, hs.put) }
+      let tells = flow_notice here changed s less in
+      record { few = omega (arith, length-append out tells, length-released (far here) (received_number less) more, length-append s.accepted (packet ∷ []), length-flow_notice here changed s less, hs.acknowledged, hs.put) }
 
   few_settling : (s r : Direction A) (here : End) → IsSound r → IsFew s r (settling here s r)
   few_settling s r here hr =
-      let first = telling_not_ready here s in
+      let first = not_ready_notice here s in
       let second : List (Move A) = interrupts here (held_interrupt r.interrupt) in
       let out = released here (received_number s) (settled r) in
       record { few = omega (arith, length-append (first ++ second) out, length-append first second, length-not_ready here s, length-interrupts A here (held_interrupt r.interrupt), length-released here (received_number s) (settled r), hr.acknowledged, hr.put, hr.window) }
@@ -109,14 +109,14 @@ module _ {A : Type 0} where
   few_flow_as s r here ready (Some c) hr = few_acknowledging s r here ready c hr
 
   few_flow : (s r : Direction A) (here : End) (ready : Bool) (pr : ℕ) → IsSound r → IsFew s r (flow here ready pr s r)
-  few_flow s r here ready pr hr = few_either s r r.owes _ _ (λ _. few_unchanged s r) (λ _. few_flow_as s r here ready (told pr r) hr)
+  few_flow s r here ready pr hr = few_either s r r.owes _ _ (λ _. few_unchanged s r) (λ _. few_flow_as s r here ready (acknowledged_count pr r) hr)
 
   few_interrupting : (s r : Direction A) (here : End) (octets : List ℕ) → IsFew s r (interrupting here octets s r)
   few_interrupting s r here octets = record { few = omega (arith, length-interrupts A (far here) (cond s.owes None (Some octets))) }
 
   few_turn : (s r : Direction A) (here : End) (packet : Packet A) → IsSound s → IsSound r → IsFew s r (turn_of here packet s r)
   few_turn s r here (DataPacket q d more ps pr octets) hs hr =
-      few_judged s r here (record { q = q; d = d; more = more; octets = octets }) ps pr hs r.owes (ltb (most_octets s.terms) (length octets)) (told pr r)
+      few_judged s r here (record { q = q; d = d; more = more; octets = octets }) ps pr hs r.owes (ltb (most_octets s.terms) (length octets)) (acknowledged_count pr r)
   few_turn s r here (Ready pr) hs hr = few_flow s r here true pr hr
   few_turn s r here (NotReady pr) hs hr = few_flow s r here false pr hr
   few_turn s r here (Reject pr) hs hr = few_either s r r.owes _ _ (λ _. few_unchanged s r) (λ _. few_failing s r here REJECT_NOT_SUBSCRIBED)
@@ -128,7 +128,7 @@ module _ {A : Type 0} where
       few_either s r r.owes _ _ (λ _. few_unchanged s r) (λ _.
       few_either s r (is_put_out r.interrupt) _ _ (λ _. record { few = omega arith }) (λ _. few_failing s r here UNAUTHORIZED_INTERRUPT_CONFIRMATION))
   few_turn s r here (Reset cause diagnostic) hs hr =
-      few_either s r r.owes _ _ (λ _. few_settling s r here hr) (λ _. few_resetting s r here cause (diagnostic_told diagnostic))
+      few_either s r r.owes _ _ (λ _. few_settling s r here hr) (λ _. few_resetting s r here cause (indicated_diagnostic diagnostic))
   few_turn s r here ResetConfirm hs hr =
       few_either s r r.owes _ _ (λ _. few_settling s r here hr) (λ _. few_failing s r here INVALID_IN_D1)
   few_turn s r here _ hs hr = few_unchanged s r

@@ -5,6 +5,7 @@ pub mod Calls
 pub mod Runs
 pub mod Steps
 pub mod Takes
+pub mod Readiness
 pub mod Deliveries
 pub mod Bounds
 pub mod Few

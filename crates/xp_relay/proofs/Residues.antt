@@ -1,4 +1,4 @@
--- Numbers of packets: counts modulo the numbers of a line.
+-- Packet numbers: counts modulo the numbers of a line.
 use Rattle.std.proofs.Common.{◌≡◌, ℕ, suc, zero, ◌+◌, ◌-◌, ◌%◌, ◌<◌, ◌≤◌, List, [], ◌∷◌, ◌++◌, append_assoc, Some, None, refl, sym, ap, ◌∙◌, inl, inr, arith}
 use Rattle.std.proofs.lemmas.Bool.{cases_eq, cond-true, cond-false, eq-eqb, ne_eqb}
 use Rattle.xp_packets.specs.declared.end.End.{End}
@@ -10,17 +10,17 @@ use Rattle.xp_relay.specs.declared.terms.Modulus.TheVariants.{Eight, Long}
 use Rattle.xp_relay.specs.Direction.{first_count, numbered, to}
 use Rattle.xp_relay.specs.Terms.{numbers}
 
--- the numbers after two equal numbers are equal
+-- after two equal numbers come two equal numbers
 pub next_same : (m : Modulus) (a b : ℕ) → a % numbers m ≡ b % numbers m → suc a % numbers m ≡ suc b % numbers m
 next_same Eight a b e = omega arith
 next_same Long a b e = omega arith
 
--- what a number is ahead of a count's number brings the count to that number
+-- a count reaches a number after as many packets as the number is ahead of it
 pub ahead_of : (m : Modulus) (a number : ℕ) → number < numbers m → (a + (number + numbers m - a % numbers m) % numbers m) % numbers m ≡ number
 ahead_of Eight a number h = omega arith
 ahead_of Long a number h = omega arith
 
--- and nothing else below the modulus does
+-- and after no other number of packets below the modulus
 pub ahead_only : (m : Modulus) (a number j : ℕ) → j < numbers m → (a + j) % numbers m ≡ number → (number + numbers m - a % numbers m) % numbers m ≡ j
 ahead_only Eight a number j h e = omega arith
 ahead_only Long a number j h e = omega arith
@@ -29,7 +29,7 @@ pub is_number : (m : Modulus) (a : ℕ) → a % numbers m < numbers m
 is_number Eight a = omega arith
 is_number Long a = omega arith
 
--- the number of the next packet for the receiver, from that of the oldest unacknowledged one
+-- the number of the next packet to the receiver, from that of the oldest unacknowledged one
 pub put_number : (m : Modulus) (a b : ℕ) → a ≤ b → ((a % numbers m + (b - a)) % numbers m) % numbers m ≡ b % numbers m
 put_number Eight a b h = omega arith
 put_number Long a b h = omega arith
@@ -67,14 +67,14 @@ absent modulus number a (suc most) never =
     let more : a + (j + 1) ≡ suc a + j = omega arith in
     never (j + 1) (omega arith) (ap (λ n. n % modulus) more ∙ e))
 
--- only the number of the first count shows in the numbers of data
+-- the numbers of data depend only on the number of the first count
 pub numbered_same : {A : Type 0} (side : End) (m : Modulus) (pr a b : ℕ) (waiting : List (Data A)) → a % numbers m ≡ b % numbers m → numbered side (numbers m) pr a waiting ≡ numbered side (numbers m) pr b waiting
 numbered_same side m pr a b [] e = refl
 numbered_same {A} side m pr a b (x ∷ rest) e =
     ap (λ (n : ℕ). to {A = A} side (DataPacket x.q x.d x.more n pr x.octets) ∷ numbered side (numbers m) pr (suc a) rest) e
     ∙ ap (λ others. to side (DataPacket x.q x.d x.more (b % numbers m) pr x.octets) ∷ others) (numbered_same side m pr (suc a) (suc b) rest (next_same m a b e))
 
--- the number kept of a count, and what it is ahead of it
+-- the count that a number stands for, from how far it is ahead
 pub told_found : (m : Modulus) (number a most : ℕ) → most < numbers m → number < numbers m → (number + numbers m - a % numbers m) % numbers m ≤ most → first_count (numbers m) number a most ≡ Some (a + (number + numbers m - a % numbers m) % numbers m)
 told_found m number a most small h within = found m number a most _ within small (ahead_of m a number h)
 
@@ -87,7 +87,7 @@ pub told_over : (m : Modulus) (number a most : ℕ) → numbers m ≤ number →
 told_over m number a most over =
     absent (numbers m) number a most (λ j within e. let below = is_number m (a + j) in omega arith)
 
--- a number of the line is its own residue
+-- a number below the modulus is its own residue
 pub number_kept : (m : Modulus) (n : ℕ) → n < numbers m → n % numbers m ≡ n
 number_kept Eight n h = omega arith
 number_kept Long n h = omega arith
@@ -96,7 +96,7 @@ pub next_kept : (m : Modulus) (n : ℕ) → ((n + 1) % numbers m) % numbers m �
 next_kept Eight n = omega arith
 next_kept Long n = omega arith
 
--- one more packet of data is put out
+-- one more data packet leaves the queue
 pub moved : {A : Type 0} (made : List (Move A)) (side : End) (m : Modulus) (pr next : ℕ) (x : Data A) (rest : List (Data A)) → next < numbers m → (made ++ to side (DataPacket x.q x.d x.more next pr x.octets) ∷ []) ++ numbered side (numbers m) pr ((next + 1) % numbers m) rest ≡ made ++ numbered side (numbers m) pr next (x ∷ rest)
 moved {A} made side m pr next x rest small =
     append_assoc made (to side (DataPacket x.q x.d x.more next pr x.octets) ∷ []) (numbered side (numbers m) pr ((next + 1) % numbers m) rest)

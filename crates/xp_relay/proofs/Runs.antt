@@ -1,4 +1,4 @@
--- What a turn puts out, and what a direction then has.
+-- The data in the moves of a turn.
 use Rattle.std.proofs.Common.{◌≡◌, ℕ, suc, ◌+◌, ◌%◌, Bool, true, false, not, ◌&&◌, List, [], ◌∷◌, ◌++◌, append_assoc, length, drop, refl, sym, ap, ◌∙◌, arith}
 use Rattle.std.proofs.lemmas.Bool.{cond_both, or_parts, or_from}
 use Rattle.xp_packets.specs.declared.end.End.{End}
@@ -8,7 +8,7 @@ use Rattle.xp_relay.specs.declared.moves.Move.{Move}
 use Rattle.xp_relay.specs.Direction.{Direction, far, is_open, numbered, released, to}
 use Rattle.xp_relay.specs.Runs.{data_in, data_to, is_of_reset, resets, same_end, with_numbers}
 use Rattle.xp_relay.specs.Terms.{numbers}
-use Rattle.xp_relay.specs.Turns.{flow_packet, telling, telling_not_ready}
+use Rattle.xp_relay.specs.Turns.{flow_packet, flow_notice, not_ready_notice}
 
 pub same_self : (e : End) → same_end e e ≡ true
 same_self Caller = refl
@@ -59,7 +59,7 @@ module _ {A : Type 0} where
   length-with_numbers m count [] = refl
   length-with_numbers m count (x ∷ xs) = ap suc (length-with_numbers m (suc count) xs)
 
-  -- moves that carry no data and tell of no reset
+  -- moves that carry no data and no reset
   pub record IsQuiet (made : List (Move A)) : Type 0 where
     pub unreset : resets made ≡ false
     pub none : (e : End) → data_to e made ≡ []
@@ -71,11 +71,11 @@ module _ {A : Type 0} where
   quiet_flow side true pr = record { unreset = refl; none = λ e. refl }
   quiet_flow side false pr = record { unreset = refl; none = λ e. refl }
 
-  pub quiet_telling : (here : End) (changed : Bool) (s r : Direction A) → IsQuiet (telling here changed s r)
+  pub quiet_telling : (here : End) (changed : Bool) (s r : Direction A) → IsQuiet (flow_notice here changed s r)
   quiet_telling here changed s r =
       cond_both (changed && not s.owes) _ _ (λ made. IsQuiet made) (λ _. quiet_flow (far here) r.ready _) (λ _. quiet_none)
 
-  pub quiet_not_ready : (here : End) (s : Direction A) → IsQuiet (telling_not_ready here s)
+  pub quiet_not_ready : (here : End) (s : Direction A) → IsQuiet (not_ready_notice here s)
   quiet_not_ready here s =
       cond_both s.ready _ _ (λ made. IsQuiet made) (λ _. quiet_none) (λ _. record { unreset = refl; none = λ e. refl })
 

@@ -1,4 +1,4 @@
--- What each turn does to a direction, and what it puts out to its receiver.
+-- What each turn does to one direction, and the data that its receiver gets.
 use Rattle.std.proofs.Common.{◌≡◌, ℕ, ◌+◌, Bool, true, false, cond, List, [], ◌++◌, length, take, drop, refl, sym, ap, ◌∙◌, inl, inr, arith}
 use Rattle.std.proofs.lemmas.Bool.{cases_Bool, cond_both, cond-true, cond-false}
 use Rattle.std.proofs.lemmas.List.{append-nil, length-take, take_all, take-append-drop}
@@ -12,18 +12,19 @@ use Rattle.xp_relay.specs.Turns.{Turn}
 use Rattle.xp_relay.proofs.Runs.{data_to-numbered, with_numbers-append}
 
 module _ {A : Type 0} where
-  -- what was put out of a direction, with its numbers
+  -- the data that the receiver was sent, with its numbers
   abbrev pub put_of : Direction A → List (ℕ × Data A)
   put_of d = with_numbers (numbers d.terms.receiver) 0 (take d.put d.accepted)
 
-  -- a direction goes on: new packets are accepted from its sender, and moves put out what its receiver gets
+  -- A direction before and after moves. The packets `new` are accepted from its sender, and its receiver gets the data
+  -- in the moves; a reset empties both.
   pub record GoesOn (d next : Direction A) (receiver : End) (new : List (Data A)) (made : List (Move A)) : Type 0 where
     pub terms : next.terms ≡ d.terms
     pub sound : IsSound next
     pub accepted : next.accepted ≡ cond (resets made) [] (d.accepted ++ new)
     pub put : put_of next ≡ cond (resets made) [] (put_of d ++ data_to receiver made)
 
-  -- a turn takes both directions on
+  -- both directions before and after a turn
   pub record TakesOn (s r : Direction A) (here : End) (new : List (Data A)) (turn : Turn A) : Type 0 where
     pub sent : GoesOn s turn.sent (far here) new turn.moves
     pub received : GoesOn r turn.received here [] turn.moves
@@ -39,7 +40,7 @@ module _ {A : Type 0} where
     put = sym (cond-true (resets made) [] (put_of d ++ data_to receiver made) e);
   }
 
-  -- nothing is accepted and nothing put out
+  -- nothing is accepted, and the receiver gets nothing
   pub goes_still : (d next : Direction A) (receiver : End) (made : List (Move A)) → next.terms ≡ d.terms → IsSound next → next.accepted ≡ d.accepted → next.put ≡ d.put → resets made ≡ false → data_to receiver made ≡ [] → GoesOn d next receiver [] made
   goes_still d next receiver made terms sound accepted put unreset none = record {
     terms = terms;
@@ -65,7 +66,7 @@ module _ {A : Type 0} where
   release-accepted : (d : Direction A) → (release d).accepted ≡ d.accepted
   release-accepted d = cond_both (is_open d) (put_all d) d (λ x. x.accepted ≡ d.accepted) (λ _. refl) (λ _. refl)
 
-  -- what is released follows what was put out
+  -- the data that is released follows the data that was sent
   put_all-front : (d : Direction A) (receiver : End) (pr : ℕ) → IsSound d → put_of (put_all d) ≡ put_of d ++ data_to receiver (numbered receiver (numbers d.terms.receiver) pr d.put (drop d.put d.accepted))
   put_all-front d receiver pr h =
       let m = numbers d.terms.receiver in
@@ -89,7 +90,7 @@ module _ {A : Type 0} where
             ∙ ap (λ made. put_of d ++ data_to receiver made) (sym (cond-false (is_open d) (numbered receiver (numbers d.terms.receiver) pr d.put (drop d.put d.accepted)) [] closed))
       ]
 
-  -- packets are accepted, and what waits is released: `more` has them and is else as it was
+  -- packets are accepted, and what waits is released; `more` is the direction with them, before the release
   pub goes_release : (d more : Direction A) (receiver : End) (pr : ℕ) (new : List (Data A)) (made : List (Move A)) → more.terms ≡ d.terms → IsSound more → more.accepted ≡ d.accepted ++ new → put_of more ≡ put_of d → resets made ≡ false → data_to receiver made ≡ data_to receiver (released receiver pr more) → GoesOn d (release more) receiver new made
   goes_release d more receiver pr new made terms sound accepted put unreset out = record {
     terms = release-terms more ∙ terms;

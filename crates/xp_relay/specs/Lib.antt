@@ -1,9 +1,10 @@
-pub mod Terms
-pub mod Direction
-pub mod Judgement
-pub mod Turns
-pub mod Kept
-pub mod Coupled
-pub mod Runs
 pub mod Bounds
+pub mod Coupled
+pub mod Direction
 pub mod Encodable
+pub mod Judgement
+pub mod Runs
+pub mod StoredDirection
+pub mod Terms
+pub mod Turns
+pub mod steps

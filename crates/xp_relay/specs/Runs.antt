@@ -1,15 +1,15 @@
--- Whole runs of a call: what its ends sent, and what they were put out.
+-- Whole runs of a call: what its ends send, and what they receive.
 use Rattle.std.specs.Prelude.{◌≡◌, ℕ, suc, ◌+◌, ◌%◌, ◌≤◌, Bool, true, false, not, ◌&&◌, ◌||◌, if◌then◌else◌, List, [], ◌∷◌, ◌++◌, length, take}
 use Rattle.xp_packets.specs.declared.end.End.{End}
 use Rattle.xp_packets.specs.declared.end.End.TheVariants.{Caller, Called}
 use Rattle.xp_packets.specs.declared.packet.Packet.{Packet}
-use Rattle.xp_packets.specs.declared.packet.Packet.TheVariants.{DataPacket, Reset, ResetConfirm}
+use Rattle.xp_packets.specs.declared.packet.Packet.TheVariants.{DataPacket, Ready, NotReady, Reset, ResetConfirm}
 use Rattle.xp_relay.specs.declared.data.Data.{Data}
 use Rattle.xp_relay.specs.declared.moves.Move.{Move}
 use Rattle.xp_relay.specs.declared.terms.Terms.{Terms}
 use Rattle.xp_relay.specs.Coupled.{Coupled, after, coupled, received_by, sent_by, turn_at}
 use Rattle.xp_relay.specs.Direction.{far}
-use Rattle.xp_relay.specs.Terms.{IsWithinTerms, numbers, way_from}
+use Rattle.xp_relay.specs.Terms.{IsWithinTerms, numbers, terms_from}
 use Rattle.xp_relay.specs.Turns.{Turn, turn_of}
 
 -- a packet that comes from an end
@@ -17,6 +17,7 @@ pub record Arrival (A : Type 0) : Type 0 where
   pub here : End
   pub packet : Packet A
 
+-- the two ends are one
 abbrev pub same_end : End → End → Bool
 same_end Caller Caller = true
 same_end Caller Called = false
@@ -28,38 +29,47 @@ abbrev pub with_numbers : {A : Type 0} → ℕ → ℕ → List (Data A) → Lis
 with_numbers modulus count [] = []
 with_numbers modulus count (x ∷ rest) = (count % modulus, x) ∷ with_numbers modulus (suc count) rest
 
--- the data of a packet, with P(S), where it is for this end
+-- the data of a packet with its P(S), where the packet is for this end
 abbrev pub data_in : {A : Type 0} → Bool → Packet A → List (ℕ × Data A)
 data_in mine (DataPacket q d more ps pr octets) =
     if mine then (ps, record { q = q; d = d; more = more; octets = octets }) ∷ [] else []
 data_in mine _ = []
 
--- the data of a packet that its sender may send: it owes no reset confirmation
+-- the data of a packet, where its sender may send it
 abbrev pub offered : {A : Type 0} → Bool → Packet A → List (Data A)
 offered may (DataPacket q d more ps pr octets) = if may then record { q = q; d = d; more = more; octets = octets } ∷ [] else []
 offered may _ = []
 
+-- Whether an end is ready for data, after a packet. RR and RNR say so, where that end sent the packet and may send it.
+abbrev pub ready_after : {A : Type 0} → Bool → Packet A → Bool → Bool
+ready_after may (Ready pr) ready = if may then true else ready
+ready_after may (NotReady pr) ready = if may then false else ready
+ready_after may _ ready = ready
+
+-- a reset indication, a reset request or a reset confirmation
 abbrev pub is_of_reset : {A : Type 0} → Packet A → Bool
 is_of_reset (Reset cause diagnostic) = true
 is_of_reset ResetConfirm = true
 is_of_reset _ = false
 
--- the call was reset: an end was told so, or was confirmed that it asked for it
+-- the call was reset: an end receives a reset indication or a reset confirmation
 abbrev pub resets : {A : Type 0} → List (Move A) → Bool
 resets [] = false
 resets (m ∷ rest) = is_of_reset m.packet || resets rest
 
--- the data put out to an end, in order
+-- the data that moves bring to an end, in order
 abbrev pub data_to : {A : Type 0} → End → List (Move A) → List (ℕ × Data A)
 data_to side [] = []
 data_to side (m ∷ rest) = data_in (same_end side m.side) m.packet ++ data_to side rest
 
--- what is seen of one direction since the call was last reset
-pub record Seen (A : Type 0) : Type 0 where
-  -- what its sender sent and what did not reset the call
+-- what the two ends see of one direction since the call was last reset
+pub record Observed (A : Type 0) : Type 0 where
+  -- the data that its sender sent, without packets that were dropped
   pub accepted : List (Data A)
-  -- what was put out to its receiver, with the numbers
+  -- the data that its receiver received, with the numbers
   pub put : List (ℕ × Data A)
+  -- its receiver is ready for data: the last RR or RNR of the receiver said so, or there was none
+  pub ready : Bool
 
 module _ {A : Type 0} where
   -- what a packet leads to
@@ -71,38 +81,43 @@ module _ {A : Type 0} where
   run call [] = call
   run call (arrival ∷ rest) = run (after arrival.here (turn_on call arrival)) rest
 
-  abbrev pub nothing_seen : Seen A
-  nothing_seen = record { accepted = []; put = [] }
+  abbrev pub nothing_observed : Observed A
+  nothing_observed = record { accepted = []; put = []; ready = true }
 
-  -- one more packet is seen
-  abbrev pub see : End → Coupled A → Seen A → Arrival A → Seen A
-  see sender call seen arrival =
+  -- What is seen after one more packet. An end that owes a reset confirmation may send neither data nor RR nor RNR.
+  abbrev pub observe : End → Coupled A → Observed A → Arrival A → Observed A
+  observe sender call seen arrival =
       let moves = (turn_on call arrival).moves in
       let may = same_end sender arrival.here && not (received_by sender call).owes in
-      if resets moves then nothing_seen
+      let tells = same_end (far sender) arrival.here && not (sent_by sender call).owes in
+      if resets moves then nothing_observed
       else record {
         accepted = seen.accepted ++ offered may arrival.packet;
         put = seen.put ++ data_to (far sender) moves;
+        ready = ready_after tells arrival.packet seen.ready;
       }
 
-  -- what is seen of what an end sends, over a run
-  abbrev pub seen_over : End → Coupled A → Seen A → List (Arrival A) → Seen A
-  seen_over sender call seen [] = seen
-  seen_over sender call seen (arrival ∷ rest) =
-      seen_over sender (after arrival.here (turn_on call arrival)) (see sender call seen arrival) rest
+  -- what is seen of the direction that an end sends, over a run
+  abbrev pub observed_over : End → Coupled A → Observed A → List (Arrival A) → Observed A
+  observed_over sender call seen [] = seen
+  observed_over sender call seen (arrival ∷ rest) =
+      observed_over sender (after arrival.here (turn_on call arrival)) (observe sender call seen arrival) rest
 
-  -- What was put out to the receiver since the last reset is a front of what was accepted from the sender: each packet
-  -- once, in order, unchanged, numbered from 0. No more than a window is unacknowledged.
-  pub record IsDelivered (terms : Terms) (sender : End) (call : Coupled A) (seen : Seen A) : Type 0 where
-    pub agreed : (sent_by sender call).terms ≡ way_from sender terms
+  -- The receiver received a front of what was accepted from the sender since the last reset: each packet once, in
+  -- order, unchanged, numbered from 0. If the receiver is ready, by its own RR and RNR, and owes no reset confirmation,
+  -- it received all of it. No more than a window is unacknowledged.
+  pub record IsDelivered (terms : Terms) (sender : End) (call : Coupled A) (seen : Observed A) : Type 0 where
+    pub agreed : (sent_by sender call).terms ≡ terms_from sender terms
     pub kept : (sent_by sender call).accepted ≡ seen.accepted
     pub counted : (sent_by sender call).put ≡ length seen.put
-    pub front : seen.put ≡ with_numbers (numbers (way_from sender terms).receiver) 0 (take (length seen.put) seen.accepted)
+    pub readiness : (sent_by sender call).ready ≡ seen.ready
+    pub front : seen.put ≡ with_numbers (numbers (terms_from sender terms).receiver) 0 (take (length seen.put) seen.accepted)
+    pub whole : seen.ready ≡ true → (sent_by sender call).owes ≡ false → seen.put ≡ with_numbers (numbers (terms_from sender terms).receiver) 0 seen.accepted
     pub acknowledged : (sent_by sender call).acknowledged ≤ length seen.put
-    pub window : length seen.accepted ≤ (sent_by sender call).acknowledged + (way_from sender terms).window
+    pub window : length seen.accepted ≤ (sent_by sender call).acknowledged + (terms_from sender terms).window
 
 -- so it is after any packets, in any order, from both ends
 abbrev pub EverythingIsDelivered : (A : Type 0) → Type 0
 EverythingIsDelivered A =
     (terms : Terms) → IsWithinTerms terms → (arrivals : List (Arrival A)) (sender : End) →
-    IsDelivered {A = A} terms sender (run (coupled terms) arrivals) (seen_over sender (coupled terms) nothing_seen arrivals)
+    IsDelivered {A = A} terms sender (run (coupled terms) arrivals) (observed_over sender (coupled terms) nothing_observed arrivals)

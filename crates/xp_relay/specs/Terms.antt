@@ -1,20 +1,20 @@
--- What was agreed for a call, and which values it can have.
+-- What was agreed for a call, and which values are allowed.
 use Rattle.std.specs.Prelude.{ℕ, ◌<◌, ◌≤◌}
 use Rattle.xp_packets.specs.declared.end.End.{End}
 use Rattle.xp_packets.specs.declared.end.End.TheVariants.{Caller, Called}
 use Rattle.xp_relay.specs.declared.terms.Modulus.{Modulus}
 use Rattle.xp_relay.specs.declared.terms.Modulus.TheVariants.{Eight, Long}
 use Rattle.xp_relay.specs.declared.terms.Terms.{Terms}
-use Rattle.xp_relay.specs.declared.terms.Way.{Way}
+use Rattle.xp_relay.specs.declared.terms.DirectionTerms.{DirectionTerms}
 
--- how many numbers a line's packets have, from 0 (X.25 clause 4.4.1.1)
+-- how many packet numbers a line has; the first is 0 (X.25 clause 4.4.1.1)
 abbrev pub numbers : Modulus → ℕ
 numbers Eight = 8
 numbers Long = 128
 
--- Packet sizes of 16 to 1,024 octets (X.25 clause 7.2.2.1). Windows of at least 1, under the numbers of both lines and
--- at most 15 (clause 7.2.2.2): so 1 to 7 but where both lines have long numbers.
-pub record IsWithinWay (way : Way) : Type 0 where
+-- Packet sizes are 16 to 1,024 octets (X.25 clause 7.2.2.1). Windows are at least 1, at most 15, and below the modulus
+-- of both lines (clause 7.2.2.2). So they are 1 to 7, unless both lines number modulo 128.
+pub record AreDirectionTerms (way : DirectionTerms) : Type 0 where
   pub least_size : 4 ≤ way.size
   pub most_size : way.size ≤ 10
   pub least_window : 1 ≤ way.window
@@ -22,13 +22,14 @@ pub record IsWithinWay (way : Way) : Type 0 where
   pub sender : way.window < numbers way.sender
   pub receiver : way.window < numbers way.receiver
 
--- the terms of what one end sends
-abbrev pub way_from : End → Terms → Way
-way_from Caller terms =
+-- the terms of the direction that one end sends
+abbrev pub terms_from : End → Terms → DirectionTerms
+terms_from Caller terms =
     record { size = terms.from_caller.size; window = terms.from_caller.window; sender = terms.caller; receiver = terms.called }
-way_from Called terms =
+terms_from Called terms =
     record { size = terms.from_called.size; window = terms.from_called.window; sender = terms.called; receiver = terms.caller }
 
+-- the terms of both directions are allowed
 pub record IsWithinTerms (terms : Terms) : Type 0 where
-  pub from_caller : IsWithinWay (way_from Caller terms)
-  pub from_called : IsWithinWay (way_from Called terms)
+  pub from_caller : AreDirectionTerms (terms_from Caller terms)
+  pub from_called : AreDirectionTerms (terms_from Called terms)

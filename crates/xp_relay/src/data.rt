@@ -3,7 +3,7 @@ ghost use Rattle.std.specs.Prelude.{◌≡◌, IfOk};
 use std::alloc::{AllocError, Allocator, Global};
 use xp_packets::Octets;
 
-/// A data packet without its numbers, which are each line's own (X.25 clause 5.3.1).
+/// A data packet without P(S) and P(R), since each line has its own numbers (X.25 clause 5.3.1).
 #[derive(Clone, Debug, Drop, PartialEq)]
 pub struct Data<A: Allocator = Global> {
     /// The Q bit.
@@ -16,19 +16,19 @@ pub struct Data<A: Allocator = Global> {
     pub octets: Octets<A>,
 }
 
-/// How far an interrupt of one end got (X.25 clause 4.3.7).
+/// The state of the interrupt that one end sends (X.25 clause 4.3.7).
 #[derive(Clone, Debug, Drop, PartialEq)]
 pub enum Interruption<A: Allocator = Global> {
-    /// There is none.
+    /// There is no interrupt.
     Idle,
-    /// It waits until the receiver has confirmed a reset.
+    /// It waits until the receiver confirms a reset.
     Held(Octets<A>),
-    /// It was put out, and is not confirmed.
+    /// The receiver was sent it, and has not confirmed it.
     PutOut,
 }
 
 impl<A: Allocator + Copy> Data<A> {
-    /// An equal copy, by the same allocator.
+    /// Returns an equal copy, with the same allocator.
     pub fn copy(&self) -> Result<Data<A>, AllocError>
         ensures { IfOk result (λ copied. copied ≡ self.now) }
     {
@@ -37,7 +37,7 @@ impl<A: Allocator + Copy> Data<A> {
 }
 
 impl<A: Allocator + Copy> Interruption<A> {
-    /// An equal copy, by the same allocator.
+    /// Returns an equal copy, with the same allocator.
     pub fn copy(&self) -> Result<Interruption<A>, AllocError>
         ensures { IfOk result (λ copied. copied ≡ self.now) }
     {

@@ -1,4 +1,4 @@
-/// What becomes of a data packet.
+/// The decision on a data packet.
 #[derive(Clone, Copy, Debug, PartialEq, Eq)]
 pub enum Judged {
     /// It is accepted.

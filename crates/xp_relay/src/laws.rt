@@ -1,4 +1,4 @@
-//! Laws of the definitions, each the contract of a function with nothing to do.
+//! Laws of the definitions. Each is the contract of a function that does nothing.
 
 ghost use Rattle.xp_relay.specs.Bounds.{PutsOutFew, StandsForTheCount};
 ghost use Rattle.xp_relay.specs.Encodable.{PutsOutEncodable};
@@ -6,25 +6,28 @@ ghost use Rattle.xp_relay.specs.Runs.{EverythingIsDelivered};
 
 use std::alloc::Allocator;
 
-/// In each direction what is put out between two resets is a front of what was accepted: each packet once, in order,
-/// unchanged, numbered from 0; and no more than a window is unacknowledged.
+/// In each direction the receiver gets what was accepted from the sender since the last reset: each packet once, in
+/// order, unchanged, numbered from 0. If the receiver is ready and owes no reset confirmation, it has got every packet;
+/// else the last packets may wait. The receiver is ready if its last RR or RNR since the reset said so, or if it sent
+/// none. No more than a window is unacknowledged.
 pub fn everything_is_delivered<A: Allocator>()
     ensures { EverythingIsDelivered A }
 {}
 
-/// A received P(R) is valid where it is the number of the one count from what was acknowledged to what was put out.
+/// A received P(R) is valid if it is the number of exactly one count: no less than what was acknowledged before, and no
+/// more than what was sent.
 pub fn received_number_stands_for_the_count<A: Allocator>()
     ensures { StandsForTheCount A }
 {}
 
-/// One packet makes no more than a window and two be put out, to both ends together: at most 9 where windows are to 7,
-/// and 17 where they are to 15.
+/// One packet leads to no more packets than a window and two, to both ends together: at most 9 where windows go to 7,
+/// and at most 17 where they go to 15.
 pub fn a_turn_puts_out_few<A: Allocator>()
     ensures { PutsOutFew A }
 {}
 
-/// Where packets that can be encoded come in, and both lines number modulo 8, each packet that is put out can be
-/// encoded under each identifier of at most 4,095.
+/// Where both lines number modulo 8 and each packet that comes in can be encoded, each packet that goes to an end can
+/// be encoded too, under each logical channel identifier of at most 4,095.
 pub fn every_packet_put_out_can_be_encoded<A: Allocator>()
     ensures { PutsOutEncodable A }
 {}

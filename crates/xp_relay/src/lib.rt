@@ -2,8 +2,8 @@
 #![tactic(auto)]
 
 mod data;
+mod direction_state;
 mod judged;
-mod lane;
 mod laws;
 mod moves;
 mod relay;
@@ -20,4 +20,4 @@ pub use laws::{
 pub use moves::{Move, Moves};
 pub use relay::Relay;
 pub use state::FlowState;
-pub use terms::{Agreed, Modulus, Terms, Way};
+pub use terms::{Agreed, DirectionTerms, Modulus, Terms};

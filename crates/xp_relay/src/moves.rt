@@ -7,12 +7,12 @@ use xp_packets::{End, Packet};
 /// A packet for one end of the call.
 #[derive(Clone, Debug, Drop, PartialEq)]
 pub struct Move<A: Allocator = Global> {
-    /// The end that it is put out to.
+    /// The end that receives it.
     pub side: End,
     pub packet: Packet<A>,
 }
 
-/// Moves in the making, with room for more: to put one more takes no memory.
+/// A list of moves, with room for more. To add a move allocates nothing.
 #[derive(Debug, Drop)]
 pub struct Moves<A: Allocator = Global> {
     moves: Vec<Move<A>, A>,
@@ -31,10 +31,10 @@ impl<A: Allocator> Model for Moves<A> {
 }
 
 impl<A: Allocator> Moves<A> {
-    /// How many moves one turn makes at most, and so how many of them go to one end.
+    /// The most moves that one packet leads to, to both ends together.
     pub const MOST: usize = 17;
 
-    /// No moves, and room for so many.
+    /// Returns an empty list, with room for this many moves.
     pub fn with_room(alloc: A, room: usize) -> Result<Moves<A>, AllocError>
         ensures { IfOk result (λ made. made ≡ record { moves = []; room = room }) }
     {
@@ -42,7 +42,7 @@ impl<A: Allocator> Moves<A> {
         Ok(Moves { moves, room })
     }
 
-    /// No moves, and room for so many, in the memory of these.
+    /// Returns an empty list, with room for this many moves. It uses the memory of this list again.
     pub fn emptied(self, room: usize) -> Result<Moves<A>, AllocError>
         ensures { IfOk result (λ made. made ≡ record { moves = []; room = room }) }
     {
@@ -52,14 +52,14 @@ impl<A: Allocator> Moves<A> {
         Ok(Moves { moves, room })
     }
 
-    /// The moves so far, in order.
+    /// Returns the moves so far, in order.
     pub fn as_slice(&self) -> &[Move<A>]
         ensures { result.now ≡ self.now.moves }
     {
         self.moves.as_slice()
     }
 
-    /// The moves so far, in order.
+    /// Returns the moves so far, in order.
     pub fn into_vec(self) -> Vec<Move<A>, A>
         ensures { result.items ≡ self.moves }
     {
@@ -67,7 +67,7 @@ impl<A: Allocator> Moves<A> {
         moves
     }
 
-    /// The first move, which is taken out, unless there is none. The memory of all stays.
+    /// Removes the first move and returns it, if there is one. The list keeps its memory.
     pub fn take_first(&mut self) -> Option<Move<A>>
         ensures some { IfSome result (λ first. self.old.moves ≡ first ∷ self.new.moves) }
         ensures none { IfNone result (self.old.moves ≡ []) }
@@ -78,7 +78,7 @@ impl<A: Allocator> Moves<A> {
         Some(self.moves.remove(0))
     }
 
-    /// The moves with one more.
+    /// Adds one move.
     pub(crate) fn with(mut self, next: Move<A>) -> Moves<A>
         requires { 0 < self.room }
         ensures { result ≡ record { moves = self.moves ++ next ∷ []; room = self.room - 1 } }
@@ -88,7 +88,7 @@ impl<A: Allocator> Moves<A> {
         self
     }
 
-    /// The moves with one more, where there is one.
+    /// Adds one move, if there is one.
     pub(crate) fn with_some(self, next: Option<Move<A>>) -> Moves<A>
         requires { 0 < self.room }
         ensures moves { result.moves ≡ self.moves ++ option_to_list next }

@@ -1,17 +1,17 @@
 ghost use Rattle.std.specs.Prelude.{◌≡◌, ◌≤◌, [], IfOk, OnOk, length};
-ghost use Rattle.xp_relay.specs.Coupled.{Coupled, Follows, ShowsCall, coupled, received_by, sent_by, state_at};
+ghost use Rattle.xp_relay.specs.Coupled.{Coupled, Follows, RepresentsCall, coupled, received_by, sent_by, state_at};
 ghost use Rattle.xp_relay.specs.Judgement.{judgement};
 ghost use Rattle.xp_relay.specs.Terms.{IsWithinTerms};
 ghost use Rattle.xp_relay.specs.Turns.{carries, flow, interrupt, interrupt_confirm, reject, reset, reset_confirm};
 
 use crate::data::Data;
+use crate::direction_state::DirectionState;
 use crate::judged::Judged;
-use crate::lane::Lane;
 use crate::moves::Moves;
 use crate::state::FlowState;
 use crate::terms::Terms;
-use crate::turns::carrying::{carry, judge};
-use crate::turns::flowing::flow;
+use crate::turns::data_packets::{carry, judge};
+use crate::turns::flow_control::flow;
 use crate::turns::interrupting::{interrupt, interrupt_confirm};
 use crate::turns::resetting::{reject, reset, reset_confirm};
 use std::alloc::{AllocError, Allocator, Global};
@@ -20,35 +20,35 @@ use xp_packets::{End, Octets};
 
 mod taking;
 
-/// What a live call carries between its ends. All calls but these that make or copy one take no memory: the room for what
-/// can wait is made by those, and that for the moves comes with the call.
+/// What a live call carries between its ends. The methods that make or copy a relay allocate the room for the packets
+/// that can wait. The caller passes the other methods the room for their moves.
 #[derive(Debug, Drop)]
 pub struct Relay<A: Allocator = Global> {
-    from_caller: Lane<A>,
-    from_called: Lane<A>,
+    from_caller: DirectionState<A>,
+    from_called: DirectionState<A>,
 }
 
 impl<A: Allocator> Model for Relay<A> {
-    ghost use Rattle.xp_relay.specs.Coupled.{KeptPair};
+    ghost use Rattle.xp_relay.specs.Coupled.{StoredDirections};
 
-    ghost Value = { KeptPair A };
+    ghost Value = { StoredDirections A };
 
     ghost view = { λ r. record { from_caller = r.from_caller; from_called = r.from_called } };
 }
 
 impl<A: Allocator + Copy> Relay<A> {
-    /// A call that was just set up on these terms.
+    /// Returns a call that was just set up on these terms.
     pub fn new(alloc: A, terms: Terms) -> Result<Relay<A>, AllocError>
         requires { IsWithinTerms terms }
-        ensures { IfOk result (λ relay. ShowsCall relay (coupled terms)) }
+        ensures { IfOk result (λ relay. RepresentsCall relay (coupled terms)) }
     {
         Ok(Relay {
-            from_caller: Lane::new(alloc, terms.way_from(End::Caller))?,
-            from_called: Lane::new(alloc, terms.way_from(End::Called))?,
+            from_caller: DirectionState::new(alloc, terms.terms_from(End::Caller))?,
+            from_called: DirectionState::new(alloc, terms.terms_from(End::Called))?,
         })
     }
 
-    /// An equal relay, with the same room.
+    /// Returns an equal relay, with the same room.
     pub fn copy(&self) -> Result<Relay<A>, AllocError>
         ensures { IfOk result (λ copied. copied ≡ self.now) }
     {
@@ -58,8 +58,8 @@ impl<A: Allocator + Copy> Relay<A> {
         })
     }
 
-    /// The same in the memory of another relay, which is equal to this one from then on. Where that has room for the
-    /// windows already, only what waits takes memory. After a failure it may be any relay.
+    /// Copies this relay over another one. Where the other one has room for the windows already, only the packets that
+    /// wait take memory. After an error the other relay can have any value.
     pub fn copy_over(&self, other: &mut Relay<A>) -> Result<(), AllocError>
         ensures { OnOk result (other.new ≡ self.now) }
     {
@@ -67,20 +67,21 @@ impl<A: Allocator + Copy> Relay<A> {
         self.from_called.copy_over(&mut other.from_called)
     }
 
-    /// A call that was just set up on these terms, in the memory of this relay. After a failure it may be any relay.
+    /// Makes this relay a call that was just set up on these terms, in the memory that it has. After an error the relay
+    /// can have any value.
     pub fn renew(&mut self, terms: Terms) -> Result<(), AllocError>
         requires { IsWithinTerms terms }
-        ensures { OnOk result (ShowsCall self.new (coupled terms)) }
+        ensures { OnOk result (RepresentsCall self.new (coupled terms)) }
     {
-        self.from_caller.renew(terms.way_from(End::Caller))?;
-        self.from_called.renew(terms.way_from(End::Called))
+        self.from_caller.renew(terms.terms_from(End::Caller))?;
+        self.from_called.renew(terms.terms_from(End::Called))
     }
 }
 
 impl<A: Allocator> Relay<A> {
-    /// The state of an end's channel.
+    /// Returns the flow control state of an end's channel.
     pub fn state(&self, end: End) -> FlowState
-        ensures { (call : Coupled A) → ShowsCall self.now call → result ≡ state_at end call }
+        ensures { (call : Coupled A) → RepresentsCall self.now call → result ≡ state_at end call }
     {
         let owes = match end {
             End::Caller => self.from_called.owes(),
@@ -89,9 +90,9 @@ impl<A: Allocator> Relay<A> {
         FlowState::of(owes)
     }
 
-    /// What becomes of a data packet of this end, with P(S), P(R) and so many octets.
+    /// Decides on a data packet of this end, with P(S), P(R) and this many octets.
     pub fn judge(&self, here: End, ps: u8, pr: u8, octets: usize) -> Judged
-        ensures { (call : Coupled A) → ShowsCall self.now call → result ≡ judgement ps pr octets (sent_by here call) (received_by here call) }
+        ensures { (call : Coupled A) → RepresentsCall self.now call → result ≡ judgement ps pr octets (sent_by here call) (received_by here call) }
     {
         match here {
             End::Caller => judge(ps, pr, octets, &self.from_caller, &self.from_called),
@@ -103,7 +104,7 @@ impl<A: Allocator> Relay<A> {
     pub fn data(&mut self, here: End, carried: Data<A>, ps: u8, pr: u8, room: Moves<A>) -> Moves<A>
         requires empty { room.moves ≡ [] }
         requires space { 17 ≤ room.room }
-        ensures { (call : Coupled A) → ShowsCall self.old call → Follows here (carries here carried ps pr) call self.new result.moves }
+        ensures { (call : Coupled A) → RepresentsCall self.old call → Follows here (carries here carried ps pr) call self.new result.moves }
     {
         match here {
             End::Caller => carry(
@@ -131,7 +132,7 @@ impl<A: Allocator> Relay<A> {
     pub fn flow(&mut self, here: End, ready: bool, pr: u8, room: Moves<A>) -> Moves<A>
         requires empty { room.moves ≡ [] }
         requires space { 17 ≤ room.room }
-        ensures { (call : Coupled A) → ShowsCall self.old call → Follows here (flow here ready pr) call self.new result.moves }
+        ensures { (call : Coupled A) → RepresentsCall self.old call → Follows here (flow here ready pr) call self.new result.moves }
     {
         match here {
             End::Caller => flow(
@@ -157,7 +158,7 @@ impl<A: Allocator> Relay<A> {
     pub fn reject(&mut self, here: End, room: Moves<A>) -> Moves<A>
         requires empty { room.moves ≡ [] }
         requires space { 17 ≤ room.room }
-        ensures { (call : Coupled A) → ShowsCall self.old call → Follows here (reject here) call self.new result.moves }
+        ensures { (call : Coupled A) → RepresentsCall self.old call → Follows here (reject here) call self.new result.moves }
     {
         match here {
             End::Caller => reject(here, &mut self.from_caller, &mut self.from_called, room),
@@ -169,7 +170,7 @@ impl<A: Allocator> Relay<A> {
     pub fn interrupt(&mut self, here: End, octets: Octets<A>, room: Moves<A>) -> Moves<A>
         requires empty { room.moves ≡ [] }
         requires space { 17 ≤ room.room }
-        ensures { (call : Coupled A) → ShowsCall self.old call → Follows here (interrupt here octets) call self.new result.moves }
+        ensures { (call : Coupled A) → RepresentsCall self.old call → Follows here (interrupt here octets) call self.new result.moves }
     {
         match here {
             End::Caller => interrupt(
@@ -193,7 +194,7 @@ impl<A: Allocator> Relay<A> {
     pub fn interrupt_confirm(&mut self, here: End, room: Moves<A>) -> Moves<A>
         requires empty { room.moves ≡ [] }
         requires space { 17 ≤ room.room }
-        ensures { (call : Coupled A) → ShowsCall self.old call → Follows here (interrupt_confirm here) call self.new result.moves }
+        ensures { (call : Coupled A) → RepresentsCall self.old call → Follows here (interrupt_confirm here) call self.new result.moves }
     {
         match here {
             End::Caller => interrupt_confirm(
@@ -221,7 +222,7 @@ impl<A: Allocator> Relay<A> {
     ) -> Moves<A>
         requires empty { room.moves ≡ [] }
         requires space { 17 ≤ room.room }
-        ensures { (call : Coupled A) → ShowsCall self.old call → Follows here (reset here cause diagnostic) call self.new result.moves }
+        ensures { (call : Coupled A) → RepresentsCall self.old call → Follows here (reset here cause diagnostic) call self.new result.moves }
     {
         match here {
             End::Caller => reset(
@@ -247,7 +248,7 @@ impl<A: Allocator> Relay<A> {
     pub fn reset_confirm(&mut self, here: End, room: Moves<A>) -> Moves<A>
         requires empty { room.moves ≡ [] }
         requires space { 17 ≤ room.room }
-        ensures { (call : Coupled A) → ShowsCall self.old call → Follows here (reset_confirm here) call self.new result.moves }
+        ensures { (call : Coupled A) → RepresentsCall self.old call → Follows here (reset_confirm here) call self.new result.moves }
     {
         match here {
             End::Caller => reset_confirm(here, &mut self.from_caller, &mut self.from_called, room),

@@ -1,23 +1,23 @@
 ghost use Rattle.std.specs.Prelude.{◌≡◌, ◌≤◌, ◌↔◌, IsTrue};
-ghost use Rattle.xp_relay.specs.Terms.{IsWithinWay, IsWithinTerms, numbers, way_from};
+ghost use Rattle.xp_relay.specs.Terms.{AreDirectionTerms, IsWithinTerms, numbers, terms_from};
 
 use xp_packets::End;
 
-/// How the packets of a line are numbered (X.25 clause 4.4.1.1).
+/// The modulus of the packet numbers of a line (X.25 clause 4.4.1.1).
 #[derive(Clone, Copy, Debug, PartialEq, Eq)]
 pub enum Modulus {
     /// Modulo 8.
     Eight,
-    /// Modulo 128, as the general format identifier of an extended line says.
+    /// Modulo 128. The general format identifier of such a line says so.
     Long,
 }
 
 /// What was agreed for the data that one end sends.
 #[derive(Clone, Copy, Debug, PartialEq, Eq)]
 pub struct Agreed {
-    /// The packet size, as a power of two: 4 to 10 (clause 6.12 and 7.2.2.1).
+    /// The packet size, as a power of two: 4 to 10 (clauses 6.12 and 7.2.2.1).
     pub size: u8,
-    /// The window size: 1 to 7, or to 15 where both lines have long numbers (clauses 6.12 and 7.2.2.2).
+    /// The window size: 1 to 7, or 1 to 15 where both lines number modulo 128 (clauses 6.12 and 7.2.2.2).
     pub window: u8,
 }
 
@@ -36,7 +36,7 @@ pub struct Terms {
 
 /// The terms of one direction of a call.
 #[derive(Clone, Copy, Debug, PartialEq, Eq)]
-pub struct Way {
+pub struct DirectionTerms {
     /// The packet size, as a power of two.
     pub size: u8,
     /// The window size.
@@ -48,7 +48,7 @@ pub struct Way {
 }
 
 impl Modulus {
-    /// How many numbers there are, from 0.
+    /// Returns how many numbers there are. The first is 0.
     pub fn numbers(self) -> u8
         ensures numbers { result ≡ numbers self }
         ensures most { result ≤ 128 }
@@ -60,10 +60,10 @@ impl Modulus {
     }
 }
 
-impl Way {
-    /// Whether the sizes and windows are lawful.
+impl DirectionTerms {
+    /// Returns whether the size and the window are allowed.
     fn is_within(self) -> bool
-        ensures { IsTrue result ↔ IsWithinWay self }
+        ensures { IsTrue result ↔ AreDirectionTerms self }
     {
         4 <= self.size
             && self.size <= 10
@@ -75,18 +75,18 @@ impl Way {
 }
 
 impl Terms {
-    /// The terms of what one end sends.
-    fn way(self, end: End) -> Way
-        ensures { result ≡ way_from end self }
+    /// Returns the terms of the direction that one end sends.
+    fn way(self, end: End) -> DirectionTerms
+        ensures { result ≡ terms_from end self }
     {
         match end {
-            End::Caller => Way {
+            End::Caller => DirectionTerms {
                 size: self.from_caller.size,
                 window: self.from_caller.window,
                 sender: self.caller,
                 receiver: self.called,
             },
-            End::Called => Way {
+            End::Called => DirectionTerms {
                 size: self.from_called.size,
                 window: self.from_called.window,
                 sender: self.called,
@@ -95,19 +95,19 @@ impl Terms {
         }
     }
 
-    /// Whether sizes and windows are lawful: sizes of 4 to 10, windows of 1 to 7, or to 15 where both lines have long
-    /// numbers.
+    /// Returns whether the sizes and windows are allowed: sizes of 4 to 10, and windows of 1 to 7, or of 1 to 15 where
+    /// both lines number modulo 128.
     pub fn is_within(self) -> bool
         ensures { IsTrue result ↔ IsWithinTerms self }
     {
         self.way(End::Caller).is_within() && self.way(End::Called).is_within()
     }
 
-    /// The terms of what one end sends.
-    pub fn way_from(self, end: End) -> Way
+    /// Returns the terms of the direction that one end sends.
+    pub fn terms_from(self, end: End) -> DirectionTerms
         requires { IsWithinTerms self }
-        ensures way { result ≡ way_from end self }
-        ensures within { IsWithinWay result }
+        ensures way { result ≡ terms_from end self }
+        ensures within { AreDirectionTerms result }
     {
         self.way(end)
     }

@@ -1,9 +1,5 @@
-//! Tests of the relay of a live call: what its ends are put out, as tables.
+//! Tests of the relay of a live call: windows and numbers that wrap, by 8 and by 128.
 #![tactic(auto)]
 
 #[cfg(test)]
-mod play;
-#[cfg(test)]
-mod rows;
-#[cfg(test)]
-mod tests;
+mod windows;

@@ -1,11 +1,7 @@
-//! Tests of the subscription file and the rules: what no contract says, and no row.
+//! Tests of the subscription file: which files are refused, and for what.
 #![tactic(auto)]
 
 #[cfg(test)]
-mod calls;
-#[cfg(test)]
 mod files;
-#[cfg(test)]
-mod records;
 #[cfg(test)]
 mod texts;

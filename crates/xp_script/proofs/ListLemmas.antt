@@ -3,7 +3,7 @@ use Rattle.std.proofs.Common.{◌≡◌, ℕ, ◌+◌, ◌<◌, ◌≤◌, List,
 use Rattle.std.proofs.lemmas.Grind.{common_steps, flat_map-append}
 use Rattle.std.proofs.lemmas.List.{length-append, take-take, take_at}
 use Rattle.std.proofs.Math.Seq.{take-length}
-use Rattle.xp_charge.specs.Text.{Keeps}
+use Rattle.xp_charge.specs.steps.Text.{Keeps}
 
 -- one item more
 pub flat_map-more : {X : Type 0} (f : X → List ℕ) (xs : List X) (i : ℕ) (x : X) → i < length xs → x ≡ get_or xs i x

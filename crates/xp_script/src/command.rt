@@ -6,7 +6,7 @@ ghost use Rattle.xp_subs.specs.Tables.{line_count, same};
 
 use crate::digits::{are_digits, read_digits};
 use crate::fault::LineFault;
-use crate::heard::Heard;
+use crate::input_octets::InputOctets;
 use crate::line::line_named;
 use crate::words::cut_word;
 use std::alloc::{Allocator, Global};
@@ -27,7 +27,7 @@ pub enum Command<A: Allocator = Global> {
     /// The time of this line to answer an incoming call is over.
     Expire(LineNo),
     /// Octets come in on a line; at least one.
-    In(LineNo, Heard<A>),
+    In(LineNo, InputOctets<A>),
 }
 
 impl<A: Allocator> Command<A> {
@@ -109,7 +109,7 @@ fn about_octets<A: Allocator>(
 }
 
 /// The octets that hexadecimal digits stand for, at least one, in this vector, whatever it holds.
-fn octets_of<A: Allocator>(digits: &[u8], memory: Vec<u8, A>) -> Result<Heard<A>, LineFault>
+fn octets_of<A: Allocator>(digits: &[u8], memory: Vec<u8, A>) -> Result<InputOctets<A>, LineFault>
     ensures octets { Answers (octets_of digits.now) result }
     ensures memory { LacksMemory result → IsSome (octets_of digits.now) }
 {
@@ -123,7 +123,7 @@ fn octets_of<A: Allocator>(digits: &[u8], memory: Vec<u8, A>) -> Result<Heard<A>
         .extend_from_slice(&digits[..digits.len() / 2])
         .map_err(|_| LineFault::Memory)?;
     read_digits(digits, &mut octets);
-    Ok(Heard::of(octets))
+    Ok(InputOctets::of(octets))
 }
 
 /// Whether a text is digits alone, for whole octets, at least one.

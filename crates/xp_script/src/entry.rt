@@ -3,7 +3,8 @@
 ghost use Rattle.std.specs.Prelude.{◌≡◌, ◌<◌, ◌++◌, All, flat_map, OnErr, OnOk};
 ghost use Rattle.xp_core.specs.Writable.{AreWritable};
 ghost use Rattle.xp_charge.specs.Lines.{HasLines as NamesLines};
-ghost use Rattle.xp_charge.specs.Text.{Keeps, record_text};
+ghost use Rattle.xp_charge.specs.Text.{record_text};
+ghost use Rattle.xp_charge.specs.steps.Text.{Keeps};
 ghost use Rattle.xp_script.specs.Lines.{HasLines};
 ghost use Rattle.xp_script.specs.Text.{entry_text, output_text};
 ghost use Rattle.xp_subs.specs.Tables.{line_count};

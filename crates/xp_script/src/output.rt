@@ -3,16 +3,16 @@
 ghost use Rattle.std.specs.Prelude.{◌≡◌, ◌<◌, ◌≤◌, ◌++◌, drop, length, None, OnOk};
 ghost use Rattle.xp_core.specs.Writable.{IsWritable};
 ghost use Rattle.xp_frames.specs.Frame.{frame};
-ghost use Rattle.xp_packets.specs.Fitness.{unfit};
+ghost use Rattle.xp_packets.specs.Encodability.{encoding_fault};
 ghost use Rattle.xp_packets.specs.Writing.{written};
-ghost use Rattle.xp_charge.specs.Text.{Keeps};
+ghost use Rattle.xp_charge.specs.steps.Text.{Keeps};
 ghost use Rattle.xp_script.specs.Text.{output_text};
 ghost use Rattle.xp_subs.specs.Tables.{line_count};
 
 use crate::text::{push_front, push_octets};
 use std::alloc::{AllocError, Allocator};
 use xp_core::{Output, Put};
-use xp_frames::frame_head;
+use xp_frames::frame_header;
 use xp_packets::{Packet, write_packet};
 use xp_subs::Subs;
 
@@ -50,7 +50,7 @@ fn put_frame<A: Allocator>(
     packet: &Packet<A>,
     octets: &mut Vec<u8, A>,
 ) -> Result<(), AllocError>
-    requires { unfit identifier packet.now ≡ None }
+    requires { encoding_fault identifier packet.now ≡ None }
     ensures frame { OnOk result (octets.new.items ≡ frame (written identifier packet.now)) }
     ensures most { OnOk result (length octets.new.items ≤ 1032) }
 {
@@ -58,7 +58,7 @@ fn put_frame<A: Allocator>(
     // The head comes into its place when the packet's length is known.
     octets.resize(HEAD, 0)?;
     write_packet(identifier, packet, octets).map_err(|_| AllocError)?;
-    let head = frame_head(&octets[HEAD..]).map_err(|_| AllocError)?;
+    let head = frame_header(&octets[HEAD..]).map_err(|_| AllocError)?;
     put_head(octets, &head);
     Ok(())
 }

@@ -3,7 +3,8 @@
 ghost use Rattle.std.specs.Prelude.{◌≡◌, ◌+◌, ◌≤◌, ◌∷◌, [], ◌++◌, codes, length, OnOk};
 ghost use Rattle.std.specs.Vec.{vec_capacity, vec_len};
 ghost use Rattle.hex.specs.Hex.{encode_lower};
-ghost use Rattle.xp_charge.specs.Text.{Keeps, field};
+ghost use Rattle.xp_charge.specs.Text.{field};
+ghost use Rattle.xp_charge.specs.steps.Text.{Keeps};
 
 use crate::digits::write_digits;
 use std::alloc::{AllocError, Allocator};

@@ -1,5 +1,5 @@
-pub mod Ends
 pub mod Failures
 pub mod Limits
 pub mod Printing
 pub mod Serving
+pub mod steps

@@ -13,13 +13,13 @@ use Rattle.xp_serve.specs.declared.failure.ServeFailure.TheVariants.{Port, Journ
 use Rattle.xp_subs.specs.Tables.{Tables}
 
 -- the text of the records, which is written whole but for want of memory and a writer that fails
-abbrev pub IsTold : Tables → List ℕ → List ℕ → Result (Unit {0}) ServeFailure → Type 0
-IsTold tables whole text (Ok done) = text ≡ whole
-IsTold tables whole text (Err (Port name)) = (text ≡ whole) × IsLineName tables name
-IsTold tables whole text (Err Journal) = text ≡ whole
-IsTold tables whole text (Err Thread) = text ≡ whole
-IsTold tables whole text (Err Memory) = IsFront text whole
-IsTold tables whole text (Err Output) = IsFront text whole
+abbrev pub IsWritten : Tables → List ℕ → List ℕ → Result (Unit {0}) ServeFailure → Type 0
+IsWritten tables whole text (Ok done) = text ≡ whole
+IsWritten tables whole text (Err (Port name)) = (text ≡ whole) × IsLineName tables name
+IsWritten tables whole text (Err Journal) = text ≡ whole
+IsWritten tables whole text (Err Thread) = text ≡ whole
+IsWritten tables whole text (Err Memory) = IsFront text whole
+IsWritten tables whole text (Err Output) = IsFront text whole
 
 -- A run of the exchange machine from its first moment: it has one record for each call that ended, and these are written.
 pub record Served (A : Type 0) (tables : Tables) (before after : Option (List ℕ)) (result : Result (Unit {0}) ServeFailure) : Type 0 where
@@ -28,7 +28,7 @@ pub record Served (A : Type 0) (tables : Tables) (before after : Option (List �
   pub one_each : OneRecordEach tables history (world_after tables history)
   pub text : List ℕ
   pub written : Appends before after text
-  pub told : IsTold tables (flat_map (record_text tables) (records_of history)) text result
+  pub told : IsWritten tables (flat_map (record_text tables) (records_of history)) text result
 
 abbrev pub IsUnserved : Tables → Result (Unit {0}) ServeFailure → Type 0
 IsUnserved tables (Ok done) = ⊥

@@ -1,17 +1,17 @@
 //! How the lines ended.
 
 ghost use Rattle.std.specs.Prelude.{◌≡◌, ◌+◌, ◌≤◌, ◌<◌, [], IfSome, map, vec_capacity, vec_len};
-ghost use Rattle.xp_serve.specs.Ends.{failure_of, fall_of, first_fall};
+ghost use Rattle.xp_serve.specs.steps.Ends.{failure_of, early_end_cause, first_early_end};
 ghost use Rattle.xp_subs.specs.Tables.{line_count};
 
 use crate::failure::ServeFailure;
-use xp_lines::{LineEnd, Why};
+use xp_lines::{EndReason, LineEnd};
 use xp_lock::{LinePass, Name};
 use xp_subs::{LineNo, Subs};
 
 /// What ended a line before its time.
 #[derive(Clone, Copy, Debug, PartialEq)]
-pub enum Cause {
+pub enum EarlyEndCause {
     /// The history was full.
     Journal,
     /// No connection can come to its port any more.
@@ -22,45 +22,45 @@ pub enum Cause {
 
 /// That a line ended before its time.
 #[derive(Clone, Copy, Debug, PartialEq)]
-pub struct Fall {
+pub struct EarlyEnd {
     pub line: LineNo,
-    pub cause: Cause,
+    pub cause: EarlyEndCause,
 }
 
-impl Fall {
+impl EarlyEnd {
     /// What is told of it.
     pub fn failure(self, subs: &Subs) -> ServeFailure
         requires { self.line < line_count subs.now }
         ensures { result ≡ failure_of subs.now self }
     {
         match self.cause {
-            Cause::Journal => ServeFailure::Journal,
-            Cause::Port => ServeFailure::port(subs, self.line),
-            Cause::Thread => ServeFailure::Thread,
+            EarlyEndCause::Journal => ServeFailure::Journal,
+            EarlyEndCause::Port => ServeFailure::port(subs, self.line),
+            EarlyEndCause::Thread => ServeFailure::Thread,
         }
     }
 }
 
-fn cause_of(why: Why) -> Option<Cause>
-    ensures { result ≡ fall_of why }
+fn cause_of(why: EndReason) -> Option<EarlyEndCause>
+    ensures { result ≡ early_end_cause why }
 {
     match why {
-        Why::Turns | Why::Halted => None,
-        Why::Journal => Some(Cause::Journal),
-        Why::Port => Some(Cause::Port),
-        Why::NotStarted => Some(Cause::Thread),
+        EndReason::Turns | EndReason::Halted => None,
+        EndReason::Journal => Some(EarlyEndCause::Journal),
+        EndReason::Port => Some(EarlyEndCause::Port),
+        EndReason::NotStarted => Some(EarlyEndCause::Thread),
     }
 }
 
 /// The lowest line that ended before its time.
-pub fn first_to_fall<N: Name>(ends: &[LineEnd<N>]) -> Option<Fall>
-    ensures first { result ≡ first_fall ends.now }
-    ensures line { IfSome result (λ fall. fall.line < line_count N.subs) }
+pub fn first_early_end<N: Name>(ends: &[LineEnd<N>]) -> Option<EarlyEnd>
+    ensures first { result ≡ first_early_end ends.now }
+    ensures line { IfSome result (λ early_end. early_end.line < line_count N.subs) }
 {
     for end in ends {
         if let Some(cause) = cause_of(end.why) {
             let line = end.pass.line();
-            return Some(Fall { line, cause });
+            return Some(EarlyEnd { line, cause });
         }
     }
     None

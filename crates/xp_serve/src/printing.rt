@@ -3,7 +3,7 @@
 ghost use Rattle.std.specs.Prelude.{All, flat_map};
 ghost use Rattle.xp_charge.specs.Lines.{HasLines};
 ghost use Rattle.xp_charge.specs.Text.{record_text};
-ghost use Rattle.xp_serve.specs.Printing.{Prints};
+ghost use Rattle.xp_serve.specs.steps.Printing.{Prints};
 ghost use Rattle.xp_subs.specs.Tables.{line_count};
 
 use crate::failure::ServeFailure;

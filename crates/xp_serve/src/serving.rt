@@ -5,7 +5,7 @@ ghost use Rattle.std.specs.declared.alloc.Global.{Global as Alloc};
 ghost use Rattle.xp_serve.specs.Serving.{Serves};
 ghost use Rattle.xp_subs.specs.Tables.{line_count};
 
-use crate::ends::{first_to_fall, passes_of};
+use crate::ends::{first_early_end, passes_of};
 use crate::failure::ServeFailure;
 use crate::limits::Limits;
 use crate::listening::listen_all;
@@ -16,8 +16,8 @@ use std::marker::Brand;
 use std::net::Net;
 use std::sync::Wait;
 use std::thread::Threads;
-use xp_lines::{Part, serve_all};
-use xp_lock::{Blanks, Exchange, LinePass, Name, prepare};
+use xp_lines::{ThreadInputs, serve_all};
+use xp_lock::{Exchange, LinePass, Name, PreparedExchange, prepare};
 use xp_subs::Subs;
 use xp_tcp::{OpenGate, Sockets, TcpClock, TcpPort};
 
@@ -39,52 +39,52 @@ pub fn serve<R: Net + Threads + Wait + Sync, W: Write>(
     ensures { Serves Alloc subs (W.contents writer.old) (W.contents writer.new) result }
 {
     let sockets = listen_all(rt, alloc, &subs)?;
-    let blanks = prepare(alloc, subs)?;
-    serve_named::<Brand, R, W>(rt, alloc, blanks, sockets, limits, writer)
+    let prepared = prepare(alloc, subs)?;
+    serve_named::<Brand, R, W>(rt, alloc, prepared, sockets, limits, writer)
 }
 
 /// Serves the lines of the exchange that N names.
 fn serve_named<N: Name + Send + Sync, R: Threads + Wait + Sync, W: Write>(
     rt: &R,
     alloc: Global,
-    blanks: Blanks,
+    prepared: PreparedExchange,
     sockets: Sockets,
     limits: Limits,
     writer: &mut W,
 ) -> Result<(), ServeFailure>
-    requires subs { N.subs ≡ blanks.subs }
-    requires word { N.word ≡ blanks.word }
-    requires queues { N.queues ≡ blanks.queues }
-    requires sockets { sockets ≡ line_count blanks.subs }
-    ensures { Serves Alloc blanks.subs (W.contents writer.old) (W.contents writer.new) result }
+    requires subs { N.subs ≡ prepared.subs }
+    requires history_length { N.history_length ≡ prepared.history_length }
+    requires queues { N.queues ≡ prepared.queues }
+    requires sockets { sockets ≡ line_count prepared.subs }
+    ensures { Serves Alloc prepared.subs (W.contents writer.old) (W.contents writer.new) result }
 {
-    let (exchange, passes) = Exchange::<N>::start(alloc, blanks)?;
+    let (exchange, passes) = Exchange::<N>::start(alloc, prepared)?;
     let room = Vec::with_capacity(alloc, passes.len())?;
-    let parts = parts_of(alloc, passes, sockets)?;
+    let parts = thread_inputs(alloc, passes, sockets)?;
     let Ok(ends) = serve_all(rt, alloc, &exchange, parts, limits.turns, limits.records) else {
         return Err(ServeFailure::Memory);
     };
-    let fall = first_to_fall(&ends);
+    let early_end = first_early_end(&ends);
     let Ok(book) = exchange.close(rt, passes_of(ends, room)) else {
         unreachable!()
     };
     let _history = book.history();
     print_records(alloc, book.subs(), book.records(), writer)?;
-    match fall {
-        Some(fall) => Err(fall.failure(book.subs())),
+    match early_end {
+        Some(early_end) => Err(early_end.failure(book.subs())),
         None => Ok(()),
     }
 }
 
 /// What the thread of a line is given.
-type TcpPart<N> = Part<N, TcpPort, TcpClock, OpenGate>;
+type TcpThreadInputs<N> = ThreadInputs<N, TcpPort, TcpClock, OpenGate>;
 
 /// What the threads of the lines are given.
-fn parts_of<N: Name>(
+fn thread_inputs<N: Name>(
     alloc: Global,
     passes: Vec<LinePass<N>>,
     sockets: Sockets,
-) -> Result<Vec<TcpPart<N>>, AllocError>
+) -> Result<Vec<TcpThreadInputs<N>>, AllocError>
     requires { sockets ≡ vec_len passes }
     ensures { IfOk result (λ parts. map (λ part. part.pass.line) parts.items ≡ map (λ pass. pass.line) passes.items) }
 {
@@ -94,7 +94,7 @@ fn parts_of<N: Name>(
         let Some((port, clock)) = ends.next() else {
             unreachable!()
         };
-        parts.push(Part {
+        parts.push(ThreadInputs {
             pass,
             port,
             clock,

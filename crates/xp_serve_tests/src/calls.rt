@@ -9,17 +9,17 @@ use std::test::Fail;
 fn call_over_sockets(rt: HostRuntime) -> Result<(), Fail> {
     let clients = Clients {
         a1: &[
-            Step::Says(CALL),
-            Step::Hears(CONNECTED),
-            Step::Says(CLEAR),
-            Step::Hears(CONFIRMATION),
-            Step::IsLeft,
+            Step::Sends(CALL),
+            Step::Receives(CONNECTED),
+            Step::Sends(CLEAR),
+            Step::Receives(CONFIRMATION),
+            Step::IsClosed,
         ],
         b1: &[
-            Step::Hears(INCOMING),
-            Step::Says(ACCEPTED),
-            Step::Hears(CLEAR),
-            Step::IsLeft,
+            Step::Receives(INCOMING),
+            Step::Sends(ACCEPTED),
+            Step::Receives(CLEAR),
+            Step::IsClosed,
         ],
     };
     let served = serve(&rt, rt.alloc(), clients)?;
@@ -35,8 +35,12 @@ fn call_over_sockets(rt: HostRuntime) -> Result<(), Fail> {
 #[test]
 fn client_that_hangs_up(rt: HostRuntime) -> Result<(), Fail> {
     let clients = Clients {
-        a1: &[Step::Says(CALL), Step::Hears(OUT_OF_ORDER), Step::IsLeft],
-        b1: &[Step::Hears(INCOMING)],
+        a1: &[
+            Step::Sends(CALL),
+            Step::Receives(OUT_OF_ORDER),
+            Step::IsClosed,
+        ],
+        b1: &[Step::Receives(INCOMING)],
     };
     let served = serve(&rt, rt.alloc(), clients)?;
     assert_eq!(rt; served.steps, (3, 1));

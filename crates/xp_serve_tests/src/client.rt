@@ -15,11 +15,11 @@ const LONGEST: usize = 32;
 #[derive(Clone, Copy)]
 pub enum Step {
     /// It sends these octets.
-    Says(&'static [u8]),
+    Sends(&'static [u8]),
     /// These are the next octets that come.
-    Hears(&'static [u8]),
+    Receives(&'static [u8]),
     /// Nothing more comes: the exchange has closed the connection.
-    IsLeft,
+    IsClosed,
 }
 
 /// Connects to a line's port.
@@ -48,9 +48,9 @@ pub fn play(stream: &mut TcpStream, steps: &[Step]) -> usize {
 
 fn is_as_told(stream: &mut TcpStream, step: Step) -> bool {
     match step {
-        Step::Says(octets) => stream.write_all(octets).is_ok(),
-        Step::Hears(octets) => hears(stream, octets),
-        Step::IsLeft => matches!(stream.read(&mut [0]), Ok(0)),
+        Step::Sends(octets) => stream.write_all(octets).is_ok(),
+        Step::Receives(octets) => hears(stream, octets),
+        Step::IsClosed => matches!(stream.read(&mut [0]), Ok(0)),
     }
 }
 

@@ -11,8 +11,8 @@ use std::net::{Net, TcpListener, TcpStream};
 use std::sync::Wait;
 use std::test::Fail;
 use std::thread::{Threads, join};
-use xp_lines::{LineEnd, Part, Why, serve_all};
-use xp_lock::{Blanks, Exchange, LinePass, Name, prepare};
+use xp_lines::{EndReason, LineEnd, ThreadInputs, serve_all};
+use xp_lock::{Exchange, LinePass, Name, PreparedExchange, prepare};
 use xp_subs::Subs;
 use xp_tcp::{OpenGate, Sockets, TcpClock, TcpPort};
 use xp_testing::THREE_STATIONS;
@@ -41,7 +41,7 @@ pub struct Served {
 }
 
 /// A clear where there is no call is confirmed, so the line is up then.
-const COMES_UP: [Step; 2] = [Step::Says(CLEAR), Step::Hears(CONFIRMATION)];
+const COMES_UP: [Step; 2] = [Step::Sends(CLEAR), Step::Receives(CONFIRMATION)];
 
 /// The two clients, each on a thread of its own: how many steps of each were as told.
 fn meet<R: Net<Listener = TcpListener, Stream = TcpStream> + Threads + Sync>(
@@ -85,17 +85,17 @@ fn listen_all<R: Net>(rt: &R, alloc: Global) -> Result<Sockets, Fail> {
     Ok(sockets)
 }
 
-type TcpPart<N> = Part<N, TcpPort, TcpClock, OpenGate>;
+type TcpThreadInputs<N> = ThreadInputs<N, TcpPort, TcpClock, OpenGate>;
 
 fn parts<N: Name>(
     alloc: Global,
     passes: Vec<LinePass<N>>,
     sockets: Sockets,
-) -> Result<Vec<TcpPart<N>>, AllocError> {
+) -> Result<Vec<TcpThreadInputs<N>>, AllocError> {
     let mut parts = Vec::new(alloc);
     let ends = sockets.into_ends(alloc)?;
     for (pass, (port, clock)) in passes.into_iter().zip(ends) {
-        parts.push(Part {
+        parts.push(ThreadInputs {
             pass,
             port,
             clock,
@@ -113,7 +113,11 @@ fn passes<N: Name>(
 ) -> Result<Vec<LinePass<N>>, AllocError> {
     let mut passes = Vec::new(alloc);
     for end in ends {
-        text.push(if end.why == Why::Halted { b'H' } else { b'o' })?;
+        text.push(if end.why == EndReason::Halted {
+            b'H'
+        } else {
+            b'o'
+        })?;
         passes.push(end.pass)?;
     }
     text.push(b'\n')?;
@@ -142,17 +146,17 @@ fn serves<
 >(
     rt: &R,
     alloc: Global,
-    blanks: Blanks,
+    prepared: PreparedExchange,
     sockets: Sockets,
     clients: Clients,
     text: &mut Vec<u8>,
 ) -> Result<(usize, usize), AllocError>
-    requires subs { N.subs ≡ blanks.subs }
-    requires word { N.word ≡ blanks.word }
-    requires queues { N.queues ≡ blanks.queues }
+    requires subs { N.subs ≡ prepared.subs }
+    requires history_length { N.history_length ≡ prepared.history_length }
+    requires queues { N.queues ≡ prepared.queues }
 {
     let ports = (sockets.port(0).unwrap_or(0), sockets.port(1).unwrap_or(0));
-    let (exchange, all) = Exchange::<N>::start(alloc, blanks)?;
+    let (exchange, all) = Exchange::<N>::start(alloc, prepared)?;
     let parts = parts(alloc, all, sockets)?;
     let (ends, steps) = join(
         rt,
@@ -173,9 +177,9 @@ pub fn serve<R: Net<Listener = TcpListener, Stream = TcpStream> + Threads + Wait
     clients: Clients,
 ) -> Result<Served, Fail> {
     let sockets = listen_all(rt, alloc)?;
-    let blanks = prepare(alloc, Subs::read(alloc, THREE_STATIONS)?)?;
+    let prepared = prepare(alloc, Subs::read(alloc, THREE_STATIONS)?)?;
     let mut text = Vec::new(alloc);
-    let steps = serves::<Brand, R>(rt, alloc, blanks, sockets, clients, &mut text)?;
+    let steps = serves::<Brand, R>(rt, alloc, prepared, sockets, clients, &mut text)?;
     Ok(Served {
         steps,
         text: String::from_utf8(text)?,

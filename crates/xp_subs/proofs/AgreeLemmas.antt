@@ -8,7 +8,7 @@ use Rattle.std.proofs.lemmas.List.{get_or_append_left}
 use Rattle.std.proofs.lemmas.List.Quantifiers.{position-Some}
 use Rattle.xp_file.specs.Name.{same}
 use Rattle.xp_subs.specs.declared.target.Target.{Target}
-use Rattle.xp_subs.specs.Passes.{Used, with_address, with_name, with_port, with_own}
+use Rattle.xp_subs.specs.steps.Passes.{Used, with_address, with_name, with_port, with_own}
 use Rattle.xp_subs.specs.Tables.{holds}
 use Rattle.xp_subs.proofs.PositionLemmas.{or_last, lookup-push, position-push, get_or-last}
 use Rattle.xp_subs.proofs.TableLemmas.{same_is, same-itself}

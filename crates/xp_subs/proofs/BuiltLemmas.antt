@@ -16,12 +16,15 @@ use Rattle.xp_subs.specs.declared.line.Line.{Line}
 use Rattle.xp_subs.specs.declared.station.Membership.{Membership}
 use Rattle.xp_subs.specs.declared.station.Station.{Station}
 use Rattle.xp_subs.specs.declared.target.Target.{Target}
-use Rattle.xp_subs.specs.Built.{AreKnown, numbers, line_from, lines_of, lines_from, membership_from, memberships_of, station_from, stations_from, mentions, tables_of}
-use Rattle.xp_file.specs.File.{FileData}
+use Rattle.xp_subs.specs.Built.{numbers, line_from, lines_of, lines_from, membership_from, memberships_of, station_from, stations_from, mentions, tables_of}
+use Rattle.xp_subs.specs.steps.Built.{AreKnown}
+use Rattle.xp_file.specs.SubscriptionFile.{FileData}
 use Rattle.xp_subs.specs.declared.subs.Subs.TheInside.{Inside}
-use Rattle.xp_subs.specs.Kept.{tables, Keeps}
-use Rattle.xp_subs.specs.Fit.{IsFit, IsFitStation}
-use Rattle.xp_subs.specs.Passes.{Used, nothing_used, line_total, with_stations, has_own_indexes}
+use Rattle.xp_subs.specs.Consistency.{tables}
+use Rattle.xp_subs.specs.steps.Consistency.{IsConsistent}
+use Rattle.xp_subs.specs.steps.WithinLimits.{AreWithinLimits, IsStationWithinLimits}
+use Rattle.xp_subs.specs.Passes.{line_total, has_own_indexes}
+use Rattle.xp_subs.specs.steps.Passes.{Used, nothing_used, with_stations}
 use Rattle.xp_subs.specs.Sound.{IsSound, IsTarget, HasAddress, HasShortIndexes, HasOwnGroups, IsPort, Lists}
 use Rattle.xp_subs.specs.Tables.{Tables, holds, no_line, no_station, station_at, line_at, station_of, target_of, line_named_of, has_address, whole_station, one_line, first_target, station_count, line_count}
 use Rattle.xp_subs.proofs.AgreeLemmas.{Agrees, Own, owns, no_own, lead}
@@ -178,12 +181,12 @@ module _ (known : List (List ℕ)) where
       )
 
 -- each line is one of a file
-all_lines : (number : ℕ) (entries : List StationData) → All IsFitStation entries → All IsLine (lines_from number entries)
+all_lines : (number : ℕ) (entries : List StationData) → All IsStationWithinLimits entries → All IsLine (lines_from number entries)
 all_lines number [] each = All-nil IsLine
 all_lines number (entry ∷ entries) each =
     All-append IsLine (lines_of number entry.lines) (lines_from (number + 1) entries)
-    (made entry.lines (All-head IsFitStation entry entries each).entry.lines)
-    (all_lines (number + 1) entries (All-tail IsFitStation entry entries each))
+    (made entry.lines (All-head IsStationWithinLimits entry entries each).entry.lines)
+    (all_lines (number + 1) entries (All-tail IsStationWithinLimits entry entries each))
   where
     made : (lines : List LineEntry) → All IsLineEntry lines → All IsLine (lines_of number lines)
     made [] all = All-nil IsLine
@@ -321,7 +324,7 @@ all_own tables line (entry ∷ entries) known own =
     (all_own tables (line + length entry.lines) entries (All-tail (AreKnown tables.groups) entry entries known) both.1)
 
 -- the facts of a file that is built
-module _ (file : FileData) (used : Used) (fit : IsFit file.stations) (some : 0 < length file.stations)
+module _ (file : FileData) (used : Used) (fit : AreWithinLimits file.stations) (some : 0 < length file.stations)
     (limits : AreLimits file.segment_limit file.journal) (once : with_stations 0 0 file.stations nothing_used ≡ Ok used)
     (own : list_all has_own_indexes file.stations ≡ true) where
   entries : List StationData
@@ -370,10 +373,10 @@ module _ (file : FileData) (used : Used) (fit : IsFit file.stations) (some : 0 <
       let same_line : l ≡ line = omega (arith, is) in
       subst (λ l. (l < line_count (tables_of file)) × (station_of (tables_of file) l ≡ station)) same_line (inside, at ∙ omega arith)
 
-  at_least_one : (entries : List StationData) → 0 < length entries → All IsFitStation entries → 0 < line_total entries
+  at_least_one : (entries : List StationData) → 0 < length entries → All IsStationWithinLimits entries → 0 < line_total entries
   at_least_one [] none each = absurd (omega arith)
   at_least_one (entry ∷ entries) here each =
-      omega (arith, (All-head IsFitStation entry entries each).entry.some, sum_by-cons (λ (station : StationData). length station.lines) entry entries)
+      omega (arith, (All-head IsStationWithinLimits entry entries each).entry.some, sum_by-cons (λ (station : StationData). length station.lines) entry entries)
 
   built_line : (line : ℕ) → line < line_count (tables_of file) → IsLine (line_at (tables_of file) line)
   unfolding tables_of
@@ -382,7 +385,7 @@ module _ (file : FileData) (used : Used) (fit : IsFit file.stations) (some : 0 <
   built_indexes : (station : ℕ) → station < station_count (tables_of file) → HasShortIndexes (station_at (tables_of file) station)
   unfolding tables_of
   built_indexes station within =
-      all_built {P = IsFitStation} HasShortIndexes (mentions [] file.stations) 0 file.stations
+      all_built {P = IsStationWithinLimits} HasShortIndexes (mentions [] file.stations) 0 file.stations
       (λ line entry is. short_indexes (mentions [] file.stations) entry.groups is.entry.groups) fit.each station no_station within
 
   built_groups : (station : ℕ) → station < station_count (tables_of file) → HasOwnGroups (tables_of file) (station_at (tables_of file) station)
@@ -415,11 +418,11 @@ module _ (file : FileData) (used : Used) (fit : IsFit file.stations) (some : 0 <
   }
 
 -- what a `Subs` of such a file keeps
-pub built_keeps : (inside : Inside) (file : FileData) (used : Used) → IsFit file.stations → 0 < length file.stations
+pub built_keeps : (inside : Inside) (file : FileData) (used : Used) → AreWithinLimits file.stations → 0 < length file.stations
     → AreLimits file.segment_limit file.journal → with_stations 0 0 file.stations nothing_used ≡ Ok used
     → list_all has_own_indexes file.stations ≡ true → tables inside ≡ tables_of file
     → inside.targets.entries ≡ used.targets → inside.names.entries ≡ used.names
-    → Keeps inside
+    → IsConsistent inside
 built_keeps inside file used fit some limits once own is targets names = record {
   sound = subst IsSound (sym is) (built_sound file used fit some limits once own);
   targets = λ a. ap (lookup (same a)) targets ∙ built_targets file used fit some limits once own a ∙ ap (λ t. target_of t a) (sym is);

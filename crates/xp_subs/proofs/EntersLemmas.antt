@@ -4,7 +4,7 @@ use Rattle.std.proofs.lemmas.List.{append-nil, length-map}
 use Rattle.xp_file.specs.declared.entry.LineEntry.{LineEntry}
 use Rattle.xp_file.specs.Entries.{StationData}
 use Rattle.xp_file.specs.Reading.{◌>>=◌}
-use Rattle.xp_subs.specs.Passes.{Used, with_address, with_name, with_names, with_port, with_ports, with_own, with_addresses, with_station, with_stations}
+use Rattle.xp_subs.specs.steps.Passes.{Used, with_address, with_name, with_names, with_port, with_ports, with_own, with_addresses, with_station, with_stations}
 use Rattle.xp_subs.proofs.AgreeLemmas.{Agrees, Own, add_station, add_name, add_port, add_line}
 use Rattle.xp_file.proofs.Choices.{bind_ok}
 

@@ -4,20 +4,21 @@ use Rattle.std.specs.Prelude.{nat_lt}
 use Rattle.std.proofs.lemmas.Bool.{ltb-false}
 use Rattle.std.proofs.lemmas.List.Elements.{All-nil, All-cons, All-head, All-tail}
 use Rattle.std.proofs.lemmas.List.Sums.{sum_by_more_le}
-use Rattle.xp_file.specs.declared.fault.SubsFault.{SubsFault}
+use Rattle.xp_file.specs.declared.fault.SubscriptionFault.{SubscriptionFault}
 use Rattle.xp_file.specs.declared.key.Key.{Key}
 use Rattle.xp_file.specs.declared.key.Key.TheVariants as keys
 use Rattle.xp_file.specs.Entries.{StationData, IsStationEntry}
 use Rattle.xp_subs.specs.Built.{numbers}
-use Rattle.xp_subs.specs.Fit.{IsFit, IsFitStation}
-use Rattle.xp_subs.specs.Passes.{Used, station_over, first_key, first_over, over_limit, line_total, with_station, with_stations}
+use Rattle.xp_subs.specs.steps.WithinLimits.{AreWithinLimits, IsStationWithinLimits}
+use Rattle.xp_subs.specs.Passes.{station_over, first_key, first_over, over_limit, line_total}
+use Rattle.xp_subs.specs.steps.Passes.{Used, with_station, with_stations}
 use Rattle.xp_file.proofs.Choices.{none_is_some}
 use Rattle.xp_file.proofs.Lists.{rest_at}
 
-pub fit_at : (stations : List StationData) (i : ℕ) (s : StationData) → IsFit stations → i < length stations → s ≡ get_or stations i s → IsFitStation s
-fit_at stations i s fit within here = subst IsFitStation (sym here) (fit.each i s within)
+pub fit_at : (stations : List StationData) (i : ℕ) (s : StationData) → AreWithinLimits stations → i < length stations → s ≡ get_or stations i s → IsStationWithinLimits s
+fit_at stations i s fit within here = subst IsStationWithinLimits (sym here) (fit.each i s within)
 
-pub lines_at : (stations : List StationData) (i : ℕ) (s : StationData) → IsFit stations → i < length stations → s ≡ get_or stations i s
+pub lines_at : (stations : List StationData) (i : ℕ) (s : StationData) → AreWithinLimits stations → i < length stations → s ≡ get_or stations i s
     → line_total (take i stations) + length s.lines ≤ 512
 lines_at stations i s fit within here =
     let held = sum_by_more_le (λ (station : StationData). length station.lines) stations i s within in
@@ -27,7 +28,7 @@ lines_at stations i s fit within here =
     omega arith
 
 -- the rest of a list, from an index on
-pub stations_refused : (stations : List StationData) (i : ℕ) (s : StationData) (number line : ℕ) (used : Used) (fault : SubsFault)
+pub stations_refused : (stations : List StationData) (i : ℕ) (s : StationData) (number line : ℕ) (used : Used) (fault : SubscriptionFault)
     → i < length stations → s ≡ get_or stations i s → with_station number line s used ≡ Err fault
     → with_stations number line (drop i stations) used ≡ Err fault
 stations_refused stations i s number line used fault within here refused =
@@ -51,7 +52,7 @@ first_none : (a b : Option Key) → first_key a b ≡ None → (a ≡ None) × (
 first_none None b e = (refl, e)
 first_none (Some key) b e = absurd (none_is_some (sym e))
 
-fit_station : (station : StationData) → station_over station ≡ None → IsStationEntry station → IsFitStation station
+fit_station : (station : StationData) → station_over station ≡ None → IsStationEntry station → IsStationWithinLimits station
 fit_station station fits entry =
     let (few_lines, more) = chosen_none (nat_lt 32 (length station.lines)) keys.Line _ fits in
     let (few_groups, _) = chosen_none (nat_lt 64 (length station.groups)) keys.Group None more in
@@ -61,15 +62,15 @@ fit_station station fits entry =
       entry = entry;
     }
 
-all_fit : (stations : List StationData) → first_over stations ≡ None → All IsStationEntry stations → All IsFitStation stations
-all_fit [] fits even = All-nil IsFitStation
+all_fit : (stations : List StationData) → first_over stations ≡ None → All IsStationEntry stations → All IsStationWithinLimits stations
+all_fit [] fits even = All-nil IsStationWithinLimits
 all_fit (station ∷ stations) fits even =
     let (here, rest) = first_none (station_over station) (first_over stations) fits in
-    All-cons IsFitStation station stations (fit_station station here (All-head IsStationEntry station stations even))
+    All-cons IsStationWithinLimits station stations (fit_station station here (All-head IsStationEntry station stations even))
     (all_fit stations rest (All-tail IsStationEntry station stations even))
 
 -- a file within the limits, each of whose stations is one of a file
-pub fits : (stations : List StationData) → over_limit stations ≡ None → All IsStationEntry stations → IsFit stations
+pub fits : (stations : List StationData) → over_limit stations ≡ None → All IsStationEntry stations → AreWithinLimits stations
 fits stations within even =
     let (few, more) = chosen_none (nat_lt 256 (length stations)) keys.Station _ within in
     let (lines, rest) = chosen_none (nat_lt 512 (line_total stations)) keys.Line (first_over stations) more in
@@ -80,6 +81,6 @@ fits stations within even =
     }
 
 pub fits_as : (stations first second : List StationData) (over : Option Key) → over ≡ over_limit first → over ≡ None → first ≡ stations → second ≡ stations
-    → All IsStationEntry stations → IsFit second
+    → All IsStationEntry stations → AreWithinLimits second
 fits_as stations first second over is none one two even =
-    subst IsFit (sym two) (fits stations (ap over_limit (sym one) ∙ sym is ∙ none) even)
+    subst AreWithinLimits (sym two) (fits stations (ap over_limit (sym one) ∙ sym is ∙ none) even)

@@ -14,14 +14,15 @@ use Rattle.std.proofs.lemmas.Map.Keys.{IsDistinct-push}
 use Rattle.std.proofs.lemmas.Map.Made.{length-from_keys}
 use Rattle.xp_file.specs.declared.entry.GroupEntry.{GroupEntry}
 use Rattle.xp_file.specs.Entries.{StationData}
-use Rattle.xp_file.specs.File.{FileData}
+use Rattle.xp_file.specs.SubscriptionFile.{FileData}
 use Rattle.xp_file.specs.Name.{same}
 use Rattle.xp_subs.specs.declared.station.Membership.{Membership}
-use Rattle.xp_subs.specs.Built.{mention, mentions, group_names, group_number, IsKnown, AreKnown, memberships_of, station_from, tables_of, named_groups}
+use Rattle.xp_subs.specs.Built.{mention, mentions, group_names, group_number, memberships_of, station_from, tables_of, named_groups}
+use Rattle.xp_subs.specs.steps.Built.{IsKnown, AreKnown}
 use Rattle.xp_subs.specs.Passes.{all_differ, same_group, same_index, has_own_indexes}
 use Rattle.xp_subs.specs.Sound.{HasOwnGroups}
 use Rattle.xp_subs.specs.Tables.{Tables, group_count}
-use Rattle.xp_subs.specs.Uses.{Once}
+use Rattle.xp_subs.specs.UsedValues.{Once}
 use Rattle.xp_subs.proofs.OnceLemmas.{in_none, in_front, in_rest, in_cases, once_none, once_cons, once_distinct}
 use Rattle.xp_subs.proofs.TableLemmas.{same_is, same-itself}
 

@@ -1,13 +1,13 @@
 -- A text has one answer.
 use Rattle.std.proofs.Common.{◌≡◌, ℕ, List, [], ◌∷◌, ◌++◌, true, false, Result, Ok, Err, inl, inr, refl, sym, ap, subst, ◌∙◌}
-use Rattle.xp_file.specs.declared.fault.SubsFault.{SubsFault}
-use Rattle.xp_file.specs.declared.fault.SubsFault.TheVariants as faults
+use Rattle.xp_file.specs.declared.fault.SubscriptionFault.{SubscriptionFault}
+use Rattle.xp_file.specs.declared.fault.SubscriptionFault.TheVariants as faults
 use Rattle.xp_file.specs.Entries.{StationData}
-use Rattle.xp_file.specs.File.{FileData, file_in}
+use Rattle.xp_file.specs.SubscriptionFile.{FileData, file_in}
 use Rattle.xp_file.proofs.Choices.{none_is_some, err_is_ok}
 use Rattle.xp_subs.specs.Built.{Refuses, Accepts, SetsUp, tables_of}
 use Rattle.xp_subs.specs.Tables.{Tables}
-use Rattle.xp_subs.specs.Uses.{Use, key_of, uses_of, IsFirstAgain}
+use Rattle.xp_subs.specs.UsedValues.{Use, key_of, uses_of, IsFirstRepeated}
 
 true_is_false : true ≡ false → ⊥
 true_is_false e = cc
@@ -31,7 +31,7 @@ cuts (z ∷ before) after (w ∷ other) more x y e =
       | second more_of is_more ↦ second more_of (ap (λ v. v ∷ before) is ∙ ap (λ l. w ∷ l) is_more)
     ]
 
-one_first : (uses : List Use) (u v : Use) → IsFirstAgain uses u → IsFirstAgain uses v → u ≡ v
+one_first : (uses : List Use) (u v : Use) → IsFirstRepeated uses u → IsFirstRepeated uses v → u ≡ v
 one_first uses u v one other =
     elim (cuts one.before one.after other.before other.after u v (sym one.split ∙ other.split)) [
       | together same ↦ same
@@ -39,7 +39,7 @@ one_first uses u v one other =
       | second rest is ↦ absurd (one.once other.before v rest is other.again)
     ]
 
-refused_once : (stations : List StationData) (one other : SubsFault) → Refuses stations one → Refuses stations other → one ≡ other
+refused_once : (stations : List StationData) (one other : SubscriptionFault) → Refuses stations one → Refuses stations other → one ≡ other
 refused_once stations (faults.Limit k) (faults.Limit l) a b = let is : k ≡ l = (let e = sym a ∙ b in cc) in ap (λ x. faults.Limit x) is
 refused_once stations (faults.Limit k) (faults.TwiceUsed l) a b = absurd (none_is_some (sym b.0 ∙ a))
 refused_once stations (faults.Limit k) faults.Index a b = absurd (none_is_some (sym b.0 ∙ a))
@@ -64,7 +64,7 @@ refused_once stations faults.Index faults.Toml a b = absurd b
 refused_once stations faults.Index (faults.Field l) a b = absurd b
 refused_once stations faults.Index faults.Memory a b = absurd b
 
-accepted_or_refused : (stations : List StationData) (fault : SubsFault) → Accepts stations → Refuses stations fault → ⊥
+accepted_or_refused : (stations : List StationData) (fault : SubscriptionFault) → Accepts stations → Refuses stations fault → ⊥
 accepted_or_refused stations (faults.Limit k) a b = none_is_some (sym a.limits ∙ b)
 accepted_or_refused stations (faults.TwiceUsed k) a b = a.once b.2.before b.1 b.2.after b.2.split b.2.again
 accepted_or_refused stations faults.Index a b = true_is_false (sym a.indexes ∙ b.2)
@@ -75,7 +75,7 @@ accepted_or_refused stations faults.Memory a b = b
 same_file : (text : List ℕ) (one other : FileData) → file_in text ≡ Ok one → file_in text ≡ Ok other → one ≡ other
 same_file text one other a b = let e : Ok one ≡ Ok other = sym a ∙ b in cc
 
-pub one_answer : (text : List ℕ) (one other : Result Tables SubsFault) → SetsUp text one → SetsUp text other → one ≡ other
+pub one_answer : (text : List ℕ) (one other : Result Tables SubscriptionFault) → SetsUp text one → SetsUp text other → one ≡ other
 one_answer text (Ok one) (Ok other) (file, read, accepts, is) (file', read', accepts', is') =
     ap (λ t. Ok t) (is ∙ ap tables_of (same_file text file file' read read') ∙ sym is')
 one_answer text (Ok one) (Err fault) (file, read, accepts, is) (inl refused) = absurd (err_is_ok (sym refused ∙ read))

@@ -3,7 +3,7 @@ use Rattle.std.proofs.Common.{◌≡◌, zero, suc, List, [], ◌∷◌, ◌++�
 use Rattle.std.specs.List.{IsDistinct, AllByRecursion}
 use Rattle.std.proofs.Math.Seq.{split_at}
 use Rattle.std.proofs.lemmas.Map.Keys.{IsDistinct-head, IsDistinct-tail}
-use Rattle.xp_subs.specs.Uses.{Once}
+use Rattle.xp_subs.specs.UsedValues.{Once}
 
 module _ {A : Type 0} where
   pub in_none : (x : A) → Contains [] x → ⊥

@@ -1,13 +1,14 @@
 -- What a text sets up, from the passes over its file.
 use Rattle.std.proofs.Common.{◌≡◌, ℕ, List, true, false, Option, None, Ok, Err, inr, refl, sym, ap, subst, ◌∙◌}
 use Rattle.std.specs.List.{list_all}
-use Rattle.xp_file.specs.declared.fault.SubsFault.{SubsFault}
-use Rattle.xp_file.specs.declared.fault.SubsFault.TheVariants as faults
+use Rattle.xp_file.specs.declared.fault.SubscriptionFault.{SubscriptionFault}
+use Rattle.xp_file.specs.declared.fault.SubscriptionFault.TheVariants as faults
 use Rattle.xp_file.specs.declared.key.Key.{Key}
 use Rattle.xp_file.specs.Entries.{StationData}
-use Rattle.xp_file.specs.File.{FileData, file_in}
+use Rattle.xp_file.specs.SubscriptionFile.{FileData, file_in}
 use Rattle.xp_subs.specs.Built.{Refuses, SetsUp, tables_of}
-use Rattle.xp_subs.specs.Passes.{Used, nothing_used, over_limit, with_stations, has_own_indexes}
+use Rattle.xp_subs.specs.Passes.{over_limit, has_own_indexes}
+use Rattle.xp_subs.specs.steps.Passes.{Used, nothing_used, with_stations}
 use Rattle.xp_subs.specs.Tables.{Tables}
 use Rattle.xp_subs.proofs.UsesLemmas.{all_once, first_again}
 
@@ -17,10 +18,10 @@ module _ (text : List ℕ) (file : FileData) (read : file_in text ≡ Ok file) (
   limits : over_limit file.stations ≡ None
   limits = ap over_limit (sym one) ∙ sym is ∙ within
 
-  pub refused_twice : (fault : SubsFault) → with_stations 0 0 second nothing_used ≡ Err fault → SetsUp text (Err fault)
+  pub refused_twice : (fault : SubscriptionFault) → with_stations 0 0 second nothing_used ≡ Err fault → SetsUp text (Err fault)
   refused_twice fault e =
       let (again, this, told) = first_again file.stations fault (ap (λ l. with_stations 0 0 l nothing_used) (sym two) ∙ e) in
-      inr (file, read, let P : SubsFault → Type 0 = λ f. Refuses file.stations f in subst P (sym told) (limits, again, this, refl))
+      inr (file, read, let P : SubscriptionFault → Type 0 = λ f. Refuses file.stations f in subst P (sym told) (limits, again, this, refl))
 
   module _ (used : Used) (once : with_stations 0 0 second nothing_used ≡ Ok used) where
     used_once : with_stations 0 0 file.stations nothing_used ≡ Ok used

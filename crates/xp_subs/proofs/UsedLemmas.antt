@@ -5,7 +5,7 @@ use Rattle.std.specs.Map.{lookup}
 use Rattle.indexmap.specs.IndexMap.{insert_entry}
 use Rattle.xp_file.specs.Name.{same}
 use Rattle.xp_subs.specs.declared.target.Target.{Target}
-use Rattle.xp_subs.specs.Passes.{Used, with_address, with_name}
+use Rattle.xp_subs.specs.steps.Passes.{Used, with_address, with_name}
 
 -- a key that is not there goes last
 insert_entry-absent : {K X : Type 0} (eq : K → K → Bool) (k : K) (v : X) (es : List (K × X)) → lookup (eq k) es ≡ None → insert_entry eq es k v ≡ es ++ (k, v) ∷ []

@@ -7,8 +7,8 @@ use Rattle.std.proofs.lemmas.Bool.{eq-eqb, eqb-true}
 use Rattle.std.proofs.lemmas.List.{append-nil, map-append}
 use Rattle.std.proofs.lemmas.List.Folds.{list_any-append}
 use Rattle.xp_file.specs.declared.entry.LineEntry.{LineEntry}
-use Rattle.xp_file.specs.declared.fault.SubsFault.{SubsFault}
-use Rattle.xp_file.specs.declared.fault.SubsFault.TheVariants as faults
+use Rattle.xp_file.specs.declared.fault.SubscriptionFault.{SubscriptionFault}
+use Rattle.xp_file.specs.declared.fault.SubscriptionFault.TheVariants as faults
 use Rattle.xp_file.specs.Entries.{StationData}
 use Rattle.xp_file.specs.Name.{same}
 use Rattle.xp_file.specs.Reading.{◌>>=◌}
@@ -16,8 +16,8 @@ use Rattle.xp_file.proofs.Choices.{err_is_ok}
 use Rattle.xp_subs.specs.declared.line.Line.{Line}
 use Rattle.xp_subs.specs.declared.target.Target.{Target}
 use Rattle.xp_subs.specs.Built.{lines_of, lines_from}
-use Rattle.xp_subs.specs.Passes.{Used, nothing_used, with_address, with_name, with_names, with_port, with_ports, with_own, with_addresses, with_station, with_stations}
-use Rattle.xp_subs.specs.Uses.{Use, address, name, port, key_of, own_use, own_uses, uses_of_station, uses_of, Once, IsFirstAgain}
+use Rattle.xp_subs.specs.steps.Passes.{Used, nothing_used, with_address, with_name, with_names, with_port, with_ports, with_own, with_addresses, with_station, with_stations}
+use Rattle.xp_subs.specs.UsedValues.{Use, address, name, port, key_of, own_use, own_uses, uses_of_station, uses_of, Once, IsFirstRepeated}
 use Rattle.xp_subs.proofs.AgreeLemmas.{address_is_new, name_is_new}
 use Rattle.xp_subs.proofs.OnceLemmas.{in_none, in_front, in_rest, in_cases, in_left, in_right, in_parts, once_none, once_head, once_tail, once_cons, once_push}
 use Rattle.xp_subs.proofs.PositionLemmas.{or_last, lookup-push}
@@ -64,7 +64,7 @@ pub record Enters (used more : Used) (u : Use) : Type 0 where
   pub new : has used u ≡ false
   pub more_has : (v : Use) → has more v ≡ (has used v || same_use v u)
 
-pub record Refuses (used : Used) (fault : SubsFault) (u : Use) : Type 0 where
+pub record Refuses (used : Used) (fault : SubscriptionFault) (u : Use) : Type 0 where
   pub again : has used u ≡ true
   pub key : fault ≡ faults.TwiceUsed (key_of u)
 
@@ -97,7 +97,7 @@ marks_more used more done u marks enters = record {
     known v (inr here) = last v (in_cases u v [] here)
 
 -- what is used is told: all of it, or the first that is used again
-pub record Twice (done uses : List Use) (fault : SubsFault) : Type 0 where
+pub record Twice (done uses : List Use) (fault : SubscriptionFault) : Type 0 where
   pub use_again : Use
   pub before : List Use
   pub after : List Use
@@ -106,11 +106,11 @@ pub record Twice (done uses : List Use) (fault : SubsFault) : Type 0 where
   pub again : Contains (done ++ before) use_again
   pub key : fault ≡ faults.TwiceUsed (key_of use_again)
 
-pub Leads : List Use → List Use → Result Used SubsFault → Type 0
+pub Leads : List Use → List Use → Result Used SubscriptionFault → Type 0
 Leads done uses (Ok last) = Marks last (done ++ uses)
 Leads done uses (Err fault) = Twice done uses fault
 
-leads_on : (done uses more : List Use) (r : Result Used SubsFault) → Leads (done ++ uses) more r → Leads done (uses ++ more) r
+leads_on : (done uses more : List Use) (r : Result Used SubscriptionFault) → Leads (done ++ uses) more r → Leads done (uses ++ more) r
 unfolding Leads
 leads_on done uses more (Ok last) marks = subst (Marks last) (append_assoc done uses more) marks
 leads_on done uses more (Err fault) twice = record {
@@ -123,7 +123,7 @@ leads_on done uses more (Err fault) twice = record {
   key = twice.key;
 }
 
-leads_then : (done uses more : List Use) (r : Result Used SubsFault) (next : Used → Result Used SubsFault) → Leads done uses r
+leads_then : (done uses more : List Use) (r : Result Used SubscriptionFault) (next : Used → Result Used SubscriptionFault) → Leads done uses r
     → ((mid : Used) → Marks mid (done ++ uses) → Leads (done ++ uses) more (next mid)) → Leads done (uses ++ more) (r >>= next)
 unfolding Leads
 leads_then done uses more (Ok mid) next marks then = leads_on done uses more (next mid) (then mid marks)
@@ -138,8 +138,8 @@ leads_then done uses more (Err fault) next twice then = record {
 }
 
 -- one use
-leads_one : (done : List Use) (used : Used) (u : Use) (r : Result Used SubsFault) → Marks used done
-    → ((more : Used) → r ≡ Ok more → Enters used more u) → ((fault : SubsFault) → r ≡ Err fault → Refuses used fault u) → Leads done (u ∷ []) r
+leads_one : (done : List Use) (used : Used) (u : Use) (r : Result Used SubscriptionFault) → Marks used done
+    → ((more : Used) → r ≡ Ok more → Enters used more u) → ((fault : SubscriptionFault) → r ≡ Err fault → Refuses used fault u) → Leads done (u ∷ []) r
 unfolding Leads
 leads_one done used u (Ok more) marks enters refuses = marks_more used more done u marks (enters more refl)
 leads_one done used u (Err fault) marks enters refuses =
@@ -181,7 +181,7 @@ address_leads done used target a marks = leads_one done used (address a) (with_a
         by (name n) = or-false-again (is_some (lookup (same n) used.names))
         by (port p) = or-false-again (list_any (nat_eq p) used.ports)
 
-    refuses : (fault : SubsFault) → with_address target a used ≡ Err fault → (o : Option Target) → lookup (same a) used.targets ≡ o → Refuses used fault (address a)
+    refuses : (fault : SubscriptionFault) → with_address target a used ≡ Err fault → (o : Option Target) → lookup (same a) used.targets ≡ o → Refuses used fault (address a)
     refuses fault e None none = let never : Ok (record used { targets = used.targets ++ (a, target) ∷ [] }) ≡ Err fault = rw none at e in absurd (err_is_ok (sym never))
     refuses fault e (Some x) here =
         let made : Err (faults.TwiceUsed (key_of (address a))) ≡ Err fault = rw here at e in
@@ -204,7 +204,7 @@ name_leads done used line n marks = leads_one done used (name n) (with_name line
         by (address a) = or-false-again (is_some (lookup (same a) used.targets))
         by (port p) = or-false-again (list_any (nat_eq p) used.ports)
 
-    refuses : (fault : SubsFault) → with_name line n used ≡ Err fault → (o : Option ℕ) → lookup (same n) used.names ≡ o → Refuses used fault (name n)
+    refuses : (fault : SubscriptionFault) → with_name line n used ≡ Err fault → (o : Option ℕ) → lookup (same n) used.names ≡ o → Refuses used fault (name n)
     refuses fault e None none = let never : Ok (record used { names = used.names ++ (n, line) ∷ [] }) ≡ Err fault = rw none at e in absurd (err_is_ok (sym never))
     refuses fault e (Some x) here =
         let made : Err (faults.TwiceUsed (key_of (name n))) ≡ Err fault = rw here at e in
@@ -226,7 +226,7 @@ port_leads done used p marks = leads_one done used (port p) (with_port p used) m
         let is : more ≡ record used { ports = used.ports ++ p ∷ [] } = cc in
         record { new = none; more_has = λ v. ap (λ m. has m v) is ∙ by v }
 
-    refuses : (fault : SubsFault) → with_port p used ≡ Err fault → (b : Bool) → list_any (nat_eq p) used.ports ≡ b → Refuses used fault (port p)
+    refuses : (fault : SubscriptionFault) → with_port p used ≡ Err fault → (b : Bool) → list_any (nat_eq p) used.ports ≡ b → Refuses used fault (port p)
     refuses fault e false none = let never : Ok (record used { ports = used.ports ++ p ∷ [] }) ≡ Err fault = rw none at e in absurd (err_is_ok (sym never))
     refuses fault e true here =
         let made : Err (faults.TwiceUsed (key_of (port p))) ≡ Err fault = rw here at e in
@@ -305,8 +305,8 @@ all_once stations used e =
     leads.once
 
 -- or the first that is used again is told
-pub first_again : (stations : List StationData) (fault : SubsFault) → with_stations 0 0 stations nothing_used ≡ Err fault
-    → (u : Use) × IsFirstAgain (uses_of stations) u × (fault ≡ faults.TwiceUsed (key_of u))
+pub first_again : (stations : List StationData) (fault : SubscriptionFault) → with_stations 0 0 stations nothing_used ≡ Err fault
+    → (u : Use) × IsFirstRepeated (uses_of stations) u × (fault ≡ faults.TwiceUsed (key_of u))
 unfolding Leads
 first_again stations fault e =
     let leads : Leads [] (uses_of stations) (Err fault) = subst (Leads [] (uses_of stations)) e (stations_lead stations [] nothing_used 0 0 nothing_marked) in

@@ -1,45 +1,45 @@
--- The tables that a subscription file sets up.
+-- The tables that are built from a subscription file.
 use Rattle.std.specs.Prelude.{◌≡◌, ◌⊎◌, ℕ, ◌<◌, All, true, false, zero, suc, ◌+◌, List, [], ◌∷◌, ◌++◌, Result, Ok, Err, None, Some, fold, length, map, if◌then◌else◌}
 use Rattle.std.specs.List.{list_any, list_all, position_or_len}
 use Rattle.xp_file.specs.declared.entry.GroupEntry.{GroupEntry}
 use Rattle.xp_file.specs.declared.entry.LineEntry.{LineEntry}
-use Rattle.xp_file.specs.declared.fault.SubsFault.{SubsFault}
-use Rattle.xp_file.specs.declared.fault.SubsFault.TheVariants as faults
+use Rattle.xp_file.specs.declared.fault.SubscriptionFault.{SubscriptionFault}
+use Rattle.xp_file.specs.declared.fault.SubscriptionFault.TheVariants as faults
 use Rattle.xp_file.specs.Entries.{StationData}
-use Rattle.xp_file.specs.File.{FileData, file_in}
+use Rattle.xp_file.specs.SubscriptionFile.{FileData, file_in}
 use Rattle.xp_file.specs.Name.{same}
 use Rattle.xp_subs.specs.declared.line.Line.{Line}
 use Rattle.xp_subs.specs.declared.station.Membership.{Membership}
 use Rattle.xp_subs.specs.declared.station.Station.{Station}
 use Rattle.xp_subs.specs.Passes.{over_limit, has_own_indexes}
 use Rattle.xp_subs.specs.Tables.{Tables}
-use Rattle.xp_subs.specs.Uses.{Use, key_of, uses_of, Once, IsFirstAgain}
+use Rattle.xp_subs.specs.UsedValues.{Use, key_of, uses_of, Once, IsFirstRepeated}
 
--- so many numbers from the first on
+-- `count` numbers, from `first` on
 abbrev pub numbers : ℕ → ℕ → List ℕ
 numbers first zero = []
 numbers first (suc count) = first ∷ numbers (first + 1) count
 
--- a line of the station of this number
+-- a line of the station with this number
 abbrev pub line_from : ℕ → LineEntry → Line
 line_from station line = record { name = line.name; port = line.port; address = line.address; station = station }
 
 abbrev pub lines_of : ℕ → List LineEntry → List Line
 lines_of station lines = map (line_from station) lines
 
--- the lines of the stations, the first of which has this number
+-- the lines of the stations; the first station has this number
 abbrev pub lines_from : ℕ → List StationData → List Line
 lines_from number [] = []
 lines_from number (station ∷ stations) = lines_of number station.lines ++ lines_from (number + 1) stations
 
--- a name that is new comes last
+-- a new name is added at the end
 abbrev pub mention : List (List ℕ) → List ℕ → List (List ℕ)
 mention known name = if list_any (same name) known then known else known ++ name ∷ []
 
 abbrev pub group_names : List GroupEntry → List (List ℕ)
 group_names groups = map (λ (group : GroupEntry). group.name) groups
 
--- the names of groups, each where it is first mentioned
+-- the names of groups, in the order in which they are first mentioned
 abbrev pub mentions : List (List ℕ) → List StationData → List (List ℕ)
 mentions known [] = known
 mentions known (station ∷ stations) = mentions (fold mention known (group_names station.groups)) stations
@@ -49,16 +49,9 @@ abbrev pub named_groups : List StationData → List (List ℕ)
 named_groups [] = []
 named_groups (station ∷ stations) = group_names station.groups ++ named_groups stations
 
--- a group's number is the place of its name among these
+-- a group's number: the place of its name in the list
 abbrev pub group_number : List (List ℕ) → List ℕ → ℕ
 group_number known name = position_or_len (same name) known
-
--- the groups whose names are among these
-abbrev pub IsKnown : List (List ℕ) → GroupEntry → Type 0
-IsKnown known group = group_number known group.name < length known
-
-abbrev pub AreKnown : List (List ℕ) → StationData → Type 0
-AreKnown known station = All (IsKnown known) station.groups
 
 abbrev pub membership_from : List (List ℕ) → GroupEntry → Membership
 membership_from known group = record {
@@ -71,7 +64,7 @@ membership_from known group = record {
 abbrev pub memberships_of : List (List ℕ) → List GroupEntry → List Membership
 memberships_of known groups = map (membership_from known) groups
 
--- a station whose first line has this number
+-- a station whose first line has the number `line`
 abbrev pub station_from : List (List ℕ) → ℕ → StationData → Station
 station_from known line entry = record {
   address = entry.address;
@@ -82,7 +75,7 @@ station_from known line entry = record {
   redirect = entry.redirect;
 }
 
--- the stations in order, the lines numbered from this number on
+-- the stations in order; their lines are numbered from `line` on
 abbrev pub stations_from : List (List ℕ) → ℕ → List StationData → List Station
 stations_from known line [] = []
 stations_from known line (station ∷ stations) =
@@ -98,10 +91,10 @@ tables_of file = record {
   host = file.host;
 }
 
--- the first refusal of stations whose values are read: a limit, a value that is used again, an index
-abbrev pub Refuses : List StationData → SubsFault → Type 0
+-- The first fault of stations whose keys have been read: a limit, a value that is used twice, or an index.
+abbrev pub Refuses : List StationData → SubscriptionFault → Type 0
 Refuses stations (faults.Limit key) = over_limit stations ≡ Some key
-Refuses stations (faults.TwiceUsed key) = (over_limit stations ≡ None) × (again : Use) × IsFirstAgain (uses_of stations) again × (key ≡ key_of again)
+Refuses stations (faults.TwiceUsed key) = (over_limit stations ≡ None) × (again : Use) × IsFirstRepeated (uses_of stations) again × (key ≡ key_of again)
 Refuses stations faults.Index = (over_limit stations ≡ None) × Once (uses_of stations) × (list_all has_own_indexes stations ≡ false)
 Refuses stations _ = ⊥
 
@@ -110,7 +103,7 @@ pub record Accepts (stations : List StationData) : Type 0 where
   pub once : Once (uses_of stations)
   pub indexes : list_all has_own_indexes stations ≡ true
 
--- what a text sets up, or its first refusal: of its values, or of the stations
-abbrev pub SetsUp : List ℕ → Result Tables SubsFault → Type 0
+-- The tables of a text, or its first fault: of its values, or of the stations.
+abbrev pub SetsUp : List ℕ → Result Tables SubscriptionFault → Type 0
 SetsUp text (Ok tables) = (file : FileData) × (file_in text ≡ Ok file) × Accepts file.stations × (tables ≡ tables_of file)
 SetsUp text (Err fault) = (file_in text ≡ Err fault) ⊎ ((file : FileData) × (file_in text ≡ Ok file) × Refuses file.stations fault)

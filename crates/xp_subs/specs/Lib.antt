@@ -1,8 +1,8 @@
 pub mod Built
-pub mod Fit
-pub mod Kept
+pub mod Consistency
+pub mod Laws
 pub mod Passes
 pub mod Sound
 pub mod Tables
-pub mod Uses
-pub mod Laws
+pub mod UsedValues
+pub mod steps

@@ -1,4 +1,4 @@
--- What holds of all subscription tables.
+-- What holds of the tables of all subscriptions.
 use Rattle.std.specs.Prelude.{◌≡◌, ℕ, ◌<◌, ◌≤◌, List, Option, None, Some, Contains, All, IsTrue, map}
 use Rattle.xp_file.specs.Entries.{AreLimits}
 use Rattle.xp_subs.specs.declared.line.Line.{Line}
@@ -7,59 +7,60 @@ use Rattle.xp_subs.specs.declared.station.Station.{Station}
 use Rattle.xp_subs.specs.declared.target.Target.{Target}
 use Rattle.xp_file.specs.Name.{is_line_name}
 use Rattle.xp_subs.specs.Tables.{Tables, station_count, line_count, station_at, line_at, station_of, target_of, line_named_of, group_count}
-use Rattle.xp_subs.specs.Uses.{Once}
+use Rattle.xp_subs.specs.UsedValues.{Once}
 
--- the line is one of the station's
+-- the line is in the station's list of lines
 abbrev pub Lists : Tables → ℕ → ℕ → Type 0
 Lists tables station line = Contains (station_at tables station).lines.items line
 
--- the target is a station that there is, or one line of it
+-- the target is an existing station, or one of its lines
 abbrev pub IsTarget : Tables → Target → Type 0
 IsTarget tables target = (target.station < station_count tables) × one target.line where
   one : Option ℕ → Type 0
   one None = Unit {0}
   one (Some line) = (line < line_count tables) × (station_of tables line ≡ target.station)
 
--- the station, or the one line of it, has this address as its own
+-- the target's station, or its one line, has this address as its own
 abbrev pub HasAddress : Tables → Target → List ℕ → Type 0
 HasAddress tables target address = one target.line where
   one : Option ℕ → Type 0
   one None = (station_at tables target.station).address ≡ address
   one (Some line) = (line_at tables line).address ≡ Some address
 
--- a station selects each of its groups by a number of at most four digits
+-- the index of each of the station's groups has at most four digits
 abbrev pub HasShortIndexes : Station → Type 0
 HasShortIndexes station = All (λ (membership : Membership). membership.index ≤ 9_999) station.memberships.items
 
--- the indexes by which it selects its groups, and the groups
+-- the indexes of the station's groups, and the groups
 abbrev pub indexes_of : Station → List ℕ
 indexes_of station = map (λ (membership : Membership). membership.index) station.memberships.items
 
 abbrev pub groups_of : Station → List ℕ
 groups_of station = map (λ (membership : Membership). membership.group) station.memberships.items
 
--- it has no index and no group twice, each group has a name, and its preferential index is one of its indexes
+-- The station has each index and each group only once. Each group has a name. The preferential index is one of its
+-- indexes.
 pub record HasOwnGroups (tables : Tables) (station : Station) : Type 0 where
   pub indexes_once : Once (indexes_of station)
   pub groups_once : Once (groups_of station)
   pub groups_named : All (λ group. group < group_count tables) (groups_of station)
   pub preferential : (index : ℕ) → station.preferential ≡ Some index → Contains (indexes_of station) index
 
--- a port that there is
+-- a valid TCP port
 abbrev pub IsPort : ℕ → Type 0
 IsPort port = (1 ≤ port) × (port ≤ 65_535)
 
 pub record IsSound (tables : Tables) : Type 0 where
-  -- at least one line, at most 512, in at most 256 stations
+  -- there is at least one line; there are at most 512 lines and 256 stations
   pub some_line : 0 < line_count tables
   pub few_lines : line_count tables ≤ 512
   pub few_stations : station_count tables ≤ 256
-  -- a line is one of its station's, and no other station's
+  -- a line is in the list of its own station, and in no other station's list
   pub placed : (line : ℕ) → line < line_count tables → station_of tables line < station_count tables
   pub listed : (line : ℕ) → line < line_count tables → Lists tables (station_of tables line) line
   pub own : (station line : ℕ) → station < station_count tables → Lists tables station line
       → (line < line_count tables) × (station_of tables line ≡ station)
-  -- no address and no name is used twice: each leads to where it stands
+  -- no address and no name is used twice: each is found, and belongs to one station or line
   pub station_found : (station : ℕ) → station < station_count tables
       → target_of tables (station_at tables station).address ≡ Some (record { station = station; line = None })
   pub line_found : (line : ℕ) (address : List ℕ) → line < line_count tables
@@ -67,19 +68,19 @@ pub record IsSound (tables : Tables) : Type 0 where
       → target_of tables address ≡ Some (record { station = station_of tables line; line = Some line })
   pub named : (line : ℕ) → line < line_count tables
       → line_named_of tables (line_at tables line).name ≡ Some line
-  -- and nowhere else
+  -- nothing else is found by an address or a name
   pub target : (address : List ℕ) (target : Target) → target_of tables address ≡ Some target → IsTarget tables target
   pub address_held : (address : List ℕ) (target : Target) → target_of tables address ≡ Some target → HasAddress tables target address
   pub name_held : (name : List ℕ) (line : ℕ) → line_named_of tables name ≡ Some line
       → (line < line_count tables) × ((line_at tables line).name ≡ name)
   pub indexes : (station : ℕ) → station < station_count tables → HasShortIndexes (station_at tables station)
-  -- of its own groups a station has each once; no two groups have one name, so that equal numbers are equal names
+  -- a station is in a group only once; no two groups have the same name, so equal group numbers mean equal names
   pub own_groups : (station : ℕ) → station < station_count tables → HasOwnGroups tables (station_at tables station)
   pub names_of_groups : Once tables.groups
-  -- no two lines have one port
+  -- no two lines have the same port
   pub ports : (line : ℕ) → line < line_count tables → IsPort (line_at tables line).port
   pub ports_once : Once (map (λ (line : Line). line.port) tables.lines)
-  -- the limits to segments and entries are in their ranges
+  -- the limits of segments and of history entries are in their ranges
   pub limits : AreLimits tables.segment_limit tables.journal
-  -- each name is one that a line may have
+  -- each line has a valid name
   pub spelled : (line : ℕ) → line < line_count tables → IsTrue (is_line_name (line_at tables line).name)

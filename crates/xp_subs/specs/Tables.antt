@@ -1,4 +1,4 @@
--- The subscription tables, and what is read off them.
+-- The subscription tables, and the functions that read them.
 pub use Rattle.xp_file.specs.Name.{same}
 use Rattle.std.specs.Prelude.{ℕ, List, [], Bool, false, Option, None, Some, unwrap_or, length, position, slice_index_or}
 use Rattle.xp_subs.specs.declared.line.Line.{Line}
@@ -20,7 +20,7 @@ station_count tables = length tables.stations
 abbrev pub line_count : Tables → ℕ
 line_count tables = length tables.lines
 
--- what stands for a station or a line that there is not
+-- the result for the number of a station or a line that does not exist
 abbrev pub no_station : Station
 no_station = record {
   address = [];
@@ -47,11 +47,11 @@ station_at tables number = slice_index_or tables.stations number no_station
 abbrev pub line_at : Tables → ℕ → Line
 line_at tables number = slice_index_or tables.lines number no_line
 
--- a line's station
+-- the number of a line's station
 abbrev pub station_of : Tables → ℕ → ℕ
 station_of tables number = (line_at tables number).station
 
--- a line's own address, else its station's
+-- a line's own address if it has one, otherwise its station's
 abbrev pub address_of : Tables → ℕ → List ℕ
 address_of tables number =
     unwrap_or (line_at tables number).address (station_at tables (station_of tables number)).address
@@ -63,11 +63,11 @@ holds address (Some held) = same address held
 abbrev pub has_address : List ℕ → Line → Bool
 has_address address line = holds address line.address
 
--- the first line of this name
+-- the first line with this name
 abbrev pub line_named_of : Tables → List ℕ → Option ℕ
 line_named_of tables name = position (λ line. same name line.name) tables.lines
 
--- a station with all its lines, and one line
+-- a target that is a whole station, and one that is a single line
 abbrev pub whole_station : Option ℕ → Option Target
 whole_station None = None
 whole_station (Some station) = Some (record { station = station; line = None })
@@ -81,7 +81,7 @@ abbrev pub first_target : Option Target → Option Target → Option Target
 first_target None other = other
 first_target (Some target) other = Some target
 
--- what an address leads to: the station of this address, else the line
+-- the target of an address: the station with this address, otherwise the line
 abbrev pub target_of : Tables → List ℕ → Option Target
 target_of tables address =
     first_target

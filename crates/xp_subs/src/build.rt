@@ -1,7 +1,8 @@
-//! The tables that a subscription file sets up.
+//! Builds the tables of a subscription file.
 ghost use Rattle.std.specs.Prelude.{◌≡◌, ◌≤◌, ◌<◌, ◌+◌, ◌++◌, [], All, IfOk, OnOk, length, fold};
-ghost use Rattle.xp_subs.specs.Built.{numbers, line_from, lines_of, lines_from, mention, mentions, group_names, group_number, membership_from, memberships_of, station_from, stations_from, IsKnown, AreKnown};
-ghost use Rattle.xp_subs.specs.Fit.{IsFit, IsFitStation};
+ghost use Rattle.xp_subs.specs.Built.{numbers, line_from, lines_of, lines_from, mention, mentions, group_names, group_number, membership_from, memberships_of, station_from, stations_from};
+ghost use Rattle.xp_subs.specs.steps.Built.{IsKnown, AreKnown};
+ghost use Rattle.xp_subs.specs.steps.WithinLimits.{AreWithinLimits, IsStationWithinLimits};
 
 use crate::limits::{MAX_GROUPS_OF_STATION, MAX_LINES_OF_STATION};
 use crate::line::Line;
@@ -12,12 +13,12 @@ use indexmap::IndexSet;
 use std::alloc::{AllocError, Global};
 use xp_file::{GroupEntry, LineEntry, Name, StationEntry};
 
-/// The names of the groups, each where it is first mentioned.
+/// The names of the groups, in the order in which the file first mentions them.
 pub(crate) fn group_names(
     alloc: Global,
     entries: &[StationEntry],
 ) -> Result<IndexSet<Name>, AllocError>
-    requires { IsFit entries.now }
+    requires { AreWithinLimits entries.now }
     ensures names { IfOk result (λ known. known.keys ≡ mentions [] entries.now) }
     ensures few { IfOk result (λ known. length known.keys ≤ 16384) }
 {
@@ -46,13 +47,13 @@ fn mention(known: &mut IndexSet<Name>, name: &Name) -> Result<(), AllocError>
     Ok(())
 }
 
-/// The stations, their lines numbered in order.
+/// The stations. Their lines are numbered in the order of the file.
 pub(crate) fn stations(
     alloc: Global,
     entries: &[StationEntry],
     known: &IndexSet<Name>,
 ) -> Result<Vec<Station>, AllocError>
-    requires fit { IsFit entries.now }
+    requires fit { AreWithinLimits entries.now }
     requires known { length known.now.keys ≤ 16384 }
     requires mentioned { All (AreKnown known.now.keys) entries.now }
     ensures { IfOk result (λ stations. stations.items ≡ stations_from known.now.keys 0 entries.now) }
@@ -67,7 +68,7 @@ pub(crate) fn stations(
 }
 
 fn station(entry: &StationEntry, first: LineNo, known: &IndexSet<Name>) -> Station
-    requires fit { IsFitStation entry.now }
+    requires fit { IsStationWithinLimits entry.now }
     requires lines { first + length entry.now.lines ≤ 512 }
     requires known { length known.now.keys ≤ 16384 }
     requires mentioned { AreKnown known.now.keys entry.now }
@@ -124,7 +125,7 @@ fn membership(group: &GroupEntry, known: &IndexSet<Name>) -> Membership
     }
 }
 
-/// The place of a group's name among those known, which have it.
+/// The number of a group: the place of its name in `known`, which contains it.
 fn group_number(known: &IndexSet<Name>, name: &Name) -> GroupNo
     requires few { length known.now.keys ≤ 16384 }
     requires mentioned { group_number known.now.keys name.now < length known.now.keys }
@@ -133,9 +134,9 @@ fn group_number(known: &IndexSet<Name>, name: &Name) -> GroupNo
     known.get_index_of(name).unwrap() as GroupNo
 }
 
-/// The lines of all stations in order.
+/// The lines of all stations, in the order of the file.
 pub(crate) fn lines(alloc: Global, entries: &[StationEntry]) -> Result<Vec<Line>, AllocError>
-    requires { IsFit entries.now }
+    requires { AreWithinLimits entries.now }
     ensures { IfOk result (λ lines. lines.items ≡ lines_from 0 entries.now) }
 {
     let mut lines = Vec::new(alloc);

@@ -6,7 +6,8 @@ ghost use Rattle.xp_subs.specs.Passes.{all_differ, same_index, same_group, has_o
 
 use xp_file::{GroupEntry, Name, StationEntry};
 
-/// Whether no station has an index or a group twice, or a preferential index that is none of its own.
+/// Whether every station has each index and each group only once, and a preferential index that is one of its
+/// indexes.
 pub(crate) fn all_have_own_indexes(stations: &[StationEntry]) -> bool
     ensures { result ≡ list_all has_own_indexes stations.now }
 {
@@ -29,7 +30,7 @@ fn has_index(groups: &[GroupEntry], index: u16) -> bool
     groups.iter().any(|group| group.index == index)
 }
 
-/// Whether no two indexes are equal. A station has few enough groups for a search.
+/// Whether no two indexes are equal. A station has few groups, so comparing all pairs is fast enough.
 fn indexes_differ(groups: &[GroupEntry]) -> bool
     ensures { result ≡ all_differ same_index groups.now }
 {

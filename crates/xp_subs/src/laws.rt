@@ -1,8 +1,8 @@
-//! What holds of all subscription files: laws of the definitions that the contracts cite.
+//! Laws of all subscription files, over the definitions that the contracts cite.
 ghost use Rattle.xp_subs.specs.Laws.{OneAnswer};
 
-/// A text sets up one set of tables or has one first refusal, so `Subs::read` answers each refusal exactly where its
-/// condition holds, or that memory ran out.
+/// A text has only one result: a set of tables, or a first fault. So `Subs::read` returns each fault exactly where
+/// its condition holds, unless it is out of memory.
 pub fn one_answer()
     ensures { OneAnswer }
 {}

@@ -10,20 +10,20 @@ mod read;
 mod station;
 mod subs;
 mod target;
-mod used;
+mod used_values;
 
 pub use laws::one_answer;
 pub use line::Line;
 pub use station::{Membership, Station};
 pub use subs::Subs;
 pub use target::{Counts, Target};
-pub use xp_file::{Facilities, Key, Name, Redirection, SubsFault};
+pub use xp_file::{Facilities, Key, Name, Redirection, SubscriptionFault};
 
-/// The number of a line, from 0 in the file's order.
+/// The number of a line: from 0, in the order of the file.
 pub type LineNo = u16;
 
-/// The number of a station, from 0 in the file's order.
+/// The number of a station: from 0, in the order of the file.
 pub type StationNo = u16;
 
-/// The number of a closed user group, from 0 in the order in which the file first names the groups.
+/// The number of a closed user group: from 0, in the order in which the file first names the groups.
 pub type GroupNo = u16;

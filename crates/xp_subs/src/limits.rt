@@ -13,7 +13,7 @@ pub(crate) const MAX_LINES_OF_STATION: usize = 32;
 /// The most groups of a station.
 pub(crate) const MAX_GROUPS_OF_STATION: usize = 64;
 
-/// The first limit that the stations pass.
+/// The key of the first limit that the stations exceed.
 pub(crate) fn over_limit(stations: &[StationEntry]) -> Option<Key>
     ensures { result ≡ over_limit stations.now }
 {

@@ -6,9 +6,9 @@ use xp_packets::Digits;
 #[derive(Debug, Drop, PartialEq)]
 pub struct Line {
     pub name: Name,
-    /// The port on which the exchange listens for this line, 1 to 65,535.
+    /// The TCP port on which the exchange listens for this line, 1 to 65,535.
     pub port: u16,
-    /// The line's own address, beside its station's.
+    /// The line's own address, if it has one in addition to its station's.
     pub address: Option<Digits>,
     pub station: StationNo,
 }

@@ -4,12 +4,12 @@ use arrayvec::ArrayVec;
 use xp_file::{Facilities, Redirection};
 use xp_packets::Digits;
 
-/// A station's membership of a closed user group, with the calls that are barred to it there (X.25 clauses 6.14.1,
-/// 6.14.4 and 6.14.5).
+/// A station's membership of a closed user group, and whether calls within the group are barred to it (X.25 clauses
+/// 6.14.1, 6.14.4 and 6.14.5).
 #[derive(Clone, Copy, Debug, Default, PartialEq, Eq)]
 pub struct Membership {
     pub group: GroupNo,
-    /// The number by which the station selects the group, 0 to 9,999.
+    /// The index by which the station selects the group, 0 to 9,999.
     pub index: u16,
     /// Outgoing calls barred within the group.
     pub outgoing_barred: bool,
@@ -17,19 +17,19 @@ pub struct Membership {
     pub incoming_barred: bool,
 }
 
-/// A station with the optional facilities to which it subscribes (X.25 clause 6).
+/// A station with the optional facilities that it has subscribed to (X.25 clause 6).
 #[derive(Debug, Drop, PartialEq)]
 pub struct Station {
-    /// 1 to 15 digits.
+    /// The address, 1 to 15 digits.
     pub address: Digits,
-    /// Its lines in order, at least one.
+    /// Its lines in the order of the file, at least one.
     pub lines: ArrayVec<LineNo, MAX_LINES_OF_STATION>,
-    /// The facilities to which it subscribes.
+    /// The facilities that it has subscribed to.
     pub facilities: Facilities,
-    /// The index of the preferential group, one of the memberships'.
+    /// The index of the preferential group. It is the index of one of the memberships.
     pub preferential: Option<u16>,
     /// Its closed user groups.
     pub memberships: ArrayVec<Membership, MAX_GROUPS_OF_STATION>,
-    /// Where its calls are redirected (X.25 clause 6.25.1), if they are.
+    /// Where its calls are redirected, if they are (X.25 clause 6.25.1).
     pub redirect: Option<Redirection>,
 }

@@ -11,7 +11,7 @@ use std::marker::Model;
 use xp_file::Name;
 use xp_packets::Digits;
 
-/// The subscriptions of an exchange: which stations there are, with which lines, facilities and groups.
+/// The subscriptions of an exchange: its stations, with their lines, facilities and groups.
 #[derive(Drop)]
 pub struct Subs {
     pub(crate) stations: Vec<Station>,
@@ -25,18 +25,19 @@ pub struct Subs {
 }
 
 impl Model for Subs {
-    ghost use Rattle.xp_subs.specs.Kept.{tables, Keeps};
+    ghost use Rattle.xp_subs.specs.Consistency.{tables};
+    ghost use Rattle.xp_subs.specs.steps.Consistency.{IsConsistent};
     ghost use Rattle.xp_subs.specs.Tables.{Tables};
 
     ghost Value = { Tables };
 
     ghost view = { tables };
 
-    ghost invariant = { Keeps };
+    ghost invariant = { IsConsistent };
 }
 
 impl Subs {
-    /// The line or the station of this address.
+    /// The station or the line with this address.
     pub fn find(&self, address: &Digits) -> Option<Target>
         ensures found { result ≡ target_of self.now address.now }
         ensures target { IfSome result (IsTarget self.now) }
@@ -44,7 +45,7 @@ impl Subs {
         self.targets.get(address).copied()
     }
 
-    /// The line of this name.
+    /// The line with this name.
     pub fn line_named(&self, name: &str) -> Option<LineNo>
         ensures found { result ≡ line_named_of self.now name.now }
         ensures line { IfSome result (λ line. line < line_count self.now) }
@@ -52,7 +53,7 @@ impl Subs {
         self.names.get(&Name::of_line(name)?).copied()
     }
 
-    /// A station with all to which it subscribes.
+    /// The station with this number.
     pub fn station(&self, station: StationNo) -> &Station
         requires { station < station_count self.now }
         ensures { result.now ≡ station_at self.now station }
@@ -60,7 +61,7 @@ impl Subs {
         &self.stations[usize::from(station)]
     }
 
-    /// A line.
+    /// The line with this number.
     pub fn line(&self, line: LineNo) -> &Line
         requires { line < line_count self.now }
         ensures line { result.now ≡ line_at self.now line }
@@ -69,7 +70,7 @@ impl Subs {
         &self.lines[usize::from(line)]
     }
 
-    /// The station of a line.
+    /// The number of a line's station.
     pub fn station_of(&self, line: LineNo) -> StationNo
         requires { line < line_count self.now }
         ensures station { result ≡ station_of self.now line }
@@ -78,7 +79,7 @@ impl Subs {
         self.line(line).station
     }
 
-    /// The line's own address, else its station's.
+    /// The line's own address if it has one, otherwise its station's.
     pub fn address_of(&self, line: LineNo) -> &Digits
         requires { line < line_count self.now }
         ensures { result.now ≡ address_of self.now line }
@@ -106,7 +107,7 @@ impl Subs {
         self.line(line).port
     }
 
-    /// How many stations, lines and groups there are. The contract also says what holds of all subscriptions.
+    /// The number of stations, lines and groups. The contract also says what holds of all subscriptions.
     pub fn counts(&self) -> Counts
         ensures stations { result.stations ≡ station_count self.now }
         ensures lines { result.lines ≡ line_count self.now }
@@ -120,14 +121,14 @@ impl Subs {
         }
     }
 
-    /// The greatest number of segments that a call may have in one direction, 1 to 99,999,999.
+    /// The most segments that a call may have in one direction, 1 to 99,999,999.
     pub fn segment_limit(&self) -> u32
         ensures { result ≡ self.now.segment_limit }
     {
         self.segment_limit
     }
 
-    /// The greatest number of entries that the history may have, 4 to 10,000,000.
+    /// The most entries that the history may have, 4 to 10,000,000.
     pub fn journal(&self) -> u32
         ensures { result ≡ self.now.journal }
     {

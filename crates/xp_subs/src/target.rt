@@ -1,14 +1,14 @@
 use crate::{LineNo, StationNo};
 
-/// What an address leads to.
+/// The station or line that an address belongs to.
 #[derive(Clone, Copy, Debug, Default, PartialEq, Eq)]
 pub struct Target {
     pub station: StationNo,
-    /// The one line with this address, or `None` for the station with all its lines.
+    /// The one line with this address. `None` if the address is the station's, and means all its lines.
     pub line: Option<LineNo>,
 }
 
-/// How many stations, lines and closed user groups there are.
+/// The number of stations, lines and closed user groups.
 #[derive(Clone, Copy, Debug, Default, PartialEq, Eq)]
 pub struct Counts {
     pub stations: usize,

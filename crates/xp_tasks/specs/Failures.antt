@@ -2,8 +2,6 @@
 use Rattle.std.specs.Prelude.{◌≡◌, ◌⊎◌, ℕ, Result, Ok, Err}
 use Rattle.xp_exchange.specs.declared.fault.ReplayFault.{ReplayFault}
 use Rattle.xp_exchange.specs.declared.fault.ReplayFault.TheVariants as replays
-use Rattle.xp_file.specs.declared.fault.SubsFault.{SubsFault}
-use Rattle.xp_file.specs.declared.fault.SubsFault.TheVariants as files
 use Rattle.xp_tasks.specs.declared.failure.TaskFailure.{TaskFailure}
 use Rattle.xp_tasks.specs.declared.failure.TaskFailure.TheVariants.{File, Subscriptions, Replay, Memory, Output}
 
@@ -29,12 +27,3 @@ Tells (Ok done) (Ok told) = Unit {0}
 Tells (Ok done) (Err failure) = failure ≡ Output
 Tells (Err fault) (Ok told) = ⊥
 Tells (Err fault) (Err failure) = (failure ≡ Replay fault) ⊎ (failure ≡ Output)
-
--- subscriptions that are refused
-abbrev pub of_file : SubsFault → TaskFailure
-of_file files.Toml = Subscriptions files.Toml
-of_file (files.Field key) = Subscriptions (files.Field key)
-of_file (files.TwiceUsed key) = Subscriptions (files.TwiceUsed key)
-of_file files.Index = Subscriptions files.Index
-of_file (files.Limit key) = Subscriptions (files.Limit key)
-of_file files.Memory = Memory

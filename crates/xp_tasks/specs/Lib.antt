@@ -1,3 +1,4 @@
 pub mod Failures
 pub mod SetUp
 pub mod Tasks
+pub mod steps

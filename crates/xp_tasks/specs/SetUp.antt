@@ -2,7 +2,7 @@
 use Rattle.std.specs.Prelude.{◌≡◌, ◌⊎◌, ℕ, List, ◌++◌, Result, Ok, Err, codes, decimal}
 use Rattle.std.specs.declared.io.ErrorKind.{ErrorKind}
 use Rattle.std.specs.declared.io.ErrorKind.TheVariants.{OutOfMemory}
-use Rattle.xp_file.specs.declared.fault.SubsFault.{SubsFault}
+use Rattle.xp_file.specs.declared.fault.SubscriptionFault.{SubscriptionFault}
 use Rattle.xp_subs.specs.Built.{SetsUp as TextSetsUp}
 use Rattle.xp_subs.specs.Tables.{Tables, station_count, line_count, group_count}
 use Rattle.xp_tasks.specs.declared.failure.TaskFailure.{TaskFailure}
@@ -17,7 +17,7 @@ unread _ = File
 abbrev pub SetsUp : Result (List ℕ) ErrorKind → Result Tables TaskFailure → Type 0
 SetsUp (Ok text) (Ok subs) = TextSetsUp text (Ok subs)
 SetsUp (Ok text) (Err failure) =
-    (failure ≡ Memory) ⊎ ((fault : SubsFault) × TextSetsUp text (Err fault) × (failure ≡ Subscriptions fault))
+    (failure ≡ Memory) ⊎ ((fault : SubscriptionFault) × TextSetsUp text (Err fault) × (failure ≡ Subscriptions fault))
 SetsUp (Err kind) (Ok subs) = ⊥
 SetsUp (Err kind) (Err failure) = failure ≡ unread kind
 

@@ -1,35 +1,36 @@
-//! Why a task was not done.
+//! Why a task failed.
 
 ghost use Rattle.std.specs.Prelude.{◌≡◌};
-ghost use Rattle.xp_tasks.specs.Failures.{status_of, of_file};
+ghost use Rattle.xp_tasks.specs.Failures.{status_of};
+ghost use Rattle.xp_tasks.specs.steps.Failures.{of_file};
 ghost use Rattle.xp_tasks.specs.declared.failure.TaskFailure.TheVariants.{Memory as OutOfMemory, Replay as NotReplayed};
 
 use std::alloc::AllocError;
 use thiserror::Error;
 use xp_exchange::ReplayFault;
-use xp_subs::SubsFault;
+use xp_subs::SubscriptionFault;
 
-/// Why a task was not done.
+/// Why a task failed.
 #[derive(Clone, Copy, Debug, PartialEq, Eq, Error)]
 pub enum TaskFailure {
     /// The subscription file cannot be read, or is not UTF-8.
     #[error("xp: file")]
     File,
-    /// The subscription file is refused.
+    /// The subscription file has a fault.
     #[error("xp: subscriptions: {0}")]
-    Subscriptions(SubsFault),
-    /// The script is not replayed to its end.
+    Subscriptions(SubscriptionFault),
+    /// The replay ended before the script did.
     #[error("xp: {0}")]
     Replay(ReplayFault),
     #[error("xp: memory")]
     Memory,
-    /// Standard output cannot be written on.
+    /// Standard output cannot be written.
     #[error("xp: output")]
     Output,
 }
 
 impl TaskFailure {
-    /// The exit status: 2 for a script, 3 for the subscription file, 4 for want of room, 5 for input and output.
+    /// The exit status: 2 for a script, 3 for the subscription file, 4 if memory or the journal is full, 5 for input and output.
     pub fn status(&self) -> u8
         ensures { result ≡ status_of self.now }
     {
@@ -59,12 +60,12 @@ impl From<ReplayFault> for TaskFailure {
     }
 }
 
-impl From<SubsFault> for TaskFailure {
+impl From<SubscriptionFault> for TaskFailure {
     ghost from_gives = { λ fault failure. failure ≡ of_file fault };
 
-    fn from(fault: SubsFault) -> TaskFailure {
+    fn from(fault: SubscriptionFault) -> TaskFailure {
         match fault {
-            SubsFault::Memory => TaskFailure::Memory,
+            SubscriptionFault::Memory => TaskFailure::Memory,
             refused => TaskFailure::Subscriptions(refused),
         }
     }

@@ -3,7 +3,7 @@ ghost use Rattle.xp_tasks.specs.SetUp.{set_up_text};
 use std::fmt;
 use xp_subs::{Counts, Subs};
 
-/// What subscriptions set up, as it is told.
+/// The counts of subscriptions, as `check` prints them.
 #[derive(Clone, Copy)]
 pub struct SetUp<'a> {
     pub subs: &'a Subs,

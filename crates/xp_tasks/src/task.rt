@@ -1,19 +1,19 @@
 ghost use Rattle.std.specs.Prelude.{◌≡◌, ◌↔◌, Some};
 ghost use Rattle.xp_tasks.specs.Tasks.{word_of};
 
-/// What the program can be asked for.
+/// The tasks of the program.
 #[derive(Clone, Copy, Debug, PartialEq, Eq)]
 pub enum Task {
-    /// To check a subscription file.
+    /// Check a subscription file.
     Check,
-    /// To replay a script from standard input.
+    /// Replay a script from standard input.
     Replay,
 }
 
 impl Task {
     ghost use Rattle.xp_tasks.specs.declared.task.Task.{Task};
 
-    /// The word that asks for it.
+    /// Its word on the command line.
     pub fn word<'a>(self) -> &'a str
         ensures { result.now ≡ word_of self }
     {
@@ -23,7 +23,7 @@ impl Task {
         }
     }
 
-    /// The task that a word asks for.
+    /// The task of a word of the command line.
     pub fn named(word: &str) -> Option<Task>
         ensures { (task : Task) → (result ≡ Some task) ↔ (word.now ≡ word_of task) }
     {

@@ -2,7 +2,7 @@
 
 ghost use Rattle.std.specs.Prelude.{◌≡◌, ◌≤◌};
 
-use crate::wakers::{Bell, rouse};
+use crate::wakers::{LineWaker, wake_if_asleep};
 use mio::{Events, Poll};
 use std::marker::Model;
 use std::sync::Arc;
@@ -27,18 +27,18 @@ pub struct TcpClock {
     poll: Poll,
     /// Room for what the thread was woken by. What it was is not looked at: each turn tries all sockets of the line.
     events: Events,
-    bells: Arc<Vec<Bell>>,
-    /// The line's own place among the bells.
+    wakers: Arc<Vec<LineWaker>>,
+    /// The line's own place among the wakers.
     line: usize,
     told: u64,
-    /// The line whose bell was rung last, and whose thread may still be asleep. A turn rings for each of its packets, and
+    /// The line that was marked last, and whose thread may still be asleep. A turn marks work for each of its packets, and
     /// wakes once.
-    rung: Option<LineNo>,
+    to_wake: Option<LineNo>,
     /// How often the thread has looked again.
     looks: u32,
     /// Whether the last turn had nothing to do.
     idle: bool,
-    /// Whether the last turn was had only for a bell that was rung.
+    /// Whether the last turn was had only for marked work.
     answered: bool,
 }
 
@@ -55,53 +55,58 @@ impl Drop for TcpClock {
         let TcpClock {
             poll: _,
             events: _,
-            bells,
+            wakers,
             line: _,
             told: _,
-            rung,
+            to_wake,
             looks: _,
             idle: _,
             answered: _,
         } = self;
-        rouse(bells.as_slice(), rung);
+        wake_if_asleep(wakers.as_slice(), to_wake);
     }
 }
 
 impl TcpClock {
-    pub(crate) fn new(poll: Poll, events: Events, bells: Arc<Vec<Bell>>, line: usize) -> TcpClock
+    pub(crate) fn new(
+        poll: Poll,
+        events: Events,
+        wakers: Arc<Vec<LineWaker>>,
+        line: usize,
+    ) -> TcpClock
         ensures { result ≡ 0 }
     {
         TcpClock {
             poll,
             events,
-            bells,
+            wakers,
             line,
             told: 0,
-            rung: None,
+            to_wake: None,
             looks: 0,
             idle: false,
             answered: false,
         }
     }
 
-    /// Wakes the thread of the line whose bell was rung last.
-    fn rouse_last(&mut self)
+    /// Wakes the thread of the line that was marked last.
+    fn wake_last(&mut self)
         ensures { self.new ≡ self.old }
     {
-        rouse(self.bells.as_slice(), self.rung.take());
+        wake_if_asleep(self.wakers.as_slice(), self.to_wake.take());
     }
 }
 
-/// Sleeps until something comes to the line's sockets or its bell is rung. False where the time was up before that.
-fn sleep(poll: &mut Poll, events: &mut Events, bell: &Bell) -> bool {
+/// Sleeps until something comes to the line's sockets or another line wakes it. False where the time was up before that.
+fn sleep(poll: &mut Poll, events: &mut Events, waker: &LineWaker) -> bool {
     let mut came = true;
-    if bell.lie_down() {
+    if waker.begin_sleep() {
         let most = Duration::from_millis(LONGEST_SLEEP);
         // Where the wait fails, the turn that follows finds nothing, and the thread waits again.
         let _ = poll.poll(events, Some(most));
         came = !events.is_empty();
     }
-    bell.rise();
+    waker.end_sleep();
     came
 }
 
@@ -115,7 +120,7 @@ impl Clock for TcpClock {
         ensures told { self.new ≡ result }
         ensures forward { self.old ≤ result }
     {
-        self.rouse_last();
+        self.wake_last();
         if !self.idle {
             self.looks = 0;
         }
@@ -133,16 +138,16 @@ impl Clock for TcpClock {
     fn idle(&mut self)
         ensures { self.new ≡ self.old }
     {
-        self.rouse_last();
+        self.wake_last();
         self.idle = true;
-        let Some(bell) = self.bells.get(self.line) else {
+        let Some(waker) = self.wakers.get(self.line) else {
             return;
         };
-        if bell.answer() {
+        if waker.take_work() {
             self.looks = 0;
-            // Who is rung for again and again reads every other time.
+            // Who is marked again and again reads every other time.
             if self.answered {
-                bell.refill();
+                waker.refill();
             }
             self.answered = !self.answered;
             return;
@@ -151,21 +156,21 @@ impl Clock for TcpClock {
         if self.looks < MOST_LOOKS {
             self.looks += 1;
             thread::yield_now();
-        } else if sleep(&mut self.poll, &mut self.events, bell) {
+        } else if sleep(&mut self.poll, &mut self.events, waker) {
             self.looks = 0;
         }
-        bell.refill();
+        waker.refill();
     }
 
     fn wake(&mut self, line: LineNo)
         ensures { self.new ≡ self.old }
     {
-        if let Some(bell) = self.bells.get(line as usize) {
-            bell.ring();
+        if let Some(waker) = self.wakers.get(line as usize) {
+            waker.mark_work();
         }
-        if self.rung != Some(line) {
-            self.rouse_last();
-            self.rung = Some(line);
+        if self.to_wake != Some(line) {
+            self.wake_last();
+            self.to_wake = Some(line);
         }
     }
 }

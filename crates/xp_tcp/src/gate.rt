@@ -12,7 +12,7 @@ pub struct OpenGate;
 impl Gate for OpenGate {
     ghost use Rattle.std.specs.Prelude.{◌≡◌, true};
 
-    ghost answers = { λ _ answer _. answer ≡ true };
+    ghost answers = { λ _ take_work _. take_work ≡ true };
 
     fn may_go(&mut self, _line: LineNo) -> bool
         ensures { result ≡ true }

@@ -4,7 +4,7 @@ ghost use Rattle.std.specs.Prelude.{◌≡◌, ◌≢◌, ◌≤◌, ◌↔◌, 
 ghost use Rattle.std.specs.IoError.{error_kind};
 ghost use Rattle.xp_lines.specs.Counts.{pulled_count};
 
-use crate::wakers::Bell;
+use crate::wakers::LineWaker;
 use mio::net::TcpStream;
 use mio::{Interest, Registry, Token};
 use std::io;
@@ -19,8 +19,8 @@ const STREAM: Token = Token(2);
 #[derive(Drop)]
 pub struct TcpLink {
     stream: TcpStream,
-    bells: Arc<Vec<Bell>>,
-    /// The line's own place among the bells.
+    wakers: Arc<Vec<LineWaker>>,
+    /// The line's own place among the wakers.
     line: usize,
 }
 
@@ -29,18 +29,18 @@ impl TcpLink {
     pub(crate) fn new(
         mut stream: TcpStream,
         waits: &Registry,
-        bells: Arc<Vec<Bell>>,
+        wakers: Arc<Vec<LineWaker>>,
         line: usize,
     ) -> io::Result<TcpLink> {
         // A packet is to go at once, however short it is.
         stream.set_nodelay(true)?;
         waits.register(&mut stream, STREAM, Interest::READABLE | Interest::WRITABLE)?;
-        if let Some(bell) = bells.get(line) {
-            bell.refill();
+        if let Some(waker) = wakers.get(line) {
+            waker.refill();
         }
         Ok(TcpLink {
             stream,
-            bells,
+            wakers,
             line,
         })
     }
@@ -62,10 +62,10 @@ impl Link for TcpLink {
         if into.is_empty() {
             return Pulled::Nothing;
         }
-        let Some(bell) = self.bells.get(self.line) else {
+        let Some(waker) = self.wakers.get(self.line) else {
             return Pulled::Fault;
         };
-        if bell.is_emptied() {
+        if waker.is_emptied() {
             return Pulled::Nothing;
         }
         match self.stream.read(into) {
@@ -73,12 +73,12 @@ impl Link for TcpLink {
             Ok(count) => {
                 // A read that had room to spare has left no octets.
                 if count < into.len() {
-                    bell.empty();
+                    waker.empty();
                 }
                 Pulled::Octets(count)
             }
             Err(error) if error.kind() == ErrorKind::WouldBlock => {
-                bell.empty();
+                waker.empty();
                 Pulled::Nothing
             }
             Err(error) if is_early(&error) => Pulled::Nothing,

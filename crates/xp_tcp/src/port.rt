@@ -4,7 +4,7 @@ ghost use Rattle.std.specs.Prelude.{◌≡◌, ◌↔◌, ◌⊎◌, IsNone};
 ghost use Rattle.std.specs.IoError.{error_kind};
 
 use crate::link::TcpLink;
-use crate::wakers::Bell;
+use crate::wakers::LineWaker;
 use mio::Registry;
 use mio::net::TcpListener;
 use std::io;
@@ -21,8 +21,8 @@ pub struct TcpPort {
     listener: TcpListener,
     /// What the line's thread waits for.
     waits: Registry,
-    bells: Arc<Vec<Bell>>,
-    /// The line's own place among the bells.
+    wakers: Arc<Vec<LineWaker>>,
+    /// The line's own place among the wakers.
     line: usize,
 }
 
@@ -30,13 +30,13 @@ impl TcpPort {
     pub(crate) fn new(
         listener: TcpListener,
         waits: Registry,
-        bells: Arc<Vec<Bell>>,
+        wakers: Arc<Vec<LineWaker>>,
         line: usize,
     ) -> TcpPort {
         TcpPort {
             listener,
             waits,
-            bells,
+            wakers,
             line,
         }
     }
@@ -45,8 +45,8 @@ impl TcpPort {
     fn take_one(&self) -> Option<Arrived<TcpLink>> {
         match self.listener.accept() {
             Ok((stream, _from)) => {
-                let bells = Arc::try_clone(&self.bells).ok()?;
-                let link = TcpLink::new(stream, &self.waits, bells, self.line).ok()?;
+                let wakers = Arc::try_clone(&self.wakers).ok()?;
+                let link = TcpLink::new(stream, &self.waits, wakers, self.line).ok()?;
                 Some(Arrived::Came(link))
             }
             Err(error) => without(&error),

@@ -5,7 +5,7 @@ ghost use Rattle.xp_tcp.specs.declared.sockets.ListenFault.TheVariants.{Memory a
 
 use crate::clock::TcpClock;
 use crate::port::TcpPort;
-use crate::wakers::Bell;
+use crate::wakers::LineWaker;
 use mio::net::TcpListener;
 use mio::{Events, Interest, Poll, Registry, Token, Waker};
 use std::alloc::{AllocError, Global};
@@ -65,7 +65,7 @@ struct Listening {
 #[derive(Drop)]
 pub struct Sockets {
     lines: Vec<Listening>,
-    bells: Vec<Bell>,
+    wakers: Vec<LineWaker>,
 }
 
 impl Model for Sockets {
@@ -83,7 +83,7 @@ impl Sockets {
     {
         Ok(Sockets {
             lines: Vec::with_capacity(alloc, count)?,
-            bells: Vec::with_capacity(alloc, count)?,
+            wakers: Vec::with_capacity(alloc, count)?,
         })
     }
 
@@ -103,8 +103,8 @@ impl Sockets {
             return Err(ListenFault::Port);
         };
         let (line, waker) = open(rt, SocketAddr::new(host, port), events)?;
-        self.bells.reserve(1)?;
-        self.bells.push_reserved(Bell::new(waker));
+        self.wakers.reserve(1)?;
+        self.wakers.push_reserved(LineWaker::new(waker));
         self.lines.push_reserved(line);
         Ok(())
     }
@@ -120,13 +120,13 @@ impl Sockets {
     pub fn into_ends(self, alloc: Global) -> Result<Vec<(TcpPort, TcpClock)>, AllocError>
         ensures { IfOk result (λ ends. vec_len ends ≡ self) }
     {
-        let Sockets { lines, bells } = self;
-        let bells = Arc::new(alloc, bells)?;
+        let Sockets { lines, wakers } = self;
+        let wakers = Arc::new(alloc, wakers)?;
         let mut ends = Vec::with_capacity(alloc, lines.len())?;
         for line in lines {
             let place = ends.len();
-            let port = TcpPort::new(line.listener, line.waits, Arc::try_clone(&bells)?, place);
-            let clock = TcpClock::new(line.poll, line.events, Arc::try_clone(&bells)?, place);
+            let port = TcpPort::new(line.listener, line.waits, Arc::try_clone(&wakers)?, place);
+            let clock = TcpClock::new(line.poll, line.events, Arc::try_clone(&wakers)?, place);
             ends.push((port, clock))?;
         }
         Ok(ends)

@@ -8,57 +8,57 @@ use xp_subs::LineNo;
 /// Wakes the thread of one line, and knows whether that has octets to read. To wake a thread that is not asleep, and to know
 /// that there are no octets, takes no call of the system.
 #[derive(Drop)]
-pub(crate) struct Bell {
+pub(crate) struct LineWaker {
     waker: Waker,
     /// The line has something to do that its thread may not have seen.
-    rung: AtomicBool,
+    has_work: AtomicBool,
     /// The thread is asleep, or about to be, and no one has woken it.
     asleep: AtomicBool,
     /// All octets that were there are read.
     emptied: AtomicBool,
 }
 
-impl Bell {
-    pub(crate) fn new(waker: Waker) -> Bell {
-        Bell {
+impl LineWaker {
+    pub(crate) fn new(waker: Waker) -> LineWaker {
+        LineWaker {
             waker,
-            rung: AtomicBool::new(false),
+            has_work: AtomicBool::new(false),
             asleep: AtomicBool::new(false),
             emptied: AtomicBool::new(false),
         }
     }
 
-    /// Keeps the line's thread from a sleep that it has not begun. Any thread may call it, and has to call `rouse` after it.
+    /// Keeps the line's thread from a sleep that it has not begun. Any thread may call it, and has to call `wake_if_asleep` after it.
     ///
     /// Each of the two threads writes its own flag before it reads the other's, so that at least one of them sees what the other
     /// has written.
-    pub(crate) fn ring(&self) {
-        self.rung.store(true, SeqCst);
+    pub(crate) fn mark_work(&self) {
+        self.has_work.store(true, SeqCst);
     }
 
     /// Wakes the line's thread where it sleeps, or is about to.
-    pub(crate) fn rouse(&self) {
+    pub(crate) fn wake_if_asleep(&self) {
         if self.asleep.swap(false, SeqCst) {
             // It fails only where the thread is woken already.
             let _ = self.waker.wake();
         }
     }
 
-    /// Whether the bell was rung. From now on it is not: the line's thread looks at all that was put out to it before this.
-    pub(crate) fn answer(&self) -> bool {
-        self.rung.swap(false, SeqCst)
+    /// Whether work was marked. From now on it is not: the line's thread looks at all that was put out to it before this.
+    pub(crate) fn take_work(&self) -> bool {
+        self.has_work.swap(false, SeqCst)
     }
 
-    /// Whether the line's thread may go to sleep. From now on until `rise` it is woken.
-    pub(crate) fn lie_down(&self) -> bool {
+    /// Whether the line's thread may go to sleep. From now on until `end_sleep` it is woken.
+    pub(crate) fn begin_sleep(&self) -> bool {
         self.asleep.store(true, SeqCst);
-        !self.answer()
+        !self.take_work()
     }
 
     /// The line's thread is up, and looks at all that was put out to it before this.
-    pub(crate) fn rise(&self) {
+    pub(crate) fn end_sleep(&self) {
         self.asleep.store(false, SeqCst);
-        self.rung.store(false, SeqCst);
+        self.has_work.store(false, SeqCst);
     }
 
     /// Whether the last read left no octets, and no time has passed since.
@@ -78,11 +78,11 @@ impl Bell {
 }
 
 /// Wakes the thread of a line, if there is one.
-pub(crate) fn rouse(bells: &[Bell], line: Option<LineNo>) {
+pub(crate) fn wake_if_asleep(wakers: &[LineWaker], line: Option<LineNo>) {
     let Some(line) = line else {
         return;
     };
-    if let Some(bell) = bells.get(line as usize) {
-        bell.rouse();
+    if let Some(waker) = wakers.get(line as usize) {
+        waker.wake_if_asleep();
     }
 }

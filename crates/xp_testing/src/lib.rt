@@ -1,4 +1,4 @@
-//! What the tests of the crates share.
+//! What the tests of several crates share.
 #![tactic(auto)]
 
 mod refusing;

@@ -1,7 +1,7 @@
 //! An allocator for tests, which refuses one request for memory and grants all others.
 //!
-//! A test counts up the number of the refused request until a run meets no refusal, so each growth of the
-//! call under test is refused once, and the same call can then be made again.
+//! A test increases the number of the refused request until no request is refused in a run. So each allocation of the
+//! call under test fails once, and the test can repeat the call after the failure.
 
 ghost use Rattle.std.specs.Prelude.{◌≡◌, ◌<◌, IfSome, IsTrue};
 
@@ -10,19 +10,19 @@ use std::cell::Cell;
 
 /// An allocator over `inner` that refuses a single request for memory, by its number.
 ///
-/// A growth or a shrinking of a block is one request too. A collection takes it by reference, as `&Refusing<B>`.
+/// Growing or shrinking a block is also one request. A collection uses it by reference, as `&Refusing<B>`.
 #[derive(Drop)]
 pub struct Refusing<B> {
-    /// What serves the requests that are granted, and takes all blocks back.
+    /// The allocator that serves the granted requests and frees all blocks.
     pub inner: B,
-    /// The number of the refused request, the first being 1; at 0 none is refused.
+    /// The number of the refused request: the first request has number 1. With 0, no request is refused.
     pub number: u64,
-    // how many requests came so far
+    // how many requests have been made
     seen: Cell<u64>,
 }
 
 impl<B> Refusing<B> {
-    /// Refuses the request with this number, the first being 1; at 0 it refuses none.
+    /// Refuses the request with this number: the first request has number 1. With 0, it refuses none.
     pub fn new(inner: B, number: u64) -> Refusing<B>
         ensures inner { result.inner ≡ inner }
         ensures number { result.number ≡ number }
@@ -34,16 +34,16 @@ impl<B> Refusing<B> {
         }
     }
 
-    /// Whether the request is still to come: `false` once it was refused, and at number 0.
+    /// Whether the refused request has not come yet: `false` after it was refused, and `false` if `number` is 0.
     ///
-    /// No contract can say what a cell holds, so tests alone show the count.
+    /// No contract can describe the content of a cell, so only tests check the count.
     pub fn is_pending(&self) -> bool
         ensures { IsTrue result → 0 < self.now.number }
     {
         self.seen.get() < self.number
     }
 
-    // Counts a request, and lends the inner allocator unless this is the refused one.
+    // Counts a request, and returns the inner allocator unless this is the refused request.
     fn granted(&self) -> Option<&B>
         ensures { IfSome result (λ h. h.now ≡ self.now.inner) }
     {

@@ -1,5 +1,5 @@
-/// A subscription file of three stations with five lines: 2080010 with a1, 2080020 with b1 which takes fast select,
-/// and 2080030 with h1, h2 which has an address of its own, and h3.
+/// A subscription file of three stations with five lines: 2080010 with a1; 2080020 with b1, which accepts fast
+/// select; and 2080030 with h1, h2, which has an address of its own, and h3.
 pub const THREE_STATIONS: &str = r#"[[station]]
 address = "2080010"
 line = [{ name = "a1", port = 19981 }]

@@ -1,45 +1,43 @@
-//! An incoming call is answered.
+//! Plans the answer to an incoming call.
 
 ghost use Rattle.std.specs.Prelude.{◌≡◌, ◌<◌, [], ◌∷◌, None, Some, IfOk, List};
-ghost use Rattle.xp_core.specs.Acts.{agreement_of as agreed_by, told_connected};
+ghost use Rattle.xp_core.specs.Acts.{agreement_of as agreed_by, outputs_of_answer};
 ghost use Rattle.xp_core.specs.Agreed.{AllHaveTerms};
-ghost use Rattle.xp_core.specs.Asked.{answer_of};
+ghost use Rattle.xp_core.specs.steps.ReceivedPackets.{answer_of};
 ghost use Rattle.xp_core.specs.declared.entry.Entry.{Entry as Entered};
-ghost use Rattle.xp_core.specs.Found.{IsFound, IsShort, at_found};
-ghost use Rattle.xp_core.specs.Kept.{call_of_kept, entry_of};
-ghost use Rattle.xp_core.specs.Changes.{Connects};
-ghost use Rattle.xp_core.specs.Plan.{IsPlan, PlansAnswer};
-ghost use Rattle.xp_core.specs.World.{call_on};
+ghost use Rattle.xp_core.specs.steps.EventLine.{IsEventLine, IsShort, event_line_context};
+ghost use Rattle.xp_machine.specs.StoredState.{call_of_stored, entry_of};
+ghost use Rattle.xp_machine.specs.Changes.{Connects};
+ghost use Rattle.xp_core.specs.steps.Plan.{IsPlan, PlansAnswer};
+ghost use Rattle.xp_machine.specs.World.{call_on};
 ghost use Rattle.xp_subs.specs.Tables.{line_count};
 
 use super::Plan;
-use super::asked::CallAccepted;
 use super::clearing::fail;
-use super::found::Found;
+use super::event_line::EventLine;
+use super::received_packets::CallAccepted;
 use super::send::send;
-use crate::call::LiveCall;
-use crate::change::Change;
-use crate::outcome::{Agreement, Outcome};
+use crate::outcome::Outcome;
 use crate::output::Buffer;
 use crate::records::Records;
-use crate::relays::Carriage;
-use crate::workspace::Workspace;
 use std::alloc::{AllocError, Allocator};
 use xp_answer::{Answer, Connection, examine};
 use xp_charge::Meter;
+use xp_machine::{Agreement, Change, LiveCall, RelayUpdate, Workspace};
 
-/// An answer connects the call, and the caller is told so (X.25 clause 4.1.5); a fault of it is a procedure error.
+/// Plans an answer. It connects the call, and the caller is told so (X.25 clause 4.1.5). A fault in it is a procedure
+/// error.
 #[inline(never)]
 pub fn answer<A: Allocator + Copy>(
     alloc: A,
-    found: &Found<'_, A>,
+    found: &EventLine<'_, A>,
     answer: &CallAccepted<'_, A>,
     workspace: &mut Workspace<A>,
 ) -> Result<Plan<A>, AllocError>
     requires line { found.now.line < line_count found.now.subs.now }
     requires terms { AllHaveTerms found.now.machine.now }
     requires short { IsShort found.now.charged }
-    ensures { (before : List (Entered A)) → IsFound found.now before → IfOk result (PlansAnswer (at_found found.now before) (answer_of answer.now)) }
+    ensures { (before : List (Entered A)) → IsEventLine found.now before → IfOk result (PlansAnswer (event_line_context found.now before) (answer_of answer.now)) }
 {
     let Some(call) = found.machine.call_on(found.line) else {
         return Ok(Plan::none(alloc));
@@ -60,7 +58,7 @@ pub fn answer<A: Allocator + Copy>(
             let metered = workspace.opened(alloc, agreement.relay_terms(), meter)?;
             let plan = connect(alloc, found, call, connection, outputs);
             let caller = call.caller;
-            Ok(plan.carrying(Carriage { caller, metered }))
+            Ok(plan.carrying(RelayUpdate { caller, metered }))
         }
         Answer::Refused(diagnostic) => {
             let plan = fail(alloc, found, diagnostic)?;
@@ -78,10 +76,10 @@ fn agreement_of<A: Allocator>(connection: &Connection<A>) -> Agreement
     }
 }
 
-/// The call is connected: both lines are in data transfer.
+/// Plans that the call is connected: both its lines come to data transfer.
 fn connect<A: Allocator>(
     alloc: A,
-    found: &Found<'_, A>,
+    found: &EventLine<'_, A>,
     call: &LiveCall,
     connection: Connection<A>,
     outputs: Buffer<A>,
@@ -89,9 +87,9 @@ fn connect<A: Allocator>(
     requires empty { outputs.outputs ≡ [] }
     requires room { 0 < outputs.room }
     ensures outcome { result.outcome ≡ Outcome.Connected (agreed_by connection) }
-    ensures quiet { result.carriage ≡ None }
+    ensures quiet { result.relay_update ≡ None }
     ensures planned { (before : List (Entered A)) → call_on found.now.machine.now found.now.line ≡ Some (entry_of call.now)
-        → IsPlan result (at_found found.now before) (told_connected found.now.machine.now call.now.caller connection.packet) (Connects call.now.number (call_of_kept call.now) (agreed_by connection) ∷ []) }
+        → IsPlan result (event_line_context found.now before) (outputs_of_answer found.now.machine.now call.now.caller connection.packet) (Connects call.now.number (call_of_stored call.now) (agreed_by connection) ∷ []) }
 {
     let agreement = agreement_of(&connection);
     let change = Change::Connect {

@@ -1,75 +1,74 @@
-//! What takes a line out of its call: a clear request, an error, data past the segment limit, or the line that goes out of
-//! service.
+//! Plans what takes a line out of its call: a clear request, an error, data past the segment limit, or the loss of its
+//! service. Also plans that a line comes into service, or is free again.
 
 ghost use Rattle.std.specs.Prelude.{◌≡◌, ◌∷◌, [], IfOk, None, option_to_list, List};
 ghost use Rattle.xp_causes.specs.declared.clearing_cause.TheConstants.{LOCAL_PROCEDURE_ERROR as LOCAL_ERROR, NETWORK_CONGESTION as CONGESTION, OUT_OF_ORDER as GONE_OUT, REMOTE_PROCEDURE_ERROR as REMOTE_ERROR};
 ghost use Rattle.xp_causes.specs.declared.diagnostic.TheConstants.{NO_ADDITIONAL_INFORMATION as NO_INFORMATION};
-ghost use Rattle.xp_core.specs.Acts.{closed, told_both, told_of_error, told_of_excess, told_of_fall};
-ghost use Rattle.xp_core.specs.Asked.{clear_of};
-ghost use Rattle.xp_core.specs.Changes.{Rises, Leaves, IsCleared, IsFree, GoesOut};
-ghost use Rattle.xp_core.specs.Does.{leaves};
+ghost use Rattle.xp_core.specs.Acts.{closed, outputs_to_both, outputs_of_error, outputs_of_excess, outputs_of_fall};
+ghost use Rattle.xp_core.specs.steps.ReceivedPackets.{clear_of};
+ghost use Rattle.xp_machine.specs.Changes.{Rises, Leaves, IsCleared, IsFree, GoesOut};
+ghost use Rattle.xp_core.specs.Effects.{leaves};
 ghost use Rattle.xp_core.specs.declared.entry.Entry.{Entry as Entered};
-ghost use Rattle.xp_core.specs.Found.{IsFound, IsShort, at_found};
-ghost use Rattle.xp_core.specs.Plan.{IsPlan, IsPlainPlan, IsToldOn, PlansClear};
-ghost use Rattle.xp_core.specs.Told.{nothing_told};
-ghost use Rattle.xp_core.specs.World.{call_on};
+ghost use Rattle.xp_core.specs.steps.EventLine.{IsEventLine, IsShort, event_line_context};
+ghost use Rattle.xp_core.specs.steps.Plan.{IsPlan, IsPlainPlan, IsToldOn, PlansClear};
+ghost use Rattle.xp_core.specs.EventOutputs.{no_outputs};
+ghost use Rattle.xp_machine.specs.World.{call_on};
 
 use super::Plan;
-use super::asked::ClearRequest;
-use super::found::{Charged, Found};
+use super::event_line::{EventLine, MeteredCall};
+use super::received_packets::ClearRequest;
 use super::send::{close, send};
-use crate::change::{Change, Way};
 use crate::event::What;
-use crate::machine::Machine;
 use crate::outcome::Outcome;
 use crate::output::{Buffer, Output};
 use crate::records::Records;
 use std::alloc::{AllocError, Allocator};
-use xp_answer::carry_clear;
+use xp_answer::forward_clear;
 use xp_causes::clearing_cause::{
     LOCAL_PROCEDURE_ERROR, NETWORK_CONGESTION, OUT_OF_ORDER, REMOTE_PROCEDURE_ERROR,
 };
 use xp_causes::diagnostic::NO_ADDITIONAL_INFORMATION;
-use xp_causes::{cause_told, diagnostic_told};
+use xp_causes::{indicated_cause, indicated_diagnostic};
+use xp_machine::{Change, Machine, NoCallState};
 use xp_subs::LineNo;
 
-/// A line comes into service.
-pub fn rise<A: Allocator + Copy>(alloc: A, found: &Found<'_, A>) -> Result<Plan<A>, AllocError>
-    ensures { (before : List (Entered A)) → IfOk result (λ plan. IsPlainPlan plan (at_found found.now before) nothing_told (Rises found.now.line ∷ [])) }
+/// Plans that a line comes into service.
+pub fn rise<A: Allocator + Copy>(alloc: A, found: &EventLine<'_, A>) -> Result<Plan<A>, AllocError>
+    ensures { (before : List (Entered A)) → IfOk result (λ plan. IsPlainPlan plan (event_line_context found.now before) no_outputs (Rises found.now.line ∷ [])) }
 {
     let line = found.line;
     Ok(Plan::none(alloc).changing(Change::Rise { line }))
 }
 
-/// A cleared line is free again.
-pub fn free<A: Allocator + Copy>(alloc: A, found: &Found<'_, A>) -> Result<Plan<A>, AllocError>
-    ensures { (before : List (Entered A)) → IfOk result (λ plan. IsPlainPlan plan (at_found found.now before) nothing_told (Leaves found.now.line IsFree ∷ [])) }
+/// Plans that a cleared line is free again.
+pub fn free<A: Allocator + Copy>(alloc: A, found: &EventLine<'_, A>) -> Result<Plan<A>, AllocError>
+    ensures { (before : List (Entered A)) → IfOk result (λ plan. IsPlainPlan plan (event_line_context found.now before) no_outputs (Leaves found.now.line IsFree ∷ [])) }
 {
     let line = found.line;
     Ok(Plan::none(alloc).changing(Change::Free { line }))
 }
 
-/// A line goes out of service: its call ends as out of order.
+/// Plans that a line goes out of service. Its call ends as out of order.
 #[cold]
 #[inline(never)]
 pub fn fall<A: Allocator + Copy>(
     alloc: A,
-    found: &Found<'_, A>,
+    found: &EventLine<'_, A>,
     what: &What<A>,
 ) -> Result<Plan<A>, AllocError>
     requires { IsShort found.now.charged }
-    ensures { (before : List (Entered A)) → IsFound found.now before → IfOk result (λ plan. IsPlainPlan plan (at_found found.now before) (told_of_fall (at_found found.now before) what.now) (leaves found.now.line GoesOut GONE_OUT NO_INFORMATION (call_on found.now.machine.now found.now.line) ∷ [])) }
+    ensures { (before : List (Entered A)) → IsEventLine found.now before → IfOk result (λ plan. IsPlainPlan plan (event_line_context found.now before) (outputs_of_fall (event_line_context found.now before) what.now) (leaves found.now.line GoesOut GONE_OUT NO_INFORMATION (call_on found.now.machine.now found.now.line) ∷ [])) }
 {
     let (cause, diagnostic) = (OUT_OF_ORDER, NO_ADDITIONAL_INFORMATION);
     let own = closing(found.machine, found.line, what);
     let far = found.clear_far(alloc, cause, diagnostic);
     let outputs = Buffer::with_room(alloc, 2)?.with_some(own).with_some(far);
-    let withdrawal = found.withdraw(Way::GoesOut, cause, diagnostic);
+    let withdrawal = found.withdraw(NoCallState::GoesOut, cause, diagnostic);
     let records = Records::of(alloc, withdrawal.charged)?;
     Ok(Plan::of(outputs, records).changing(withdrawal.change))
 }
 
-/// A line that is given up as too slow has its connection closed.
+/// Returns the output that closes the line's connection, if the line is given up as too slow.
 fn closing<A: Allocator>(machine: &Machine<A>, line: LineNo, what: &What<A>) -> Option<Output<A>>
     ensures { option_to_list result ≡ closed machine.now line what.now }
 {
@@ -79,16 +78,16 @@ fn closing<A: Allocator>(machine: &Machine<A>, line: LineNo, what: &What<A>) -> 
     }
 }
 
-/// A procedure error clears both ends of the line's call, or the line alone (X.25 clause 4.1 and Annex C).
+/// Plans a procedure error. It clears both ends of the line's call, or the line alone (X.25 clause 4.1 and Annex C).
 #[cold]
 #[inline(never)]
 pub fn fail<A: Allocator + Copy>(
     alloc: A,
-    found: &Found<'_, A>,
+    found: &EventLine<'_, A>,
     diagnostic: u8,
 ) -> Result<Plan<A>, AllocError>
     requires { IsShort found.now.charged }
-    ensures { (before : List (Entered A)) → IsFound found.now before → IfOk result (λ plan. IsPlainPlan plan (at_found found.now before) (told_of_error (at_found found.now before) diagnostic) (leaves found.now.line IsCleared REMOTE_ERROR diagnostic (call_on found.now.machine.now found.now.line) ∷ [])) }
+    ensures { (before : List (Entered A)) → IsEventLine found.now before → IfOk result (λ plan. IsPlainPlan plan (event_line_context found.now before) (outputs_of_error (event_line_context found.now before) diagnostic) (leaves found.now.line IsCleared REMOTE_ERROR diagnostic (call_on found.now.machine.now found.now.line) ∷ [])) }
 {
     clear_both(
         alloc,
@@ -99,13 +98,16 @@ pub fn fail<A: Allocator + Copy>(
     )
 }
 
-/// Data that would go past the segment limit clears both ends of its call.
+/// Plans data that would go past the segment limit. It clears both ends of its call.
 #[cold]
 #[inline(never)]
-pub fn exceed<A: Allocator + Copy>(alloc: A, found: &Found<'_, A>) -> Result<Plan<A>, AllocError>
+pub fn exceed<A: Allocator + Copy>(
+    alloc: A,
+    found: &EventLine<'_, A>,
+) -> Result<Plan<A>, AllocError>
     requires { IsShort found.now.charged }
     ensures outcome { IfOk result (λ plan. plan.outcome ≡ Outcome.Exceeded) }
-    ensures planned { (before : List (Entered A)) → IsFound found.now before → IfOk result (λ plan. (plan.carriage ≡ None) × IsPlan plan (at_found found.now before) (told_of_excess (at_found found.now before)) (leaves found.now.line IsCleared CONGESTION NO_INFORMATION (call_on found.now.machine.now found.now.line) ∷ [])) }
+    ensures planned { (before : List (Entered A)) → IsEventLine found.now before → IfOk result (λ plan. (plan.relay_update ≡ None) × IsPlan plan (event_line_context found.now before) (outputs_of_excess (event_line_context found.now before)) (leaves found.now.line IsCleared CONGESTION NO_INFORMATION (call_on found.now.machine.now found.now.line) ∷ [])) }
 {
     let plan = clear_both(
         alloc,
@@ -117,59 +119,60 @@ pub fn exceed<A: Allocator + Copy>(alloc: A, found: &Found<'_, A>) -> Result<Pla
     Ok(plan.settling(Outcome::Exceeded))
 }
 
-/// Both ends of the line's call are cleared, the line with the cause `near` and its far end with `far`; or the line alone.
+/// Clears both ends of the line's call, the line with the cause `near` and its far end with `far`. A line in no call is
+/// cleared alone.
 fn clear_both<A: Allocator + Copy>(
     alloc: A,
-    found: &Found<'_, A>,
+    found: &EventLine<'_, A>,
     near: u8,
     far: u8,
     diagnostic: u8,
 ) -> Result<Plan<A>, AllocError>
     requires { IsShort found.now.charged }
-    ensures { (before : List (Entered A)) → IsFound found.now before → IfOk result (λ plan. IsPlainPlan plan (at_found found.now before) (told_both (at_found found.now before) near far diagnostic) (leaves found.now.line IsCleared far diagnostic (call_on found.now.machine.now found.now.line) ∷ [])) }
+    ensures { (before : List (Entered A)) → IsEventLine found.now before → IfOk result (λ plan. IsPlainPlan plan (event_line_context found.now before) (outputs_to_both (event_line_context found.now before) near far diagnostic) (leaves found.now.line IsCleared far diagnostic (call_on found.now.machine.now found.now.line) ∷ [])) }
 {
     let own = found.clear_own(alloc, near, diagnostic);
     let other = found.clear_far(alloc, far, diagnostic);
     let outputs = Buffer::with_room(alloc, 2)?.with(own).with_some(other);
-    let withdrawal = found.withdraw(Way::IsCleared, far, diagnostic);
+    let withdrawal = found.withdraw(NoCallState::IsCleared, far, diagnostic);
     let records = Records::of(alloc, withdrawal.charged)?;
     Ok(Plan::of(outputs, records).changing(withdrawal.change))
 }
 
-/// A clear request is confirmed at once (X.25 clause 4.1.7), and the line's call ends.
+/// Plans a clear request. It is confirmed at once (X.25 clause 4.1.7), and the line's call ends.
 #[inline(never)]
 pub fn confirm<A: Allocator + Copy>(
     alloc: A,
-    found: &Found<'_, A>,
+    found: &EventLine<'_, A>,
     clear: &ClearRequest<'_, A>,
 ) -> Result<Plan<A>, AllocError>
     requires { IsShort found.now.charged }
-    ensures { (before : List (Entered A)) → IsFound found.now before → IfOk result (PlansClear (at_found found.now before) (clear_of clear.now)) }
+    ensures { (before : List (Entered A)) → IsEventLine found.now before → IfOk result (PlansClear (event_line_context found.now before) (clear_of clear.now)) }
 {
     let own = found.confirm_own(alloc);
     let far = carry_on(alloc, found, clear)?;
     let outputs = Buffer::with_room(alloc, 2)?.with(own).with_some(far);
-    let cause = cause_told(clear.cause);
-    let diagnostic = diagnostic_told(clear.diagnostic);
-    let withdrawal = found.withdraw(Way::IsFree, cause, diagnostic);
+    let cause = indicated_cause(clear.cause);
+    let diagnostic = indicated_diagnostic(clear.diagnostic);
+    let withdrawal = found.withdraw(NoCallState::IsFree, cause, diagnostic);
     let records = Records::of(alloc, withdrawal.charged)?;
     Ok(Plan::of(outputs, records).changing(withdrawal.change))
 }
 
-/// What the far end of the line's call, if it is in one, is told of a clear request.
+/// Returns the output that tells the far end of the line's call of a clear request, if the line is in a call.
 fn carry_on<A: Allocator + Copy>(
     alloc: A,
-    found: &Found<'_, A>,
+    found: &EventLine<'_, A>,
     clear: &ClearRequest<'_, A>,
 ) -> Result<Option<Output<A>>, AllocError>
     requires { IsShort found.now.charged }
-    ensures { (before : List (Entered A)) → IsFound found.now before → IfOk result (λ far. IsToldOn (at_found found.now before) (clear_of clear.now) (call_on found.now.machine.now found.now.line) (option_to_list far)) }
+    ensures { (before : List (Entered A)) → IsEventLine found.now before → IfOk result (λ far. IsToldOn (event_line_context found.now before) (clear_of clear.now) (call_on found.now.machine.now found.now.line) (option_to_list far)) }
 {
     let information = found.far_information();
-    let Some(Charged { call, meter: _ }) = found.charged else {
+    let Some(MeteredCall { call, meter: _ }) = found.charged else {
         return Ok(None);
     };
-    let packet = carry_clear(
+    let packet = forward_clear(
         alloc,
         call.setup.fast,
         clear.cause,

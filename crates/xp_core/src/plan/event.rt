@@ -1,39 +1,37 @@
-//! What each event does, by the table of actions.
+//! Plans each event, by the table of actions.
 
 ghost use Rattle.std.specs.Prelude.{◌≡◌, ◌<◌, [], IfOk, List};
 ghost use Rattle.xp_channel.specs.Table.{cell};
 ghost use Rattle.xp_core.specs.Agreed.{AllHaveTerms};
-ghost use Rattle.xp_core.specs.Channel.{channel_of};
+ghost use Rattle.xp_machine.specs.Channel.{channel_of};
 ghost use Rattle.xp_core.specs.declared.entry.Entry.{Entry as Entered};
-ghost use Rattle.xp_core.specs.Found.{at_found};
-ghost use Rattle.xp_core.specs.Plan.{IsPlainPlan, Plans};
-ghost use Rattle.xp_core.specs.Relays.{AreCarried};
-ghost use Rattle.xp_core.specs.Setting.{setting};
+ghost use Rattle.xp_core.specs.steps.EventLine.{event_line_context};
+ghost use Rattle.xp_core.specs.steps.Plan.{IsPlainPlan, Plans};
+ghost use Rattle.xp_core.specs.steps.Relays.{RelaysRepresentCalls};
+ghost use Rattle.xp_core.specs.StepContext.{step_context};
 ghost use Rattle.xp_core.specs.Table.{kind_of};
-ghost use Rattle.xp_core.specs.Told.{nothing_told};
-ghost use Rattle.xp_core.specs.World.{state_at};
+ghost use Rattle.xp_core.specs.EventOutputs.{no_outputs};
+ghost use Rattle.xp_machine.specs.World.{state_at};
 ghost use Rattle.xp_subs.specs.Sound.{IsSound};
 ghost use Rattle.xp_subs.specs.Tables.{line_count};
 
 use super::Plan;
 use super::answer::answer;
-use super::asked::{accepted_in, clear_in, request_in};
-use super::carrying::carry;
 use super::clearing::{confirm, fail, fall, free, rise};
-use super::found::{Found, charged_on};
+use super::event_line::{EventLine, charged_on};
+use super::received_packets::{accepted_in, clear_in, request_in};
+use super::relaying::carry;
 use super::request::{Cancelled, request};
 use crate::entry::Entry;
 use crate::event::{Event, What};
-use crate::machine::Machine;
-use crate::relays::Relays;
 use crate::table::action_of;
-use crate::workspace::Workspace;
 use std::alloc::{AllocError, Allocator};
 use xp_causes::diagnostic::TIMER_EXPIRED_FOR_INCOMING_CALL;
 use xp_channel::Action;
+use xp_machine::{Machine, Relays, Workspace};
 use xp_subs::Subs;
 
-/// Works out what an event does. It fails only for memory.
+/// Plans what an event does. It fails only if memory is wanting.
 pub fn plan_of<A: Allocator + Copy>(
     alloc: A,
     subs: &Subs,
@@ -46,11 +44,11 @@ pub fn plan_of<A: Allocator + Copy>(
     requires sound { IsSound subs.now }
     requires line { event.now.line < line_count subs.now }
     requires terms { AllHaveTerms machine.now }
-    requires carried { AreCarried subs.now before.now machine.now relays.now }
-    ensures { IfOk result (λ plan. Plans (setting subs.now before.now machine.now event.now.line) event.now.what (cell (channel_of (state_at machine.now event.now.line)) (kind_of event.now.what)) plan) }
+    requires carried { RelaysRepresentCalls subs.now before.now machine.now relays.now }
+    ensures { IfOk result (λ plan. Plans (step_context subs.now before.now machine.now event.now.line) event.now.what (cell (channel_of (state_at machine.now event.now.line)) (kind_of event.now.what)) plan) }
 {
     let line = event.line;
-    let found = Found {
+    let found = EventLine {
         subs,
         machine,
         line,
@@ -84,8 +82,8 @@ pub fn plan_of<A: Allocator + Copy>(
     }
 }
 
-fn nothing<A: Allocator + Copy>(alloc: A, _found: &Found<'_, A>) -> Result<Plan<A>, AllocError>
-    ensures { (before : List (Entered A)) → IfOk result (λ plan. IsPlainPlan plan (at_found _found.now before) nothing_told []) }
+fn nothing<A: Allocator + Copy>(alloc: A, _found: &EventLine<'_, A>) -> Result<Plan<A>, AllocError>
+    ensures { (before : List (Entered A)) → IfOk result (λ plan. IsPlainPlan plan (event_line_context _found.now before) no_outputs []) }
 {
     Ok(Plan::none(alloc))
 }

@@ -1,26 +1,24 @@
-//! A call request: it is put to a line as an incoming call, or cleared.
+//! Plans a call request: the call is put to a line as an incoming call, or refused.
 
 ghost use Rattle.std.specs.Prelude.{◌≡◌, ◌<◌, ◌≤◌, [], ◌∷◌, ◌++◌, List, None, IfOk, length, option_to_list};
-ghost use Rattle.xp_core.specs.Acts.{cancelled_told};
-ghost use Rattle.xp_core.specs.Asked.{request_of};
-ghost use Rattle.xp_core.specs.Changes.{Change as Changing, Begins, IsRefused};
+ghost use Rattle.xp_core.specs.Acts.{outputs_of_cancel};
+ghost use Rattle.xp_core.specs.steps.ReceivedPackets.{request_of};
+ghost use Rattle.xp_machine.specs.Changes.{Change as Changing, Begins, IsRefused};
 ghost use Rattle.xp_core.specs.declared.entry.Entry.{Entry as Entered};
-ghost use Rattle.xp_core.specs.Found.{IsFound, at_found};
-ghost use Rattle.xp_core.specs.Plan.{IsCancelled, IsPlan, PlansRequest};
-ghost use Rattle.xp_core.specs.Does.{cancels};
-ghost use Rattle.xp_core.specs.Setting.{Setting};
-ghost use Rattle.xp_core.specs.Told.{refused_told, taken_told};
-ghost use Rattle.xp_core.specs.World.{call_on};
+ghost use Rattle.xp_core.specs.steps.EventLine.{IsEventLine, event_line_context};
+ghost use Rattle.xp_core.specs.steps.Plan.{IsCancelled, IsPlan, PlansRequest};
+ghost use Rattle.xp_core.specs.Effects.{cancels};
+ghost use Rattle.xp_core.specs.StepContext.{StepContext};
+ghost use Rattle.xp_core.specs.EventOutputs.{outputs_of_refusal, outputs_of_incoming_call};
+ghost use Rattle.xp_machine.specs.World.{call_on};
 ghost use Rattle.xp_core.specs.declared.output.Output.{Output as Sent};
 ghost use Rattle.xp_answer.specs.Setup.{setup_of};
 ghost use Rattle.xp_subs.specs.Tables.{line_count};
 
 use super::Plan;
-use super::asked::CallRequest;
-use super::found::{Charged, Found};
+use super::event_line::{EventLine, MeteredCall};
+use super::received_packets::CallRequest;
 use super::send::{clear_indication, send_as, send_far};
-use crate::change::Change;
-use crate::channel::LogicalChannel;
 use crate::outcome::Outcome;
 use crate::output::{Buffer, Output};
 use crate::records::Records;
@@ -31,13 +29,14 @@ use xp_causes::clearing_cause::NUMBER_BUSY;
 use xp_causes::diagnostic::CALL_COLLISION;
 use xp_charge::Record;
 use xp_decide::{Verdict, decide};
+use xp_machine::{Change, LogicalChannel};
 use xp_packets::{End, Packet};
 use xp_subs::LineNo;
 
-/// The incoming call that a call request from its line cancels (X.25 clause 4.1.6), if it cancels one.
+/// The incoming call that a call request from its line cancels (X.25 clause 4.1.6), if there is one.
 #[derive(Drop)]
 pub struct Cancelled<A: Allocator> {
-    /// The line that it was put to.
+    /// The line that the incoming call was put to.
     pub line: Option<LineNo>,
     pub charged: Option<Record>,
     /// What its caller is told.
@@ -45,9 +44,9 @@ pub struct Cancelled<A: Allocator> {
 }
 
 impl<A: Allocator> Cancelled<A> {
-    /// No call is cancelled.
+    /// Returns that no call is cancelled.
     pub fn none() -> Cancelled<A>
-        ensures { (at : Setting A) → IsCancelled result at [] [] }
+        ensures { (at : StepContext A) → IsCancelled result at [] [] }
     {
         Cancelled {
             line: None,
@@ -56,14 +55,14 @@ impl<A: Allocator> Cancelled<A> {
         }
     }
 
-    /// The call that was put to the line.
-    pub fn by(found: &Found<'_, A>) -> Cancelled<A>
-        ensures { (before : List (Entered A)) → IsFound found.now before → IsCancelled result (at_found found.now before) (cancels found.now.line (call_on found.now.machine.now found.now.line)) (cancelled_told found.now.machine.now found.now.line) }
+    /// Returns that the call that was put to the line is cancelled.
+    pub fn by(found: &EventLine<'_, A>) -> Cancelled<A>
+        ensures { (before : List (Entered A)) → IsEventLine found.now before → IsCancelled result (event_line_context found.now before) (cancels found.now.line (call_on found.now.machine.now found.now.line)) (outputs_of_cancel found.now.machine.now found.now.line) }
     {
         let (cause, diagnostic) = (NUMBER_BUSY, CALL_COLLISION);
         match found.charged {
             None => Cancelled::none(),
-            Some(Charged { call, meter }) => Cancelled {
+            Some(MeteredCall { call, meter }) => Cancelled {
                 line: Some(found.line),
                 charged: Some(call.record(meter, cause, diagnostic)),
                 told: send_far(
@@ -76,16 +75,16 @@ impl<A: Allocator> Cancelled<A> {
     }
 }
 
-/// Decides a call request: it is put to the line that is taken, or cleared.
+/// Decides a call request. The call is put to the line that is taken, or it is refused.
 pub fn request<A: Allocator + Copy>(
     alloc: A,
-    found: &Found<'_, A>,
+    found: &EventLine<'_, A>,
     request: &CallRequest<'_, A>,
     cancelled: Cancelled<A>,
 ) -> Result<Plan<A>, AllocError>
     requires { found.now.line < line_count found.now.subs.now }
-    ensures { (before : List (Entered A)) (ended : List Changing) (far : List (Sent A)) → IsCancelled cancelled (at_found found.now before) ended far
-        → IfOk result (PlansRequest (at_found found.now before) (request_of request.now) ended far) }
+    ensures { (before : List (Entered A)) (ended : List Changing) (far : List (Sent A)) → IsCancelled cancelled (event_line_context found.now before) ended far
+        → IfOk result (PlansRequest (event_line_context found.now before) (request_of request.now) ended far) }
 {
     let (subs, caller) = (found.subs, found.line);
     let outputs = Buffer::with_room(alloc, count(&cancelled.told) + 1)?;
@@ -107,7 +106,7 @@ pub fn request<A: Allocator + Copy>(
     }
 }
 
-/// Whether there is one, as a number.
+/// Returns 1 if there is a value, and 0 if there is none.
 fn count<T>(some: &Option<T>) -> usize
     ensures { result ≡ length (option_to_list some.now) }
 {
@@ -117,9 +116,9 @@ fn count<T>(some: &Option<T>) -> usize
     }
 }
 
-/// The call is put to a line.
+/// Plans that the call is put to a line.
 fn put<A: Allocator>(
-    found: &Found<'_, A>,
+    found: &EventLine<'_, A>,
     request: &CallRequest<'_, A>,
     called: LineNo,
     setup: Setup,
@@ -133,9 +132,9 @@ fn put<A: Allocator>(
     requires none { records.items ≡ [] }
     requires records { length (option_to_list cancelled.charged) ≤ records.room }
     ensures outcome { result.outcome ≡ Outcome.Put called setup }
-    ensures quiet { result.carriage ≡ None }
-    ensures planned { (before : List (Entered A)) (ended : List Changing) (far : List (Sent A)) → IsCancelled cancelled (at_found found.now before) ended far
-        → IsPlan result (at_found found.now before) (taken_told found.now.machine.now far called packet)
+    ensures quiet { result.relay_update ≡ None }
+    ensures planned { (before : List (Entered A)) (ended : List Changing) (far : List (Sent A)) → IsCancelled cancelled (event_line_context found.now before) ended far
+        → IsPlan result (event_line_context found.now before) (outputs_of_incoming_call found.now.machine.now far called packet)
         (ended ++ Begins found.now.line request.now.identifier called request.now.block.now.called setup ∷ []) }
 {
     let begins = Change::Begin {
@@ -164,9 +163,9 @@ fn put<A: Allocator>(
     .changing(begins)
 }
 
-/// The call is cleared at once.
+/// Plans that the call is refused: its line is cleared at once.
 fn refused<A: Allocator>(
-    found: &Found<'_, A>,
+    found: &EventLine<'_, A>,
     request: &CallRequest<'_, A>,
     why: Refusal,
     cancelled: Cancelled<A>,
@@ -178,9 +177,9 @@ fn refused<A: Allocator>(
     requires none { records.items ≡ [] }
     requires records { length (option_to_list cancelled.charged) < records.room }
     ensures outcome { result.outcome ≡ Outcome.Refused why }
-    ensures quiet { result.carriage ≡ None }
-    ensures planned { (before : List (Entered A)) (ended : List Changing) (far : List (Sent A)) → IsCancelled cancelled (at_found found.now before) ended far
-        → IsPlan result (at_found found.now before) (refused_told found.now.machine.now far found.now.line request.now.identifier why)
+    ensures quiet { result.relay_update ≡ None }
+    ensures planned { (before : List (Entered A)) (ended : List Changing) (far : List (Sent A)) → IsCancelled cancelled (event_line_context found.now before) ended far
+        → IsPlan result (event_line_context found.now before) (outputs_of_refusal found.now.machine.now far found.now.line request.now.identifier why)
         (ended ++ IsRefused found.now.line request.now.identifier request.now.block.now.called why ∷ []) }
 {
     let (caller, identifier) = (found.line, request.identifier);

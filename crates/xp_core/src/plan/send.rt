@@ -1,14 +1,14 @@
 ghost use Rattle.std.specs.Prelude.{◌≡◌, option_to_list};
-ghost use Rattle.xp_core.specs.Told.{clear_indication as indication, close as output_closing, send as output_to, send_as as output_as, send_far as output_far};
-ghost use Rattle.xp_core.specs.World.{call_on};
+ghost use Rattle.xp_core.specs.EventOutputs.{clear_indication as indication, close as output_closing, send as output_to, send_as as output_as, send_far as output_far};
+ghost use Rattle.xp_machine.specs.World.{call_on};
 
-use crate::machine::Machine;
 use crate::output::{Outgoing, Output, Put};
 use std::alloc::Allocator;
+use xp_machine::Machine;
 use xp_packets::Packet;
 use xp_subs::LineNo;
 
-/// A packet to a line, under this identifier.
+/// Returns the output that sends a packet to a line, with this identifier.
 pub fn send_as<A: Allocator>(
     machine: &Machine<A>,
     line: LineNo,
@@ -26,14 +26,14 @@ pub fn send_as<A: Allocator>(
     }
 }
 
-/// A packet to a line, under the line's own identifier.
+/// Returns the output that sends a packet to a line, with the line's own identifier.
 pub fn send<A: Allocator>(machine: &Machine<A>, line: LineNo, packet: Packet<A>) -> Output<A>
     ensures { result ≡ output_to machine.now line packet }
 {
     send_as(machine, line, machine.line(line).identifier, packet)
 }
 
-/// A packet to the far end of the call that a line is in, if it is in one.
+/// Returns the output that sends a packet to the far end of the call that a line is in, if it is in one.
 pub fn send_far<A: Allocator>(
     machine: &Machine<A>,
     line: LineNo,
@@ -45,7 +45,7 @@ pub fn send_far<A: Allocator>(
     Some(send(machine, call.far_end(line), packet))
 }
 
-/// A line's connection is to be closed.
+/// Returns the output that closes a line's connection.
 pub fn close<A: Allocator>(machine: &Machine<A>, line: LineNo) -> Output<A>
     ensures { result ≡ output_closing machine.now line }
 {
@@ -58,7 +58,7 @@ pub fn close<A: Allocator>(machine: &Machine<A>, line: LineNo) -> Output<A>
     }
 }
 
-/// A clear indication (X.25 clause 5.2.4).
+/// Returns a clear indication (X.25 clause 5.2.4).
 pub fn clear_indication<A: Allocator>(cause: u8, diagnostic: u8) -> Packet<A>
     ensures { result ≡ indication cause diagnostic }
 {

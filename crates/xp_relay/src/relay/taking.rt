@@ -1,7 +1,7 @@
-//! Any packet of one end.
+//! The method that takes any packet of one end.
 
 ghost use Rattle.std.specs.Prelude.{◌≡◌, ◌≤◌, [], IfOk, OnErr};
-ghost use Rattle.xp_relay.specs.Coupled.{Coupled, Follows, ShowsCall};
+ghost use Rattle.xp_relay.specs.Coupled.{Coupled, Follows, RepresentsCall};
 ghost use Rattle.xp_relay.specs.Turns.{turn_of};
 
 use crate::data::Data;
@@ -11,8 +11,8 @@ use std::alloc::{AllocError, Allocator};
 use xp_packets::{End, Packet};
 
 impl<A: Allocator + Copy> Relay<A> {
-    /// Takes any packet of this end; those of call set-up and clearing change nothing. Only data and an interrupt, whose
-    /// octets are shared with the packet, may want for memory, and then nothing is changed.
+    /// Takes any packet of this end. Packets of call set-up and clearing change nothing. Only a data packet and an
+    /// interrupt can run out of memory, since they share their octets with the relay; then nothing changes.
     pub fn take(
         &mut self,
         here: End,
@@ -21,7 +21,7 @@ impl<A: Allocator + Copy> Relay<A> {
     ) -> Result<Moves<A>, AllocError>
         requires empty { room.moves ≡ [] }
         requires space { 17 ≤ room.room }
-        ensures ok { IfOk result (λ made. (call : Coupled A) → ShowsCall self.old call → Follows here (turn_of here packet.now) call self.new made.moves) }
+        ensures ok { IfOk result (λ made. (call : Coupled A) → RepresentsCall self.old call → Follows here (turn_of here packet.now) call self.new made.moves) }
         ensures err { OnErr result (self.new ≡ self.old) }
     {
         match packet {

@@ -2,45 +2,46 @@
 
 ghost use Rattle.std.specs.Prelude.{◌≡◌, ◌≤◌, []};
 ghost use Rattle.xp_relay.specs.Direction.{Direction};
-ghost use Rattle.xp_relay.specs.Kept.{Ends, Shows};
+ghost use Rattle.xp_relay.specs.StoredDirection.{Represents};
+ghost use Rattle.xp_relay.specs.steps.StoredDirection.{RepresentsTurn};
 ghost use Rattle.xp_relay.specs.Turns.{interrupt, interrupt_confirm, interrupting};
 
-use crate::lane::Lane;
+use crate::direction_state::DirectionState;
 use crate::moves::{Move, Moves};
+use crate::turns::notices::{far, interrupts};
 use crate::turns::resetting::fail;
-use crate::turns::telling::{far, interrupts};
 use std::alloc::Allocator;
 use xp_causes::diagnostic::{UNAUTHORIZED_INTERRUPT, UNAUTHORIZED_INTERRUPT_CONFIRMATION};
 use xp_packets::{End, Octets, Packet};
 
-/// An interrupt that is lawful.
+/// Carries out an interrupt that is allowed.
 fn put<A: Allocator>(
     here: End,
     octets: Octets<A>,
-    sent: &mut Lane<A>,
-    received: &mut Lane<A>,
+    sent: &mut DirectionState<A>,
+    received: &mut DirectionState<A>,
     room: Moves<A>,
 ) -> Moves<A>
     requires empty { room.moves ≡ [] }
     requires space { 17 ≤ room.room }
-    ensures { (s r : Direction A) → Shows sent.old s → Shows received.old r → Ends sent.new received.new result.moves (interrupting here octets s r) }
+    ensures { (s r : Direction A) → Represents sent.old s → Represents received.old r → RepresentsTurn sent.new received.new result.moves (interrupting here octets s r) }
 {
     let _ = received;
     let goes = sent.offer(octets);
     room.with_some(interrupts(far(here), goes))
 }
 
-/// An interrupt.
+/// Takes an interrupt.
 pub(crate) fn interrupt<A: Allocator>(
     here: End,
     octets: Octets<A>,
-    sent: &mut Lane<A>,
-    received: &mut Lane<A>,
+    sent: &mut DirectionState<A>,
+    received: &mut DirectionState<A>,
     room: Moves<A>,
 ) -> Moves<A>
     requires empty { room.moves ≡ [] }
     requires space { 17 ≤ room.room }
-    ensures { (s r : Direction A) → Shows sent.old s → Shows received.old r → Ends sent.new received.new result.moves (interrupt here octets s r) }
+    ensures { (s r : Direction A) → Represents sent.old s → Represents received.old r → RepresentsTurn sent.new received.new result.moves (interrupt here octets s r) }
 {
     if received.owes() {
         room
@@ -51,16 +52,16 @@ pub(crate) fn interrupt<A: Allocator>(
     }
 }
 
-/// An interrupt confirmation.
+/// Takes an interrupt confirmation.
 pub(crate) fn interrupt_confirm<A: Allocator>(
     here: End,
-    sent: &mut Lane<A>,
-    received: &mut Lane<A>,
+    sent: &mut DirectionState<A>,
+    received: &mut DirectionState<A>,
     room: Moves<A>,
 ) -> Moves<A>
     requires empty { room.moves ≡ [] }
     requires space { 17 ≤ room.room }
-    ensures { (s r : Direction A) → Shows sent.old s → Shows received.old r → Ends sent.new received.new result.moves (interrupt_confirm here s r) }
+    ensures { (s r : Direction A) → Represents sent.old s → Represents received.old r → RepresentsTurn sent.new received.new result.moves (interrupt_confirm here s r) }
 {
     if received.owes() {
         room

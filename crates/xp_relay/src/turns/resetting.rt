@@ -2,29 +2,30 @@
 
 ghost use Rattle.std.specs.Prelude.{◌≡◌, ◌≤◌, []};
 ghost use Rattle.xp_relay.specs.Direction.{Direction};
-ghost use Rattle.xp_relay.specs.Kept.{Ends, Shows};
+ghost use Rattle.xp_relay.specs.StoredDirection.{Represents};
+ghost use Rattle.xp_relay.specs.steps.StoredDirection.{RepresentsTurn};
 ghost use Rattle.xp_relay.specs.Turns.{failing, reject, reset, reset_confirm, resetting, settling};
 
-use crate::lane::Lane;
+use crate::direction_state::DirectionState;
 use crate::moves::{Move, Moves};
-use crate::turns::telling::{indicating, indication, interrupts, telling_not_ready};
+use crate::turns::notices::{indicating, indication, interrupts, not_ready_notice};
 use std::alloc::Allocator;
 use xp_causes::diagnostic::{INVALID_IN_D1, REJECT_NOT_SUBSCRIBED};
 use xp_causes::resetting_cause::{LOCAL_PROCEDURE_ERROR, REMOTE_PROCEDURE_ERROR};
-use xp_causes::{cause_told, diagnostic_told};
+use xp_causes::{indicated_cause, indicated_diagnostic};
 use xp_packets::{End, Packet};
 
-/// A procedure error of this end resets the call.
+/// Resets the call for a procedure error of this end.
 pub(crate) fn fail<A: Allocator>(
     here: End,
     diagnostic: u8,
-    sent: &mut Lane<A>,
-    received: &mut Lane<A>,
+    sent: &mut DirectionState<A>,
+    received: &mut DirectionState<A>,
     room: Moves<A>,
 ) -> Moves<A>
     requires empty { room.moves ≡ [] }
     requires space { 17 ≤ room.room }
-    ensures { (s r : Direction A) → Shows sent.old s → Shows received.old r → Ends sent.new received.new result.moves (failing here diagnostic s r) }
+    ensures { (s r : Direction A) → Represents sent.old s → Represents received.old r → RepresentsTurn sent.new received.new result.moves (failing here diagnostic s r) }
 {
     let told = indicating(here, REMOTE_PROCEDURE_ERROR, diagnostic, sent);
     sent.empty(true);
@@ -33,20 +34,20 @@ pub(crate) fn fail<A: Allocator>(
         .with_some(told)
 }
 
-/// A reset request of an end that owes nothing.
+/// Resets the call on the request of this end, which owes no reset confirmation.
 fn request<A: Allocator>(
     here: End,
     cause: u8,
     diagnostic: u8,
-    sent: &mut Lane<A>,
-    received: &mut Lane<A>,
+    sent: &mut DirectionState<A>,
+    received: &mut DirectionState<A>,
     room: Moves<A>,
 ) -> Moves<A>
     requires empty { room.moves ≡ [] }
     requires space { 17 ≤ room.room }
-    ensures { (s r : Direction A) → Shows sent.old s → Shows received.old r → Ends sent.new received.new result.moves (resetting here cause diagnostic s r) }
+    ensures { (s r : Direction A) → Represents sent.old s → Represents received.old r → RepresentsTurn sent.new received.new result.moves (resetting here cause diagnostic s r) }
 {
-    let told = indicating(here, cause_told(cause), diagnostic, sent);
+    let told = indicating(here, indicated_cause(cause), diagnostic, sent);
     sent.empty(true);
     received.empty(false);
     room.with(Move {
@@ -56,36 +57,36 @@ fn request<A: Allocator>(
     .with_some(told)
 }
 
-/// The end that owed a reset confirmation gave it.
+/// Carries out the reset confirmation that this end owed.
 fn settle<A: Allocator>(
     here: End,
-    sent: &mut Lane<A>,
-    received: &mut Lane<A>,
+    sent: &mut DirectionState<A>,
+    received: &mut DirectionState<A>,
     room: Moves<A>,
 ) -> Moves<A>
     requires empty { room.moves ≡ [] }
     requires space { 17 ≤ room.room }
-    ensures { (s r : Direction A) → Shows sent.old s → Shows received.old r → Ends sent.new received.new result.moves (settling here s r) }
+    ensures { (s r : Direction A) → Represents sent.old s → Represents received.old r → RepresentsTurn sent.new received.new result.moves (settling here s r) }
 {
     let waited = received.settle();
     let room = room
-        .with_some(telling_not_ready(here, sent))
+        .with_some(not_ready_notice(here, sent))
         .with_some(interrupts(here, waited));
     received.release(here, sent.received_number(), room)
 }
 
-/// A reset request.
+/// Takes a reset request.
 pub(crate) fn reset<A: Allocator>(
     here: End,
     cause: u8,
     diagnostic: Option<u8>,
-    sent: &mut Lane<A>,
-    received: &mut Lane<A>,
+    sent: &mut DirectionState<A>,
+    received: &mut DirectionState<A>,
     room: Moves<A>,
 ) -> Moves<A>
     requires empty { room.moves ≡ [] }
     requires space { 17 ≤ room.room }
-    ensures { (s r : Direction A) → Shows sent.old s → Shows received.old r → Ends sent.new received.new result.moves (reset here cause diagnostic s r) }
+    ensures { (s r : Direction A) → Represents sent.old s → Represents received.old r → RepresentsTurn sent.new received.new result.moves (reset here cause diagnostic s r) }
 {
     if received.owes() {
         settle(here, sent, received, room)
@@ -93,7 +94,7 @@ pub(crate) fn reset<A: Allocator>(
         request(
             here,
             cause,
-            diagnostic_told(diagnostic),
+            indicated_diagnostic(diagnostic),
             sent,
             received,
             room,
@@ -101,16 +102,16 @@ pub(crate) fn reset<A: Allocator>(
     }
 }
 
-/// A reset confirmation.
+/// Takes a reset confirmation.
 pub(crate) fn reset_confirm<A: Allocator>(
     here: End,
-    sent: &mut Lane<A>,
-    received: &mut Lane<A>,
+    sent: &mut DirectionState<A>,
+    received: &mut DirectionState<A>,
     room: Moves<A>,
 ) -> Moves<A>
     requires empty { room.moves ≡ [] }
     requires space { 17 ≤ room.room }
-    ensures { (s r : Direction A) → Shows sent.old s → Shows received.old r → Ends sent.new received.new result.moves (reset_confirm here s r) }
+    ensures { (s r : Direction A) → Represents sent.old s → Represents received.old r → RepresentsTurn sent.new received.new result.moves (reset_confirm here s r) }
 {
     if received.owes() {
         settle(here, sent, received, room)
@@ -119,16 +120,16 @@ pub(crate) fn reset_confirm<A: Allocator>(
     }
 }
 
-/// REJ, which nobody subscribes to.
+/// Takes REJ, to which no line subscribes.
 pub(crate) fn reject<A: Allocator>(
     here: End,
-    sent: &mut Lane<A>,
-    received: &mut Lane<A>,
+    sent: &mut DirectionState<A>,
+    received: &mut DirectionState<A>,
     room: Moves<A>,
 ) -> Moves<A>
     requires empty { room.moves ≡ [] }
     requires space { 17 ≤ room.room }
-    ensures { (s r : Direction A) → Shows sent.old s → Shows received.old r → Ends sent.new received.new result.moves (reject here s r) }
+    ensures { (s r : Direction A) → Represents sent.old s → Represents received.old r → RepresentsTurn sent.new received.new result.moves (reject here s r) }
 {
     if received.owes() {
         room

@@ -5,11 +5,11 @@ use Rattle.xp.proofs.laws.errands_can_be_asked_for.Goals as goal
 
 pub returns-clause-check : goal.returns-clause-check
 unfolding clap_on_literals
-returns-clause-check c = record { faultless = refl; asked = record { word = _; rows = _; found_is = refl; errand_is = refl; named = refl } }
+returns-clause-check c = record { faultless = refl; asked = record { word = _; rows = _; found_is = refl; subcommand_is = refl; named = refl } }
 
 pub returns-clause-replay : goal.returns-clause-replay
 unfolding clap_on_literals
-returns-clause-replay c = record { faultless = refl; asked = record { word = _; rows = _; found_is = refl; errand_is = refl; named = refl } }
+returns-clause-replay c = record { faultless = refl; asked = record { word = _; rows = _; found_is = refl; subcommand_is = refl; named = refl } }
 
 twelve : IsNumber (codes "12") 12
 twelve = record { numeral = (omega arith, (omega arith, (omega arith, tt))); value = refl; least = omega arith; most = omega arith }
@@ -26,7 +26,7 @@ returns-clause-serve c =
         word = _;
         rows = _;
         found_is = refl;
-        errand_is = (refl, record { wanted = codes "12"; given = refl; limits_are = record { wanted_are = twelve; had_are = refl } });
+        subcommand_is = (refl, record { wanted = codes "12"; given = refl; limits_are = record { wanted_are = twelve; had_are = refl } });
         named = refl;
       };
     }
@@ -40,7 +40,7 @@ returns-clause-turns c =
         word = _;
         rows = _;
         found_is = refl;
-        errand_is = (refl, record { wanted = codes "12"; given = refl; limits_are = record { wanted_are = twelve; had_are = three } });
+        subcommand_is = (refl, record { wanted = codes "12"; given = refl; limits_are = record { wanted_are = twelve; had_are = three } });
         named = refl;
       };
     }

@@ -1,6 +1,6 @@
 use Rattle.std.proofs.Common.{Err, refl, sym, ◌∙◌, subst, rules}
 use Rattle.std.proofs.lemmas.Result.{err_from_is_err_and}
-use Rattle.xp_facilities.specs.Asked.{Means, Parses}
+use Rattle.xp_facilities.specs.Requested.{Means, Parses}
 use Rattle.xp_answer.proofs.Tellable.{faulty_declines}
 use Rattle.xp_answer.specs.Answered as answered
 use Rattle.xp_answer.proofs.answer.accept.Goals as goal

@@ -2,7 +2,7 @@ use Rattle.std.proofs.Common.{Err, sym, subst}
 use Rattle.xp_answer.proofs.Sent.{connected_sent}
 use Rattle.xp_answer.proofs.Settled.{connection_settled}
 use Rattle.xp_answer.specs.Answered.{Declines}
-use Rattle.xp_answer.specs.Examined.{Examines}
+use Rattle.xp_answer.specs.steps.Examined.{Examines}
 use Rattle.xp_answer.specs.declared.fault.AnswerFault.{AnswerFault}
 use Rattle.xp_answer.proofs.answer.examine.Goals as goal
 

@@ -1,6 +1,6 @@
 use Rattle.std.proofs.Common.{sym, ◌∙◌, subst}
-use Rattle.xp_answer.specs.CarriedOn.{TakesOver}
-use Rattle.xp_answer.specs.CarriedOn as carried
+use Rattle.xp_answer.specs.ForwardedClear.{TakesOver}
+use Rattle.xp_answer.specs.ForwardedClear as carried
 use Rattle.xp_answer.proofs.clear.carried.Goals as goal
 
 pub returns : goal.returns

@@ -1,6 +1,6 @@
 use Rattle.std.proofs.Common.{refl, rules}
 use Rattle.xp_answer.proofs.Tellable.{refused_faulty}
-use Rattle.xp_answer.specs.CarriedOn as carried
+use Rattle.xp_answer.specs.ForwardedClear as carried
 use Rattle.xp_answer.proofs.clear.dte_in.Goals as goal
 
 pub returns-in-Ok : goal.returns-in-Ok

@@ -1,6 +1,6 @@
 use Rattle.std.proofs.Common.{sym, subst}
 use Rattle.xp_answer.proofs.Tellable.{connected_told}
-use Rattle.xp_answer.specs.Fields.{CanBeTold}
+use Rattle.xp_answer.specs.steps.Fields.{CanBeTold}
 use Rattle.xp_answer.proofs.connection.connect.Goals as goal
 
 pub field_of-requires : goal.field_of-requires

@@ -2,7 +2,7 @@ use Rattle.std.proofs.Common.{Err, subst}
 use Rattle.xp_decide.proofs.Joined.{taken_may_join, taken_is_free}
 use Rattle.xp_decide.proofs.Refused.{refusal_known}
 use Rattle.xp_decide.proofs.Written.{told_sizes, told_can_be_written}
-use Rattle.xp_decide.specs.Decided.{PutsThrough}
+use Rattle.xp_decide.specs.steps.Decided.{PutsThrough}
 use Rattle.xp_decide.specs.declared.fault.CallFault.{CallFault}
 use Rattle.xp_decide.proofs.decision.decide.Goals as goal
 

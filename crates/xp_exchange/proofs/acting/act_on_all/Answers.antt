@@ -2,7 +2,7 @@ use Rattle.std.proofs.Common.{ℕ, List, ◌∙◌, ap, sym, subst, Err, arith, 
 use Rattle.std.proofs.lemmas.List.{length-drop, nil_from_length}
 use Rattle.std.proofs.lemmas.Result.{err_from_is_err_and}
 use Rattle.std.specs.Io.KnownBytes.{Appends}
-use Rattle.xp_exchange.specs.Acting.{Acted}
+use Rattle.xp_exchange.specs.steps.Acting.{Acted}
 use Rattle.xp_exchange.proofs.SoFar.{so_far_none, next_fits, so_far_more, so_far_all, so_far_broken}
 use Rattle.xp_exchange.proofs.acting.act_on_all.Goals as goal
 

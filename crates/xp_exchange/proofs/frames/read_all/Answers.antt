@@ -1,5 +1,5 @@
 use Rattle.std.proofs.Common.{subst, sym}
-use Rattle.xp_exchange.specs.Heard.{IsReadAs}
+use Rattle.xp_exchange.specs.FrameEvents.{IsReadAs}
 use Rattle.xp_exchange.proofs.Heard.{ReadSoFar, read_next}
 use Rattle.xp_exchange.proofs.frames.read_all.Goals as goal
 

@@ -1,5 +1,5 @@
 use Rattle.std.proofs.Common.{◌≡◌, ◌≤◌, length}
-use Rattle.xp_facilities.specs.Asked.{carried, dte_of}
+use Rattle.xp_facilities.specs.Requested.{carried, dte_of}
 use Rattle.xp_facilities.proofs.Asking.{keeps}
 use Rattle.xp_facilities.proofs.parser.dte.Given as goal
 

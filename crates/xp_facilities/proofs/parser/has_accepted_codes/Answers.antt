@@ -1,5 +1,5 @@
 use Rattle.std.proofs.Common.{◌≡◌, true, false, sym, ◌∙◌, ap}
-use Rattle.xp_facilities.specs.Asked.{has_code, accepted_codes, has_accepted_codes}
+use Rattle.xp_facilities.specs.Requested.{has_code, accepted_codes, has_accepted_codes}
 use Rattle.xp_facilities.proofs.Asking.{accepted-marker, accepted-other, accepted-wrong, accepted-none}
 use Rattle.std.proofs.lemmas.Bool.{ne_eqb}
 use Rattle.xp_facilities.proofs.parser.has_accepted_codes.Goals as goal

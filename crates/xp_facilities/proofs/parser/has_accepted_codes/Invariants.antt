@@ -1,5 +1,5 @@
 use Rattle.std.proofs.Common.{◌≡◌, length}
-use Rattle.xp_facilities.specs.Asked.{has_accepted_codes}
+use Rattle.xp_facilities.specs.Requested.{has_accepted_codes}
 use Rattle.xp_facilities.proofs.parser.has_accepted_codes.Given as goal
 
 abbrev pub invariant-loop-item : goal.invariant-loop-item

@@ -1,7 +1,7 @@
 use Rattle.std.proofs.Common.{◌≡◌, true, false, sym, ◌∙◌, ap}
 use Rattle.std.specs.Prelude.{option_copied}
-use Rattle.xp_facilities.specs.Asked.{has_code, own}
-use Rattle.xp_facilities.proofs.Asking.{last-found, last-other, last-none, own-marker}
+use Rattle.xp_facilities.specs.Requested.{has_code, before_marker}
+use Rattle.xp_facilities.proofs.Asking.{last-found, last-other, last-none, before_marker-marker}
 use Rattle.xp_facilities.proofs.parser.last.Goals as goal
 
 pub loop-item-preserved-then-contains : goal.loop-item-preserved-then-contains
@@ -20,9 +20,9 @@ loop-item-preserved c =
 pub returns-then-code-eq-MARKER : goal.returns-then-code-eq-MARKER
 returns-then-code-eq-MARKER c =
     last-none c.args.wanted.now c.args.items.now c.loop-item.left (option_copied c.loop-item.found)
-    (ap own c.in-Some.ensures ∙ own-marker c.in-Some.item c.next.new.self (sym c.code.ensures ∙ c.if-code-eq-MARKER.true)) c.loop-item.invariant
+    (ap before_marker c.in-Some.ensures ∙ before_marker-marker c.in-Some.item c.next.new.self (sym c.code.ensures ∙ c.if-code-eq-MARKER.true)) c.loop-item.invariant
 
 pub returns-in_default : goal.returns-in_default
 returns-in_default c =
     last-none c.args.wanted.now c.args.items.now c.loop-item.left (option_copied c.loop-item.found)
-    (ap own c.in_default.ensures.0) c.loop-item.invariant
+    (ap before_marker c.in_default.ensures.0) c.loop-item.invariant

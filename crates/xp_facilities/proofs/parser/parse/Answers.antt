@@ -1,6 +1,6 @@
 use Rattle.std.proofs.Common.{◌∷◌, [], sym, ◌∙◌, ap, refl, Some}
 use Rattle.std.proofs.lemmas.Result.{err_from_is_err_and}
-use Rattle.xp_facilities.specs.Asked.{own, last_of, octet_of, fast_of, first_bit, packet_of, window_of}
+use Rattle.xp_facilities.specs.Requested.{before_marker, last_of, octet_of, fast_of, first_bit, packet_of, window_of}
 use Rattle.xp_facilities.proofs.parser.parse.Goals as goal
 
 pub returns-in_err-dte : goal.returns-in_err-dte
@@ -10,10 +10,10 @@ returns-in_err-dte g c =
     rw (p.1, p.2) (
       record {
         selection = c.in_ok-selection.selection;
-        fast = fast_of (octet_of (last_of (0x01 ∷ []) (own c.in-Some.items)));
-        reverse = first_bit (octet_of (last_of (0x01 ∷ []) (own c.in-Some.items)));
-        throughput = octet_of (last_of (0x02 ∷ []) (own c.in-Some.items));
-        charging = first_bit (octet_of (last_of (0x04 ∷ []) (own c.in-Some.items)));
+        fast = fast_of (octet_of (last_of (0x01 ∷ []) (before_marker c.in-Some.items)));
+        reverse = first_bit (octet_of (last_of (0x01 ∷ []) (before_marker c.in-Some.items)));
+        throughput = octet_of (last_of (0x02 ∷ []) (before_marker c.in-Some.items));
+        charging = first_bit (octet_of (last_of (0x04 ∷ []) (before_marker c.in-Some.items)));
         packet = c.in_ok-packet.packet;
         window = c.in_ok-window.window;
         dte = c.in_ok-kept.kept.items;

@@ -1,6 +1,7 @@
 use Rattle.std.proofs.Common.{◌≡◌, refl, ◌∙◌, ap, ◌++◌, take}
 use Rattle.xp_facilities.specs.Items.{octets_of_all}
-use Rattle.xp_facilities.specs.Told.{table, short, long, marked_octets}
+use Rattle.xp_facilities.specs.Indicated.{table, two_digit_index, four_digit_index}
+use Rattle.xp_facilities.specs.steps.Indicated.{marked_octets}
 use Rattle.xp_facilities.proofs.Telling.{rows, rows-more}
 use Rattle.xp_facilities.proofs.writer.field.Goals as goal
 
@@ -10,13 +11,13 @@ returns-clause-value g c =
     let s0 = c.new-field.ensures.items in
     let s1 = rows-more (take 0 t) 0x01 _ _ _ _ (c.options.ensures) s0 c.in_ok-push.ensures in
     let s2 = rows-more (take 1 t) 0x02 _ _ _ _ (c.throughput.ensures) s1 c.in_ok-push-2.ensures in
-    let s3 = rows-more (take 2 t) 0x03 _ _ _ _ (c.short.ensures ∙ ap short c.closed_index.ensures) s2 c.in_ok-push-3.ensures in
+    let s3 = rows-more (take 2 t) 0x03 _ _ _ _ (c.two_digit_index.ensures ∙ ap two_digit_index c.closed_index.ensures) s2 c.in_ok-push-3.ensures in
     let s4 = rows-more (take 3 t) 0x08 _ _ _ _ (c.modified.ensures) s3 c.in_ok-push-4.ensures in
-    let s5 = rows-more (take 4 t) 0x09 _ _ _ _ (c.short-2.ensures ∙ ap short c.open_index.ensures) s4 c.in_ok-push-5.ensures in
+    let s5 = rows-more (take 4 t) 0x09 _ _ _ _ (c.two_digit_index-2.ensures ∙ ap two_digit_index c.open_index.ensures) s4 c.in_ok-push-5.ensures in
     let s6 = rows-more (take 5 t) 0x42 _ _ _ _ (c.pair.ensures) s5 c.in_ok-push-6.ensures in
     let s7 = rows-more (take 6 t) 0x43 _ _ _ _ (c.pair-2.ensures) s6 c.in_ok-push-7.ensures in
-    let s8 = rows-more (take 7 t) 0x47 _ _ _ _ (c.long.ensures ∙ ap long c.closed_index-2.ensures) s7 c.in_ok-push-8.ensures in
-    let s9 = rows-more (take 8 t) 0x48 _ _ _ _ (c.long-2.ensures ∙ ap long c.open_index-2.ensures) s8 c.in_ok-push-9.ensures in
+    let s8 = rows-more (take 7 t) 0x47 _ _ _ _ (c.four_digit_index.ensures ∙ ap four_digit_index c.closed_index-2.ensures) s7 c.in_ok-push-8.ensures in
+    let s9 = rows-more (take 8 t) 0x48 _ _ _ _ (c.four_digit_index-2.ensures ∙ ap four_digit_index c.open_index-2.ensures) s8 c.in_ok-push-9.ensures in
     let s10 = rows-more (take 9 t) 0xc2 _ _ _ _ (c.counts.ensures) s9 c.in_ok-push-10.ensures in
     let s11 : c.push_redirection.new.field.items ≡ octets_of_all (rows t) =
     rows-more (take 10 t) 0xc3 _ _ _ _ refl s10 c.in_ok-push_redirection.ensures.value in

@@ -1,6 +1,6 @@
 use Rattle.std.proofs.Common.{◌≡◌, length}
 use Rattle.std.specs.List.{list_any}
-use Rattle.xp_facilities.specs.Asked.{is_marker}
+use Rattle.xp_facilities.specs.Requested.{is_marker}
 use Rattle.xp_facilities.proofs.writer.has_marker.Given as goal
 
 abbrev pub invariant-loop-item : goal.invariant-loop-item

@@ -1,7 +1,7 @@
 use Rattle.std.proofs.Common.{sym, ◌∙◌, subst}
 use Rattle.std.proofs.lemmas.Result.{err_from_is_err_and}
 use Rattle.xp_facilities.specs.Items.{IsField}
-use Rattle.xp_facilities.specs.Told.{table}
+use Rattle.xp_facilities.specs.Indicated.{table}
 use Rattle.xp_facilities.proofs.Bounds.{told-length, told-exchange}
 use Rattle.xp_facilities.proofs.Telling.{tells-octets, IsCarried-marked, some_field}
 use Rattle.xp_facilities.proofs.writer.write.Goals as goal

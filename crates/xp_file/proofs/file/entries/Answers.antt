@@ -3,7 +3,7 @@ use Rattle.std.proofs.lemmas.Result.{err_from_is_err_and}
 use Rattle.std.proofs.lemmas.List.Elements.{All-push}
 use Rattle.toml.specs.View.{table_view}
 use Rattle.xp_file.specs.Entries.{StationData, IsStationEntry}
-use Rattle.xp_file.specs.File.{entry_of}
+use Rattle.xp_file.specs.SubscriptionFile.{entry_of}
 use Rattle.xp_file.proofs.EachLemmas.{each_more, each_refused}
 use Rattle.xp_file.proofs.file.entries.Goals as goal
 

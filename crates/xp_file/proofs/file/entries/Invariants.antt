@@ -1,7 +1,7 @@
 use Rattle.std.proofs.Common.{◌≡◌, Ok, All, length, map, take}
 use Rattle.toml.specs.View.{table_view}
 use Rattle.xp_file.specs.Entries.{IsStationEntry}
-use Rattle.xp_file.specs.File.{entry_of}
+use Rattle.xp_file.specs.SubscriptionFile.{entry_of}
 use Rattle.xp_file.specs.Reading.{each}
 use Rattle.xp_file.proofs.file.entries.Given as goal
 

@@ -6,7 +6,7 @@ use Rattle.xp_groups.proofs.admission.admit.Goals.{in_default-via-in-Some+else-n
 pub returns-in-Some : goal.returns-in-Some
 returns-in-Some c =
     entered _ _ _ c.comes_from_outside-from_outside.ensures.no_groups c.comes_from_outside-from_outside.ensures.groups
-    c.in-Some.held _ (cc) (search rules) c.index_told.ensures.also_open c.index_told.ensures.closed
+    c.in-Some.held _ (cc) (search rules) c.indicated_selection.ensures.with_outside_access c.indicated_selection.ensures.closed
 
 pub returns-in_default : goal.returns-in_default
 returns-in_default c =

@@ -1,7 +1,8 @@
 use Rattle.std.proofs.Common.{ap, refl, rules, subst, sym, ◌∙◌, Ok, Some}
 use Rattle.std.specs.Prelude.{option_to_list}
-use Rattle.xp_lines.specs.Offering.{NextIs}
-use Rattle.xp_lines.specs.Offers.{Offers, goes_on}
+use Rattle.xp_lines.specs.steps.Offering.{NextIs}
+use Rattle.xp_lines.specs.Offers.{Offers}
+use Rattle.xp_lines.specs.steps.Offers.{goes_on}
 use Rattle.xp_lines.proofs.Offered.{OfferedSoFar, hand_kept, hand_offered, offered_nothing, taken_in_hand}
 use Rattle.xp_lines.proofs.gathering.gather.Goals as goal
 

@@ -17,5 +17,5 @@ loop-next-preserved g c =
     let fewer = c.in-Some.ensures.steps.1 in
     record {
       many = let one = ap length items in let many = was.many in omega (arith, one, fewer, many);
-      so_far = taken_one _ _ _ _ _ _ _ _ was.so_far items (accepted _ _ _ _ _ c.offer_held.ensures c.in-Ok.is);
+      so_far = taken_one _ _ _ _ _ _ _ _ was.so_far items (accepted _ _ _ _ _ c.offer_held.ensures.tells c.in-Ok.is);
     }

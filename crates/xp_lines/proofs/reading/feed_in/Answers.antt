@@ -1,5 +1,5 @@
 use Rattle.std.proofs.Common.{subst, sym}
-use Rattle.xp_lines.specs.Reads.{Pulls}
+use Rattle.xp_lines.specs.steps.Reads.{Pulls}
 use Rattle.xp_lines.proofs.Pulling.{pulls_fed}
 use Rattle.xp_lines.proofs.reading.feed_in.Goals as goal
 

@@ -1,5 +1,6 @@
 use Rattle.std.proofs.Common.{◌++◌, [], subst, sym, ◌∙◌}
-use Rattle.xp_lines.specs.Offers.{Offers, goes_on}
+use Rattle.xp_lines.specs.Offers.{Offers}
+use Rattle.xp_lines.specs.steps.Offers.{goes_on}
 use Rattle.xp_lines.specs.Reads.{Reads}
 use Rattle.xp_lines.proofs.Octets.{appends_nothing}
 use Rattle.xp_lines.proofs.Offered.{any_of_both, gains_both}
@@ -16,12 +17,12 @@ returns-in-Some-clause-reads g c =
       appends_nothing _,
       offers.0,
       offers.1,
-      subst (λ heard. Reads c.args.waiting.now c.args.frames.now [] offers.0 heard first.new.waiting first.new.frames) (sym c.stopped.ensures.heard) reads,
+      subst (λ outcome. Reads c.args.waiting.now c.args.frames.now [] offers.0 outcome first.new.waiting first.new.frames) (sym c.stopped.ensures.outcome) reads,
       c.stopped.ensures.offered ∙ offers.3,
     )
 
 pub returns-in-Some-clause-left : goal.returns-in-Some-clause-left
-returns-in-Some-clause-left g c = left_at_gate _ _ _ _ _ _ _ c.stopped.ensures.heard c.in-Some.is c.offer_waiting-first.ensures.held
+returns-in-Some-clause-left g c = left_at_gate _ _ _ _ _ _ _ c.stopped.ensures.outcome c.in-Some.is c.offer_waiting-first.ensures.held
 
 pub returns-clause-reads : goal.returns-clause-reads
 returns-clause-reads g c =
@@ -35,9 +36,9 @@ returns-clause-reads g c =
       pulls.1,
       first.ensures.offers.0 ++ second.ensures.offers.0,
       gains_both _ _ _ _ _ first.ensures.offers.1 second.ensures.offers.1,
-      subst (λ heard. Reads c.args.waiting.now c.args.frames.now pulls.0 (first.ensures.offers.0 ++ second.ensures.offers.0) heard second.new.waiting second.new.frames) (sym c.both.ensures.heard) reads,
+      subst (λ outcome. Reads c.args.waiting.now c.args.frames.now pulls.0 (first.ensures.offers.0 ++ second.ensures.offers.0) outcome second.new.waiting second.new.frames) (sym c.both.ensures.outcome) reads,
       any_of_both _ _ _ _ _ c.both.ensures.offered first.ensures.offers.3 second.ensures.offers.3,
     )
 
 pub returns-clause-left : goal.returns-clause-left
-returns-clause-left g c = left_by_gate _ _ _ _ _ _ _ c.both.ensures.heard c.offer_waiting-second.ensures.all c.offer_waiting-second.ensures.held
+returns-clause-left g c = left_by_gate _ _ _ _ _ _ _ c.both.ensures.outcome c.offer_waiting-second.ensures.all c.offer_waiting-second.ensures.held

@@ -1,7 +1,7 @@
 use Rattle.std.proofs.Common.{◌≡◌, ◌+◌, ◌≤◌, ◌++◌, length, map}
 use Rattle.std.specs.Prelude.{vec_capacity, vec_len}
 use Rattle.std.specs.Vec.Iter.{into_iter_items, into_iter_len}
-use Rattle.xp_lines.specs.Threads.{line_begun}
+use Rattle.xp_lines.specs.steps.Threads.{line_begun}
 use Rattle.xp_lines.proofs.threads.begin_all.Given as goal
 
 abbrev pub invariant-loop-part : goal.invariant-loop-part

@@ -1,7 +1,7 @@
 use Rattle.std.proofs.Common.{◌≡◌, ◌++◌, ap, arith, length, map, rules, subst, sym, ◌∙◌}
 use Rattle.std.proofs.lemmas.List.{nil_from_length}
 use Rattle.std.specs.Vec.Iter.{into_iter_items}
-use Rattle.xp_lines.specs.Threads.{line_begun}
+use Rattle.xp_lines.specs.steps.Threads.{line_begun}
 use Rattle.xp_lines.proofs.Served.{all_moved, one_moved}
 use Rattle.xp_lines.proofs.threads.end_all.Goals as goal
 

@@ -13,11 +13,11 @@ returns-then-not-expires-clause-lapses g c =
 pub returns-in-Ok-clause-lapses : goal.returns-in-Ok-clause-lapses
 returns-in-Ok-clause-lapses g c =
     lapses_taken _ _ _ _ _ _ _ _ (sym c.stays.ensures ∙ c.if-not-stays.false) refl c.expires.ensures.late c.if-not-expires.false c.expires.ensures.told c.expire.ensures
-    (accepted _ _ _ _ _ c.offer.ensures c.in-Ok.is)
+    (accepted _ _ _ _ _ c.offer.ensures.tells c.in-Ok.is)
 
 pub returns-in-Err-clause-lapses : goal.returns-in-Err-clause-lapses
 returns-in-Err-clause-lapses g c =
-    let no = refused _ _ _ _ _ c.offer.ensures c.in-Err.is in lapses_refused _ _ _ _ _ _ _ no.0 no.1 c.heard_at.ensures
+    let no = refused _ _ _ _ _ c.offer.ensures.tells c.in-Err.is in lapses_refused _ _ _ _ _ _ _ no.0 no.1 c.outcome_at.ensures
 
 pub returns-in-Err-clause-ends : goal.returns-in-Err-clause-ends
-returns-in-Err-clause-ends g c = let no = refused _ _ _ _ _ c.offer.ensures c.in-Err.is in inr (refused_leaves _ _ no.0 c.heard_at.ensures)
+returns-in-Err-clause-ends g c = let no = refused _ _ _ _ _ c.offer.ensures.tells c.in-Err.is in inr (refused_leaves _ _ no.0 c.outcome_at.ensures)

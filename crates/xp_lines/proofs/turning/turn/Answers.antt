@@ -11,7 +11,7 @@ returns-then-owes_down-clause-line g c = downs_line _ _ _ _ c.go_down.ensures
 
 pub returns-clause-turn : goal.returns-clause-turn
 returns-clause-turn g c =
-    (_, λ _. (_, c.now.ensures), turn_worked _ _ _ _ _ _ _ _ _ _ (sym c.owes_down.ensures ∙ c.if-owes_down.false) c.work-taken.ensures.works c.finish.ensures)
+    (_, λ _. (_, c.now.ensures), turn_worked _ _ _ _ _ _ _ _ _ _ (sym c.owes_down.ensures ∙ c.if-owes_down.false) c.write_and_read-taken.ensures.works c.finish.ensures)
 
 pub returns-clause-line : goal.returns-clause-line
-returns-clause-line g c = worked_line _ _ _ _ _ _ _ _ _ _ c.work-taken.ensures.works c.finish.ensures
+returns-clause-line g c = worked_line _ _ _ _ _ _ _ _ _ _ c.write_and_read-taken.ensures.works c.finish.ensures

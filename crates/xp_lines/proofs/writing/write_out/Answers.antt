@@ -10,4 +10,4 @@ returns-in-Broken-clause-writes g c = written_first _ _ _ _ _ _ _ _ c.in-Broken.
 
 pub returns-clause-writes : goal.returns-clause-writes
 returns-clause-writes g c =
-    written_all _ _ _ _ _ _ _ _ _ _ _ _ _ _ c.in-Free.ensures.leaves (c.in-Free.ensures.free refl) c.take_out-taken.ensures c.push_rest-flow.ensures.leaves c.ended_at.ensures
+    written_all _ _ _ _ _ _ _ _ _ _ _ _ _ _ c.in-Free.ensures.leaves (c.in-Free.ensures.free refl) c.take_out-taken.ensures c.push_rest-flow.ensures.leaves c.ended_at.ensures.lost c.ended_at.ensures.stays

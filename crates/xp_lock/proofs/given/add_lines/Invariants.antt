@@ -1,5 +1,5 @@
 use Rattle.std.proofs.Common.{take}
-use Rattle.xp_lock.specs.Given.{AreAdded}
+use Rattle.xp_lock.specs.steps.Given.{AreAdded}
 use Rattle.xp_lock.proofs.given.add_lines.Given as goal
 
 abbrev pub invariant-loop-output : goal.invariant-loop-output

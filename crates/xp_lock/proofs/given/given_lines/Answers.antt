@@ -1,5 +1,6 @@
 use Rattle.std.proofs.Common.{sym, subst}
-use Rattle.xp_lock.specs.Given.{AddFew, AreAdded, AreGiven}
+use Rattle.xp_lock.specs.Given.{AreGiven}
+use Rattle.xp_lock.specs.steps.Given.{AddFew, AreAdded}
 use Rattle.xp_lock.proofs.GivenLines.{front_next, given_few, given_more, given_none}
 use Rattle.xp_lock.proofs.given.given_lines.Goals as goal
 

@@ -6,7 +6,7 @@ use Rattle.xp_outbox.specs.Ends.{Taking}
 use Rattle.xp_core.specs.declared.output.Outgoing.{Outgoing}
 use Rattle.xp_lock.specs.Opening.{AreFirst}
 use Rattle.xp_lock.specs.Passes.{Pass}
-use Rattle.xp_lock.specs.Sight.{Sighted}
+use Rattle.xp_lock.specs.steps.HistorySeat.{SeatState}
 use Rattle.xp_lock.specs.Views.{claiming, keeping, next_claim, one_further}
 use Rattle.xp_lock.proofs.Opened.{at_front, drop_rest, first_push}
 use Rattle.xp_lock.proofs.start.first_passes.Goals as goal
@@ -16,7 +16,7 @@ invariant_of-push g c =
     let was = c.loop-outbox.invariant in
     let n = length c.loop-outbox.passes.items in
     let items = c.in-Some.ensures.steps.0 in
-    let claim = c.next_claim-sight.ensures.claim in
+    let claim = c.next_claim-history_seat.ensures.claim in
     let line = c.len-line.result in
     let same : line ≡ n = c.len-line.ensures ∙ c.loop-outbox.passes.ok.0 in
     let knows = ap (λ s. s.knows) claim ∙ ap (λ k. next_claim k.knows) was.keeper ∙ ap (λ m. claiming m []) (sym same) in
@@ -24,7 +24,7 @@ invariant_of-push g c =
     let all = was.count in
     let queues = g.N.Name.queues in
     let Empty : Taking (Outgoing _) → Type 0 = λ end. end.taken ≡ [] in (
-      ap (λ s. s.word) claim ∙ c.requires.word,
+      ap (λ s. s.history_length) claim ∙ c.requires.history_length,
       knows ∙ ap (claiming line) (sym (ap (λ v. v.seen) knows)),
       omega (arith, left, all, same),
       subst (λ m. slice_get queues m ≡ Some c.in-Some.outbox.queue) (sym same) (at_front queues n c.in-Some.outbox.queue _ (sym was.queues ∙ ap (map (λ end. end.queue)) items)),
@@ -44,22 +44,22 @@ loop-outbox-preserved g c =
     let all = was.count in
     let many = was.many in
     let pushed = c.in_ok-push.ensures.items in
-    let claim = c.next_claim-sight.ensures.claim in
+    let claim = c.next_claim-history_seat.ensures.claim in
     let knows = ap (λ s. s.knows) claim ∙ ap (λ k. next_claim k.knows) was.keeper in
     let Empty : Taking (Outgoing _) → Type 0 = λ end. end.taken ≡ [] in
     let ends = subst (All Empty) items was.taken in
     let same : c.len-line.result ≡ n = c.len-line.ensures ∙ c.loop-outbox.passes.ok.0 in
-    let pass : Pass _ = record { line = c.len-line.result; seen = c.next_claim-sight.result.knows.seen; taken = c.in-Some.outbox.taken } in
+    let pass : Pass _ = record { line = c.len-line.result; seen = c.next_claim-history_seat.result.knows.seen; taken = c.in-Some.outbox.taken } in
     let long : length after ≡ n + 1 = let by = ap length pushed in omega (arith, by, length-append passes (pass ∷ [])) in
-    let seen : c.next_claim-sight.result.knows.seen ≡ [] = ap (λ v. v.seen) knows in
+    let seen : c.next_claim-history_seat.result.knows.seen ≡ [] = ap (λ v. v.seen) knows in
     let first = first_push n passes pass was.passes (λ i. record { line = same i; seen = seen i; taken = All-head Empty c.in-Some.outbox rest ends i }) in
     record {
       can_next = tt;
       is_finite = tt;
       many = omega (arith, left, fewer, many);
       keeper =
-          c.next_claim-sight.ensures.keeper ∙ ap (λ (k : Sighted _). record k { knows = one_further k.knows }) was.keeper
-          ∙ ap (λ m. record { word = g.N.Name.word; knows = keeping m [] }) (sym long);
+          c.next_claim-history_seat.ensures.keeper ∙ ap (λ (k : SeatState _). record k { knows = one_further k.knows }) was.keeper
+          ∙ ap (λ m. record { history_length = g.N.Name.history_length; knows = keeping m [] }) (sym long);
       passes = subst (λ m. AreFirst m after) (sym long) (subst (AreFirst (n + 1)) (sym pushed) first);
       queues = sym (drop_rest g.N.Name.queues n c.in-Some.outbox.queue _ (sym was.queues ∙ ap (map (λ end. end.queue)) items))
           ∙ ap (λ m. drop m g.N.Name.queues) (let next : suc n ≡ length after = omega (arith, long) in next);

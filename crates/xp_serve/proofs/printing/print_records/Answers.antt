@@ -3,7 +3,8 @@ use Rattle.std.proofs.lemmas.Result.{err_from_is_err_and}
 use Rattle.std.specs.Io.KnownBytes.{Appends}
 use Rattle.xp_charge.specs.Text.{record_text}
 use Rattle.xp_exchange.proofs.Bytes.{appends_both}
-use Rattle.xp_serve.specs.Printing.{IsFront, Prints}
+use Rattle.xp_serve.specs.Printing.{IsFront}
+use Rattle.xp_serve.specs.steps.Printing.{Prints}
 use Rattle.xp_serve.proofs.Fronts.{around, front_behind, one_more}
 use Rattle.xp_serve.proofs.printing.print_records.Goals as goal
 

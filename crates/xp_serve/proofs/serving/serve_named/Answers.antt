@@ -5,7 +5,7 @@ use Rattle.std.specs.declared.alloc.Global.{Global as Alloc}
 use Rattle.xp_charge.specs.Lines.{HasLines}
 use Rattle.xp_subs.specs.Tables.{line_count}
 use Rattle.std.proofs.Common.{All}
-use Rattle.xp_serve.specs.Ends.{failure_of}
+use Rattle.xp_serve.specs.steps.Ends.{failure_of}
 use Rattle.xp_serve.proofs.Passes.{never_missing}
 use Rattle.xp_serve.proofs.Served.{in_part, to_the_end, until_a_fall, wants_memory}
 use Rattle.xp_serve.proofs.serving.serve_named.Goals as goal
@@ -45,19 +45,19 @@ print_records-requires g c =
 pub returns-in_err-print_records : goal.returns-in_err-print_records
 returns-in_err-print_records g c =
     let p = err_from_is_err_and c.from_residual-in_err-print_records.result c.from_residual-in_err-print_records.ensures.1 in
-    in_part c.args.blanks.subs c.in-Ok-close.book.subs c.subs.result.now c.in-Ok-close.book.history c.records.result.now
+    in_part c.args.prepared.subs c.in-Ok-close.book.subs c.subs.result.now c.in-Ok-close.book.history c.records.result.now
     (c.in-Ok-close.ensures.subs ∙ c.requires.subs) c.subs.ensures c.records.ensures.records c.history-history.ensures.run c.records.ensures.one_each _ _
     _ _ (p.1 ∙ ap Err p.2) c.in_err-print_records.ensures
 
 pub returns-in-Some : goal.returns-in-Some
 returns-in-Some g c =
-    until_a_fall c.args.blanks.subs c.in-Ok-close.book.subs c.subs.result.now c.in-Ok-close.book.history c.records.result.now
+    until_a_fall c.args.prepared.subs c.in-Ok-close.book.subs c.subs.result.now c.in-Ok-close.book.history c.records.result.now
     (c.in-Ok-close.ensures.subs ∙ c.requires.subs) c.subs.ensures c.records.ensures.records c.history-history.ensures.run c.records.ensures.one_each _ _
-    c.in-Some.fall _ (c.failure.ensures ∙ ap (λ tables. failure_of tables c.in-Some.fall) (c.subs-in-Some.ensures ∙ sym c.subs.ensures))
-    (subst (λ tables. c.in-Some.fall.line < line_count tables) (sym c.in-Ok-close.ensures.subs) c.in-Some.ensures.line) c.in_ok-print_records.ensures
+    c.in-Some.early_end _ (c.failure.ensures ∙ ap (λ tables. failure_of tables c.in-Some.early_end) (c.subs-in-Some.ensures ∙ sym c.subs.ensures))
+    (subst (λ tables. c.in-Some.early_end.line < line_count tables) (sym c.in-Ok-close.ensures.subs) c.in-Some.ensures.line) c.in_ok-print_records.ensures
 
 pub returns : goal.returns
 returns g c =
-    to_the_end c.args.blanks.subs c.in-Ok-close.book.subs c.subs.result.now c.in-Ok-close.book.history c.records.result.now
+    to_the_end c.args.prepared.subs c.in-Ok-close.book.subs c.subs.result.now c.in-Ok-close.book.history c.records.result.now
     (c.in-Ok-close.ensures.subs ∙ c.requires.subs) c.subs.ensures c.records.ensures.records c.history-history.ensures.run c.records.ensures.one_each _ _
     c.in_ok-print_records.ensures

@@ -1,5 +1,5 @@
 use Rattle.std.proofs.Common.{ap, string_bytes}
-use Rattle.xp_subs.specs.Passes.{Used}
+use Rattle.xp_subs.specs.steps.Passes.{Used}
 use Rattle.xp_subs.proofs.BuiltLemmas.{built_keeps, built_tables}
 use Rattle.xp_subs.proofs.GroupLemmas.{all_known}
 use Rattle.xp_subs.proofs.read.from_file.Goals as goal

@@ -4,7 +4,7 @@ use Rattle.clap.specs.Words.{App, HasKind, HasMatchesOf, IsAmong, Text, fault_of
 use Rattle.clap.specs.declared.error.Error.{Error}
 use Rattle.clap.specs.declared.error.kind.ErrorKind.TheVariants.{OutOfMemory}
 use Rattle.clap.specs.declared.parser.matches.ArgMatches.{ArgMatches}
-use Rattle.xp.specs.declared.errand.Errand.{Errand}
+use Rattle.xp.specs.declared.subcommand.Subcommand.{Subcommand}
 use Rattle.xp.specs.Commands.{AreRight, AsksFor, program}
 use Rattle.xp.proofs.arguments.Arguments.read.Goals as goal
 
@@ -37,7 +37,7 @@ found_alike : (words : List Text) (app : App) (matches : ArgMatches) → app ≡
 found_alike words app matches same has = (subst (λ app. HasMatchesOf app words matches) same has refl).1
 
 found_as_asked : (words : List Text) (app : App) (matches : ArgMatches) → app ≡ program → HasMatchesOf app words matches
-    → ((errand : Errand) (name : List ℕ) → AsksFor (subcommand_rows_of matches) errand name → ⊥) → AreRight words → ⊥
+    → ((subcommand : Subcommand) (name : List ℕ) → AsksFor (subcommand_rows_of matches) subcommand name → ⊥) → AreRight words → ⊥
 found_as_asked words app matches same has none right =
     none right.0 right.1 (subst (λ found. AsksFor found right.0 right.1) (sym (found_alike words app matches same has)) right.2.asked)
 
@@ -58,5 +58,5 @@ returns-in-Some-clause-asked c =
     let asked = c.in-Some.arguments in
     record {
       faultless = no_fault _ words c.in_ok-command.ensures c.in_ok-matches.ensures.kinds;
-      asked = subst (λ found. AsksFor found asked.errand asked.file.now) (found_alike words _ _ c.in_ok-command.ensures c.in_ok-matches.ensures.matches) c.in-Some.ensures.found;
+      asked = subst (λ found. AsksFor found asked.subcommand asked.file.now) (found_alike words _ _ c.in_ok-command.ensures c.in_ok-matches.ensures.matches) c.in-Some.ensures.found;
     }

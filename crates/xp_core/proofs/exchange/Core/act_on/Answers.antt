@@ -1,4 +1,4 @@
-use Rattle.xp_core.proofs.Few.{outcome_few}
+use Rattle.xp_core.proofs.Few.{outcome_few, outcome_grows}
 use Rattle.xp_core.proofs.Showing.{kept_relays, kept_terms, outcome_advances, outcome_advances_untold, outcome_fits, outcome_keeps, outcome_shows}
 use Rattle.xp_core.proofs.Sounds.{right_here}
 use Rattle.xp_core.proofs.exchange.Core.act_on.Goals as goal
@@ -31,3 +31,7 @@ returns-clause-err g c = outcome_keeps _ _ _ c.advance.result _ _ _ c.advance.en
 pub returns-clause-few : goal.returns-clause-few
 returns-clause-few g c does = outcome_few _ _ _ _ _ c.args.event _ _ _ _ c.args.tells c.advance.result
     (kept_terms c.self.inside.subs c.self.inside.journal.history c.self.inside.machine c.self.inside.relays c.self.inside.journal.records c.self.invariant) c.advance.ensures.ok does
+
+pub returns-clause-entry_few : goal.returns-clause-entry_few
+returns-clause-entry_few g c = outcome_grows _ _ _ _ _ c.args.event _ _ _ _ c.args.tells c.advance.result _ _
+    (kept_terms c.self.inside.subs c.self.inside.journal.history c.self.inside.machine c.self.inside.relays c.self.inside.journal.records c.self.invariant) c.advance.ensures.ok c.self.view_is

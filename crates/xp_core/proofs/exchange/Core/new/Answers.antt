@@ -1,5 +1,5 @@
 use Rattle.std.proofs.Common.{ap, replicate, None, ◌∙◌}
-use Rattle.xp_core.specs.World.{opening}
+use Rattle.xp_machine.specs.World.{opening}
 use Rattle.xp_core.proofs.Showing.{opening_shows}
 use Rattle.xp_core.proofs.exchange.Core.new.Goals as goal
 

@@ -1,13 +1,13 @@
 use Rattle.std.proofs.Common.{rules, ◌≡◌, ◌∙◌, [], ◌∷◌, ◌++◌, option_to_list, ap}
-use Rattle.xp_core.specs.Found.{at_found}
-use Rattle.xp_core.specs.Told.{clear_far, clear_own}
-use Rattle.xp_core.specs.World.{call_on}
+use Rattle.xp_core.specs.steps.EventLine.{event_line_context}
+use Rattle.xp_core.specs.EventOutputs.{clear_far, clear_own}
+use Rattle.xp_machine.specs.World.{call_on}
 use Rattle.xp_core.proofs.Leaving.{leaving}
 use Rattle.xp_core.proofs.plan.clearing.clear_both.Goals as goal
 
 pub returns : goal.returns
 returns g c before found =
-    let at = at_found c.args.found.now before in
+    let at = event_line_context c.args.found.now before in
     let own = clear_own at (call_on at.world at.line) c.args.near c.args.diagnostic in
     let far = clear_far at (call_on at.world at.line) c.args.far c.args.diagnostic in
     let put : c.changing.result.outputs.outputs ≡ (c.clear_own-own.result ∷ []) ++ option_to_list c.clear_far-other.result = search rules in

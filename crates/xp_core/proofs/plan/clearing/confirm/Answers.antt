@@ -1,15 +1,15 @@
 use Rattle.std.proofs.Common.{rules, ◌≡◌, ◌∙◌, [], ◌∷◌, ◌++◌, option_to_list, ap}
-use Rattle.xp_core.specs.Asked.{clear_of}
-use Rattle.xp_core.specs.Found.{at_found}
-use Rattle.xp_core.specs.Told.{confirm_own}
-use Rattle.xp_core.specs.World.{call_on}
+use Rattle.xp_core.specs.steps.ReceivedPackets.{clear_of}
+use Rattle.xp_core.specs.steps.EventLine.{event_line_context}
+use Rattle.xp_core.specs.EventOutputs.{confirm_own}
+use Rattle.xp_machine.specs.World.{call_on}
 use Rattle.xp_core.proofs.Clearings.{confirmed}
 use Rattle.xp_core.proofs.Leaving.{leaving}
 use Rattle.xp_core.proofs.plan.clearing.confirm.Goals as goal
 
 pub returns : goal.returns
 returns g c before found =
-    let at = at_found c.args.found.now before in
+    let at = event_line_context c.args.found.now before in
     let own = confirm_own at (call_on at.world at.line) in
     let far = option_to_list c.in_ok-far.far in
     let put : c.changing.result.outputs.outputs ≡ (c.confirm_own-own.result ∷ []) ++ far = search rules in

@@ -1,11 +1,11 @@
 use Rattle.xp_core.specs.declared.outcome.Outcome.TheVariants.{Exceeded}
-use Rattle.xp_core.specs.Found.{at_found}
+use Rattle.xp_core.specs.steps.EventLine.{event_line_context}
 use Rattle.xp_core.proofs.Clearings.{quiet_otherwise, settled_otherwise}
 use Rattle.xp_core.proofs.plan.clearing.exceed.Goals as goal
 
 pub returns-clause-planned : goal.returns-clause-planned
 returns-clause-planned g c before found =
-    let at = at_found c.args.found.now before in
+    let at = event_line_context c.args.found.now before in
     let plain = c.in_ok-plan.ensures before found in (
       quiet_otherwise c.in_ok-plan.plan Exceeded c.settling.result at _ _ c.settling.ensures plain,
       settled_otherwise c.in_ok-plan.plan Exceeded c.settling.result at _ _ c.settling.ensures plain,

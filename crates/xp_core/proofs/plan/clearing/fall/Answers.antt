@@ -2,15 +2,15 @@ use Rattle.std.proofs.Common.{rules, ◌≡◌, ◌∙◌, ◌++◌, option_to_l
 use Rattle.xp_causes.specs.declared.clearing_cause.TheConstants.{OUT_OF_ORDER}
 use Rattle.xp_causes.specs.declared.diagnostic.TheConstants.{NO_ADDITIONAL_INFORMATION}
 use Rattle.xp_core.specs.Acts.{closed}
-use Rattle.xp_core.specs.Found.{at_found}
-use Rattle.xp_core.specs.Told.{clear_far}
-use Rattle.xp_core.specs.World.{call_on}
+use Rattle.xp_core.specs.steps.EventLine.{event_line_context}
+use Rattle.xp_core.specs.EventOutputs.{clear_far}
+use Rattle.xp_machine.specs.World.{call_on}
 use Rattle.xp_core.proofs.Leaving.{leaving}
 use Rattle.xp_core.proofs.plan.clearing.fall.Goals as goal
 
 pub returns : goal.returns
 returns g c before found =
-    let at = at_found c.args.found.now before in
+    let at = event_line_context c.args.found.now before in
     let own = closed at.world at.line c.args.what.now in
     let far = clear_far at (call_on at.world at.line) OUT_OF_ORDER NO_ADDITIONAL_INFORMATION in
     let put : c.changing.result.outputs.outputs ≡ option_to_list c.closing-own.result ++ option_to_list c.clear_far-far.result = search rules in

@@ -1,16 +1,16 @@
 use Rattle.std.proofs.Common.{rules, [], ◌∷◌, refl}
-use Rattle.xp_core.specs.declared.change.Change.TheVariants as kept
-use Rattle.xp_core.specs.Changes.{Begins}
-use Rattle.xp_core.specs.Channel.{INITIAL_IDENTIFIER}
-use Rattle.xp_core.specs.Found.{at_found}
-use Rattle.xp_core.specs.Told.{send_as}
+use Rattle.xp_machine.specs.declared.change.Change.TheVariants as kept
+use Rattle.xp_machine.specs.Changes.{Begins}
+use Rattle.xp_machine.specs.Channel.{INITIAL_IDENTIFIER}
+use Rattle.xp_core.specs.steps.EventLine.{event_line_context}
+use Rattle.xp_core.specs.EventOutputs.{send_as}
 use Rattle.xp_core.proofs.Plans.{planned}
 use Rattle.xp_core.proofs.plan.request.put.Goals as goal
 
 pub returns-clause-planned : goal.returns-clause-planned
 returns-clause-planned g c before ended far ends =
     let line = c.args.found.now.line in
-    planned c.changing.result (at_found c.args.found.now before) c.args.cancelled ended far
+    planned c.changing.result (event_line_context c.args.found.now before) c.args.cancelled ended far
     (kept.Begin line c.args.request.now.identifier c.args.called c.args.request.now.block.now.called c.args.setup)
     (Begins line c.args.request.now.identifier c.args.called c.args.request.now.block.now.called c.args.setup)
     [] (send_as c.args.found.now.machine.now c.args.called INITIAL_IDENTIFIER c.args.packet ∷ []) [] ends

@@ -1,16 +1,16 @@
 use Rattle.std.proofs.Common.{rules, [], ◌∷◌, ap, refl, sym}
-use Rattle.xp_core.specs.declared.change.Change.TheVariants as kept
-use Rattle.xp_core.specs.Changes.{IsRefused}
-use Rattle.xp_core.specs.Clearing.{refused_record}
-use Rattle.xp_core.specs.Found.{at_found}
-use Rattle.xp_core.specs.Told.{clear_indication, send_as}
+use Rattle.xp_machine.specs.declared.change.Change.TheVariants as kept
+use Rattle.xp_machine.specs.Changes.{IsRefused}
+use Rattle.xp_machine.specs.Clearing.{refused_record}
+use Rattle.xp_core.specs.steps.EventLine.{event_line_context}
+use Rattle.xp_core.specs.EventOutputs.{clear_indication, send_as}
 use Rattle.xp_core.proofs.Plans.{planned}
 use Rattle.xp_core.proofs.plan.request.refused.Goals as goal
 
 pub returns-clause-planned : goal.returns-clause-planned
 returns-clause-planned g c before ended far ends =
     let line = c.args.found.now.line in
-    planned c.changing.result (at_found c.args.found.now before) c.args.cancelled ended far
+    planned c.changing.result (event_line_context c.args.found.now before) c.args.cancelled ended far
     (kept.Refuse line c.args.request.now.identifier)
     (IsRefused line c.args.request.now.identifier c.args.request.now.block.now.called c.args.why)
     (send_as c.args.found.now.machine.now line c.args.request.now.identifier (clear_indication c.args.why.cause c.args.why.diagnostic) ∷ []) []

@@ -1,8 +1,8 @@
 use Rattle.std.proofs.Common.{◌≡◌, ◌⊎◌, inl, inr, subst, List, ℕ, Ok, Err}
 use Rattle.std.specs.Io.KnownBytes.{Appends}
 use Rattle.xp_exchange.specs.declared.fault.ReplayFault.TheVariants.{Write}
-use Rattle.xp_exchange.specs.Replaying.{Progress, Finished}
-use Rattle.xp_exchange.specs.Playing.{Played}
+use Rattle.xp_exchange.specs.steps.Replaying.{Progress, Finished}
+use Rattle.xp_exchange.specs.steps.Playing.{Played}
 use Rattle.xp_exchange.proofs.Played.{flushed}
 use Rattle.xp_exchange.proofs.replaying.UnfinishedScript.finish.Goals as goal
 use Rattle.xp_exchange.proofs.replaying.UnfinishedScript.finish.Goals.{in-Ok, in-Err}

@@ -2,7 +2,7 @@ use Rattle.std.proofs.Common.{◌∙◌, ap, sym, subst, take, drop, List, ℕ, 
 use Rattle.std.proofs.lemmas.List.{take-append-drop}
 use Rattle.std.proofs.lemmas.Result.{err_from_is_err_and, on_ok_weaker}
 use Rattle.std.specs.Io.KnownBytes.{Appends}
-use Rattle.xp_exchange.specs.Replaying.{Took}
+use Rattle.xp_exchange.specs.steps.Replaying.{Took}
 use Rattle.xp_exchange.specs.Splitting.{HasNoFeed}
 use Rattle.xp_exchange.proofs.Lines.{no_feed_both}
 use Rattle.xp_exchange.proofs.Octets.{Taken, found_at, found_none, taken_none, taken_line, taken_stops, taken_overflows, taken_rest}

@@ -1,6 +1,6 @@
 use Rattle.std.proofs.Common.{◌∙◌, ap, [], slice_set}
 use Rattle.std.proofs.lemmas.List.Elements.{All-set}
-use Rattle.xp_exchange.specs.Acting.{IsBetweenFrames}
+use Rattle.xp_exchange.specs.steps.Acting.{IsBetweenFrames}
 use Rattle.xp_exchange.proofs.Idle.{idle_set, is_between}
 use Rattle.xp_exchange.proofs.streams.Streams.begin.Goals as goal
 

@@ -1,5 +1,5 @@
 use Rattle.std.proofs.Common.{◌≡◌, map, replicate, [], All}
-use Rattle.xp_exchange.specs.Acting.{IsBetweenFrames}
+use Rattle.xp_exchange.specs.steps.Acting.{IsBetweenFrames}
 use Rattle.xp_exchange.proofs.streams.Streams.new.Given as goal
 
 abbrev pub invariant-loop : goal.invariant-loop

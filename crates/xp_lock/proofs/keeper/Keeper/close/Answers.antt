@@ -3,8 +3,9 @@ use Rattle.std.proofs.lemmas.List.{length-replicate, length-set, nil_from_length
 use Rattle.std.proofs.lemmas.List.Elements.{All-cons, All-nil}
 use Rattle.std.specs.Vec.Iter.{into_iter_items}
 use mathlib.Core.List.{IsPrefix}
-use Rattle.xp_lock.specs.Boxes.{box_at}
-use Rattle.xp_lock.specs.Closing.{AreTold, AreWithin, IsTold}
+use Rattle.xp_lock.specs.Outboxes.{outbox_at}
+use Rattle.xp_lock.specs.Closing.{PassesMatch, PassMatches}
+use Rattle.xp_lock.specs.steps.Closing.{AreWithin}
 use Rattle.xp_lock.specs.Handed.{handed}
 use Rattle.xp_lock.specs.Outgoing.{put_out_to}
 use Rattle.xp_lock.specs.Views.{StartsWith}
@@ -13,15 +14,15 @@ use Rattle.xp_lock.proofs.Returned.{ComeOnce, keeps_all, keeps_first, keeps_on, 
 use Rattle.xp_lock.proofs.Taken.{Agree, AreNoted, IsNoted, agree_before, can_count, counted_all, few_taken, none_within, noted_here, one_within}
 use Rattle.xp_lock.proofs.keeper.Keeper.close.Goals as goal
 
-pub hear-requires-clause-word : goal.hear-requires-clause-word
-hear-requires-clause-word g c = (c.requires.word, ap (λ s. s.word) c.loop-pass.invariant.sight ∙ c.self.invariant.0)
+pub compare_pass-requires-clause-history_length : goal.compare_pass-requires-clause-history_length
+compare_pass-requires-clause-history_length g c = (c.requires.history_length, ap (λ s. s.history_length) c.loop-pass.invariant.history_seat ∙ c.self.invariant.0)
 
-pub hear-requires-clause-keeper : goal.hear-requires-clause-keeper
-hear-requires-clause-keeper g c =
-    keeps_all c.self.inside.sight c.loop-pass.sight c.loop-pass.invariant.sight
+pub compare_pass-requires-clause-keeper : goal.compare_pass-requires-clause-keeper
+compare_pass-requires-clause-keeper g c =
+    keeps_all c.self.inside.history_seat c.loop-pass.history_seat c.loop-pass.invariant.history_seat
 
-pub hear-requires-clause-boxes : goal.hear-requires-clause-boxes
-hear-requires-clause-boxes g c = ap (map (λ b. b.queue)) (c.loop-pass.invariant.boxes ∙ c.into_parts-core.ensures.boxes) ∙ c.self.invariant.3
+pub compare_pass-requires-clause-outboxes : goal.compare_pass-requires-clause-outboxes
+compare_pass-requires-clause-outboxes g c = ap (map (λ b. b.queue)) (c.loop-pass.invariant.outboxes ∙ c.into_parts-core.ensures.outboxes) ∙ c.self.invariant.3
 
 pub loop-pass-init : goal.loop-pass-init
 loop-pass-init g c =
@@ -30,10 +31,10 @@ loop-pass-init g c =
       can_next = tt;
       is_finite = tt;
       many = ap length gives.0 ∙ sym c.args.passes.ok.0 ∙ sym gives.1;
-      sight = keeps_first c.self.inside.sight _ _ c.self.invariant.1;
-      boxes = refl;
-      told = λ told. subst (AreTold c.args.self.history) gives.0 told;
-      once = λ come. subst (λ returned. ComeOnce returned c.args.passes.items) (ap (λ v. v.returned) c.self.invariant.1) (subst (ComeOnce c.self.inside.sight.knows.returned) gives.0 come);
+      history_seat = keeps_first c.self.inside.history_seat _ _ c.self.invariant.1;
+      outboxes = refl;
+      told = λ told. subst (PassesMatch c.args.self.history) gives.0 told;
+      once = λ come. subst (λ returned. ComeOnce returned c.args.passes.items) (ap (λ v. v.returned) c.self.invariant.1) (subst (ComeOnce c.self.inside.history_seat.knows.returned) gives.0 come);
       lines = refl;
       within = subst (λ counts. AreWithin counts c.args.self.history) (sym c.requires.zeros) (none_within (line_count g.N.Name.subs) c.args.self.history);
       noted = λ later agree noted. subst (AreNoted later) gives.0 noted;
@@ -49,18 +50,18 @@ loop-pass-preserved g c =
     let fewer = c.in-Some.ensures.steps.1 in
     let left = ap length items in
     let many = was.many in
-    let all = ap (λ s. s.knows.all) was.sight ∙ ap (λ v. v.all) c.self.invariant.1 ∙ ap (λ s. s.history) c.self.view_is in
-    let boxes = was.boxes ∙ c.into_parts-core.ensures.boxes in
-    let there : pass.line < length c.self.inside.switch.boxes = let before = c.hear.ensures.there in let same = ap length boxes in omega (arith, before, same) in
-    let put = ap (λ bs. (box_at bs pass.line).put) boxes ∙ c.into_parts-core.ensures.kept.put pass.line there ∙ ap (λ s. put_out_to pass.line s.history) c.self.view_is in
-    let one : IsTold history pass = record {
-      seen = subst (λ h. StartsWith h pass.seen) all c.hear.ensures.seen;
-      own = ap (handed pass.line) (sym all) ∙ c.hear.ensures.own;
-      taken = subst (IsPrefix pass.taken) put c.hear.ensures.taken;
+    let all = ap (λ s. s.knows.all) was.history_seat ∙ ap (λ v. v.all) c.self.invariant.1 ∙ ap (λ s. s.history) c.self.view_is in
+    let outboxes = was.outboxes ∙ c.into_parts-core.ensures.outboxes in
+    let there : pass.line < length c.self.inside.core_with_outboxes.outboxes = let before = c.compare_pass.ensures.there in let same = ap length outboxes in omega (arith, before, same) in
+    let put = ap (λ bs. (outbox_at bs pass.line).put) outboxes ∙ c.into_parts-core.ensures.kept.put pass.line there ∙ ap (λ s. put_out_to pass.line s.history) c.self.view_is in
+    let one : PassMatches history pass = record {
+      seen = subst (λ h. StartsWith h pass.seen) all c.compare_pass.ensures.seen;
+      own = ap (handed pass.line) (sym all) ∙ c.compare_pass.ensures.own;
+      taken = subst (IsPrefix pass.taken) put c.compare_pass.ensures.taken;
     } in
-    let returned = c.loop-pass.sight.knows.returned in
+    let returned = c.loop-pass.history_seat.knows.returned in
     let counts = c.loop-pass.taken.items in
-    let on = ap (λ s. s.knows.returned) c.hear.ensures.keeper in
+    let on = ap (λ s. s.knows.returned) c.compare_pass.ensures.keeper in
     let line : c.pass.inside.line ≡ pass.line = ap (λ p. p.line) c.pass.view_is in
     let placed : pass.line < length counts =
     let within = c.pass.invariant.2 in
@@ -78,24 +79,24 @@ loop-pass-preserved g c =
     let told = c.journal-most.ensures in
     let of = ap (λ t. t.journal) c.subs.ensures in
     omega (arith, told, of) in
-    let exact : c.hear.result ≡ length pass.taken = c.hear.ensures.count
+    let exact : c.compare_pass.result ≡ length pass.taken = c.compare_pass.ensures.count
     (can_count core.subs core.history _ pass c.history-entries.ensures.run few most (subst (λ h. IsPrefix pass.taken (put_out_to pass.line h)) (sym same) one.taken)) in
-    let put_in : set counts c.pass.inside.line c.hear.result ≡ set counts pass.line (length pass.taken) = λ i. set counts (line i) (exact i) in
+    let put_in : set counts c.pass.inside.line c.compare_pass.result ≡ set counts pass.line (length pass.taken) = λ i. set counts (line i) (exact i) in
     record {
       can_next = tt;
       is_finite = tt;
       many = omega (arith, left, fewer, many);
-      sight = keeps_on c.self.inside.sight c.loop-pass.sight c.hear.new.keeper pass.line was.sight c.hear.ensures.keeper;
-      boxes = c.hear.ensures.boxes ∙ was.boxes;
-      told = λ told. was.told (subst (AreTold history) (sym items) (All-cons (IsTold history) pass rest one told));
-      once = λ come. was.once (subst (ComeOnce c.loop-pass.sight.knows.returned) (sym items) (c.hear.ensures.once, subst (λ returned. ComeOnce returned rest) on come));
-      lines = length-set counts c.pass.inside.line c.hear.result ∙ was.lines;
+      history_seat = keeps_on c.self.inside.history_seat c.loop-pass.history_seat c.compare_pass.new.keeper pass.line was.history_seat c.compare_pass.ensures.keeper;
+      outboxes = c.compare_pass.ensures.outboxes ∙ was.outboxes;
+      told = λ told. was.told (subst (PassesMatch history) (sym items) (All-cons (PassMatches history) pass rest one told));
+      once = λ come. was.once (subst (ComeOnce c.loop-pass.history_seat.knows.returned) (sym items) (c.compare_pass.ensures.once, subst (λ returned. ComeOnce returned rest) on come));
+      lines = length-set counts c.pass.inside.line c.compare_pass.result ∙ was.lines;
       within = subst (λ counted. AreWithin counted history) (sym put_in)
           (one_within counts history pass.line (length pass.taken) was.within placed (few_taken history pass one.taken));
       noted = λ later agree noted.
           let agrees : Agree (pass.line ∷ returned) (set counts pass.line (length pass.taken)) later =
-          subst (λ counted. Agree (pass.line ∷ returned) counted later) put_in (subst (λ lines. Agree lines (set counts c.pass.inside.line c.hear.result) later) on agree) in
-          was.noted later (agree_before returned counts later pass.line (length pass.taken) c.hear.ensures.once agrees)
+          subst (λ counted. Agree (pass.line ∷ returned) counted later) put_in (subst (λ lines. Agree lines (set counts c.pass.inside.line c.compare_pass.result) later) on agree) in
+          was.noted later (agree_before returned counts later pass.line (length pass.taken) c.compare_pass.ensures.once agrees)
           (subst (AreNoted later) (sym items) (All-cons (IsNoted later) pass rest (noted_here returned counts later pass.line (length pass.taken) placed agrees) noted));
     }
 
@@ -105,13 +106,13 @@ returns-clause-told g c =
     let history = c.args.self.history in
     let none = nil_from_length (into_iter_items c.loop-pass.pass-iterator) (was.many ∙ c.in-None.ensures.steps.0) in
     let book = ap (λ b. b.history) c.new.ensures ∙ c.into_parts-core.ensures.history ∙ ap (λ s. s.history) c.self.view_is in
-    subst (λ h. AreTold h c.args.passes.items) (sym book) (was.told (subst (AreTold history) (sym none) (All-nil (IsTold history))))
+    subst (λ h. PassesMatch h c.args.passes.items) (sym book) (was.told (subst (PassesMatch history) (sym none) (All-nil (PassMatches history))))
 
 pub returns-clause-once : goal.returns-clause-once
 returns-clause-once g c =
     let was = c.loop-pass.invariant in
     let none = nil_from_length (into_iter_items c.loop-pass.pass-iterator) (was.many ∙ c.in-None.ensures.steps.0) in
-    none_twice c.args.passes.items (was.once (subst (ComeOnce c.loop-pass.sight.knows.returned) (sym none) tt))
+    none_twice c.args.passes.items (was.once (subst (ComeOnce c.loop-pass.history_seat.knows.returned) (sym none) tt))
 
 pub index_mut-requires : goal.index_mut-requires
 index_mut-requires g c =
@@ -132,6 +133,6 @@ returns-clause-taken g c =
     let counts = c.loop-pass.taken.items in
     let none = nil_from_length (into_iter_items c.loop-pass.pass-iterator) (was.many ∙ c.in-None.ensures.steps.0) in
     let book = ap (λ b. b.history) c.new.ensures ∙ c.into_parts-core.ensures.history ∙ ap (λ s. s.history) c.self.view_is in
-    let told = subst (λ h. AreTold h passes) (sym book) (was.told (subst (AreTold history) (sym none) (All-nil (IsTold history)))) in
+    let told = subst (λ h. PassesMatch h passes) (sym book) (was.told (subst (PassesMatch history) (sym none) (All-nil (PassMatches history)))) in
     let noted = was.noted counts (λ line there. refl) (subst (AreNoted counts) (sym none) (All-nil (IsNoted counts))) in
     counted_all c.new.result passes told (subst (λ counted. AreNoted counted passes) (sym (ap (λ b. b.taken) c.new.ensures)) noted)

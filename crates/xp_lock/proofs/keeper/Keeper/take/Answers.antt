@@ -1,8 +1,9 @@
 use Rattle.std.proofs.Common.{ap, length, refl, subst, sym, ◌∙◌}
 use Rattle.xp_subs.specs.Tables.{line_count}
 use Rattle.xp_lock.specs.Handed.{handed}
-use Rattle.xp_lock.specs.Passes.{Freshens, IsLegal, Pass}
-use Rattle.xp_lock.specs.Views.{IsGrown, StartsWith, keeping}
+use Rattle.xp_lock.specs.Passes.{GainsEvent, IsLegal, Pass}
+use Rattle.xp_lock.specs.Views.{StartsWith, keeping}
+use Rattle.xp_lock.specs.steps.Views.{IsGrown}
 use Rattle.xp_lock.proofs.Fresh.{freshened, grown}
 use Rattle.xp_lock.proofs.Queues.{queues_left, queues_taken}
 use Rattle.xp_lock.proofs.keeper.Keeper.take.Goals as goal
@@ -19,9 +20,9 @@ refresh-requires-clause-before g c = ap length (c.history.ensures.entries ∙ c.
 pub refresh-requires-clause-grown : goal.refresh-requires-clause-grown
 refresh-requires-clause-grown g c =
     let own = c.requires.line ∙ ap (λ p. p.line) (sym c.pass.view_is) ∙ ap (λ v. v.line) (sym c.pass.invariant.1) in
-    let line = c.pass.inside.sight.knows.line in
+    let line = c.pass.inside.history_seat.knows.line in
     let more = grown _ _ _ _ c.in_ok-done.ensures.ok line own in
-    subst (IsGrown line c.self.inside.sight.knows.all) (sym c.core-core.ensures.history)
+    subst (IsGrown line c.self.inside.history_seat.knows.all) (sym c.core-core.ensures.history)
     (subst (λ all. IsGrown line all c.take.new.self.history) (ap (λ v. v.all) (sym c.self.invariant.1)) more)
 
 pub invariant_of-self-2 : goal.invariant_of-self-2
@@ -29,7 +30,7 @@ invariant_of-self-2 g c =
     let was = c.self.invariant in
     let takes = c.in_ok-done.ensures.ok in
     let knows = ap (λ n. keeping n c.core-core.result.now.history) (ap (λ v. v.next) was.1) ∙ ap (keeping (line_count g.N.Name.subs)) c.core-core.ensures.history in
-    (ap (λ s. s.word) c.refresh.ensures.keeper ∙ was.0, ap (λ s. s.knows) c.refresh.ensures.keeper ∙ knows, takes.subs ∙ was.2, queues_taken _ _ _ _ takes ∙ was.3)
+    (ap (λ s. s.history_length) c.refresh.ensures.keeper ∙ was.0, ap (λ s. s.knows) c.refresh.ensures.keeper ∙ knows, takes.subs ∙ was.2, queues_taken _ _ _ _ takes ∙ was.3)
 
 pub returns-clause-fresh : goal.returns-clause-fresh
 returns-clause-fresh g c =
@@ -37,17 +38,17 @@ returns-clause-fresh g c =
     let inside = c.pass.inside in
     let kept = c.self.invariant in
     let claim = c.pass.invariant.1 in
-    let before : Pass _ = record { line = inside.line; seen = inside.sight.knows.seen; taken = inside.outbox.taken } in
+    let before : Pass _ = record { line = inside.line; seen = inside.history_seat.knows.seen; taken = inside.outbox.taken } in
     let after : Pass _ = record { line = inside.line; seen = c.refresh.new.pass.knows.seen; taken = inside.outbox.taken } in
     let all = ap (λ v. v.all) kept.1 in
-    let own = ap (λ l. handed l c.self.inside.switch.history) (ap (λ v. v.line) (sym claim)) ∙ ap (handed inside.sight.knows.line) (sym all)
-    ∙ c.refresh.ensures.own ∙ ap (λ l. handed l inside.sight.knows.seen) (ap (λ v. v.line) claim) in
+    let own = ap (λ l. handed l c.self.inside.core_with_outboxes.history) (ap (λ v. v.line) (sym claim)) ∙ ap (handed inside.history_seat.knows.line) (sym all)
+    ∙ c.refresh.ensures.own ∙ ap (λ l. handed l inside.history_seat.knows.seen) (ap (λ v. v.line) claim) in
     let legal : IsLegal c.take.new.self.subs c.take.new.self.history =
     subst (λ t. IsLegal t c.take.new.self.history) c.core-core.ensures.subs (subst (IsLegal c.core-core.result.now.subs) c.core-core.ensures.history c.history-legal.ensures.run) in
-    subst (λ p. Freshens g.N.Name.subs p c.args.event c.in_ok-done.done after) c.pass.view_is
+    subst (λ p. GainsEvent g.N.Name.subs p c.args.event c.in_ok-done.done after) c.pass.view_is
     (freshened _ _ _ _ takes before after g.N.Name.subs (takes.subs ∙ kept.2) c.requires.kind
     (c.requires.line ∙ ap (λ p. p.line) (sym c.pass.view_is))
-    (subst (λ xs. StartsWith xs inside.sight.knows.seen) all c.refresh.ensures.seen) own legal refl refl
+    (subst (λ xs. StartsWith xs inside.history_seat.knows.seen) all c.refresh.ensures.seen) own legal refl refl
     (ap (λ s. s.knows.seen) c.refresh.ensures.pass ∙ c.core-core.ensures.history))
 
 pub returns-clause-shown : goal.returns-clause-shown

@@ -1,7 +1,7 @@
 use Rattle.std.proofs.Common.{◌≡◌}
 use Rattle.std.specs.Arc.{arc_value}
 use Rattle.crossbeam_queue.specs.Passes.{view, IsPassOf}
-use Rattle.xp_outbox.specs.Rule.{putter}
+use Rattle.xp_outbox.specs.steps.Rule.{putter}
 use Rattle.xp_outbox.proofs.put.PutEnd.put.Given as goal
 
 abbrev pub invariant-loop : goal.invariant-loop

@@ -1,15 +1,15 @@
 use Rattle.std.proofs.Common.{sym, subst}
-use Rattle.xp_relay.specs.Coupled.{ShowsCall}
+use Rattle.xp_relay.specs.Coupled.{RepresentsCall}
 use Rattle.xp_relay.specs.Turns.{reset}
 use Rattle.xp_relay.proofs.Calls.{follows_caller, follows_called}
 use Rattle.xp_relay.proofs.relay.Relay.reset.Goals as goal
 
 pub returns-in-Caller : goal.returns-in-Caller
 returns-in-Caller g c = λ call h.
-    let s = subst (λ k. ShowsCall k call) (sym c.self.view_is) h in
+    let s = subst (λ k. RepresentsCall k call) (sym c.self.view_is) h in
     follows_caller c.args.here c.in-Caller.is (reset c.args.here c.args.cause c.args.diagnostic) call _ _ (c.reset.ensures call.from_caller call.from_called s.from_caller s.from_called)
 
 pub returns-in-Called : goal.returns-in-Called
 returns-in-Called g c = λ call h.
-    let s = subst (λ k. ShowsCall k call) (sym c.self.view_is) h in
+    let s = subst (λ k. RepresentsCall k call) (sym c.self.view_is) h in
     follows_called c.args.here c.in-Called.is (reset c.args.here c.args.cause c.args.diagnostic) call _ _ (c.reset-in-Called.ensures call.from_called call.from_caller s.from_called s.from_caller)

@@ -10,4 +10,4 @@ returns-then-owes g c = λ s r hs hr.
 pub returns-else-owes : goal.returns-else-owes
 returns-else-owes g c = λ s r hs hr.
     otherwise _ (seen (λ k. k.owes) hr c.owes.ensures c.if-owes.false)
-    (along (λ n. resetting c.args.here c.args.cause n s r) (sym c.diagnostic_told.ensures) (c.request.ensures s r hs hr))
+    (along (λ n. resetting c.args.here c.args.cause n s r) (sym c.indicated_diagnostic.ensures) (c.request.ensures s r hs hr))

@@ -8,5 +8,5 @@ returns g c = λ s r hs hr.
     record {
       sent = hs;
       received = c.release.ensures.shown (settled r) back;
-      moves = rw (c.release.ensures.moves (settled r) back, c.with_some-room.ensures.moves, c.with_some.ensures.moves, c.requires.empty, c.telling_not_ready.ensures s hs, c.interrupts.ensures, c.settle-waited.ensures.waited, ap (λ k. held_interrupt k.interrupt) hr.shown, c.received_number.ensures, ap (λ k. k.pr) hs.shown) refl;
+      moves = rw (c.release.ensures.moves (settled r) back, c.with_some-room.ensures.moves, c.with_some.ensures.moves, c.requires.empty, c.not_ready_notice.ensures s hs, c.interrupts.ensures, c.settle-waited.ensures.waited, ap (λ k. held_interrupt k.interrupt) hr.shown, c.received_number.ensures, ap (λ k. k.pr) hs.shown) refl;
     }

@@ -1,5 +1,5 @@
 use Rattle.std.proofs.Common.{◌≡◌, Some}
-use Rattle.xp_subs.specs.Kept.{tables}
+use Rattle.xp_subs.specs.Consistency.{tables}
 use Rattle.xp_subs.specs.Sound.{IsTarget}
 use Rattle.xp_subs.specs.Tables.{target_of}
 use Rattle.xp_subs.proofs.TableLemmas.{IfSome-each}

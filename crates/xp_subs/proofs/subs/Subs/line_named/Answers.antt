@@ -1,5 +1,5 @@
 use Rattle.std.proofs.Common.{sym, ◌∙◌}
-use Rattle.xp_subs.specs.Kept.{tables}
+use Rattle.xp_subs.specs.Consistency.{tables}
 use Rattle.xp_file.specs.Name.{is_line_name}
 use Rattle.xp_subs.proofs.TableLemmas.{line_named_of-unspelled, refused}
 use Rattle.xp_subs.proofs.subs.Subs.line_named.Goals as goal

@@ -1,6 +1,6 @@
 use Rattle.std.proofs.Common.{ap, refl, sym, ◌∙◌}
 use Rattle.std.proofs.lemmas.Result.{err_from_is_err_and}
-use Rattle.xp_file.specs.File.{FileData}
+use Rattle.xp_file.specs.SubscriptionFile.{FileData}
 use Rattle.xp_subs.proofs.FitLemmas.{fits_as}
 use Rattle.xp_subs.proofs.GroupLemmas.{groups_counted}
 use Rattle.xp_subs.proofs.ReadLemmas.{refused_twice, refused_index, set_up}

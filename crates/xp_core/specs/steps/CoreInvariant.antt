@@ -1,0 +1,24 @@
+-- The invariant of a core.
+use Rattle.std.specs.Prelude.{◌≡◌, Option, List, length}
+use Rattle.xp_subs.specs.Sound.{IsSound}
+use Rattle.xp_subs.specs.Tables.{Tables, line_count}
+use Rattle.xp_core.specs.declared.entry.Entry.{Entry}
+use Rattle.xp_charge.specs.declared.record.Record.{Record}
+use Rattle.xp_machine.specs.declared.relays.MeteredRelay.{MeteredRelay}
+use Rattle.xp_core.specs.Records.{records_of}
+use Rattle.xp_core.specs.steps.Relays.{RelaysRepresentCalls}
+use Rattle.xp_core.specs.Run.{Run}
+use Rattle.xp_core.specs.Worlds.{world_after}
+use Rattle.xp_machine.specs.World.{World}
+use Rattle.xp_core.specs.steps.Writable.{AreReadable}
+
+module _ {A : Type 0} where
+  -- the subscriptions are sound, the history is that of a run, and what is kept shows the state that it leads to
+  pub record CoreInvariant (tables : Tables) (history : List (Entry A)) (machine : World) (relays : List (Option (MeteredRelay A))) (records : List Record) : Type 0 where
+    pub sound : IsSound tables
+    pub run : Run tables history (world_after tables history)
+    pub readable : AreReadable history
+    pub shown : machine ≡ world_after tables history
+    pub carried : RelaysRepresentCalls tables history machine relays
+    pub places : length relays ≡ line_count tables
+    pub charged : records ≡ records_of history

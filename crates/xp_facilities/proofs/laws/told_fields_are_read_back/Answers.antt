@@ -1,5 +1,0 @@
-use Rattle.xp_facilities.proofs.ReadBack.{read_back}
-use Rattle.xp_facilities.proofs.laws.told_fields_are_read_back.Goals as goal
-
-pub returns : goal.returns
-returns g c = read_back

@@ -1,0 +1,4 @@
+-- The definitions that only the contracts of private functions use. No public contract cites them.
+pub mod Indicated
+pub mod Items
+pub mod Requested

@@ -1,9 +1,0 @@
--- How the parts of a turn end.
-use Rattle.std.specs.Prelude.{Bool, true, false}
-use Rattle.xp_lines.specs.declared.writing.Ended.{Ended}
-use Rattle.xp_lines.specs.declared.writing.Ended.TheVariants as writes
-
-abbrev pub is_lost : Ended → Bool
-is_lost writes.Open = false
-is_lost writes.Over = false
-is_lost writes.Lost = true

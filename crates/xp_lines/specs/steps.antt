@@ -1,0 +1,8 @@
+-- Definitions that only contracts of private functions cite. No public contract cites one.
+pub mod Ended
+pub mod Offering
+pub mod Offers
+pub mod Reads
+pub mod Sessions
+pub mod Threads
+pub mod Wire

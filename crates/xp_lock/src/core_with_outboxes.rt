@@ -1,0 +1,134 @@
+//! The serial exchange with the outboxes of its lines. It enters one event at a time, with the stalls that the event forces.
+
+ghost use Rattle.std.specs.Prelude.{◌≡◌, ◌+◌, ◌<◌, ◌≤◌, true, false, IfOk, IfErr, length};
+ghost use Rattle.xp_subs.specs.Tables.{line_count};
+ghost use Rattle.xp_core.specs.Exchange.{IsReadable};
+ghost use Rattle.xp_lock.specs.Outboxes.{HaveCapacity};
+ghost use Rattle.xp_lock.specs.steps.Outboxes.{OutboxesMatch};
+ghost use Rattle.xp_lock.specs.Handed.{is_stall};
+ghost use Rattle.xp_lock.specs.CoreWithOutboxes.{Refuses, Takes, is_up};
+
+use crate::entering::enter;
+use crate::fault::OfferFault;
+use crate::outboxes::{OutboxPutEnd, has_room};
+use crate::receipt::Receipt;
+use std::alloc::Allocator;
+use std::marker::Model;
+use std::sync::Wait;
+use xp_core::{Core, Event, What};
+
+/// How many places of the history must be left: one for the event, and three for the stalls that it may force.
+const PLACES_FOR_AN_EVENT: usize = 4;
+
+/// The serial exchange, the put ends of its lines' outboxes, and whether it refuses every event.
+#[derive(Drop)]
+pub struct CoreWithOutboxes<A: Allocator> {
+    core: Core<A>,
+    outboxes: Vec<OutboxPutEnd<A>, A>,
+    halted: bool,
+}
+
+impl<A: Allocator> Model for CoreWithOutboxes<A> {
+    ghost use Rattle.xp_lock.specs.CoreWithOutboxes.{CoreWithOutboxes as Seen};
+
+    ghost Value = { Seen A };
+
+    ghost use Rattle.xp_lock.specs.steps.Outboxes.{OutboxesMatch};
+
+    ghost view = { λ s. record { subs = s.core.subs; history = s.core.history; outboxes = s.outboxes.items; halted = s.halted } };
+
+    ghost invariant = { λ s. OutboxesMatch s.core.subs s.core.history s.outboxes.items };
+}
+
+/// Whether an event is an Up.
+fn comes_up<A: Allocator>(what: &What<A>) -> bool
+    ensures { result ≡ is_up what.now }
+{
+    matches!(what, What::Up)
+}
+
+impl<A: Allocator + Copy> CoreWithOutboxes<A> {
+    /// The exchange of this core and these outboxes. It is not halted.
+    pub fn new(core: Core<A>, outboxes: Vec<OutboxPutEnd<A>, A>) -> CoreWithOutboxes<A>
+        requires { OutboxesMatch core.subs core.history outboxes.items }
+        ensures { result ≡ record { subs = core.subs; history = core.history; outboxes = outboxes.items; halted = false } }
+    {
+        CoreWithOutboxes {
+            core,
+            outboxes,
+            halted: false,
+        }
+    }
+
+    /// Enters one event of a line and the stalls that the event forces, and puts their outputs into the outboxes.
+    ///
+    /// # Errors
+    ///
+    /// The first of these that applies:
+    ///
+    /// - `Halted`: the exchange was halted.
+    /// - `JournalFull`: fewer than four places of the history are left.
+    /// - `NoRoom`: the event is an Up, and the outbox of its line has fewer than 24 free places.
+    /// - `Memory`: an allocation failed.
+    ///
+    /// The fault gives the event back. Nothing has changed, except that the exchange looked at the free places of the line
+    /// where the event is an Up.
+    pub fn take<R: Wait>(&mut self, rt: &R, event: Event<A>) -> Result<Receipt, OfferFault<A>>
+        requires line { event.line < line_count self.old.subs }
+        requires readable { IsReadable event.what }
+        requires kind { is_stall event.what ≡ false }
+        ensures ok { IfOk result (λ done. Takes self.old event done self.new) }
+        ensures err { IfErr result (λ fault. Refuses self.old event fault self.new) }
+        ensures capacities { HaveCapacity (line_count self.new.subs) self.new.outboxes }
+    {
+        if self.halted {
+            return Err(OfferFault::Halted(event));
+        }
+        if self.core.history().len() + PLACES_FOR_AN_EVENT > self.core.subs().journal() as usize {
+            return Err(OfferFault::JournalFull(event));
+        }
+        let up = comes_up(&event.what);
+        if !has_room(rt, &mut self.outboxes, event.line, up) {
+            return Err(OfferFault::NoRoom(event));
+        }
+        let done = enter(rt, &mut self.core, &mut self.outboxes, event)?;
+        Ok(done)
+    }
+
+    /// Returns the serial exchange.
+    pub fn core(&self) -> &Core<A>
+        ensures subs { result.now.subs ≡ self.now.subs }
+        ensures history { result.now.history ≡ self.now.history }
+    {
+        &self.core
+    }
+
+    /// Returns the serial exchange and the outboxes.
+    pub fn into_parts(self) -> (Core<A>, Vec<OutboxPutEnd<A>, A>)
+        ensures subs { result.0.subs ≡ self.subs }
+        ensures history { result.0.history ≡ self.history }
+        ensures outboxes { result.1.items ≡ self.outboxes }
+        ensures kept { OutboxesMatch self.subs self.history self.outboxes }
+    {
+        let CoreWithOutboxes {
+            core,
+            outboxes,
+            halted: _,
+        } = self;
+        (core, outboxes)
+    }
+
+    /// Makes the exchange refuse every later event.
+    pub fn halt(&mut self)
+        ensures { self.new ≡ record self.old { halted = true } }
+    {
+        self.halted = true;
+    }
+
+    /// Whether the exchange refuses every event.
+    pub fn is_halted(&self) -> bool
+        ensures { result ≡ self.now.halted }
+    {
+        self.halted
+    }
+}

@@ -1,0 +1,93 @@
+//! The put ends of the lines' outboxes: what puts outputs into them, and what looks at their free places.
+
+ghost use Rattle.std.specs.Prelude.{◌≡◌, ◌<◌, ◌≤◌, true, false, [], ◌∷◌, length, slice_set};
+ghost use Rattle.xp_lock.specs.Outboxes.{IsLookedAt, LooksIf, PLACES_KEPT, outbox_at};
+ghost use Rattle.xp_lock.specs.steps.Outboxes.{HasRoomFor, IsPut, with_items};
+
+use std::alloc::Allocator;
+use std::sync::Wait;
+use std::thread;
+use xp_core::{Outgoing, Output, Outputs};
+use xp_outbox::PutEnd;
+use xp_subs::LineNo;
+
+/// How many free places the outbox of a line in service has to have.
+pub const LEAST_PLACES: usize = 24;
+
+/// The end of a line's outbox into which the exchange puts outputs.
+pub type OutboxPutEnd<A> = PutEnd<Outgoing<A>, A>;
+
+/// Puts an output into the outbox of its line.
+fn put_one<A: Allocator, R: Wait>(rt: &R, outboxes: &mut Vec<OutboxPutEnd<A>, A>, output: Output<A>)
+    requires { 0 < (outbox_at outboxes.old.items output.line).free }
+    ensures { outboxes.new.items ≡ slice_set outboxes.old.items output.line (with_items (outbox_at outboxes.old.items output.line) (output.outgoing ∷ [])) }
+{
+    let at = output.line as usize;
+    if at >= outboxes.len() {
+        unreachable!();
+    }
+    outboxes[at].put(rt, output.outgoing);
+}
+
+/// Puts each output into the outbox of its line, in order.
+pub fn put_all<A: Allocator, R: Wait>(
+    rt: &R,
+    outboxes: &mut Vec<OutboxPutEnd<A>, A>,
+    outputs: Outputs<A>,
+)
+    requires { HasRoomFor outputs outboxes.old.items }
+    ensures { IsPut outputs outboxes.old.items outboxes.new.items }
+{
+    for output in outputs.into_items() {
+        put_one(rt, outboxes, output);
+    }
+}
+
+/// Whether an event of this line may be entered. An event that is no Up always may. For an Up it looks at the free places
+/// of the line, and at least 24 must be free.
+pub fn has_room<A: Allocator, R: Wait>(
+    rt: &R,
+    outboxes: &mut Vec<OutboxPutEnd<A>, A>,
+    line: LineNo,
+    comes_up: bool,
+) -> bool
+    requires { line < length outboxes.old.items }
+    ensures looks { LooksIf comes_up line outboxes.old.items outboxes.new.items }
+    ensures room { comes_up ≡ true → result ≡ true → PLACES_KEPT ≤ (outbox_at outboxes.new.items line).free }
+    ensures none { result ≡ false → (comes_up ≡ true) × ((outbox_at outboxes.new.items line).free < PLACES_KEPT) }
+{
+    if !comes_up {
+        return true;
+    }
+    look(rt, outboxes, line) >= LEAST_PLACES
+}
+
+/// Looks at the free places of a line's outbox, and returns how many there are.
+fn look<A: Allocator, R: Wait>(
+    rt: &R,
+    outboxes: &mut Vec<OutboxPutEnd<A>, A>,
+    line: LineNo,
+) -> usize
+    requires { line < length outboxes.old.items }
+    ensures outboxes { outboxes.new.items ≡ slice_set outboxes.old.items line (record (outbox_at outboxes.old.items line) { free = result }) }
+    ensures looked { IsLookedAt (outbox_at outboxes.old.items line) (record (outbox_at outboxes.old.items line) { free = result }) }
+{
+    let at = line as usize;
+    look_at(rt, &mut outboxes[at])
+}
+
+/// Looks at the free places of an outbox, and returns how many there are. It looks again while it finds fewer than this end
+/// knows of. That does not happen, since this end alone fills places.
+pub fn look_at<A: Allocator, R: Wait>(rt: &R, end: &mut OutboxPutEnd<A>) -> usize
+    ensures end { end.new ≡ record end.old { free = result } }
+    ensures looked { IsLookedAt end.old (record end.old { free = result }) }
+{
+    let known = end.free();
+    for _ in rt.forever() {
+        if end.room(rt) >= known {
+            break;
+        }
+        thread::yield_now();
+    }
+    end.free()
+}

@@ -1,0 +1,7 @@
+pub mod Coupled
+pub mod InCall
+pub mod Kept
+pub mod Keyed
+pub mod Lines
+pub mod Maps
+pub mod Terms

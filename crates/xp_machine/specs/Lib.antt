@@ -1,0 +1,15 @@
+pub mod AppliedChange
+pub mod CallEnds
+pub mod Changes
+pub mod Channel
+pub mod Clearing
+pub mod Coupling
+pub mod Information
+pub mod Keyed
+pub mod RelayTerms
+pub mod Relays
+pub mod Segments
+pub mod StoredState
+pub mod View
+pub mod World
+pub mod steps

@@ -1,5 +1,0 @@
-use Rattle.xp_packets.proofs.LawLemmas.{either_spelled_or_wrong}
-use Rattle.xp_packets.proofs.laws.either_spelled_or_wrong.Goals as goal
-
-pub returns : goal.returns
-returns g c = either_spelled_or_wrong _

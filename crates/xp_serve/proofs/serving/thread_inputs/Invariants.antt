@@ -1,0 +1,10 @@
+use Rattle.std.proofs.Common.{◌≡◌, ◌++◌, length, map}
+use Rattle.std.specs.Vec.Iter.{into_iter_items, into_iter_len}
+use Rattle.xp_serve.proofs.serving.thread_inputs.Given as goal
+
+abbrev pub invariant-loop-pass : goal.invariant-loop-pass
+invariant-loop-pass g l = record {
+  many : length (into_iter_items l.pass-iterator) ≡ into_iter_len l.pass-iterator;
+  ends : into_iter_len l.ends ≡ into_iter_len l.pass-iterator;
+  lines : map (λ part. part.pass.line) l.parts.items ++ map (λ pass. pass.line) (into_iter_items l.pass-iterator) ≡ map (λ pass. pass.line) l.fn.passes.items;
+}

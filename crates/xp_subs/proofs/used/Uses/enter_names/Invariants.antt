@@ -1,7 +1,0 @@
-use Rattle.std.proofs.Common.{◌≡◌, ◌+◌, drop}
-use Rattle.xp_subs.specs.Passes.{with_names}
-use Rattle.xp_subs.proofs.used.Uses.enter_names.Given as goal
-
-abbrev pub invariant-loop-entry : goal.invariant-loop-entry
-invariant-loop-entry l =
-    (with_names l.first l.lines l.initial.self ≡ with_names l.line (drop l.entry-index l.lines) l.self) × (l.line ≡ l.first + l.entry-index)

@@ -1,0 +1,15 @@
+-- The content of a `Subs`: its tables, an index of addresses and an index of names.
+use Rattle.std.specs.Prelude.{◌≡◌, ℕ, List, string_bytes}
+use Rattle.indexmap.specs.IndexMap.{get}
+use Rattle.xp_subs.specs.declared.subs.Subs.TheInside.{Inside}
+use Rattle.xp_subs.specs.Tables.{Tables}
+
+abbrev pub tables : Inside → Tables
+tables inside = record {
+  stations = inside.stations.items;
+  lines = inside.lines.items;
+  groups = inside.groups.keys;
+  segment_limit = inside.segment_limit;
+  journal = inside.journal;
+  host = string_bytes inside.host;
+}

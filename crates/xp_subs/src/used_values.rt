@@ -1,0 +1,179 @@
+//! The addresses, names and ports of a subscription file. None of them may be used twice.
+ghost use Rattle.std.specs.Prelude.{◌≡◌, ◌≢◌, ◌+◌, ◌≤◌, Ok, Err, OnOk, IfOk, IfErr, length};
+ghost use Rattle.xp_file.specs.declared.fault.SubscriptionFault.TheVariants.{Memory as OutOfMemory};
+
+use crate::target::Target;
+use crate::{LineNo, StationNo};
+use indexmap::{IndexMap, IndexSet};
+use std::alloc::Global;
+use std::marker::Model;
+use xp_file::{Key, LineEntry, Name, StationEntry, SubscriptionFault};
+use xp_packets::Digits;
+
+/// The values that are used so far.
+#[derive(Drop)]
+pub(crate) struct UsedValues {
+    pub(crate) targets: IndexMap<Digits, Target>,
+    pub(crate) names: IndexMap<Name, LineNo>,
+    ports: IndexSet<u16>,
+}
+
+impl Model for UsedValues {
+    ghost use Rattle.xp_subs.specs.steps.Passes.{Used};
+
+    ghost Value = { Used };
+
+    ghost view = { λ uses. record {
+      targets = uses.targets.entries;
+      names = uses.names.entries;
+      ports = uses.ports.keys;
+    } };
+}
+
+impl UsedValues {
+    ghost use Rattle.xp_subs.specs.steps.WithinLimits.{AreWithinLimits};
+    ghost use Rattle.xp_subs.specs.steps.Passes.{with_address, with_name, with_names, with_port, with_ports, with_own, with_addresses, with_station, with_stations, nothing_used};
+
+    fn new(alloc: Global) -> UsedValues
+        ensures { result ≡ nothing_used }
+    {
+        UsedValues {
+            targets: IndexMap::new(alloc),
+            names: IndexMap::new(alloc),
+            ports: IndexSet::new(alloc),
+        }
+    }
+
+    fn enter_address(&mut self, address: &Digits, target: Target) -> Result<(), SubscriptionFault>
+        ensures ok { OnOk result (with_address target address.now self.old ≡ Ok self.new) }
+        ensures refused { IfErr result (λ fault. fault ≢ OutOfMemory → with_address target address.now self.old ≡ Err fault) }
+    {
+        if self.targets.insert(address.copy(), target)?.is_some() {
+            return Err(SubscriptionFault::TwiceUsed(Key::Address));
+        }
+        Ok(())
+    }
+
+    fn enter_name(&mut self, name: &Name, line: LineNo) -> Result<(), SubscriptionFault>
+        ensures ok { OnOk result (with_name line name.now self.old ≡ Ok self.new) }
+        ensures refused { IfErr result (λ fault. fault ≢ OutOfMemory → with_name line name.now self.old ≡ Err fault) }
+    {
+        if self.names.insert(name.copy(), line)?.is_some() {
+            return Err(SubscriptionFault::TwiceUsed(Key::Name));
+        }
+        Ok(())
+    }
+
+    fn enter_port(&mut self, port: u16) -> Result<(), SubscriptionFault>
+        ensures ok { OnOk result (with_port port self.old ≡ Ok self.new) }
+        ensures refused { IfErr result (λ fault. fault ≢ OutOfMemory → with_port port self.old ≡ Err fault) }
+    {
+        if !self.ports.insert(port)? {
+            return Err(SubscriptionFault::TwiceUsed(Key::Port));
+        }
+        Ok(())
+    }
+
+    fn enter_names(&mut self, first: LineNo, lines: &[LineEntry]) -> Result<(), SubscriptionFault>
+        requires { first + length lines.now ≤ 512 }
+        ensures ok { OnOk result (with_names first lines.now self.old ≡ Ok self.new) }
+        ensures refused { IfErr result (λ fault. fault ≢ OutOfMemory → with_names first lines.now self.old ≡ Err fault) }
+    {
+        let mut line = first;
+        for entry in lines {
+            self.enter_name(&entry.name, line)?;
+            line += 1;
+        }
+        Ok(())
+    }
+
+    fn enter_ports(&mut self, lines: &[LineEntry]) -> Result<(), SubscriptionFault>
+        ensures ok { OnOk result (with_ports lines.now self.old ≡ Ok self.new) }
+        ensures refused { IfErr result (λ fault. fault ≢ OutOfMemory → with_ports lines.now self.old ≡ Err fault) }
+    {
+        for entry in lines {
+            self.enter_port(entry.port)?;
+        }
+        Ok(())
+    }
+
+    fn enter_addresses(
+        &mut self,
+        station: StationNo,
+        first: LineNo,
+        lines: &[LineEntry],
+    ) -> Result<(), SubscriptionFault>
+        requires { first + length lines.now ≤ 512 }
+        ensures ok { OnOk result (with_addresses station first lines.now self.old ≡ Ok self.new) }
+        ensures refused { IfErr result (λ fault. fault ≢ OutOfMemory → with_addresses station first lines.now self.old ≡ Err fault) }
+    {
+        let mut line = first;
+        for entry in lines {
+            self.enter_own(station, line, &entry.address)?;
+            line += 1;
+        }
+        Ok(())
+    }
+
+    fn enter_own(
+        &mut self,
+        station: StationNo,
+        line: LineNo,
+        address: &Option<Digits>,
+    ) -> Result<(), SubscriptionFault>
+        ensures ok { OnOk result (with_own station line address.now self.old ≡ Ok self.new) }
+        ensures refused { IfErr result (λ fault. fault ≢ OutOfMemory → with_own station line address.now self.old ≡ Err fault) }
+    {
+        match address {
+            Some(address) => {
+                let target = Target {
+                    station,
+                    line: Some(line),
+                };
+                self.enter_address(address, target)
+            }
+            None => Ok(()),
+        }
+    }
+
+    #[tactic(auto, unfolding(crate::specs::steps::Passes::with_station))]
+    fn enter_station(
+        &mut self,
+        number: StationNo,
+        first: LineNo,
+        station: &StationEntry,
+    ) -> Result<(), SubscriptionFault>
+        requires { first + length station.now.lines ≤ 512 }
+        ensures ok { OnOk result (with_station number first station.now self.old ≡ Ok self.new) }
+        ensures refused { IfErr result (λ fault. fault ≢ OutOfMemory → with_station number first station.now self.old ≡ Err fault) }
+    {
+        let whole = Target {
+            station: number,
+            line: None,
+        };
+        self.enter_address(&station.address, whole)?;
+        self.enter_names(first, &station.lines)?;
+        self.enter_ports(&station.lines)?;
+        self.enter_addresses(number, first, &station.lines)
+    }
+
+    /// The values that the stations use. Returns the first fault if an address, a name or a port is used twice.
+    pub(crate) fn of(
+        alloc: Global,
+        stations: &[StationEntry],
+    ) -> Result<UsedValues, SubscriptionFault>
+        requires { AreWithinLimits stations.now }
+        ensures ok { IfOk result (λ uses. with_stations 0 0 stations.now nothing_used ≡ Ok uses) }
+        ensures refused { IfErr result (λ fault. fault ≢ OutOfMemory → with_stations 0 0 stations.now nothing_used ≡ Err fault) }
+    {
+        let mut uses = UsedValues::new(alloc);
+        let mut number = 0;
+        let mut line = 0;
+        for station in stations {
+            uses.enter_station(number, line, station)?;
+            number += 1;
+            line += station.lines.len() as LineNo;
+        }
+        Ok(uses)
+    }
+}
