@@ -31,11 +31,21 @@ fn halts_at<N: Name>(
     alloc: Global,
     exchange: &Exchange<N>,
     passes: &mut [LinePass<N>],
-    seen: &mut Seen,
-) -> Result<(), Fail> {
+) -> Result<Seen, Fail> {
     let [a1, b1, ..] = passes else {
-        return Ok(());
+        return Ok(Seen::default());
     };
+    halts_between(rt, alloc, exchange, a1, b1)
+}
+
+fn halts_between<N: Name>(
+    rt: &impl Wait,
+    alloc: Global,
+    exchange: &Exchange<N>,
+    a1: &mut LinePass<N>,
+    b1: &mut LinePass<N>,
+) -> Result<Seen, Fail> {
+    let mut seen = Seen::default();
     let _up = entered(rt, exchange, a1, What::Up);
     let _up = entered(rt, exchange, b1, What::Up);
     seen.halted_before = exchange.halted();
@@ -45,7 +55,7 @@ fn halts_at<N: Name>(
     let answer = packet(alloc, &ACCEPTED)?;
     seen.refused = is_refused(rt, exchange, b1, answer, Reason::Halted);
     seen.rung = is_call(&exchange.next_out(rt, b1));
-    Ok(())
+    Ok(seen)
 }
 
 fn halts<N: Name>(
@@ -57,12 +67,13 @@ fn halts<N: Name>(
     requires history_length { N.history_length ≡ prepared.history_length }
     requires queues { N.queues ≡ prepared.queues }
 {
-    let mut seen = Seen::default();
     let (exchange, mut passes) = Exchange::<N, Global>::start(alloc, prepared)?;
-    let played = halts_at(rt, alloc, &exchange, &mut passes, &mut seen);
+    let seen = halts_at(rt, alloc, &exchange, &mut passes);
     let last = passes.pop();
-    (seen.missing, seen.entries) = closes_in_two(rt, exchange, passes, last);
-    played?;
+    let (missing, entries) = closes_in_two(rt, exchange, passes, last);
+    let mut seen = seen?;
+    seen.missing = missing;
+    seen.entries = entries;
     Ok(seen)
 }
 

@@ -81,12 +81,22 @@ fn call<N: Name, A: Allocator + Copy>(
     exchange: &Exchange<N, A>,
     passes: &mut [LinePass<N, A>],
 ) -> Result<Told, Fail> {
+    let [a1, b1, ..] = passes else {
+        return Ok(Told::default());
+    };
+    call_between(rt, alloc, exchange, a1, b1)
+}
+
+fn call_between<N: Name, A: Allocator + Copy>(
+    rt: &impl Wait,
+    alloc: A,
+    exchange: &Exchange<N, A>,
+    a1: &mut LinePass<N, A>,
+    b1: &mut LinePass<N, A>,
+) -> Result<Told, Fail> {
     let mut told = Told {
         in_order: true,
         ..Told::default()
-    };
-    let [a1, b1, ..] = passes else {
-        return Ok(told);
     };
     told.note(offer(rt, exchange, a1, What::Up));
     told.note(offer(rt, exchange, b1, What::Up));
