@@ -1,12 +1,15 @@
 //! `xp_core`: steps of which each request for memory is refused in turn.
 
-ghost use Rattle.std.specs.Prelude.{IfOk};
+ghost use Rattle.std.specs.Prelude.{All, IfOk};
 ghost use Rattle.xp_core.specs.Exchange.{IsReadable};
+ghost use Rattle.xp_core.specs.Writable.{AreWritable};
+ghost use Rattle.xp_script.specs.Lines.{HasLines};
+ghost use Rattle.xp_subs.specs.Tables.{line_count};
 
 use std::alloc::{AllocError, Allocator, Global};
 use std::process::Abort;
 use std::test::Fail;
-use xp_core::{Core, Event, StepFault, Stepped, What};
+use xp_core::{Core, Entry, Event, StepFault, Stepped, What};
 use xp_machine::LineView;
 use xp_packets::{PacketFault, decode};
 use xp_script::{Command, write_entry};
@@ -184,11 +187,41 @@ fn brought(subs: &Subs, alloc: Global, line: &str) -> Result<(LineNo, Vec<u8>), 
 
 /// The text of all entries.
 fn told<A: Allocator + Copy>(core: &Core<A>, ample: A) -> Result<Vec<u8, A>, AllocError> {
+    text_of(core.subs(), core.history(), ample)
+}
+
+/// The text of entries of an exchange with these subscriptions.
+fn text_of<A: Allocator + Copy>(
+    subs: &Subs,
+    entries: &[Entry<A>],
+    ample: A,
+) -> Result<Vec<u8, A>, AllocError>
+    requires writable { All (λ entry. AreWritable entry.outputs) entries.now }
+    requires lines { All (HasLines (line_count subs.now)) entries.now }
+{
     let mut text = Vec::new(ample);
-    for entry in core.history() {
-        write_entry(core.subs(), entry, &mut Vec::new(ample), &mut text)?;
+    for entry in entries {
+        write_entry(subs, entry, &mut Vec::new(ample), &mut text)?;
     }
     Ok(text)
+}
+
+/// A new exchange of the four stations, where there is memory for it.
+fn opened<A: Allocator + Copy>(alloc: Global, scarce: A) -> Result<Option<Core<A>>, Fail> {
+    Ok(Core::new(scarce, Subs::read(alloc, FOUR_STATIONS)?).ok())
+}
+
+/// Plays a line of the script. A second refusal is a failure.
+fn play_line<A: Allocator + Copy>(
+    rt: &impl Abort,
+    core: &mut Core<A>,
+    alloc: Global,
+    ample: A,
+    line: &str,
+) -> Result<(), Fail> {
+    let (line, packet) = brought(core.subs(), alloc, line)?;
+    offer_again(rt, core, ample, line, &packet)?.ok_or("a second refusal")?;
+    Ok(())
 }
 
 /// Plays the calls with scarce memory, and then stalls.
@@ -198,12 +231,11 @@ fn play<A: Allocator + Copy>(
     ample: A,
     scarce: A,
 ) -> Result<(), Fail> {
-    let Ok(mut core) = Core::new(scarce, Subs::read(alloc, FOUR_STATIONS)?) else {
+    let Some(mut core) = opened(alloc, scarce)? else {
         return Ok(());
     };
     for line in SCRIPT.lines() {
-        let (line, packet) = brought(core.subs(), alloc, line)?;
-        offer_again(rt, &mut core, ample, line, &packet)?.ok_or("a second refusal")?;
+        play_line(rt, &mut core, alloc, ample, line)?;
     }
     assert_eq!(rt; told(&core, ample)?.as_slice(), TEXT);
     assert_eq!(rt; core.records().len(), 4);
