@@ -1,6 +1,7 @@
 -- What is told of a run that was served.
-use Rattle.std.proofs.Common.{◌≡◌, ◌⊎◌, ℕ, ◌<◌, List, [], ◌++◌, Option, Result, Ok, Err, ap, append-nil, flat_map, inl, inr, refl, subst, sym, ◌∙◌}
+use Rattle.std.proofs.Common.{◌≡◌, ◌⊎◌, ◌↔◌, ℕ, ◌<◌, List, [], ◌++◌, Option, Result, Ok, Err, ap, append-nil, flat_map, inl, inr, refl, subst, sym, ◌∙◌}
 use Rattle.std.specs.Io.KnownBytes.{Appends, Keeps}
+use Rattle.std.specs.declared.net.ip_addr.IpAddr.{IpAddr}
 use Rattle.xp_charge.specs.Text.{record_text}
 use Rattle.xp_charge.specs.declared.record.Record.{Record}
 use Rattle.xp_core.specs.Records.{OneRecordEach, records_of}
@@ -10,6 +11,7 @@ use Rattle.xp_exchange.proofs.Bytes.{keeps_itself}
 use Rattle.xp_lock.specs.Passes.{IsLegal}
 use Rattle.xp_serve.specs.steps.Ends.{failure_by, failure_of}
 use Rattle.xp_serve.specs.Failures.{name_at}
+use Rattle.xp_serve.specs.Hosts.{IsHost, IsNoHost}
 use Rattle.xp_serve.specs.Printing.{IsFront}
 use Rattle.xp_serve.specs.steps.Printing.{Prints}
 use Rattle.xp_serve.specs.Serving.{IsWritten, Serves}
@@ -17,8 +19,19 @@ use Rattle.xp_serve.specs.declared.ends.EarlyEndCause.{EarlyEndCause}
 use Rattle.xp_serve.specs.declared.ends.EarlyEndCause.TheVariants as causes
 use Rattle.xp_serve.specs.declared.ends.EarlyEnd.{EarlyEnd}
 use Rattle.xp_serve.specs.declared.failure.ServeFailure.{ServeFailure}
-use Rattle.xp_serve.specs.declared.failure.ServeFailure.TheVariants.{Port, Journal, Thread, Memory, Output}
+use Rattle.xp_serve.specs.declared.failure.ServeFailure.TheVariants.{Host, Port, Journal, Thread, Memory, Output}
 use Rattle.xp_subs.specs.Tables.{Tables, line_count}
+
+-- a host that is told is no address
+told_of_host : (A : Type 0) (tables : Tables) (before after : Option (List ℕ)) → Serves A tables before after (Err Host) → IsNoHost tables.host
+told_of_host A tables before after (inl unserved) = unserved.1
+told_of_host A tables before after (inr served) = absurd served.told
+
+-- a host that is an address is not told
+pub not_of_host : (A : Type 0) (tables : Tables) (before after : Option (List ℕ)) (result : Result (Unit {0}) ServeFailure) (address : IpAddr)
+    → IsHost tables.host address → Serves A tables before after result → (result ≡ Err Host) ↔ IsNoHost tables.host
+not_of_host A tables before after result address is served =
+    (λ told. told_of_host A tables before after (subst (Serves A tables before after) told served), λ none. absurd (none address is))
 
 -- no line was served for want of memory
 pub wants_memory : (A : Type 0) (tables : Tables) (known : Option (List ℕ)) (result : Result (Unit {0}) ServeFailure) → result ≡ Err Memory → Serves A tables known known result

@@ -1,11 +1,13 @@
 -- What is told where lines are not served to the end, and the exit status.
 use Rattle.std.specs.Prelude.{◌≡◌, ℕ, ◌<◌, List}
 use Rattle.xp_subs.specs.Tables.{Tables, line_at, line_count}
+use Rattle.xp_serve.specs.Hosts.{IsNoHost}
 use Rattle.xp_serve.specs.declared.failure.ServeFailure.{ServeFailure}
-use Rattle.xp_serve.specs.declared.failure.ServeFailure.TheVariants.{Port, Journal, Thread, Memory, Output}
+use Rattle.xp_serve.specs.declared.failure.ServeFailure.TheVariants.{Host, Port, Journal, Thread, Memory, Output}
 
 -- 4 for want of room, 5 for input and output
 abbrev pub status_of : ServeFailure → ℕ
+status_of Host = 5
 status_of (Port name) = 5
 status_of Journal = 4
 status_of Thread = 4
@@ -19,8 +21,9 @@ name_at tables line = (line_at tables line).name
 abbrev pub IsLineName : Tables → List ℕ → Type 0
 IsLineName tables name = (line : ℕ) × (line < line_count tables) × (name ≡ name_at tables line)
 
--- why no line was served: a line's port, or memory, is wanting
+-- why no line was served: the host is no address, or a line's port, or memory, is wanting
 abbrev pub IsWanting : Tables → ServeFailure → Type 0
+IsWanting tables Host = IsNoHost tables.host
 IsWanting tables (Port name) = IsLineName tables name
 IsWanting tables Memory = Unit {0}
 IsWanting tables failure = ⊥

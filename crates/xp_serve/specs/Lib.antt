@@ -1,4 +1,5 @@
 pub mod Failures
+pub mod Hosts
 pub mod Limits
 pub mod Printing
 pub mod Serving

@@ -9,12 +9,13 @@ use Rattle.xp_lock.specs.Passes.{IsLegal}
 use Rattle.xp_serve.specs.Failures.{IsLineName, IsWanting}
 use Rattle.xp_serve.specs.Printing.{IsFront}
 use Rattle.xp_serve.specs.declared.failure.ServeFailure.{ServeFailure}
-use Rattle.xp_serve.specs.declared.failure.ServeFailure.TheVariants.{Port, Journal, Thread, Memory, Output}
+use Rattle.xp_serve.specs.declared.failure.ServeFailure.TheVariants.{Host, Port, Journal, Thread, Memory, Output}
 use Rattle.xp_subs.specs.Tables.{Tables}
 
--- the text of the records, which is written whole but for want of memory and a writer that fails
+-- The text of the records, which is written whole but for want of memory and a writer that fails. The host was an address.
 abbrev pub IsWritten : Tables → List ℕ → List ℕ → Result (Unit {0}) ServeFailure → Type 0
 IsWritten tables whole text (Ok done) = text ≡ whole
+IsWritten tables whole text (Err Host) = ⊥
 IsWritten tables whole text (Err (Port name)) = (text ≡ whole) × IsLineName tables name
 IsWritten tables whole text (Err Journal) = text ≡ whole
 IsWritten tables whole text (Err Thread) = text ≡ whole

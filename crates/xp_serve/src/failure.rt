@@ -13,6 +13,9 @@ use xp_subs::{LineNo, Subs};
 /// Why lines were not served to the end.
 #[derive(Debug, Drop, PartialEq, Error)]
 pub enum ServeFailure {
+    /// The host of the subscription file is no address.
+    #[error("xp: host")]
+    Host,
     /// The port of the line with this name can't be listened on, or no connection can come to it any more.
     #[error("xp: port {0}")]
     Port(Name),
@@ -36,7 +39,7 @@ impl ServeFailure {
     {
         match self {
             ServeFailure::Journal | ServeFailure::Thread | ServeFailure::Memory => 4,
-            ServeFailure::Port(_) | ServeFailure::Output => 5,
+            ServeFailure::Host | ServeFailure::Port(_) | ServeFailure::Output => 5,
         }
     }
 

@@ -3,6 +3,7 @@
 
 mod ends;
 mod failure;
+mod host;
 mod limits;
 mod listening;
 mod printing;

@@ -6,23 +6,28 @@ ghost use Rattle.xp_subs.specs.Tables.{line_count};
 
 use crate::failure::ServeFailure;
 use std::alloc::Global;
-use std::net::Net;
+use std::net::{IpAddr, Net};
 use xp_subs::{LineNo, Subs};
 use xp_tcp::{ListenFault, Sockets};
 
-/// Listens on the port of each line, in order.
+/// Listens on the port of each line, in order, at an address of the machine.
 ///
 /// # Errors
 ///
 /// `Port` with the first line whose port can't be had, `Memory`.
-pub fn listen_all<R: Net>(rt: &R, alloc: Global, subs: &Subs) -> Result<Sockets, ServeFailure>
+pub fn listen_all<R: Net>(
+    rt: &R,
+    alloc: Global,
+    subs: &Subs,
+    host: IpAddr,
+) -> Result<Sockets, ServeFailure>
     ensures all { IfOk result (λ sockets. sockets ≡ line_count subs.now) }
     ensures wanting { IfErr result (IsWanting subs.now) }
 {
     let lines = subs.counts().lines;
     let mut sockets = Sockets::new(alloc, lines)?;
     for line in 0..lines {
-        listen(rt, subs, line as LineNo, &mut sockets)?;
+        listen(rt, subs, host, line as LineNo, &mut sockets)?;
     }
     Ok(sockets)
 }
@@ -31,6 +36,7 @@ pub fn listen_all<R: Net>(rt: &R, alloc: Global, subs: &Subs) -> Result<Sockets,
 fn listen<R: Net>(
     rt: &R,
     subs: &Subs,
+    host: IpAddr,
     line: LineNo,
     sockets: &mut Sockets,
 ) -> Result<(), ServeFailure>
@@ -38,7 +44,7 @@ fn listen<R: Net>(
     ensures one { OnOk result (sockets.new ≡ sockets.old + 1) }
     ensures wanting { IfErr result (IsWanting subs.now) }
 {
-    match sockets.listen(rt, subs.host(), subs.port_of(line)) {
+    match sockets.listen(rt, host, subs.port_of(line)) {
         Ok(()) => Ok(()),
         Err(ListenFault::Port) => Err(ServeFailure::port(subs, line)),
         Err(ListenFault::Memory) => Err(ServeFailure::Memory),

@@ -1,12 +1,15 @@
 //! The exchange that is served: its lines' ports, threads and records.
 
-ghost use Rattle.std.specs.Prelude.{◌≡◌, IfOk, map, vec_len};
+ghost use Rattle.std.specs.Prelude.{◌≡◌, ◌↔◌, Err, IfOk, map, vec_len};
 ghost use Rattle.std.specs.declared.alloc.Global.{Global as Alloc};
+ghost use Rattle.xp_serve.specs.Hosts.{IsNoHost};
 ghost use Rattle.xp_serve.specs.Serving.{Serves};
+ghost use Rattle.xp_serve.specs.declared.failure.ServeFailure.TheVariants.{Host as NoHost};
 ghost use Rattle.xp_subs.specs.Tables.{line_count};
 
 use crate::ends::{first_early_end, passes_of};
 use crate::failure::ServeFailure;
+use crate::host::host_address;
 use crate::limits::Limits;
 use crate::listening::listen_all;
 use crate::printing::print_records;
@@ -26,7 +29,8 @@ use xp_tcp::{OpenGate, Sockets, TcpClock, TcpPort};
 ///
 /// # Errors
 ///
-/// Before any line is served: `Port` with the lowest line whose port can't be had, `Memory`. After the records are written:
+/// Before any line is served: `Host` where the host of the subscription file is neither `localhost` nor an IP address, before
+/// any port is listened on; `Port` with the lowest line whose port can't be had, `Memory`. After the records are written:
 /// what the lowest line told that ended before its time, as `Port`, `Journal` or `Thread`. `Memory` and `Output` where not
 /// all records could be written.
 pub fn serve<R: Net + Threads + Wait + Sync, W: Write>(
@@ -36,9 +40,13 @@ pub fn serve<R: Net + Threads + Wait + Sync, W: Write>(
     limits: Limits,
     writer: &mut W,
 ) -> Result<(), ServeFailure>
-    ensures { Serves Alloc subs (W.contents writer.old) (W.contents writer.new) result }
+    ensures host { (result ≡ Err NoHost) ↔ IsNoHost subs.host }
+    ensures serves { Serves Alloc subs (W.contents writer.old) (W.contents writer.new) result }
 {
-    let sockets = listen_all(rt, alloc, &subs)?;
+    let Some(host) = host_address(subs.host()) else {
+        return Err(ServeFailure::Host);
+    };
+    let sockets = listen_all(rt, alloc, &subs, host)?;
     let prepared = prepare(alloc, subs)?;
     serve_named::<Brand, R, W>(rt, alloc, prepared, sockets, limits, writer)
 }

@@ -5,24 +5,26 @@ use crate::frames::{ACCEPTED, CALL, CLEAR, CONFIRMATION, CONNECTED, INCOMING, OU
 use crate::serving::{Clients, serve};
 use std::test::Fail;
 
+/// A call that is accepted and cleared.
+pub const CALL_AND_CLEAR: Clients = Clients {
+    a1: &[
+        Step::Sends(CALL),
+        Step::Receives(CONNECTED),
+        Step::Sends(CLEAR),
+        Step::Receives(CONFIRMATION),
+        Step::IsClosed,
+    ],
+    b1: &[
+        Step::Receives(INCOMING),
+        Step::Sends(ACCEPTED),
+        Step::Receives(CLEAR),
+        Step::IsClosed,
+    ],
+};
+
 #[test]
 fn call_over_sockets(rt: HostRuntime) -> Result<(), Fail> {
-    let clients = Clients {
-        a1: &[
-            Step::Sends(CALL),
-            Step::Receives(CONNECTED),
-            Step::Sends(CLEAR),
-            Step::Receives(CONFIRMATION),
-            Step::IsClosed,
-        ],
-        b1: &[
-            Step::Receives(INCOMING),
-            Step::Sends(ACCEPTED),
-            Step::Receives(CLEAR),
-            Step::IsClosed,
-        ],
-    };
-    let served = serve(&rt, rt.alloc(), clients)?;
+    let served = serve(&rt, rt.alloc(), CALL_AND_CLEAR)?;
     assert_eq!(rt; served.steps, (5, 4));
     assert_eq!(rt;
         served.text.as_str(),

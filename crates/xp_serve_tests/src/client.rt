@@ -1,9 +1,9 @@
 //! Clients of lines, over TCP.
 
-use std::io;
 use std::io::{Read, Write};
 use std::net::{Ipv4Addr, Net, SocketAddr, SocketAddrV4, TcpListener, TcpStream};
 use std::time::Duration;
+use std::{io, thread};
 
 /// How many seconds a client waits for octets.
 const PATIENCE: u64 = 10;
@@ -22,14 +22,25 @@ pub enum Step {
     IsClosed,
 }
 
-/// Connects to a line's port.
+/// How often a client tries to connect before it gives up. Between two tries it lets other threads run.
+const MOST_TRIES: u32 = 100_000;
+
+/// Connects to a line's port, as soon as it is listened on.
 pub fn connect<R: Net<Listener = TcpListener, Stream = TcpStream>>(
     rt: &R,
     port: u16,
 ) -> io::Result<TcpStream> {
     let address = SocketAddr::V4(SocketAddrV4::new(Ipv4Addr::LOCALHOST, port));
     let patience = Duration::from_secs(PATIENCE);
-    let stream = TcpStream::connect_timeout(rt, &address, patience)?;
+    let mut connected = TcpStream::connect_timeout(rt, &address, patience);
+    for _try in 0..MOST_TRIES {
+        if connected.is_ok() {
+            break;
+        }
+        thread::yield_now();
+        connected = TcpStream::connect_timeout(rt, &address, patience);
+    }
+    let stream = connected?;
     stream.set_read_timeout(Some(patience))?;
     Ok(stream)
 }

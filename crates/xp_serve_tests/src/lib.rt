@@ -8,6 +8,8 @@ mod client;
 #[cfg(test)]
 mod frames;
 #[cfg(test)]
+mod hosts;
+#[cfg(test)]
 mod ports;
 #[cfg(test)]
 mod serving;

@@ -7,7 +7,7 @@ use crate::frames::{CLEAR, CONFIRMATION};
 use std::alloc::{AllocError, Global};
 use std::io;
 use std::marker::Brand;
-use std::net::{Net, TcpListener, TcpStream};
+use std::net::{IpAddr, Ipv4Addr, Net, TcpListener, TcpStream};
 use std::sync::Wait;
 use std::test::Fail;
 use std::thread::{Threads, join};
@@ -22,7 +22,7 @@ const LINES: usize = 5;
 
 /// More turns than a line has in these tests. A clock sleeps for half a second at most, so a line that nothing else ends has
 /// ended within a minute.
-const TURNS: u64 = 100;
+pub const TURNS: u64 = 100;
 
 /// What the clients of a1 and b1 do, once b1 is up.
 #[derive(Clone, Copy)]
@@ -44,7 +44,7 @@ pub struct Served {
 const COMES_UP: [Step; 2] = [Step::Sends(CLEAR), Step::Receives(CONFIRMATION)];
 
 /// The two clients, each on a thread of its own: how many steps of each were as told.
-fn meet<R: Net<Listener = TcpListener, Stream = TcpStream> + Threads + Sync>(
+pub fn meet<R: Net<Listener = TcpListener, Stream = TcpStream> + Threads + Sync>(
     rt: &R,
     ports: (u16, u16),
     clients: Clients,
@@ -80,7 +80,7 @@ fn meet_or_halt<
 fn listen_all<R: Net>(rt: &R, alloc: Global) -> Result<Sockets, Fail> {
     let mut sockets = Sockets::new(alloc, LINES)?;
     for _line in 0..LINES {
-        sockets.listen(rt, "127.0.0.1", 0)?;
+        sockets.listen(rt, IpAddr::V4(Ipv4Addr::LOCALHOST), 0)?;
     }
     Ok(sockets)
 }

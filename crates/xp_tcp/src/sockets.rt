@@ -91,17 +91,14 @@ impl Sockets {
     ///
     /// # Errors
     ///
-    /// `Port` where the port can't be had, or the host is no address, `Memory`. No line is added then.
-    pub fn listen<R: Net>(&mut self, rt: &R, host: &str, port: u16) -> Result<(), ListenFault>
+    /// `Port` where the port can't be had, `Memory`. No line is added then.
+    pub fn listen<R: Net>(&mut self, rt: &R, host: IpAddr, port: u16) -> Result<(), ListenFault>
         ensures ok { OnOk result (self.new ≡ self.old + 1) }
         ensures err { OnErr result (self.new ≡ self.old) }
     {
         let alloc = *self.lines.allocator();
         self.lines.reserve(1)?;
         let events = Events::with_capacity(alloc, MOST_EVENTS)?;
-        let Ok(host) = host.parse::<IpAddr>() else {
-            return Err(ListenFault::Port);
-        };
         let (line, waker) = open(rt, SocketAddr::new(host, port), events)?;
         self.wakers.reserve(1)?;
         self.wakers.push_reserved(LineWaker::new(waker));
