@@ -1,9 +1,9 @@
 #!/usr/bin/env python3
-"""A long random exchange: both ends of calls between two lines, replayed by the program and compared with the model.
+"""A long random exchange: both ends of calls between lines of both moduli, replayed by the program and compared with the model.
 
-The ends are lawful but for a fault now and then, and read what they are given with a delay, so packets cross. Their
-script and its text come from the model (model.py); the ends check what they are given, and an observer checks what comes
-out for what goes in. Then `xp replay` has to write the same text.
+Half of the calls are between lines of unlike moduli. The ends are lawful but for a fault now and then, and read what they
+are given with a delay, so packets cross. Their script and its text come from the model (model.py); the ends check what
+they are given, and an observer checks what comes out for what goes in. Then `xp replay` has to write the same text.
 """
 
 import argparse
@@ -20,16 +20,14 @@ from packets import Block, Packet, framed, read, written
 
 TOP = pathlib.Path(__file__).resolve().parent.parent
 
-LINES = {"a1": "2080010", "b1": "2080020"}
+ADDRESSES = {"a1": "2080010", "b1": "2080020", "c1": "2080030", "d1": "2080040"}
+MODULI = {"a1": 8, "b1": 8, "c1": 128, "d1": 128}
 SUBSCRIPTIONS = "journal = 10000000\n" + "".join(
-    f'[[station]]\naddress = "{address}"\nline = [{{ name = "{name}", port = {19981 + place} }}]\n'
-    for place, (name, address) in enumerate(LINES.items())
+    f'[[station]]\naddress = "{address}"\nreverse_charging = true\n'
+    f'line = [{{ name = "{name}", port = {19981 + place}, modulus = {MODULI[name]} }}]\n'
+    for place, (name, address) in enumerate(ADDRESSES.items())
 )
 MOST_OF_A_LINE = 4_000  # octets; a line of a script has at most 8,192
-
-
-def other(line):
-    return next(name for name in LINES if name != line)
 
 
 def require(holds, what):
@@ -41,12 +39,12 @@ class Dte:
     """One end: what it knows of a call is what it has sent and has read."""
 
     def __init__(self, name, chance):
-        self.name, self.chance, self.inbox = name, chance, []
+        self.name, self.modulus, self.chance, self.inbox = name, MODULI[name], chance, []
 
-    def begin(self, call):
-        """A call of these terms; the rates of what happens are its own."""
-        self.size, self.window = call["sizes"][self.name], call["windows"][self.name]
-        self.most_heard, self.far_window = call["sizes"][other(self.name)], call["windows"][other(self.name)]
+    def begin(self, terms, far):
+        """A call of these terms to that far end; the rates of what happens are its own."""
+        self.size, self.window = terms["sizes"][self.name], terms["windows"][self.name]
+        self.most_heard, self.far_window = terms["sizes"][far], terms["windows"][far]
         self.resets, self.faults = self.chance.choice((0, 0.002, 0.05)), self.chance.choice((0, 0.002, 0.02))
         self.slowness = self.chance.random()
         self.cleared = False
@@ -83,11 +81,11 @@ class Dte:
             require(self.unconfirmed, "an interrupt confirmation that was not awaited")
             self.unconfirmed = False
         else:
-            counts = [count for count in range(self.acknowledged, self.sent + 1) if count % 8 == packet.pr]
+            counts = [count for count in range(self.acknowledged, self.sent + 1) if count % self.modulus == packet.pr]
             require(counts, "an invalid P(R)")
             self.acknowledged = counts[0]
             if kind == "data":
-                require(packet.ps == self.heard % 8, "data out of order")
+                require(packet.ps == self.heard % self.modulus, "data out of order")
                 require(self.heard - self.given < self.far_window, "more data than the window")
                 require(len(packet.octets) <= self.most_heard, "data that is too long")
                 self.heard += 1
@@ -132,7 +130,7 @@ class Dte:
         """Acknowledges some of what was heard."""
         slow = self.chance.random() < self.slowness
         self.given = self.chance.randint(self.given, self.heard) if slow else self.heard
-        return self.given % 8
+        return self.given % self.modulus
 
     def data(self):
         if self.sent - self.acknowledged >= self.window or not (self.far_ready or self.chance.random() < 0.1):
@@ -146,7 +144,7 @@ class Dte:
 
     def data_of(self, count, octets):
         q, d, more = (self.chance.random() < 0.2 for _ in range(3))
-        return Packet("data", q=q, d=d, more=more, ps=count % 8, pr=self.count(), octets=octets)
+        return Packet("data", q=q, d=d, more=more, ps=count % self.modulus, pr=self.count(), octets=octets)
 
     def flow(self):
         self.ready = self.chance.random() < (0.7 if self.ready else 0.5)
@@ -168,9 +166,10 @@ class Dte:
         """A procedure error. It has read all that it was given, so it is one. It sends nothing more before it reads on."""
         self.erred = True
         faults = [self.out_of_order, self.too_much, self.too_long]
-        faults += [lambda: Packet("reject", pr=self.chance.randrange(8)), lambda: Packet("reset confirmation")]
-        if self.heard - self.given < 7:
-            faults.append(lambda: Packet("ready", pr=self.chance.randint(self.heard + 1, self.given + 7) % 8))
+        faults += [lambda: Packet("reject", pr=self.chance.randrange(self.modulus)), lambda: Packet("reset confirmation")]
+        most = self.given + self.modulus - 1
+        if self.heard < most:
+            faults.append(lambda: Packet("ready", pr=self.chance.randint(self.heard + 1, most) % self.modulus))
         if self.unconfirmed:
             faults.append(lambda: Packet("interrupt", octets=b"again"))
         if not self.to_confirm:
@@ -178,7 +177,7 @@ class Dte:
         return self.chance.choice(faults)()
 
     def out_of_order(self):
-        return self.data_of(self.sent + self.chance.randint(1, 7), b"out of order")
+        return self.data_of(self.sent + self.chance.randrange(1, self.modulus), b"out of order")
 
     def too_much(self):
         return self.data_of(self.sent + (0 if self.sent - self.acknowledged >= self.window else 1), b"too much")
@@ -190,22 +189,22 @@ class Dte:
 class Observer:
     """What comes out of the exchange for what goes in, of one call, seen from outside."""
 
-    def __init__(self, call):
-        self.windows, self.sizes = call["windows"], call["sizes"]
-        self.owes = dict.fromkeys(LINES, False)
+    def __init__(self, terms, one, two):
+        self.windows, self.far = terms["windows"], {one: two, two: one}
+        self.owes = dict.fromkeys(self.far, False)
         self.reset()
 
     def reset(self):
-        self.accepted = {name: [] for name in LINES}
-        self.delivered = dict.fromkeys(LINES, 0)  # of what the line sent
-        self.acknowledged = dict.fromkeys(LINES, 0)  # of what the line sent
-        self.ready = dict.fromkeys(LINES, True)
-        self.told = dict.fromkeys(LINES, (0, True))  # the number of what was acknowledged, and whether the far end is ready
-        self.interrupts = dict.fromkeys(LINES)  # that the line sent and that were not put out yet
+        self.accepted = {name: [] for name in self.far}
+        self.delivered = dict.fromkeys(self.far, 0)  # of what the line sent
+        self.acknowledged = dict.fromkeys(self.far, 0)  # of what the line sent
+        self.ready = dict.fromkeys(self.far, True)
+        self.told = dict.fromkeys(self.far, (0, True))  # the number of what was acknowledged, and whether the far end is ready
+        self.interrupts = dict.fromkeys(self.far)  # that the line sent and that were not put out yet
 
     def see(self, line, packet, outputs, erred):
         """A packet of a line, and what is put out: pairs of a line and a packet."""
-        far = other(line)
+        far = self.far[line]
         kinds = [each.kind for _, each in outputs]
         errors = [name for name, each in outputs if each.kind == "reset" and each.cause == 5]
         require(errors == ([line] if erred else []), "another reset than by an error")
@@ -225,35 +224,36 @@ class Observer:
             if each.kind == "reset":
                 self.owes[name] = True
             elif each.kind == "interrupt":
-                require(each == self.interrupts[other(name)], "another interrupt than was sent")
-                self.interrupts[other(name)] = None
+                require(each == self.interrupts[self.far[name]], "another interrupt than was sent")
+                self.interrupts[self.far[name]] = None
             elif each.kind == "data":
-                self.deliver(other(name), each)
+                self.deliver(self.far[name], each)
                 self.told[name] = each.pr, self.told[name][1]
             elif each.kind in ("ready", "not ready"):
                 self.told[name] = each.pr, each.kind == "ready"
         self.look()
 
     def acknowledge(self, sender, number):
-        counts = [count for count in range(self.acknowledged[sender], self.delivered[sender] + 1) if count % 8 == number]
+        modulus = MODULI[self.far[sender]]
+        counts = [count for count in range(self.acknowledged[sender], self.delivered[sender] + 1) if count % modulus == number]
         require(counts, "an invalid P(R) was taken")
         self.acknowledged[sender] = counts[0]
 
     def deliver(self, sender, packet):
         """The next of what was accepted, whole, with its number."""
         count = self.delivered[sender]
-        receiver = other(sender)
+        receiver = self.far[sender]
         require(self.ready[receiver] and not self.owes[receiver], "data for a line that does not take it")
         require(count < len(self.accepted[sender]), "data that nobody sent")
         require(packet._replace(ps=0, pr=0) == self.accepted[sender][count]._replace(ps=0, pr=0), "other data than was sent")
-        require(packet.ps == count % 8, "another P(S)")
+        require(packet.ps == count % MODULI[receiver], "another P(S)")
         self.delivered[sender] += 1
 
     def look(self):
-        for sender, receiver in zip(LINES, reversed(LINES)):
+        for sender, receiver in self.far.items():
             accepted = len(self.accepted[sender])
             require(accepted - self.acknowledged[sender] <= self.windows[sender], "more than a window is unacknowledged")
-            told = self.acknowledged[sender] % 8, self.ready[receiver]
+            told = self.acknowledged[sender] % MODULI[sender], self.ready[receiver]
             require(self.owes[sender] or self.told[sender] == told, "another count or ready state is told")
             require(self.owes[receiver] or not self.interrupts[sender], "an interrupt is held for a line that takes it")
             if self.ready[receiver] and not self.owes[receiver]:
@@ -268,7 +268,8 @@ class Run:
         self.exchange = model.Exchange(model.tomllib.loads(SUBSCRIPTIONS))
         self.script, self.text, self.kinds = [], [], Counter()
         self.origins = []  # the line of the script, about, from which each line of the text comes
-        self.dtes = {name: Dte(name, self.chance) for name in LINES}
+        self.dtes = {name: Dte(name, self.chance) for name in ADDRESSES}
+        self.moment = self.calls = 0
 
     def event(self, line):
         """Plays a line of a script, and hands on what is put out."""
@@ -278,7 +279,7 @@ class Run:
             self.origins.append(len(self.script) + 1)
             word, name, digits = told.split()[:3]
             if word == "out":
-                packet = read(bytes.fromhex(digits)[4:])[1]
+                packet = read(MODULI[name], bytes.fromhex(digits)[4:])[1]
                 outputs.append((name, packet))
                 self.dtes[name].inbox.append(packet)
                 by_error = packet.kind == "reset" and packet.cause in (3, 5)
@@ -289,7 +290,7 @@ class Run:
         """Sends packets of a line, in one line of the script or cut anywhere; one alone may be a procedure error."""
         octets = b""
         for packet in packets:
-            frame = packet if isinstance(packet, bytes) else framed(written(1, packet))
+            frame = packet if isinstance(packet, bytes) else framed(written(MODULI[name], 1, packet))
             outputs = self.event(f"in {name} {frame.hex()}")
             if observer:
                 observer.see(name, packet, outputs, erred)
@@ -303,41 +304,65 @@ class Run:
         self.script.append(line)
         self.event(line)
 
+    def pass_time(self):
+        """Time goes on, or back, or stands still."""
+        later = self.chance.choice((0, 1, 59, 3_600, 100_000, 10_000_000))
+        back = min(self.chance.choice((0, 0, 0, 50_000)), self.moment)
+        self.moment += self.chance.randint(0, later) - self.chance.randint(0, back)
+        self.bare(f"at {self.moment}")
+
     def call(self, most):
-        """A call with at most so many packets; tells how many there were."""
-        chance = self.chance
-        caller, called = chance.sample(list(LINES), 2)
-        sizes, windows = ([chance.randint(least, top) for _ in LINES] for least, top in ((4, 10), (1, 7)))
-        self.send(caller, [Packet("call", block=Block(LINES[called], "", bytes([0x42, *sizes, 0x43, *windows]), b""))])
+        """A call with at most so many packets, every other one between lines of unlike moduli; tells how many there were."""
+        caller = self.chance.choice(list(ADDRESSES))
+        unlike = self.calls % 2 == 1
+        far = [name for name in ADDRESSES if name != caller and (MODULI[name] != MODULI[caller]) == unlike]
+        ends = caller, self.chance.choice(far)
+        self.calls += 1
+        terms = self.connect(*ends)
+        for name in ends:
+            self.dtes[name].inbox.clear()
+        for name, far in (ends, ends[::-1]):
+            self.dtes[name].begin(terms, far)
+        count = self.transfer(ends, min(most, self.chance.choice((1, 10, 200, 2_000))), Observer(terms, *ends))
+        self.end(*self.chance.sample(ends, 2))
+        return count + 4
+
+    def connect(self, caller, called):
+        """A call request and its answer; tells the sizes and windows that they come to."""
+        chance, largest = self.chance, {name: 15 if MODULI[name] == 128 else 7 for name in (caller, called)}
+        sizes = [chance.randint(4, 10) for _ in range(2)]
+        windows = [chance.randint(1, largest[caller]) for _ in range(2)]
+        paying = bytes([0x01, chance.randrange(2), 0x04, chance.randrange(2)])
+        asked = paying + bytes([0x42, *sizes, 0x43, *windows])
+        self.pass_time()
+        self.send(caller, [Packet("call", block=Block(ADDRESSES[called], "", asked, b""))])
+        windows = [min(window, largest[called]) for window in windows]
         if chance.random() < 0.5:
             sizes = [chance.randint(*sorted((size, 7))) for size in sizes]
             windows = [chance.randint(*sorted((window, 2))) for window in windows]
-        self.send(called, [Packet("accepted", block=Block("", "", bytes([0x42, *sizes, 0x43, *windows]), b""))])
-        terms = {"sizes": {called: 2 ** sizes[0], caller: 2 ** sizes[1]}, "windows": {called: windows[0], caller: windows[1]}}
-        for dte in self.dtes.values():
-            dte.inbox.clear()
-            dte.begin(terms)
-        count = self.transfer(min(most, chance.choice((1, 10, 200, 2_000))), Observer(terms))
-        self.end(*chance.sample(list(LINES), 2))
-        return count + 4
+        answered = bytes([0x04, chance.randrange(2), 0x42, *sizes, 0x43, *windows])
+        self.pass_time()
+        self.send(called, [Packet("accepted", block=Block("", "", answered, b""))])
+        return {"sizes": {called: 2 ** sizes[0], caller: 2 ** sizes[1]}, "windows": {called: windows[0], caller: windows[1]}}
 
-    def transfer(self, most, observer):
-        count, speed = 0, {name: self.chance.uniform(0.1, 1) for name in LINES}
+    def transfer(self, ends, most, observer):
+        count, speed = 0, {name: self.chance.uniform(0.1, 1) for name in ends}
         while count < most:
-            dte = self.dtes[self.chance.choice(list(LINES))]
+            dte = self.dtes[self.chance.choice(ends)]
             while dte.inbox and self.chance.random() < speed[dte.name]:
                 dte.hear(dte.inbox.pop(0))
             packets = dte.burst()
             self.send(dte.name, packets, observer, dte.erred)
             count += len(packets)
-        for dte in self.dtes.values():
-            while dte.inbox:
-                dte.hear(dte.inbox.pop(0))
+        for name in ends:
+            while self.dtes[name].inbox:
+                self.dtes[name].hear(self.dtes[name].inbox.pop(0))
         return count
 
     def end(self, ender, far):
         """One end clears, sends what is no packet, or is gone, while the other still sends."""
         way = self.chance.choice(("clear", "clear", "wrong", "down"))
+        self.pass_time()
         if way == "down":
             self.bare(f"down {ender}")
             self.bare(f"up {ender}")
@@ -360,13 +385,12 @@ def first_difference(run, found):
 def made_of(seed, packets):
     """A script of so many packets."""
     run = Run(seed)
-    for name in LINES:
+    for name in ADDRESSES:
         run.bare(f"up {name}")
-    count = calls = 0
+    count = 0
     while count < packets:
         count += run.call(packets - count)
-        calls += 1
-    print(f"{count} packets of {calls} calls, {len(run.script)} lines of script, {len(run.text)} lines of text")
+    print(f"{count} packets of {run.calls} calls, {len(run.script)} lines of script, {len(run.text)} lines of text")
     print("put out:", ", ".join(f"{number} {kind}" for kind, number in sorted(run.kinds.items())))
     return run
 

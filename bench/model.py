@@ -1,9 +1,10 @@
 #!/usr/bin/env python3
 """What a script comes to, by a plain model of the exchange (docs/PROTOCOL.md), written beside the program and not from it.
 
-It is whole for a call's data transfer and its charging: windows, flow control, interrupts, resets, segments. Of the rest it knows what calls need:
-lines that come and go, calls between stations of one line without groups and redirection, refusals, fast select, packet and
-window sizes, clearing, procedure errors. A script that asks for more is beyond it, and it says so.
+It is whole for a call's data transfer and its charging: both moduli, windows, flow control, interrupts, resets, segments,
+duration. Of the rest it knows what calls need: lines that come and go, calls between stations without groups and
+redirection, refusals, fast select, packet and window sizes, clearing, procedure errors. A script that asks for more is
+beyond it, and it says so.
 
     model.py FOLDER ..          compares what rows expect with what the model says
     model.py --write FOLDER ..  writes that as what they expect
@@ -17,9 +18,10 @@ from dataclasses import dataclass, field
 
 from packets import Block, Packet, Wrong, framed, read, written
 
-NUMBERS = 8
 USUAL_SIZES, USUAL_WINDOWS = (7, 7), (2, 2)
 MOST_SEGMENTS = 99_999_999
+LARGEST_WINDOWS = {8: 7, 128: 15}  # of a line's modulus
+MOST_SECONDS = 100 * 24 * 60 * 60 - 1  # that are told: 99 days, 23:59:59
 KNOWN_KEYS = {"address", "line", "fast_select", "reverse_charging"}  # of a station that takes and makes calls
 
 
@@ -38,6 +40,8 @@ class Direction:
 
     size: int  # most octets of a packet
     window: int
+    modulus: int  # the sender's
+    far_modulus: int  # the receiver's
     accepted: list = field(default_factory=list)
     put: int = 0  # how many of them were put out to the receiver
     acknowledged: int = 0  # how many of those it acknowledged
@@ -53,7 +57,7 @@ class Direction:
 
     def counts(self, number):
         """What a P(R) of the receiver may stand for."""
-        return [count for count in range(self.acknowledged, self.put + 1) if count % NUMBERS == number]
+        return [count for count in range(self.acknowledged, self.put + 1) if count % self.far_modulus == number]
 
 
 @dataclass
@@ -68,6 +72,7 @@ class Call:
     fast: int  # bits 8 and 7 of the facility: 2 where fast select is unrestricted, 3 where it is restricted
     charging: set  # the ends that asked for charging information
     sent_by: dict = None  # a Direction for each end, once the call is answered
+    connected: int = 0  # the moment at which it was answered
 
     def far(self, line):
         return self.called if line is self.caller else self.caller
@@ -98,7 +103,7 @@ class Transfer:
     def fault_of(self, packet):
         """The diagnostic of a data packet that is not accepted."""
         sent = self.sent
-        if packet.ps != len(sent.accepted) % NUMBERS or len(sent.accepted) - sent.acknowledged >= sent.window:
+        if packet.ps != len(sent.accepted) % sent.modulus or len(sent.accepted) - sent.acknowledged >= sent.window:
             return 1
         if not self.received.counts(packet.pr):
             return 2
@@ -180,16 +185,17 @@ class Transfer:
 
 
 def flow_packet(direction):
-    return Packet("ready" if direction.ready else "not ready", pr=direction.acknowledged % NUMBERS)
+    """What tells the sender of its receiver."""
+    return Packet("ready" if direction.ready else "not ready", pr=direction.acknowledged % direction.modulus)
 
 
 def released(direction, acknowledged):
-    """The data that goes out now, where its receiver takes data."""
+    """The data that goes out now, where its receiver takes data, numbered as the receiver numbers."""
     if direction.owes or not direction.ready:
         return []
     first, direction.put = direction.put, len(direction.accepted)
-    numbered = enumerate(direction.accepted[first:], first)
-    return [packet._replace(ps=count % NUMBERS, pr=acknowledged % NUMBERS) for count, packet in numbered]
+    numbered, modulus = enumerate(direction.accepted[first:], first), direction.far_modulus
+    return [packet._replace(ps=count % modulus, pr=acknowledged % modulus) for count, packet in numbered]
 
 
 # The exchange
@@ -199,6 +205,7 @@ class Line:
     name: str
     address: str
     station: dict
+    modulus: int
     state: str = "off"
     identifier: int = 1
     stream: bytes = b""
@@ -239,7 +246,7 @@ def items(field):
         raise Refused(0x03, 65)
     if any(value not in MARKS for code, value in listed if code == 0):
         raise Refused(0x03, 66)
-    for code, lawful in ((0x42, range(4, 13)), (0x43, range(1, 8))):
+    for code, lawful in ((0x42, range(4, 13)), (0x43, range(1, 16))):
         if any(octet not in lawful for octet in found.get(code, b"")):
             raise Refused(0x03, 66)
     if marks or found.keys() - KNOWN_CODES:
@@ -249,23 +256,30 @@ def items(field):
 
 class Exchange:
     def __init__(self, subscriptions):
-        self.lines, self.beyond = {}, set()
+        self.lines, self.beyond, self.targets = {}, set(), {}
         for station in subscriptions["station"]:
-            known = len(station["line"]) == 1 and not station.keys() - KNOWN_KEYS and "address" not in station["line"][0]
-            for line in station["line"]:
-                address = station["address"] if known else None
-                self.lines[line["name"]] = Line(line["name"], address, station)
+            known = not station.keys() - KNOWN_KEYS
+            for entry in station["line"]:
+                own = entry.get("address", station["address"])
+                line = Line(entry["name"], own if known else None, station, entry.get("modulus", 8))
+                self.lines[line.name] = line
+                for address in {station["address"], own}:
+                    self.targets.setdefault(address, []).append(line)
                 if not known:
-                    self.beyond |= {station["address"], line.get("address", station["address"])}
+                    self.beyond |= {station["address"], own}
         self.limit = subscriptions.get("segment_limit", MOST_SEGMENTS)
-        self.calls = 0
+        self.calls = self.moment = 0
 
     def play(self, text):
         """What a line of a script comes to, as lines."""
         words = text.split()
         if not words or text.startswith("#"):
             return []
-        line, self.told = self.lines[words[1]], []
+        self.told = []
+        if words[0] == "at":
+            self.moment = int(words[1])
+            return []
+        line = self.lines[words[1]]
         if words[0] == "up" and line.state == "off":
             line.state, line.identifier, line.stream = "p1", 1, b""
         elif words[0] == "down":
@@ -288,15 +302,15 @@ class Exchange:
             self.take(line, packet)
 
     def out(self, line, packet):
-        self.told.append(f"out {line.name} {framed(written(line.identifier, packet)).hex()}")
+        self.told.append(f"out {line.name} {framed(written(line.modulus, line.identifier, packet)).hex()}")
 
     def take(self, line, octets):
         if line.state == "p7":
-            if octets[:1] and self.is_freeing(octets):
+            if self.is_freeing(line, octets):
                 line.state = "p1"
             return
         try:
-            identifier, packet = read(octets)
+            identifier, packet = read(line.modulus, octets)
         except Wrong as wrong:
             return self.fail(line, wrong.diagnostic)
         kind = packet.kind
@@ -312,9 +326,9 @@ class Exchange:
             self.fail(line, {"p1": 20, "p2": 21, "p3": 22, "p4": 23}[line.state])
 
     @staticmethod
-    def is_freeing(octets):
+    def is_freeing(line, octets):
         try:
-            return read(octets)[1].kind in ("clear", "clear confirmation")
+            return read(line.modulus, octets)[1].kind in ("clear", "clear confirmation")
         except Wrong:
             return False
 
@@ -329,7 +343,7 @@ class Exchange:
             cause, diagnostic = refused.cause, refused.diagnostic
             self.indicate_clear(line, cause, diagnostic)
             dialled = packet.block.called or "-"
-            self.told.append(f"record {self.calls} {line.name} - {dialled} caller 0 0 {cause:02x} {diagnostic}")
+            self.told.append(f"record {self.calls} {line.name} - {dialled} caller 0 0 {cause:02x} {diagnostic} 0")
 
     def ring(self, line, packet):
         """The call goes to the line of the dialled address, or is refused."""
@@ -337,17 +351,14 @@ class Exchange:
         asked = items(block.facilities)
         fast, reverse = asked.get(0x01, (0,))[0] >> 6, asked.get(0x01, (0,))[0] & 1
         fast = fast if fast > 1 else 0
+        windows = asked.get(0x43, USUAL_WINDOWS)
+        if max(windows) > LARGEST_WINDOWS[line.modulus]:
+            raise Refused(0x03, 66)
         if len(block.user) > 16 and not fast:
             raise Refused(0x13, 39)
-        found = self.line_at(block.called)
-        if reverse and not found.station.get("reverse_charging"):
-            raise Refused(0x19, 0)
-        if fast and not found.station.get("fast_select"):
-            raise Refused(0x29, 0)
-        if found.state != "p1" or found is line:
-            raise Refused(0x09, 0) if found.state == "off" else Refused(0x01, 71)
+        found = self.taken(line, block.called, fast, reverse)
         sizes = tuple(min(size, 10) for size in asked.get(0x42, USUAL_SIZES))
-        windows = asked.get(0x43, USUAL_WINDOWS)
+        windows = tuple(min(window, LARGEST_WINDOWS[found.modulus]) for window in windows)
         charging = {line} if asked.get(0x04, (0,))[0] & 1 else set()
         call = Call(self.calls, line, found, block.called, sizes, windows, bool(reverse), fast, charging)
         line.call = found.call = call
@@ -355,13 +366,21 @@ class Exchange:
         told = (bytes([1, fast << 6 | reverse]) if fast or reverse else b"") + self.told_sizes(call)
         self.out(found, packet._replace(block=Block(found.address, line.address, told, block.user)))
 
-    def line_at(self, address):
+    def taken(self, caller, address, fast, reverse):
+        """The line that rings: the first idle one of the address."""
         if address in self.beyond:
             raise Beyond("this address")
-        found = next((line for line in self.lines.values() if line.address == address), None)
-        if found is None:
+        lines = self.targets.get(address)
+        if not lines:
             raise Refused(0x0D, 67)
-        return found
+        if reverse and not lines[0].station.get("reverse_charging"):
+            raise Refused(0x19, 0)
+        if fast and not lines[0].station.get("fast_select"):
+            raise Refused(0x29, 0)
+        for line in lines:
+            if line.state == "p1" and line is not caller:
+                return line
+        raise Refused(0x09, 0) if all(line.state == "off" for line in lines) else Refused(0x01, 71)
 
     @staticmethod
     def told_sizes(call):
@@ -385,9 +404,13 @@ class Exchange:
         if given.get(0x04, (0,))[0] & 1:
             call.charging.add(line)
         agreed = zip((call.called, call.caller), call.sizes, call.windows)
-        call.sent_by = {end: Direction(2**size, window) for end, size, window in agreed}
-        call.caller.state = line.state = "p4"
-        self.out(call.caller, Packet("accepted", d=packet.d, block=Block("", "", self.told_sizes(call), block.user)))
+        call.sent_by = {
+            end: Direction(2**size, window, end.modulus, call.far(end).modulus) for end, size, window in agreed
+        }
+        call.connected, call.caller.state, line.state = self.moment, "p4", "p4"
+        address, modified = (line.address, b"\x08\x07") if line.address != call.dialled else ("", b"")
+        told = Block(address, "", modified + self.told_sizes(call), block.user)
+        self.out(call.caller, Packet("accepted", d=packet.d, block=told))
 
     def transfer(self, line, packet):
         call = line.call
@@ -421,8 +444,16 @@ class Exchange:
         payer = call.called if call.reverse else call.caller
         if not call.sent_by or line is not payer or line not in call.charging:
             return b""
-        digits = f"{call.sent_by[call.far(line)].segments:08}{call.sent_by[line].segments:08}"
-        return b"\xc2\x08" + bytes.fromhex(digits)
+        minutes, seconds = divmod(min(self.seconds_of(call), MOST_SECONDS), 60)
+        hours, minutes = divmod(minutes, 60)
+        days, hours = divmod(hours, 24)
+        duration = f"{days:02}{hours:02}{minutes:02}{seconds:02}"
+        segments = f"{call.sent_by[call.far(line)].segments:08}{call.sent_by[line].segments:08}"
+        return b"\xc1\x04" + bytes.fromhex(duration) + b"\xc2\x08" + bytes.fromhex(segments)
+
+    def seconds_of(self, call):
+        """How long a call that ends now was connected."""
+        return max(self.moment - call.connected, 0) if call.sent_by else 0
 
     def indicate_clear(self, line, cause, diagnostic, facilities=b"", user=b""):
         block = Block("", "", facilities, user) if facilities or user else None
@@ -461,7 +492,7 @@ class Exchange:
         segments = [call.sent_by[end].segments if call.sent_by else 0 for end in (call.caller, call.called)]
         payer = "called" if call.reverse else "caller"
         names = f"{call.caller.name} {call.called.name} {call.dialled} {payer}"
-        self.told.append(f"record {call.number} {names} {segments[0]} {segments[1]} {cause:02x} {diagnostic}")
+        self.told.append(f"record {call.number} {names} {segments[0]} {segments[1]} {cause:02x} {diagnostic} {self.seconds_of(call)}")
         call.caller.call = call.called.call = None
 
 

@@ -10,6 +10,10 @@ PLANS = {"orderly": 82, "abrupt": 10, "cut": 3, "refused": 5}
 # The most packets that an end sends.
 PACKETS = 30
 
+# Seconds by which a record may differ from what the hosts saw. Its moments are whole seconds, so that a call seems up to
+# one longer or shorter, and a thread may have looked at its clock some time before it read a packet.
+TOLERANCE = 2
+
 
 def segments(data):
     return max(1, -(-len(data) // 64))
@@ -30,10 +34,19 @@ class Call:
         self.told = None  # cause and diagnostic of the clear indication
         self.ends = 1  # lines that are in the call
         self.talking = 0  # lines that were connected
+        # moments by the hosts' clock: the called line accepted, the caller heard of it, an end broke off, the last left
+        self.accepted_at = self.connected_at = self.broken_at = self.left_at = None
 
     def accepted(self):
         """The segments that the exchange accepted for certain."""
         return [max(pair) for pair in zip(self.delivered, self.before_clear)]
+
+    def seconds(self):
+        """The fewest and the most for which the exchange had it connected."""
+        if self.accepted_at is None:
+            return 0, 0
+        sure = self.broken_at - self.connected_at if self.connected_at and self.broken_at else 0
+        return max(0, sure - TOLERANCE), self.left_at - self.accepted_at + TOLERANCE
 
     def lines_called(self):
         """The names that the record may give: none where the exchange refused the call."""
@@ -44,7 +57,7 @@ class Call:
 
     def fits(self, record):
         """What was on its way when the far end broke the call off may or may not have been accepted."""
-        least = self.accepted()
+        least, (shortest, longest) = self.accepted(), self.seconds()
         return (
             record.dialled == self.dialled
             and record.called in self.lines_called()
@@ -52,6 +65,7 @@ class Call:
             and least[0] <= record.sent <= self.sent[0]
             and least[1] <= record.received <= self.sent[1]
             and (record.cause, record.diagnostic) == (self.told or (record.cause, record.diagnostic))
+            and shortest <= record.seconds <= longest
         )
 
 
@@ -69,7 +83,11 @@ def check(made, records):
             sys.exit(f"{len(found[name])} records of the {len(of_line)} calls of {name}")
         for call, record in zip(of_line, found[name]):
             if not call.fits(record):
-                sys.exit(f"{record} is not of the call with {call.accepted()} to {call.sent} segments, told {call.told}")
+                fewest, most = call.seconds()
+                sys.exit(
+                    f"{record} is not of the call with {call.accepted()} to {call.sent} segments, {fewest:.1f} to {most:.1f} seconds,"
+                    f" told {call.told}"
+                )
 
 
 def tell(made, records):
@@ -79,3 +97,5 @@ def tell(made, records):
     print(f"{len(made):,} calls, {joined:,} of them connected: each has one record")
     print(f"{counted:,} segments recorded: as many as were sent in {exact:,} calls; in {len(made) - exact:,} calls, broken off")
     print("with data under way, no fewer than were delivered and no more than were sent")
+    seconds = sum(record.seconds for record in records)
+    print(f"{seconds:,} seconds recorded: of each call within {TOLERANCE} of those for which its hosts had it connected")

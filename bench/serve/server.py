@@ -1,7 +1,8 @@
-"""What the measurements and the soak have in common: a subscription file of pairs of lines on free ports, `xp serve`
+"""What the scripts of this folder have in common: a subscription file with free ports, as of pairs of lines, `xp serve`
 started on it and looked at from outside, and the records that it prints."""
 
 import collections
+import functools
 import os
 import pathlib
 import random
@@ -24,7 +25,7 @@ MOST_PAIRS = 128
 # The most entries that a history may have.
 JOURNAL = 10_000_000
 
-Record = collections.namedtuple("Record", "number caller called dialled payer sent received cause diagnostic")
+Record = collections.namedtuple("Record", "number caller called dialled payer sent received cause diagnostic seconds")
 
 
 def address(pair):
@@ -142,15 +143,16 @@ class Relay(Process):
         super().__init__([program, self.base, pairs, threads], folder)
 
 
-class Exchange(Process):
-    """`xp serve` over so many pairs of lines, until there are so many records."""
+class Serving(Process):
+    """`xp serve` over so many lines, until there are so many records. `subscriptions_on` makes its file, of the first of
+    the lines' ports."""
 
-    def __init__(self, program, folder, pairs, records):
+    def __init__(self, program, folder, lines, subscriptions_on, records):
         if not pathlib.Path(program).is_file():
             sys.exit(f"there is no program {program}")
-        self.base = free_ports(2 * pairs)
+        self.base = free_ports(lines)
         file = pathlib.Path(folder) / "subscriptions.toml"
-        file.write_text(subscriptions(pairs, self.base))
+        file.write_text(subscriptions_on(self.base))
         super().__init__([program, "serve", file, "--records", records], folder)
 
     def records(self, patience=60):
@@ -164,10 +166,18 @@ class Exchange(Process):
         return [read_record(line) for line in self.output.read_text().splitlines()]
 
 
+class Exchange(Serving):
+    """The same over so many pairs of lines."""
+
+    def __init__(self, program, folder, pairs, records):
+        super().__init__(program, folder, 2 * pairs, functools.partial(subscriptions, pairs), records)
+
+
 def read_record(line):
-    """A line of the text of records (docs/FORMATS.md). What stands behind the diagnostic is not looked at."""
+    """A line of the text of records (docs/FORMATS.md)."""
     word, *fields = line.split(" ")
-    if word != "record" or len(fields) < 9:
+    if word != "record" or len(fields) != len(Record._fields):
         sys.exit(f"no record: {line}")
-    number, caller, called, dialled, payer, sent, received, cause, diagnostic = fields[:9]
-    return Record(int(number), caller, called, dialled, payer, int(sent), int(received), int(cause, 16), int(diagnostic))
+    number, caller, called, dialled, payer, sent, received, cause, diagnostic, seconds = fields
+    counts = int(sent), int(received), int(cause, 16), int(diagnostic), int(seconds)
+    return Record(int(number), caller, called, dialled, payer, *counts)

@@ -1,8 +1,8 @@
 #!/usr/bin/env python3
 """A long run of `xp serve` with calls that come and go at random, and random data in both directions.
 
-In the end each call must have one record, with the segments that were sent, and the memory must have grown by the
-history alone. README.md says what is checked. The seed fixes what is chosen, not when the exchange answers.
+In the end each call must have one record, with the segments that were sent and the seconds that it was connected, and
+the memory must have grown by the history alone. README.md says what is checked. The seed fixes what is chosen, not when the exchange answers.
 """
 
 import argparse
@@ -105,6 +105,7 @@ class Soak:
         line.socket.close()
         line.state = DOWN
         self.events += 1
+        self.break_off(line)
         self.leave(line)
 
     def closed(self, line):
@@ -170,7 +171,13 @@ class Soak:
         line.leave()
         if call:
             call.ends -= 1
+            call.left_at = time.monotonic()
             self.over += call.ends == 0
+
+    def break_off(self, line):
+        """The line ends its call, if it is in one and its far end did not before."""
+        if line.call and line.call.broken_at is None:
+            line.call.broken_at = time.monotonic()
 
     def talk(self, line):
         """The line's end of its call is connected."""
@@ -199,6 +206,7 @@ class Soak:
         """What the line sent before is accepted before its clear request is."""
         line.state = CLEARING
         line.call.before_clear[line.side] = line.call.sent[line.side]
+        self.break_off(line)
         self.send(line, bytes([0x10, 1, CLEAR, 0, self.choose.randrange(256)]))
 
     def send_data(self, line, call):
@@ -225,7 +233,7 @@ class Soak:
         elif kind == CALL:
             self.receive_call(line, packet)
         elif kind == ACCEPTED and line.state == CALLING:
-            line.window = packet[-1]
+            line.window, line.call.connected_at = packet[-1], time.monotonic()
             self.talk(line)
         elif kind == CLEAR:
             self.receive_clear(line, packet)
@@ -251,7 +259,7 @@ class Soak:
         line.enter(call, 1, IDLE)
         if call.plan == "refused":
             return self.clear(line)
-        line.window = packet[user - 1]
+        line.window, call.accepted_at = packet[user - 1], time.monotonic()
         self.send(line, bytes([0x10, 1, ACCEPTED]))
         if line.call is call:
             self.talk(line)

@@ -15,8 +15,9 @@ use Rattle.xp_facilities.specs.declared.fault.FacilityFault.{FacilityFault}
 use Rattle.xp_facilities.specs.declared.fault.FacilityFault.TheVariants.{Length, Code, Param, Memory}
 use Rattle.xp_facilities.specs.declared.redirection.Reason.{Reason}
 use Rattle.xp_facilities.specs.declared.redirection.Reason.TheVariants.{Distribution}
-use Rattle.xp_facilities.specs.declared.segment_counts.SegmentCounts.{SegmentCounts}
+use Rattle.xp_facilities.specs.declared.charging_information.ChargingInformation.{ChargingInformation}
 use Rattle.xp_packets.specs.declared.block.Block.{Block}
+use Rattle.xp_packets.specs.declared.modulus.Modulus.TheVariants.{Long}
 use Rattle.xp_packets.specs.declared.packet.Packet.{Packet}
 use Rattle.xp_packets.specs.declared.packet.Packet.TheVariants.{Accepted, Clear}
 use Rattle.xp_answer.proofs.Once.{answers_same, indications_same}
@@ -24,7 +25,7 @@ use Rattle.xp_answer.proofs.Tellable.{connected_told, cleared_told}
 use Rattle.xp_answer.specs.Answered.{Names, IsDiagnosedBy, MayCarry, MayNotCarry, Accepts, Declines, Connects, Answered}
 use Rattle.xp_answer.specs.Answered as answered
 use Rattle.xp_answer.specs.Blocks.{facilities_in, user_in}
-use Rattle.xp_answer.specs.ForwardedClear.{AreCounts, ForwardedClear, Carries, TakesOver, block_with}
+use Rattle.xp_answer.specs.ForwardedClear.{IsInRange, ForwardedClear, Carries, TakesOver, block_with}
 use Rattle.xp_answer.specs.ForwardedClear as carried
 use Rattle.xp_answer.specs.Laws.{HasOneAnswer, HasOneIndication}
 use Rattle.xp_answer.specs.Terms.{AreTerms, are_offered, settled}
@@ -67,7 +68,7 @@ module _ {A : Type 0} (setup : Setup) (address dialled : List ℕ) (d : Bool) (b
   abbrev Outcome : Type 0
   Outcome = (answer : Answer A) × Answered setup address dialled d block answer
 
-  connected : (asked : RequestedFacilities A) → AreTerms setup.indicated → Accepts setup block asked → Outcome
+  connected : (asked : RequestedFacilities A) → AreTerms Long setup.indicated → Accepts setup block asked → Outcome
   connected asked terms accepts =
       let named = named address dialled setup.reason in
       let told = connected_told setup named.modified asked (facilities_in block) terms accepts.means in
@@ -90,14 +91,14 @@ module _ {A : Type 0} (setup : Setup) (address dialled : List ℕ) (d : Bool) (b
         ),
       )
 
-  by_offer : (asked : RequestedFacilities A) → AreTerms setup.indicated → setup.fast ≢ Restricted → Means (facilities_in block) asked → MayCarry setup.fast block
+  by_offer : (asked : RequestedFacilities A) → AreTerms Long setup.indicated → setup.fast ≢ Restricted → Means (facilities_in block) asked → MayCarry setup.fast block
       → (offered : Bool) → are_offered setup.indicated asked ≡ offered → Outcome
   by_offer asked terms unrestricted means carries true offered =
       connected asked terms (record { unrestricted = unrestricted; means = means; carries = carries; offered = offered })
   by_offer asked terms unrestricted means carries false not =
       (Refused FACILITY_PARAMETER_NOT_ALLOWED, answered.not_offered asked unrestricted means carries not refl)
 
-  by_user : (asked : RequestedFacilities A) → AreTerms setup.indicated → setup.fast ≢ Restricted → Means (facilities_in block) asked
+  by_user : (asked : RequestedFacilities A) → AreTerms Long setup.indicated → setup.fast ≢ Restricted → Means (facilities_in block) asked
       → MayCarry setup.fast block ⊎ MayNotCarry setup.fast block → Outcome
   by_user asked terms unrestricted means (inl may) = by_offer asked terms unrestricted means may (are_offered setup.indicated asked) refl
   by_user asked terms unrestricted means (inr not) = (Refused PACKET_TOO_LONG, answered.user_data asked unrestricted means not refl)
@@ -108,16 +109,16 @@ module _ {A : Type 0} (setup : Setup) (address dialled : List ℕ) (d : Bool) (b
   by_fault Param unrestricted faulty = (Refused FACILITY_PARAMETER_NOT_ALLOWED, answered.faulty Param unrestricted faulty refl)
   by_fault Memory unrestricted faulty = absurd faulty
 
-  by_reading : AreTerms setup.indicated → setup.fast ≢ Restricted
+  by_reading : AreTerms Long setup.indicated → setup.fast ≢ Restricted
       → ((asked : RequestedFacilities A) × Means (facilities_in block) asked) ⊎ ((fault : FacilityFault) × IsFaulty (facilities_in block) fault) → Outcome
   by_reading terms unrestricted (inl read) = by_user read.0 terms unrestricted read.1 (carry setup.fast block)
   by_reading terms unrestricted (inr faulty) = by_fault faulty.0 unrestricted faulty.1
 
-  by_kind : AreTerms setup.indicated → (setup.fast ≡ Restricted) ⊎ (setup.fast ≢ Restricted) → Outcome
+  by_kind : AreTerms Long setup.indicated → (setup.fast ≡ Restricted) ⊎ (setup.fast ≢ Restricted) → Outcome
   by_kind terms (inl restricted) = (Refused NOT_COMPATIBLE_WITH_FACILITY, answered.restricted restricted refl)
   by_kind terms (inr unrestricted) = by_reading terms unrestricted (some_reading (facilities_in block))
 
-  pub one_answer : AreTerms setup.indicated → HasOneAnswer A setup address dialled d block
+  pub one_answer : AreTerms Long setup.indicated → HasOneAnswer A setup address dialled d block
   one_answer terms = record {
     some = by_kind terms (restricted_or_not setup.fast);
     same = answers_same setup address dialled d block;
@@ -131,24 +132,24 @@ taken_over A field = by_reading (some_reading field) where
   by_reading (inl read) = (read.0.dte, carried.read read.0 read.1 refl)
   by_reading (inr faulty) = ([], carried.faulty faulty.0 faulty.1 refl)
 
-module _ {A : Type 0} (fast : FastSelect) (cause : ℕ) (diagnostic : Option ℕ) (block : Option (Block A)) (segments : Option SegmentCounts) where
-  indicated : (user dte : List ℕ) → AreCounts segments → Carries fast block user dte
-      → (packet : Packet A) × ForwardedClear fast cause diagnostic block segments packet
-  indicated user dte counts carries =
-      let told = cleared_told fast block segments user dte counts carries in (
+module _ {A : Type 0} (fast : FastSelect) (cause : ℕ) (diagnostic : Option ℕ) (block : Option (Block A)) (charging : Option ChargingInformation) where
+  indicated : (user dte : List ℕ) → IsInRange charging → Carries fast block user dte
+      → (packet : Packet A) × ForwardedClear fast cause diagnostic block charging packet
+  indicated user dte range carries =
+      let told = cleared_told fast block charging user dte range carries in (
         Clear (indicated_cause cause) (Some (indicated_diagnostic diagnostic)) (block_with told.0 user),
         record { user = user; dte = dte; carries = carries; field = told.0; tells = told.1; whole = refl },
       )
 
-  some_indication : AreCounts segments → (selected : Bool) → is_fast fast ≡ selected
-      → (packet : Packet A) × ForwardedClear fast cause diagnostic block segments packet
-  some_indication counts false not = indicated [] [] counts (carried.nothing not refl refl)
-  some_indication counts true selected =
+  some_indication : IsInRange charging → (selected : Bool) → is_fast fast ≡ selected
+      → (packet : Packet A) × ForwardedClear fast cause diagnostic block charging packet
+  some_indication range false not = indicated [] [] range (carried.nothing not refl refl)
+  some_indication range true selected =
       let taken = taken_over A (facilities_in block) in
-      indicated (user_in block) taken.0 counts (carried.both selected refl taken.1)
+      indicated (user_in block) taken.0 range (carried.both selected refl taken.1)
 
-  pub one_indication : AreCounts segments → HasOneIndication A fast cause diagnostic block segments
-  one_indication counts = record {
-    some = some_indication counts (is_fast fast) refl;
-    same = indications_same fast cause diagnostic block segments;
+  pub one_indication : IsInRange charging → HasOneIndication A fast cause diagnostic block charging
+  one_indication range = record {
+    some = some_indication range (is_fast fast) refl;
+    same = indications_same fast cause diagnostic block charging;
   }

@@ -10,7 +10,7 @@ use Rattle.xp_facilities.specs.declared.fast_select.FastSelect.{FastSelect}
 use Rattle.xp_facilities.specs.declared.fault.FacilityFault.{FacilityFault}
 use Rattle.xp_facilities.specs.declared.fault.FacilityFault.TheVariants.{Length, Code, Param, Memory}
 use Rattle.xp_facilities.specs.declared.redirection.Reason.{Reason}
-use Rattle.xp_facilities.specs.declared.segment_counts.SegmentCounts.{SegmentCounts}
+use Rattle.xp_facilities.specs.declared.charging_information.ChargingInformation.{ChargingInformation}
 use Rattle.xp_packets.specs.declared.block.Block.{Block}
 use Rattle.xp_packets.specs.declared.packet.Packet.{Packet}
 use Rattle.xp_packets.specs.declared.packet.Packet.TheVariants.{Call, Accepted, Clear}
@@ -133,11 +133,11 @@ module _ {A : Type 0} where
   carries_same fast block user user' dte dte' (carried.both _ a b) (carried.both _ c d) =
       (a ∙ sym c, taken_over_same A (facilities_in block) dte dte' b d)
 
-  pub indications_same : (fast : FastSelect) (cause : ℕ) (diagnostic : Option ℕ) (block : Option (Block A)) (segments : Option SegmentCounts) (one other : Packet A)
-      → ForwardedClear fast cause diagnostic block segments one → ForwardedClear fast cause diagnostic block segments other → one ≡ other
-  indications_same fast cause diagnostic block segments one other first second =
+  pub indications_same : (fast : FastSelect) (cause : ℕ) (diagnostic : Option ℕ) (block : Option (Block A)) (charging : Option ChargingInformation) (one other : Packet A)
+      → ForwardedClear fast cause diagnostic block charging one → ForwardedClear fast cause diagnostic block charging other → one ≡ other
+  indications_same fast cause diagnostic block charging one other first second =
       let same = carries_same fast block first.user second.user first.dte second.dte first.carries second.carries in
-      let tells = subst (λ dte. Indicates (told_cleared {A = A} segments dte) first.field) same.1 first.tells in
-      let field = tells_same (told_cleared {A = A} segments second.dte) first.field second.field tells second.tells in
+      let tells = subst (λ dte. Indicates (told_cleared {A = A} charging dte) first.field) same.1 first.tells in
+      let field = tells_same (told_cleared {A = A} charging second.dte) first.field second.field tells second.tells in
       let packet : List ℕ → List ℕ → Packet A = λ field user. Clear (indicated_cause cause) (Some (indicated_diagnostic diagnostic)) (block_with field user) in
       first.whole ∙ ap (λ field. packet field first.user) field ∙ ap (λ user. packet second.field user) same.0 ∙ sym second.whole

@@ -1,14 +1,15 @@
 -- The packets of the exchange can be encoded, and their facility fields are one and short.
-use Rattle.std.proofs.Common.{◌≡◌, ℕ, ◌≤◌, Bool, false, ltb, List, [], ◌∷◌, length, Option, None, Some, refl, sym, ap, ◌∙◌, subst, arith, inl}
+use Rattle.std.proofs.Common.{◌≡◌, ℕ, ◌≤◌, Bool, false, ltb, List, [], ◌∷◌, length, Option, None, Some, refl, sym, ap, ◌∙◌, subst, arith}
 use Rattle.std.proofs.lemmas.Bool.{le-ltb}
 use Rattle.xp_decide.specs.Written.{CanBeWritten}
 use Rattle.xp_decide.specs.declared.verdict.IncomingCall.{IncomingCall}
 use Rattle.xp_facilities.proofs.Bounds.{told-length, told-exchange}
 use Rattle.xp_facilities.proofs.Telling.{tells-octets}
-use Rattle.xp_facilities.specs.Indicated.{Indicates, table}
+use Rattle.xp_facilities.specs.Indicated.{Indicates, IsOfExchange, table}
+use Rattle.xp_facilities.specs.Indicated as indicated
 use Rattle.xp_facilities.specs.declared.requested.RequestedFacilities.{RequestedFacilities}
 use Rattle.xp_facilities.specs.declared.fast_select.FastSelect.{FastSelect}
-use Rattle.xp_facilities.specs.declared.segment_counts.SegmentCounts.{SegmentCounts}
+use Rattle.xp_facilities.specs.declared.charging_information.ChargingInformation.{ChargingInformation}
 use Rattle.xp_facilities.specs.declared.indicated.IndicatedFacilities.{IndicatedFacilities}
 use Rattle.xp_packets.specs.Examination.{first_of}
 use Rattle.xp_packets.specs.declared.block.Block.{Block}
@@ -34,9 +35,9 @@ tells_same told one other first second =
     ∙ tells-octets (table told) told.dte second.carried second.dte.whole
     ∙ sym second.whole
 
--- no redirection is told in a call connected packet or a clear indication
-pub short_field : {A : Type 0} (told : IndicatedFacilities A) (field : List ℕ) → told.redirected ≡ None → Indicates told field → length field ≤ 107
-short_field told field none tells = told-exchange told (length field) (told-length told field tells (rw none tt)) (inl none)
+-- without a redirection, as in a call connected packet or a clear indication
+pub short_field : {A : Type 0} (told : IndicatedFacilities A) (field : List ℕ) → told.redirected ≡ None → IsOfExchange told → Indicates told field → length field ≤ 107
+short_field told field none kind tells = told-exchange told (length field) (told-length told field tells (rw none tt)) kind
 
 -- ---- packets
 
@@ -53,25 +54,25 @@ module _ {A : Type 0} (called calling field user : List ℕ) (few : length field
 
   call_sent : (d : Bool) → CanBeSent (Call d block)
   call_sent d = record {
-    fit = λ identifier small. none_holds _ _ _ _ refl (le-ltb 4095 identifier small) (few_facilities field few) (le-ltb 128 (length user) most);
+    fit = λ modulus identifier small. none_holds _ _ _ _ refl (le-ltb 4095 identifier small) (few_facilities field few) (le-ltb 128 (length user) most);
     most = few;
   }
 
   accepted_sent : (d : Bool) → CanBeSent (Accepted d (Some block))
   accepted_sent d = record {
-    fit = λ identifier small. none_holds _ _ _ _ refl (le-ltb 4095 identifier small) (few_facilities field few) (le-ltb 128 (length user) most);
+    fit = λ modulus identifier small. none_holds _ _ _ _ refl (le-ltb 4095 identifier small) (few_facilities field few) (le-ltb 128 (length user) most);
     most = few;
   }
 
   cleared_sent : (cause diagnostic : ℕ) → CanBeSent (Clear cause (Some diagnostic) (Some block))
   cleared_sent cause diagnostic = record {
-    fit = λ identifier small. none_holds _ _ _ _ refl (le-ltb 4095 identifier small) (few_facilities field few) (le-ltb 128 (length user) most);
+    fit = λ modulus identifier small. none_holds _ _ _ _ refl (le-ltb 4095 identifier small) (few_facilities field few) (le-ltb 128 (length user) most);
     most = few;
   }
 
 plain_sent : (A : Type 0) (cause diagnostic : ℕ) → CanBeSent {A = A} (Clear cause (Some diagnostic) None)
 plain_sent A cause diagnostic = record {
-  fit = λ identifier small. none_holds _ _ _ _ refl (le-ltb 4095 identifier small) refl refl;
+  fit = λ modulus identifier small. none_holds _ _ _ _ refl (le-ltb 4095 identifier small) refl refl;
   most = tt;
 }
 
@@ -91,15 +92,15 @@ module _ {A : Type 0} where
   pub connected_sent : (setup : Setup) (address dialled : List ℕ) (d : Bool) (block : Option (Block A)) (asked : RequestedFacilities A) (connection : Connection A)
       → length (user_in block) ≤ 128 → Connects setup address dialled d block asked connection → CanBeSent connection.packet
   connected_sent setup address dialled d block asked connection most connects =
-      let few = short_field (outputs_of_answer setup connects.modified asked) connects.field refl connects.tells in
+      let few = short_field (outputs_of_answer setup connects.modified asked) connects.field refl (indicated.connected refl refl) connects.tells in
       subst CanBeSent (sym connects.packet) (accepted_sent connects.called [] connects.field (user_in block) few most d)
 
   carried_few : (fast : FastSelect) (block : Option (Block A)) (user dte : List ℕ) → length (user_in block) ≤ 128 → Carries fast block user dte → length user ≤ 128
   carried_few fast block user dte most (carried.nothing _ none _) = omega (arith, ap length none)
   carried_few fast block user dte most (carried.both _ is _) = omega (arith, ap length is, most)
 
-  pub carried_on_sent : (fast : FastSelect) (cause : ℕ) (diagnostic : Option ℕ) (block : Option (Block A)) (segments : Option SegmentCounts) (packet : Packet A)
-      → length (user_in block) ≤ 128 → ForwardedClear fast cause diagnostic block segments packet → CanBeSent packet
-  carried_on_sent fast cause diagnostic block segments packet most is =
-      let few = short_field (told_cleared {A = A} segments is.dte) is.field refl is.tells in
+  pub carried_on_sent : (fast : FastSelect) (cause : ℕ) (diagnostic : Option ℕ) (block : Option (Block A)) (charging : Option ChargingInformation) (packet : Packet A)
+      → length (user_in block) ≤ 128 → ForwardedClear fast cause diagnostic block charging packet → CanBeSent packet
+  carried_on_sent fast cause diagnostic block charging packet most is =
+      let few = short_field (told_cleared {A = A} charging is.dte) is.field refl (indicated.cleared refl refl refl) is.tells in
       subst CanBeSent (sym is.whole) (with_block_sent A _ _ is.field is.user few (carried_few fast block is.user is.dte most is.carries))

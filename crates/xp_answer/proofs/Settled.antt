@@ -2,11 +2,13 @@
 use Rattle.std.proofs.Common.{◌≡◌, ℕ, ◌≤◌, ◌&&◌, leb, min, max, Bool, true, List, Option, None, Some, sym, subst, arith, ◌⊎◌, inl, inr}
 use Rattle.std.specs.Prelude.{unwrap_or}
 use Rattle.std.proofs.lemmas.Bool.{and_parts, or_cases, leb-true}
+use Rattle.xp_decide.specs.Indicated.{largest_window_on}
 use Rattle.xp_decide.specs.IncomingCalls.{default_packet_sizes, default_window_sizes}
-use Rattle.xp_facilities.specs.Limits.{largest_window}
 use Rattle.xp_facilities.specs.declared.requested.RequestedFacilities.{RequestedFacilities}
 use Rattle.xp_facilities.specs.declared.direction_sizes.DirectionSizes.{DirectionSizes}
 use Rattle.xp_packets.specs.declared.block.Block.{Block}
+use Rattle.xp_packets.specs.declared.modulus.Modulus.{Modulus}
+use Rattle.xp_packets.specs.declared.modulus.Modulus.TheVariants.{Eight, Long}
 use Rattle.xp_answer.specs.Answered.{Accepts, Connects}
 use Rattle.xp_answer.specs.Terms.{AreBetween, AreTerms, AreSettled, AreWithin, AreWithinIndicated, IsWithin, is_between, is_offered, are_offered, settled}
 use Rattle.xp_answer.specs.declared.connection.Connection.{Connection}
@@ -62,8 +64,10 @@ pair_within least most indicated usual sizes first second within =
 usual_packet : AreBetween 4 10 default_packet_sizes
 usual_packet = record { called_least = omega arith; called_most = omega arith; calling_least = omega arith; calling_most = omega arith }
 
-usual_window : AreBetween 1 largest_window default_window_sizes
-usual_window = record { called_least = omega arith; called_most = omega arith; calling_least = omega arith; calling_most = omega arith }
+-- every line may have the usual windows
+usual_window : (modulus : Modulus) → AreBetween 1 (largest_window_on modulus) default_window_sizes
+usual_window Eight = record { called_least = omega arith; called_most = omega arith; calling_least = omega arith; calling_most = omega arith }
+usual_window Long = record { called_least = omega arith; called_most = omega arith; calling_least = omega arith; calling_most = omega arith }
 
 module _ {A : Type 0} where
   settled_within : (indicated : Terms) (asked : RequestedFacilities A) → are_offered indicated asked ≡ true → AreWithinIndicated indicated (settled indicated asked)
@@ -74,19 +78,20 @@ module _ {A : Type 0} where
         window = offered_within indicated.window default_window_sizes asked.window parts.1;
       }
 
-  settled_terms : (indicated : Terms) (asked : RequestedFacilities A) → AreTerms indicated → are_offered indicated asked ≡ true → AreSettled indicated (settled indicated asked)
-  settled_terms indicated asked terms offered =
+  settled_terms : (modulus : Modulus) (indicated : Terms) (asked : RequestedFacilities A) → AreTerms modulus indicated → are_offered indicated asked ≡ true
+      → AreSettled modulus indicated (settled indicated asked)
+  settled_terms modulus indicated asked terms offered =
       let within = settled_within indicated asked offered in
       record {
         sizes = record {
           packet = pair_within 4 10 indicated.packet default_packet_sizes (settled indicated asked).packet terms.packet usual_packet within.packet;
-          window = pair_within 1 largest_window indicated.window default_window_sizes (settled indicated asked).window terms.window usual_window within.window;
+          window = pair_within 1 (largest_window_on modulus) indicated.window default_window_sizes (settled indicated asked).window terms.window (usual_window modulus) within.window;
         };
         within = within;
       }
 
-  pub connection_settled : (setup : Setup) (address dialled : List ℕ) (d : Bool) (block : Option (Block A)) (asked : RequestedFacilities A) (connection : Connection A)
-      → AreTerms setup.indicated → Accepts setup block asked → Connects setup address dialled d block asked connection
-      → AreSettled setup.indicated connection.terms
-  connection_settled setup address dialled d block asked connection terms accepts connects =
-      subst (AreSettled setup.indicated) (sym connects.terms) (settled_terms setup.indicated asked terms accepts.offered)
+  pub connection_settled : (modulus : Modulus) (setup : Setup) (address dialled : List ℕ) (d : Bool) (block : Option (Block A)) (asked : RequestedFacilities A) (connection : Connection A)
+      → AreTerms modulus setup.indicated → Accepts setup block asked → Connects setup address dialled d block asked connection
+      → AreSettled modulus setup.indicated connection.terms
+  connection_settled modulus setup address dialled d block asked connection terms accepts connects =
+      subst (AreSettled modulus setup.indicated) (sym connects.terms) (settled_terms modulus setup.indicated asked terms accepts.offered)

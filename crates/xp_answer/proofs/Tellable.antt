@@ -5,24 +5,25 @@ use Rattle.std.proofs.Math.Nat.{le_trans}
 use Rattle.std.proofs.lemmas.Bool.{and_from, le-leb}
 use Rattle.xp_facilities.proofs.Meant.{AsksInRange, asks_in_range, IsTellable}
 use Rattle.xp_facilities.specs.Requested.{Means, IsFaulty, Parses}
-use Rattle.xp_facilities.specs.Limits.{largest_window}
+use Rattle.xp_facilities.specs.Limits.{largest_duration, largest_window}
 use Rattle.xp_facilities.specs.Octets.{is_within}
-use Rattle.xp_facilities.specs.Indicated.{index_fits, sizes_fit, counts_fit, is_in_range}
+use Rattle.xp_facilities.specs.Indicated.{index_fits, sizes_fit, duration_fits, counts_fit, is_in_range}
 use Rattle.xp_facilities.specs.declared.requested.RequestedFacilities.{RequestedFacilities}
 use Rattle.xp_facilities.specs.declared.fast_select.FastSelect.{FastSelect}
 use Rattle.xp_facilities.specs.declared.fault.FacilityFault.{FacilityFault}
 use Rattle.xp_facilities.specs.declared.fault.FacilityFault.TheVariants.{Length, Code, Param, Memory}
 use Rattle.xp_facilities.specs.declared.direction_sizes.DirectionSizes.{DirectionSizes}
 use Rattle.xp_facilities.specs.declared.redirection.Reason.{Reason}
-use Rattle.xp_facilities.specs.declared.segment_counts.SegmentCounts.{SegmentCounts}
+use Rattle.xp_facilities.specs.declared.charging_information.ChargingInformation.{ChargingInformation}
 use Rattle.xp_facilities.specs.declared.indicated.IndicatedFacilities.{IndicatedFacilities}
 use Rattle.xp_packets.specs.declared.block.Block.{Block}
+use Rattle.xp_packets.specs.declared.modulus.Modulus.TheVariants.{Long}
 use Rattle.xp_facilities.specs.declared.fast_select.FastSelect.TheVariants.{Restricted}
 use Rattle.xp_answer.specs.Answered.{outputs_of_answer}
 use Rattle.xp_answer.specs.Answered as answered
 use Rattle.xp_answer.specs.Blocks.{facilities_in}
 use Rattle.xp_answer.specs.steps.Examined.{Examines, fault_of}
-use Rattle.xp_answer.specs.ForwardedClear.{AreCounts, TakesOver, Carries, told_cleared}
+use Rattle.xp_answer.specs.ForwardedClear.{IsInRange, TakesOver, Carries, told_cleared}
 use Rattle.xp_answer.specs.ForwardedClear as carried
 use Rattle.xp_answer.specs.steps.Fields.{CanBeTold}
 use Rattle.xp_answer.specs.Terms.{AreBetween, AreTerms}
@@ -46,16 +47,16 @@ settled_fits least most None indicated shown asks = shown
 settled_fits least most (Some sizes) indicated shown asks = asks
 
 module _ {A : Type 0} where
-  connected_in_range : (setup : Setup) (modified : Option Reason) (asked : RequestedFacilities A) → AreTerms setup.indicated → AsksInRange asked
+  connected_in_range : (setup : Setup) (modified : Option Reason) (asked : RequestedFacilities A) → AreTerms Long setup.indicated → AsksInRange asked
       → is_in_range (outputs_of_answer setup modified asked) ≡ true
-  unfolding is_in_range index_fits sizes_fit counts_fit
+  unfolding is_in_range index_fits sizes_fit duration_fits counts_fit
   connected_in_range setup modified asked terms asks =
       let packet = settled_fits 4 12 asked.packet setup.indicated.packet (fits 4 10 12 setup.indicated.packet (omega arith) terms.packet) asks.packet in
       let window = settled_fits 1 largest_window asked.window setup.indicated.window (fits 1 largest_window largest_window setup.indicated.window (omega arith) terms.window) asks.window in
       let few = le-leb (length asked.dte) 80 asks.dte.few in
       rw (packet, window, few) refl
 
-  pub connected_told : (setup : Setup) (modified : Option Reason) (asked : RequestedFacilities A) (field : List ℕ) → AreTerms setup.indicated → Means field asked
+  pub connected_told : (setup : Setup) (modified : Option Reason) (asked : RequestedFacilities A) (field : List ℕ) → AreTerms Long setup.indicated → Means field asked
       → CanBeTold (outputs_of_answer setup modified asked)
   connected_told setup modified asked field terms means =
       let asks = asks_in_range field asked means in
@@ -68,27 +69,26 @@ taken_over_tellable : (A : Type 0) (field dte : List ℕ) → TakesOver A field 
 taken_over_tellable A field dte (carried.read asked means is) = subst IsTellable (sym is) (asks_in_range field asked means).dte
 taken_over_tellable A field dte (carried.faulty fault faulty is) = subst IsTellable (sym is) none_tellable
 
-pub counted : (segments : Option SegmentCounts) → AreCounts segments → counts_fit segments ≡ true
-unfolding counts_fit
-counted None counts = refl
-counted (Some segments) counts = and_from _ _ (le-leb segments.sent 99_999_999 counts.0) (le-leb segments.received 99_999_999 counts.1)
-
-pub cleared_in_range : (A : Type 0) (segments : Option SegmentCounts) (dte : List ℕ) → counts_fit segments ≡ true → IsTellable dte
-    → is_in_range (told_cleared {A = A} segments dte) ≡ true
-unfolding is_in_range index_fits sizes_fit
-cleared_in_range A segments dte counts tellable =
-    let few = le-leb (length dte) 80 tellable.few in rw (counts, few) refl
+pub cleared_in_range : (A : Type 0) (charging : Option ChargingInformation) (dte : List ℕ) → IsInRange charging → IsTellable dte
+    → is_in_range (told_cleared {A = A} charging dte) ≡ true
+unfolding is_in_range index_fits sizes_fit duration_fits counts_fit
+cleared_in_range A None dte range tellable = le-leb (length dte) 80 tellable.few
+cleared_in_range A (Some charging) dte range tellable =
+    let duration = le-leb charging.duration largest_duration range.0 in
+    let sent = le-leb charging.segments.sent 99_999_999 range.1 in
+    let received = le-leb charging.segments.received 99_999_999 range.2 in
+    let few = le-leb (length dte) 80 tellable.few in rw (duration, sent, received, few) refl
 
 module _ {A : Type 0} where
   carried_tellable : (fast : FastSelect) (block : Option (Block A)) (user dte : List ℕ) → Carries fast block user dte → IsTellable dte
   carried_tellable fast block user dte (carried.nothing _ _ is) = subst IsTellable (sym is) none_tellable
   carried_tellable fast block user dte (carried.both _ _ takes) = taken_over_tellable A _ dte takes
 
-  pub cleared_told : (fast : FastSelect) (block : Option (Block A)) (segments : Option SegmentCounts) (user dte : List ℕ) → AreCounts segments
-      → Carries fast block user dte → CanBeTold (told_cleared {A = A} segments dte)
-  cleared_told fast block segments user dte counts carries =
+  pub cleared_told : (fast : FastSelect) (block : Option (Block A)) (charging : Option ChargingInformation) (user dte : List ℕ) → IsInRange charging
+      → Carries fast block user dte → CanBeTold (told_cleared {A = A} charging dte)
+  cleared_told fast block charging user dte range carries =
       let tellable = carried_tellable fast block user dte carries in
-      told_by (told_cleared {A = A} segments dte) (cleared_in_range A segments dte (counted segments counts) tellable) tellable
+      told_by (told_cleared {A = A} charging dte) (cleared_in_range A charging dte range tellable) tellable
 
 -- a field that is refused is faulty, but for want of memory
 pub refused_faulty : (A : Type 0) (field : List ℕ) (fault : FacilityFault) → fault ≢ Memory → Parses {A = A} field (Err fault) → IsFaulty field fault

@@ -75,6 +75,7 @@ module _ {A : Type 0} where
     packet = Some (settled setup.indicated asked).packet;
     window = Some (settled setup.indicated asked).window;
     redirected = None;
+    duration = None;
     segments = None;
     dte = asked.dte;
   }

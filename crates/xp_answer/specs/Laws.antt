@@ -3,12 +3,14 @@ use Rattle.std.specs.Prelude.{◌≡◌, ℕ, ◌≤◌, Bool, List, length, Opt
 use Rattle.xp_decide.specs.Written.{CanBeWritten}
 use Rattle.xp_decide.specs.declared.verdict.IncomingCall.{IncomingCall}
 use Rattle.xp_facilities.specs.declared.fast_select.FastSelect.{FastSelect}
-use Rattle.xp_facilities.specs.declared.segment_counts.SegmentCounts.{SegmentCounts}
+use Rattle.xp_facilities.specs.declared.charging_information.ChargingInformation.{ChargingInformation}
 use Rattle.xp_packets.specs.declared.block.Block.{Block}
+use Rattle.xp_packets.specs.declared.modulus.Modulus.{Modulus}
+use Rattle.xp_packets.specs.declared.modulus.Modulus.TheVariants.{Long}
 use Rattle.xp_packets.specs.declared.packet.Packet.{Packet}
 use Rattle.xp_answer.specs.Answered.{Answered}
 use Rattle.xp_answer.specs.Blocks.{user_in}
-use Rattle.xp_answer.specs.ForwardedClear.{AreCounts, ForwardedClear}
+use Rattle.xp_answer.specs.ForwardedClear.{IsInRange, ForwardedClear}
 use Rattle.xp_answer.specs.Fields.{CanBeSent}
 use Rattle.xp_answer.specs.Incoming.{IsIncomingCall}
 use Rattle.xp_answer.specs.Terms.{AreTerms, AreSettled}
@@ -41,13 +43,13 @@ pub record HasOneAnswer (A : Type 0) (setup : Setup) (address dialled : List ℕ
 abbrev pub EveryAnswerHasOne : Type 0 → Type 0
 EveryAnswerHasOne A =
     (setup : Setup) (address dialled : List ℕ) (d : Bool) (block : Option (Block A))
-    → AreTerms setup.indicated → HasOneAnswer A setup address dialled d block
+    → AreTerms Long setup.indicated → HasOneAnswer A setup address dialled d block
 
 abbrev pub ConnectionsSettleTerms : Type 0 → Type 0
 ConnectionsSettleTerms A =
-    (setup : Setup) (address dialled : List ℕ) (d : Bool) (block : Option (Block A)) (connection : Connection A)
-    → AreTerms setup.indicated → Answered setup address dialled d block (Connected connection)
-    → AreSettled setup.indicated connection.terms
+    (modulus : Modulus) (setup : Setup) (address dialled : List ℕ) (d : Bool) (block : Option (Block A)) (connection : Connection A)
+    → AreTerms modulus setup.indicated → Answered setup address dialled d block (Connected connection)
+    → AreSettled modulus setup.indicated connection.terms
 
 abbrev pub ConnectedCanBeSent : Type 0 → Type 0
 ConnectedCanBeSent A =
@@ -58,17 +60,17 @@ ConnectedCanBeSent A =
 -- ---- a clear request
 
 -- there is exactly one clear indication for the far end
-pub record HasOneIndication (A : Type 0) (fast : FastSelect) (cause : ℕ) (diagnostic : Option ℕ) (block : Option (Block A)) (segments : Option SegmentCounts) : Type 0 where
-  pub some : (packet : Packet A) × ForwardedClear fast cause diagnostic block segments packet
-  pub same : (one other : Packet A) → ForwardedClear fast cause diagnostic block segments one → ForwardedClear fast cause diagnostic block segments other → one ≡ other
+pub record HasOneIndication (A : Type 0) (fast : FastSelect) (cause : ℕ) (diagnostic : Option ℕ) (block : Option (Block A)) (charging : Option ChargingInformation) : Type 0 where
+  pub some : (packet : Packet A) × ForwardedClear fast cause diagnostic block charging packet
+  pub same : (one other : Packet A) → ForwardedClear fast cause diagnostic block charging one → ForwardedClear fast cause diagnostic block charging other → one ≡ other
 
 abbrev pub EveryClearHasOneIndication : Type 0 → Type 0
 EveryClearHasOneIndication A =
-    (fast : FastSelect) (cause : ℕ) (diagnostic : Option ℕ) (block : Option (Block A)) (segments : Option SegmentCounts)
-    → AreCounts segments → HasOneIndication A fast cause diagnostic block segments
+    (fast : FastSelect) (cause : ℕ) (diagnostic : Option ℕ) (block : Option (Block A)) (charging : Option ChargingInformation)
+    → IsInRange charging → HasOneIndication A fast cause diagnostic block charging
 
 abbrev pub ForwardedClearCanBeSent : Type 0 → Type 0
 ForwardedClearCanBeSent A =
-    (fast : FastSelect) (cause : ℕ) (diagnostic : Option ℕ) (block : Option (Block A)) (segments : Option SegmentCounts) (packet : Packet A)
-    → length (user_in block) ≤ 128 → ForwardedClear fast cause diagnostic block segments packet
+    (fast : FastSelect) (cause : ℕ) (diagnostic : Option ℕ) (block : Option (Block A)) (charging : Option ChargingInformation) (packet : Packet A)
+    → length (user_in block) ≤ 128 → ForwardedClear fast cause diagnostic block charging packet
     → CanBeSent packet

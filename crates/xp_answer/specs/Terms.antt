@@ -1,10 +1,11 @@
 -- The packet and window sizes of a call (X.25 clause 6.12).
 use Rattle.std.specs.Prelude.{ℕ, ◌≤◌, min, max, nat_le, Bool, true, ◌&&◌, ◌||◌, Option, None, Some, unwrap_or}
+use Rattle.xp_decide.specs.Indicated.{largest_window_on}
 use Rattle.xp_decide.specs.IncomingCalls.{default_packet_sizes, default_window_sizes}
-use Rattle.xp_facilities.specs.Limits.{largest_window}
 use Rattle.xp_facilities.specs.declared.requested.RequestedFacilities.{RequestedFacilities}
 use Rattle.xp_facilities.specs.declared.direction_sizes.DirectionSizes.{DirectionSizes}
 use Rattle.xp_facilities.specs.declared.indicated.IndicatedFacilities.{IndicatedFacilities}
+use Rattle.xp_packets.specs.declared.modulus.Modulus.{Modulus}
 use Rattle.xp_answer.specs.declared.terms.Terms.{Terms}
 
 -- both sizes are within these bounds
@@ -14,10 +15,10 @@ pub record AreBetween (least most : ℕ) (sizes : DirectionSizes) : Type 0 where
   pub calling_least : least ≤ sizes.from_calling
   pub calling_most : sizes.from_calling ≤ most
 
--- packets of 16 to 1,024 octets, by powers of two, and windows of 1 to 7
-pub record AreTerms (terms : Terms) : Type 0 where
+-- packets of 16 to 1,024 octets, by powers of two, and windows of 1 to the largest of a line with this modulus
+pub record AreTerms (modulus : Modulus) (terms : Terms) : Type 0 where
   pub packet : AreBetween 4 10 terms.packet
-  pub window : AreBetween 1 largest_window terms.window
+  pub window : AreBetween 1 (largest_window_on modulus) terms.window
 
 -- `size` is between the two, whichever is greater, or equal to one of them
 abbrev pub is_between : ℕ → ℕ → ℕ → Bool
@@ -63,7 +64,7 @@ pub record AreWithinIndicated (indicated terms : Terms) : Type 0 where
   pub packet : AreWithin indicated.packet default_packet_sizes terms.packet
   pub window : AreWithin indicated.window default_window_sizes terms.window
 
--- sizes of a call, each of them between the indicated and the default one
-pub record AreSettled (indicated terms : Terms) : Type 0 where
-  pub sizes : AreTerms terms
+-- sizes that a line with this modulus may have, each of them between the indicated and the default one
+pub record AreSettled (modulus : Modulus) (indicated terms : Terms) : Type 0 where
+  pub sizes : AreTerms modulus terms
   pub within : AreWithinIndicated indicated terms

@@ -4,6 +4,8 @@ ghost use Rattle.xp_answer.specs.Blocks.{user_in};
 ghost use Rattle.xp_answer.specs.steps.Examined.{Examines};
 ghost use Rattle.xp_answer.specs.Fields.{CanBeSent};
 ghost use Rattle.xp_answer.specs.Terms.{AreTerms, AreSettled};
+ghost use Rattle.xp_packets.specs.declared.modulus.Modulus.{Modulus};
+ghost use Rattle.xp_packets.specs.declared.modulus.Modulus.TheVariants.{Long};
 
 use crate::block::{facilities_in, has_user_data};
 use crate::connection::{Connection, connect};
@@ -41,11 +43,13 @@ pub fn examine<A: Allocator + Copy>(
     d: bool,
     block: &Option<Block<A>>,
 ) -> Result<Answer<A>, AllocError>
-    requires { AreTerms setup.now.indicated }
+    requires { AreTerms Long setup.now.indicated }
     ensures answered { IfOk result (Answered setup.now address.now dialled.now d block.now) }
 
-    // Each size of the call is between the one that was indicated and the default.
-    ensures settled { IfOk result (λ answer. IfConnected answer (λ c. AreSettled setup.now.indicated c.terms)) }
+    // Each size of the call is between the one that was indicated and the default. So a line of modulo 8 agrees to no
+    // window over 7.
+    ensures settled { IfOk result (λ answer. IfConnected answer (λ c. (modulus : Modulus)
+        → AreTerms modulus setup.now.indicated → AreSettled modulus setup.now.indicated c.terms)) }
 
     // If there are at most 128 octets of user data, the call connected packet can be encoded.
     ensures sent { length (user_in block.now) ≤ 128 → IfOk result (λ answer. IfConnected answer (λ c. CanBeSent c.packet)) }

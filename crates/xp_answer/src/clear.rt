@@ -1,7 +1,7 @@
 ghost use Rattle.std.specs.Prelude.{◌≡◌, ◌≤◌, length, IfOk};
 ghost use Rattle.xp_decide.specs.Asks.{is_fast};
 ghost use Rattle.xp_answer.specs.Blocks.{user_in};
-ghost use Rattle.xp_answer.specs.ForwardedClear.{AreCounts, ForwardedClear, Carries, TakesOver, block_with, told_cleared};
+ghost use Rattle.xp_answer.specs.ForwardedClear.{IsInRange, ForwardedClear, Carries, TakesOver, block_with, told_cleared};
 ghost use Rattle.xp_answer.specs.Fields.{CanBeSent};
 
 use crate::block::{facilities_in, user_in};
@@ -9,13 +9,13 @@ use crate::field::field_of;
 use std::alloc::{AllocError, Allocator};
 use xp_causes::{indicated_cause, indicated_diagnostic};
 use xp_facilities::{
-    FacilityFault, FastSelect, IndicatedFacilities, SegmentCounts, Selection, parse,
+    ChargingInformation, FacilityFault, FastSelect, IndicatedFacilities, Selection, parse,
 };
 use xp_packets::{Block, Digits, Octets, Packet};
 
 /// The clear indication that the far end of a call receives for a clear request with this cause, diagnostic and
-/// block. With fast select of either kind, the user data and the facilities between DTEs are forwarded. If `segments`
-/// is given, it indicates the call's segments; this is for the line that pays for the call.
+/// block. With fast select of either kind, the user data and the facilities between DTEs are forwarded. If `charging`
+/// is given, it indicates the call's duration and segments; this is for the line that pays for the call.
 ///
 /// # Errors
 ///
@@ -26,16 +26,16 @@ pub fn forward_clear<A: Allocator + Copy>(
     cause: u8,
     diagnostic: Option<u8>,
     block: &Option<Block<A>>,
-    segments: Option<SegmentCounts>,
+    charging: Option<ChargingInformation>,
 ) -> Result<Packet<A>, AllocError>
-    requires { AreCounts segments }
-    ensures carried { IfOk result (ForwardedClear fast cause diagnostic block.now segments) }
+    requires { IsInRange charging }
+    ensures carried { IfOk result (ForwardedClear fast cause diagnostic block.now charging) }
 
     // If there are at most 128 octets of user data, the packet can be encoded.
     ensures sent { length (user_in block.now) ≤ 128 → IfOk result CanBeSent }
 {
     let (user, dte) = carried(alloc, fast, block)?;
-    let facilities = field_of(alloc, &tell(segments, dte))?;
+    let facilities = field_of(alloc, &tell(charging, dte))?;
     Ok(Packet::Clear {
         cause: indicated_cause(cause),
         diagnostic: Some(indicated_diagnostic(diagnostic)),
@@ -75,8 +75,11 @@ fn dte_in<A: Allocator + Copy>(alloc: A, field: &[u8]) -> Result<Octets<A>, Allo
 }
 
 /// The facilities of the clear indication.
-pub fn tell<A: Allocator>(segments: Option<SegmentCounts>, dte: Octets<A>) -> IndicatedFacilities<A>
-    ensures { result ≡ told_cleared segments dte }
+pub fn tell<A: Allocator>(
+    charging: Option<ChargingInformation>,
+    dte: Octets<A>,
+) -> IndicatedFacilities<A>
+    ensures { result ≡ told_cleared charging dte }
 {
     IndicatedFacilities {
         selection: Selection::Nothing,
@@ -87,7 +90,8 @@ pub fn tell<A: Allocator>(segments: Option<SegmentCounts>, dte: Octets<A>) -> In
         packet: None,
         window: None,
         redirected: None,
-        segments,
+        duration: charging.map(|told| told.duration),
+        segments: charging.map(|told| told.segments),
         dte,
     }
 }

@@ -1,6 +1,7 @@
 ghost use Rattle.std.specs.Prelude.{◌≡◌, IfOk};
 ghost use Rattle.xp_answer.specs.Answered.{Accepts, Connects, Names, outputs_of_answer};
 ghost use Rattle.xp_answer.specs.Terms.{AreTerms};
+ghost use Rattle.xp_packets.specs.declared.modulus.Modulus.TheVariants.{Long};
 
 use crate::block::user_in;
 use crate::field::field_of;
@@ -35,7 +36,7 @@ pub fn connect<A: Allocator + Copy>(
     block: &Option<Block<A>>,
     asked: RequestedFacilities<A>,
 ) -> Result<Connection<A>, AllocError>
-    requires terms { AreTerms setup.now.indicated }
+    requires terms { AreTerms Long setup.now.indicated }
     requires accepts { Accepts setup.now block.now asked }
     ensures { IfOk result (Connects setup.now address.now dialled.now d block.now asked) }
 {
@@ -89,6 +90,7 @@ fn tell<A: Allocator>(
         packet: Some(terms.packet),
         window: Some(terms.window),
         redirected: None,
+        duration: None,
         segments: None,
         dte: asked.dte,
     }

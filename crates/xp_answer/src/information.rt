@@ -2,54 +2,57 @@
 //! no allocation.
 
 ghost use Rattle.std.specs.Prelude.{◌≡◌, []};
-ghost use Rattle.xp_answer.specs.ForwardedClear.{AreCounts, block_with};
+ghost use Rattle.xp_answer.specs.ForwardedClear.{IsInRange, block_with};
 ghost use Rattle.xp_answer.specs.Fields.{CanBeSent};
 ghost use Rattle.xp_answer.specs.Information.{cleared_with, confirmed_with, information_field};
 
 use std::alloc::Allocator;
-use xp_facilities::{SegmentCounts, segments_field};
+use xp_facilities::{ChargingInformation, charging_field};
 use xp_packets::{Block, Digits, Octets, Packet};
 
-/// A clear indication from the exchange itself (X.25 clause 5.2.4). If `segments` is given, it indicates the call's
-/// segments; this is for the line that pays for the call.
+/// A clear indication from the exchange itself (X.25 clause 5.2.4). If `charging` is given, it indicates the call's
+/// duration and segments; this is for the line that pays for the call.
 pub fn clear_indication<A: Allocator>(
     alloc: A,
     cause: u8,
     diagnostic: u8,
-    segments: Option<SegmentCounts>,
+    charging: Option<ChargingInformation>,
 ) -> Packet<A>
-    requires { AreCounts segments }
-    ensures told { result ≡ cleared_with cause diagnostic segments }
+    requires { IsInRange charging }
+    ensures told { result ≡ cleared_with cause diagnostic charging }
     ensures sent { CanBeSent result }
 {
     Packet::Clear {
         cause,
         diagnostic: Some(diagnostic),
-        block: information(alloc, segments),
+        block: information(alloc, charging),
     }
 }
 
-/// A clear confirmation (X.25 clause 5.2.5). If `segments` is given, it indicates the call's segments; this is for
-/// the line that pays for the call.
-pub fn clear_confirmation<A: Allocator>(alloc: A, segments: Option<SegmentCounts>) -> Packet<A>
-    requires { AreCounts segments }
-    ensures told { result ≡ confirmed_with segments }
+/// A clear confirmation (X.25 clause 5.2.5). If `charging` is given, it indicates the call's duration and segments;
+/// this is for the line that pays for the call.
+pub fn clear_confirmation<A: Allocator>(
+    alloc: A,
+    charging: Option<ChargingInformation>,
+) -> Packet<A>
+    requires { IsInRange charging }
+    ensures told { result ≡ confirmed_with charging }
     ensures sent { CanBeSent result }
 {
     Packet::ClearConfirm {
-        block: information(alloc, segments),
+        block: information(alloc, charging),
     }
 }
 
-/// The block that indicates the segments, or none if there are no segments to indicate.
-fn information<A: Allocator>(alloc: A, segments: Option<SegmentCounts>) -> Option<Block<A>>
-    ensures { result ≡ block_with (information_field segments) [] }
+/// The block that indicates charging information, or none if there is none to indicate.
+fn information<A: Allocator>(alloc: A, charging: Option<ChargingInformation>) -> Option<Block<A>>
+    ensures { result ≡ block_with (information_field charging) [] }
 {
-    let segments = segments?;
+    let charging = charging?;
     Some(Block {
         called: Digits::new(),
         calling: Digits::new(),
-        facilities: Octets::of_ten(segments_field(segments)),
+        facilities: Octets::of_sixteen(charging_field(charging)),
         user: Octets::new(alloc),
     })
 }

@@ -19,7 +19,8 @@ pub fn every_answer_has_one_outcome<A: Allocator>()
     ensures { EveryAnswerHasOne A }
 {}
 
-/// Each size of a connected call is between the one that was indicated and the default.
+/// Each size of a connected call is between the one that was indicated and the default. A line that may have the sizes
+/// that were indicated may have those of the call.
 pub fn connections_settle_terms<A: Allocator>()
     ensures { ConnectionsSettleTerms A }
 {}
@@ -39,8 +40,8 @@ pub fn forwarded_clear_can_be_sent<A: Allocator>()
     ensures { ForwardedClearCanBeSent A }
 {}
 
-/// The facility field of charging information indicates the segments, and the exchange's own packets with it can be
-/// encoded.
+/// The facility field of charging information indicates the duration and the segments, and the exchange's own packets
+/// with it can be encoded.
 pub fn information_is_told<A: Allocator>()
     ensures { InformationIsTold A }
 {}

@@ -2,6 +2,7 @@ ghost use Rattle.std.specs.Prelude.{◌≡◌};
 ghost use Rattle.xp_decide.specs.Indicated.{IndicatesSizes};
 ghost use Rattle.xp_answer.specs.Setup.{payer_of, setup_of};
 ghost use Rattle.xp_answer.specs.Terms.{AreTerms};
+ghost use Rattle.xp_packets.specs.declared.modulus.Modulus.{Modulus};
 
 use crate::terms::Terms;
 use std::alloc::Allocator;
@@ -31,8 +32,8 @@ impl Setup {
     pub fn of<A: Allocator>(ring: &IncomingCall<A>) -> Setup
         ensures kept { result ≡ setup_of ring.now }
 
-        // Sizes that an incoming call may indicate are sizes that a call may have.
-        ensures terms { IndicatesSizes ring.now.told → AreTerms result.indicated }
+        // Sizes that an incoming call may indicate for a line are sizes that a call of that line may have.
+        ensures terms { (modulus : Modulus) → IndicatesSizes modulus ring.now.told → AreTerms modulus result.indicated }
     {
         Setup {
             indicated: Terms::indicated_by(&ring.told),

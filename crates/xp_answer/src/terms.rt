@@ -21,7 +21,7 @@ const USUAL_WINDOW_SIZES: DirectionSizes = DirectionSizes {
 pub struct Terms {
     /// Packet sizes, as powers of two: 4 to 12.
     pub packet: DirectionSizes,
-    /// Window sizes, 1 to 7.
+    /// Window sizes: 1 to 7, or to 15 if both lines number modulo 128.
     pub window: DirectionSizes,
 }
 

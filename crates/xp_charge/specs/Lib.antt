@@ -1,4 +1,5 @@
 pub mod Counted
+pub mod Duration
 pub mod Lines
 pub mod Meter
 pub mod Segments

@@ -1,11 +1,12 @@
 -- The text of a charging record.
-use Rattle.std.specs.Prelude.{◌≡◌, ℕ, codes, decimal, List, [], ◌∷◌, ◌++◌, length, take, Option, None, Some}
+use Rattle.std.specs.Prelude.{ℕ, codes, decimal, List, [], ◌∷◌, ◌++◌, Option, None, Some}
 use Rattle.hex.specs.Hex.{encode_lower}
 use Rattle.xp_packets.specs.Digits.{text_of as text_of_digits}
 use Rattle.xp_packets.specs.declared.end.End.{End}
 use Rattle.xp_packets.specs.declared.end.End.TheVariants.{Caller, Called}
 use Rattle.xp_subs.specs.Tables.{Tables, line_at}
 use Rattle.xp_charge.specs.declared.record.Record.{Record}
+use Rattle.xp_charge.specs.Duration.{seconds_of}
 
 -- a space, then the field
 abbrev pub field : List ℕ → List ℕ
@@ -36,7 +37,7 @@ call_text tables ended =
     ++ field (called_text tables ended.called)
     ++ field (digits_text ended.dialled)
 
--- who pays, for how much, and how the call ended
+-- who pays, for how much, how the call ended, and for how many seconds it was connected
 abbrev pub charge_text : Record → List ℕ
 charge_text ended =
     field (payer_text ended.payer)
@@ -44,6 +45,7 @@ charge_text ended =
     ++ field (decimal ended.from_called)
     ++ field (encode_lower (ended.cause ∷ []))
     ++ field (decimal ended.diagnostic)
+    ++ field (decimal (seconds_of ended))
 
 -- the charging record of an ended call, as one line
 abbrev pub record_text : Tables → Record → List ℕ

@@ -1,4 +1,5 @@
 ghost use Rattle.std.specs.Prelude.{◌≡◌, ◌++◌, ◌<◌, IfSome, OnErr, OnOk};
+ghost use Rattle.xp_charge.specs.Duration.{seconds_of};
 ghost use Rattle.xp_charge.specs.Lines.{HasLines};
 ghost use Rattle.xp_charge.specs.Text.{call_text, called_text, charge_text, payer_text, record_text};
 ghost use Rattle.xp_charge.specs.steps.Text.{Keeps};
@@ -30,6 +31,12 @@ pub struct Record {
     pub cause: u8,
     /// The diagnostic that was sent with the cause.
     pub diagnostic: u8,
+    /// The moment of the call request, in seconds.
+    pub requested: u64,
+    /// The moment at which the call was accepted, in seconds. `None` if it never was.
+    pub connected: Option<u64>,
+    /// The moment at which the call ended, in seconds.
+    pub ended: u64,
 }
 
 impl Record {
@@ -47,6 +54,19 @@ impl Record {
             from_called: self.from_called,
             cause: self.cause,
             diagnostic: self.diagnostic,
+            requested: self.requested,
+            connected: self.connected,
+            ended: self.ended,
+        }
+    }
+
+    /// For how many seconds the call was connected. 0 if it never was, or if the clock went back in between.
+    pub fn seconds(&self) -> u64
+        ensures { result ≡ seconds_of self.now }
+    {
+        match self.connected {
+            Some(connected) => self.ended.saturating_sub(connected),
+            None => 0,
         }
     }
 
@@ -95,7 +115,7 @@ impl Record {
         push_digits(text, &self.dialled)
     }
 
-    /// Appends who pays, for how much, and how the call ended.
+    /// Appends who pays, for how much, how the call ended, and for how many seconds it was connected.
     fn push_charge<A: Allocator>(&self, text: &mut Vec<u8, A>) -> Result<(), AllocError>
         ensures ok { OnOk result (text.new.items ≡ text.old.items ++ charge_text self.now) }
         ensures kept { Keeps text.old.items text.new.items }
@@ -104,7 +124,8 @@ impl Record {
         push_number(text, u64::from(self.from_caller))?;
         push_number(text, u64::from(self.from_called))?;
         push_octet(text, self.cause)?;
-        push_number(text, u64::from(self.diagnostic))
+        push_number(text, u64::from(self.diagnostic))?;
+        push_number(text, self.seconds())
     }
 }
 

@@ -38,6 +38,7 @@ fn again<'a>(
         packet: read.packet,
         window: read.window,
         redirected: None,
+        duration: None,
         segments: None,
         dte: read.dte,
     };
@@ -69,8 +70,14 @@ fn fields_are_read_and_told(rt: HostRuntime) -> Result<(), Fail> {
     Ok(())
 }
 
-// What is told where an index, a window and facilities between DTEs are to be told.
-fn told_of_values(alloc: Global, index: u16, window: u8, dte: &[u8]) -> Result<String, AllocError> {
+// What is told where an index, a window, a duration and facilities between DTEs are to be told.
+fn told_of_values(
+    alloc: Global,
+    index: u16,
+    window: u8,
+    duration: u32,
+    dte: &[u8],
+) -> Result<String, AllocError> {
     let dte = Octets::from_slice(alloc, dte)?;
     let values = IndicatedFacilities {
         selection: Selection::Closed(index),
@@ -84,6 +91,7 @@ fn told_of_values(alloc: Global, index: u16, window: u8, dte: &[u8]) -> Result<S
             from_calling: 7,
         }),
         redirected: None,
+        duration: Some(duration),
         segments: None,
         dte,
     };
@@ -96,15 +104,22 @@ fn told_of_values(alloc: Global, index: u16, window: u8, dte: &[u8]) -> Result<S
 // The items between DTEs are judged first.
 #[test]
 fn values_that_cannot_be_told(rt: HostRuntime) -> Result<(), Fail> {
-    for (index, window, dte, expected) in [
-        (9999, 7, b"\x0a\x01", "ok"),
-        (10_000, 7, b"\x0a\x01", "facility parameter not allowed"),
-        (9999, 8, b"\x0a\x01", "facility parameter not allowed"),
-        (9999, 0, b"\x0a\x01", "facility parameter not allowed"),
-        (10_000, 8, b"\x42\x07", "invalid facility length"),
-        (10_000, 8, b"\x00\x0f", "invalid facility length"),
+    for (index, window, duration, dte, expected) in [
+        (9999, 15, 8_639_999, b"\x0a\x01", "ok"),
+        (10_000, 15, 0, b"\x0a\x01", "facility parameter not allowed"),
+        (9999, 16, 0, b"\x0a\x01", "facility parameter not allowed"),
+        (9999, 0, 0, b"\x0a\x01", "facility parameter not allowed"),
+        (
+            9999,
+            15,
+            8_640_000,
+            b"\x0a\x01",
+            "facility parameter not allowed",
+        ),
+        (10_000, 16, 0, b"\x42\x07", "invalid facility length"),
+        (10_000, 16, 0, b"\x00\x0f", "invalid facility length"),
     ] {
-        let text = told_of_values(rt.alloc(), index, window, dte)?;
+        let text = told_of_values(rt.alloc(), index, window, duration, dte)?;
         assert_eq!(rt; text.as_str(), expected);
     }
     Ok(())

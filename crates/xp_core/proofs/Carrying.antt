@@ -62,7 +62,7 @@ module _ {A : Type 0} where
   -- the relay of a connected call is kept
   kept_under : (at : StepContext A) (call : LiveCall) → call_on at.world at.line ≡ Some (entry_of call) → (agreement : Agreement) → call.agreed ≡ Some agreement
       → (relays : List (Option (MeteredRelay A))) → RelaysRepresentCalls at.tables at.before at.world relays
-      → IsRepresentedBy (relay_under relays call.caller) (directions at.tables at.before call.number agreement) (counted_by at.tables at.before call.number (Some agreement))
+      → IsRepresentedBy (relay_under relays call.caller) (directions at.tables at.before call.number (call_of_stored call) agreement) (counted_by at.tables at.before call.number (call_of_stored call) (Some agreement))
   kept_under at call on agreement agreed relays carried =
       carried call.number (call_of_stored call) agreement (shown_on at.world at.line (entry_of call) on).1 agreed
 
@@ -70,7 +70,7 @@ module _ {A : Type 0} where
       → (relays : List (Option (MeteredRelay A))) → RelaysRepresentCalls at.tables at.before at.world relays → None ≡ relay_under relays call.caller → ⊥
   never_lost at call on agreement agreed relays carried none =
       let P : Option (MeteredRelay A) → Type 0 =
-      λ r. IsRepresentedBy r (directions at.tables at.before call.number agreement) (counted_by at.tables at.before call.number (Some agreement)) in
+      λ r. IsRepresentedBy r (directions at.tables at.before call.number (call_of_stored call) agreement) (counted_by at.tables at.before call.number (call_of_stored call) (Some agreement)) in
       subst P (sym none) (kept_under at call on agreement agreed relays carried)
 
   module _ (at : StepContext A) (what : What A) (plan : Plan A) where
@@ -124,10 +124,10 @@ module _ {A : Type 0} where
         its = carried_of at.line (entry_of call) agreement packet
 
         abbrev shown : Coupled A
-        shown = directions at.tables at.before call.number agreement
+        shown = directions at.tables at.before call.number (call_of_stored call) agreement
 
         abbrev meter : Counted
-        meter = counted_by at.tables at.before call.number (Some agreement)
+        meter = counted_by at.tables at.before call.number (call_of_stored call) (Some agreement)
 
         abbrev judged_it : Option ℕ
         judged_it = judged_at shown its.arrival
@@ -152,7 +152,7 @@ module _ {A : Type 0} where
 
         past_is : (past : Bool) → goes_past at.tables.segment_limit (counted_from its.arrival.here meter) judged_it ≡ past
             → is_past_limit at.tables at.before (Some its) ≡ past
-        past_is past is' = ap (λ n. goes_past at.tables.segment_limit n judged_it) (sym (counted_here at.tables at.before call.number (Some agreement) its.arrival.here)) ∙ is'
+        past_is past is' = ap (λ n. goes_past at.tables.segment_limit n judged_it) (sym (counted_here at.tables at.before call.number (call_of_stored call) (Some agreement) its.arrival.here)) ∙ is'
 
         pub goes_through : (result : Result Counted OverLimit) (counted : Counted) → result ≡ Ok counted → Counting result
             → (relay : StoredDirections A) (moves : List (Move A))

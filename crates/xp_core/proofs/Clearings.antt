@@ -1,14 +1,17 @@
 -- What is planned for a clear request and for an answer.
-use Rattle.std.proofs.Common.{◌≡◌, ◌∙◌, ℕ, Option, Some, None, List, [], ◌∷◌, refl, ap, sym, subst}
+use Rattle.std.proofs.Common.{◌≡◌, ◌∙◌, ◌<◌, ℕ, Option, Some, None, List, [], ◌∷◌, refl, ap, sym, subst}
 use Rattle.xp_answer.specs.Answered.{Answered}
-use Rattle.xp_answer.specs.Terms.{AreTerms}
+use Rattle.xp_answer.specs.Terms.{AreSettled, AreTerms}
 use Rattle.xp_answer.specs.declared.answer.Answer.{Answer}
 use Rattle.xp_answer.specs.declared.answer.Answer.TheVariants as answers
 use Rattle.xp_answer.specs.declared.connection.Connection.{Connection}
 use Rattle.xp_causes.specs.declared.clearing_cause.TheConstants.{REMOTE_PROCEDURE_ERROR}
 use Rattle.xp_charge.specs.Meter.{opening}
 use Rattle.xp_relay.specs.Coupled.{coupled}
-use Rattle.xp_subs.specs.Tables.{address_of}
+use Rattle.xp_packets.specs.declared.modulus.Modulus.{Modulus}
+use Rattle.xp_packets.specs.declared.modulus.Modulus.TheVariants.{Long}
+use Rattle.xp_relay.specs.Terms.{IsWithinTerms}
+use Rattle.xp_subs.specs.Tables.{Tables, address_of, line_count, modulus_of}
 use Rattle.xp_machine.specs.declared.call.LiveCall.{LiveCall}
 use Rattle.xp_core.specs.declared.outcome.Outcome.{Outcome}
 use Rattle.xp_core.specs.declared.outcome.Outcome.TheVariants.{Plain, Connected, Declined}
@@ -16,11 +19,13 @@ use Rattle.xp_core.specs.declared.output.Output.{Output}
 use Rattle.xp_core.specs.declared.plan.Plan.{Plan}
 use Rattle.xp_machine.specs.declared.relays.RelayUpdate.{RelayUpdate}
 use Rattle.xp_core.specs.Acts.{Answers, IsConfirmed, agreement_of, outputs_of_clear, outputs_of_answer, outputs_of_error}
-use Rattle.xp_core.specs.Agreed.{AllHaveTerms}
+use Rattle.xp_core.specs.Agreed.{AllHaveTerms, HasTerms}
+use Rattle.xp_machine.specs.declared.agreement.Agreement.{Agreement}
 use Rattle.xp_machine.specs.Changes.{Change, Connects, IsCleared}
+use Rattle.xp_machine.specs.Coupling.{AreCoupled, IsHeld}
 use Rattle.xp_machine.specs.StoredState.{call_of_stored, entry_of}
 use Rattle.xp_core.specs.steps.Plan.{IsPlainPlan, IsPlan, IsToldOn, PlansAnswer, PlansClear}
-use Rattle.xp_machine.specs.RelayTerms.{terms_of}
+use Rattle.xp_core.specs.RelayedPackets.{relay_terms}
 use Rattle.xp_core.specs.Effects.{answers as answered_by, confirms, leaves}
 use Rattle.xp_core.specs.steps.Relays.{IsRelayed, RelaysFor}
 use Rattle.xp_core.specs.StepContext.{StepContext}
@@ -28,6 +33,8 @@ use Rattle.xp_core.specs.Table.{CallAccepted, ClearRequest}
 use Rattle.xp_core.specs.EventOutputs.{EventOutputs, no_outputs}
 use Rattle.xp_machine.specs.World.{Call, World, call_on}
 use Rattle.xp_machine.proofs.InCall.{shown_on}
+use Rattle.xp_machine.proofs.Terms.{terms_within}
+use Rattle.xp_core.proofs.Agreed.{terms_long}
 use Rattle.xp_core.proofs.Quiet.{leaves_quiet}
 
 module _ {A : Type 0} (at : StepContext A) (clear : ClearRequest A) (plan : Plan A) (far : List (Output A)) where
@@ -73,9 +80,9 @@ module _ {A : Type 0} (at : StepContext A) (answer : CallAccepted A) (plan : Pla
         let P : List ℕ → Type 0 = λ place. Answered call.setup place call.dialled answer.d answer.block given in
         subst IsGiven same (subst P address_is answered)
 
-    pub connected : (connection : Connection A) → given ≡ answers.Connected connection → plan.outcome ≡ Connected (agreement_of connection)
-        → IsRelayed (call_of_stored call) (coupled (terms_of (agreement_of connection))) (opening at.tables.segment_limit) plan.relay_update
-        → IsPlan plan at (outputs_of_answer at.world call.caller connection.packet) (Connects call.number (call_of_stored call) (agreement_of connection) ∷ [])
+    pub connected : (connection : Connection A) → given ≡ answers.Connected connection → plan.outcome ≡ Connected (agreement_of at.moment connection)
+        → IsRelayed (call_of_stored call) (coupled (relay_terms at.tables (call_of_stored call) (agreement_of at.moment connection))) (opening at.tables.segment_limit) plan.relay_update
+        → IsPlan plan at (outputs_of_answer at.world call.caller connection.packet) (Connects call.number (call_of_stored call) (agreement_of at.moment connection) ∷ [])
         → PlansAnswer at answer plan
     connected connection same outcome relayed planned =
         let told = outputs_of_answer at.world call.caller connection.packet in
@@ -107,9 +114,32 @@ module _ {A : Type 0} (at : StepContext A) (answer : CallAccepted A) (plan : Pla
           planned = subst (λ found. Planned told found plan.outcome) is (subst (Planned told (Some (entry_of call))) (sym outcome) (subst Q (sym is) planned));
         }
 
--- the sizes that the line's call indicated are in their ranges
-pub indicated : (world : World) (line : ℕ) (call : LiveCall) → Some (entry_of call) ≡ call_on world line → AllHaveTerms world → AreTerms call.setup.indicated
-indicated world line call is terms = (terms call.number (call_of_stored call) (shown_on world line (entry_of call) (sym is)).1).indicated
+module _ (tables : Tables) (world : World) (line : ℕ) (call : LiveCall) (is : Some (entry_of call) ≡ call_on world line) where
+  its_terms : AllHaveTerms tables world → HasTerms (modulus_of tables call.caller) (call_of_stored call) × HasTerms (modulus_of tables call.called) (call_of_stored call)
+  its_terms terms = terms call.number (call_of_stored call) (shown_on world line (entry_of call) (sym is)).1
+
+  -- the sizes that the line's call indicated are in their ranges
+  pub indicated : AllHaveTerms tables world → AreTerms Long call.setup.indicated
+  indicated terms = terms_long (modulus_of tables call.caller) call.setup.indicated (its_terms terms).0.indicated
+
+  -- and so are those that its answer settles
+  pub settled_within : AllHaveTerms tables world → (agreement : Agreement)
+      → ((modulus : Modulus) → AreTerms modulus call.setup.indicated → AreSettled modulus call.setup.indicated agreement.terms)
+      → IsWithinTerms (relay_terms tables (call_of_stored call) agreement)
+  settled_within terms agreement settled =
+      let both = its_terms terms in
+      terms_within agreement (modulus_of tables call.caller) (modulus_of tables call.called)
+      (settled (modulus_of tables call.caller) both.0.indicated).sizes (settled (modulus_of tables call.called) both.1.indicated).sizes
+
+  -- its lines are those of the subscriptions
+  its_ends : AreCoupled tables world → IsHeld tables world call.number (call_of_stored call)
+  its_ends coupled = coupled.held call.number (call_of_stored call) (shown_on world line (entry_of call) (sym is)).1
+
+  pub caller_within : AreCoupled tables world → call.caller < line_count tables
+  caller_within coupled = (its_ends coupled).caller
+
+  pub called_within : AreCoupled tables world → call.called < line_count tables
+  called_within coupled = (its_ends coupled).called
 
 -- with another outcome the rest of a plan is the same
 pub settled_otherwise : {A : Type 0} (plan : Plan A) (outcome : Outcome) (next : Plan A) (at : StepContext A) (told : EventOutputs A) (changes : List Change)

@@ -7,7 +7,7 @@ use Rattle.xp_causes.specs.Indicated.{indicated_cause, indicated_diagnostic}
 use Rattle.xp_causes.specs.declared.clearing_cause.TheConstants.{NUMBER_BUSY, OUT_OF_ORDER}
 use Rattle.xp_causes.specs.declared.diagnostic.TheConstants.{CALL_COLLISION, NO_ADDITIONAL_INFORMATION}
 use Rattle.xp_causes.specs.declared.refusal.Refusal.{Refusal}
-use Rattle.xp_facilities.specs.declared.segment_counts.SegmentCounts.{SegmentCounts}
+use Rattle.xp_facilities.specs.declared.charging_information.ChargingInformation.{ChargingInformation}
 use Rattle.xp_packets.specs.declared.packet.Packet.{Packet}
 use Rattle.xp_packets.specs.declared.block.Block.{Block}
 use Rattle.xp_packets.specs.declared.packet.Packet.TheVariants.{Call as CallPacket, Clear}
@@ -38,7 +38,7 @@ module _ {X : Type 0} where
       ap (λ b. cond (eqb line line) (x ∷ []) [] ++ (cond b (y ∷ []) [] ++ [])) (ne_eqb other line differ) ∙ mine line x
 
 -- the block of a clear indication with charging information
-abbrev pub told_in : {A : Type 0} → Option SegmentCounts → Option (Block A)
+abbrev pub told_in : {A : Type 0} → Option ChargingInformation → Option (Block A)
 told_in information = block_with (information_field information) []
 
 module _ {A : Type 0} (at : StepContext A) (found : ℕ × Call) (is : call_on at.world at.line ≡ Some found) where

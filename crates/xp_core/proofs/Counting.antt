@@ -1,10 +1,12 @@
 -- The segments of the calls, as a history grows.
-use Rattle.std.proofs.Common.{◌≡◌, ◌≢◌, ◌∙◌, ℕ, ◌+◌, ◌≤◌, leb, ltb, cond, false, Option, Some, None, option_to_list, List, [], ◌∷◌, ◌++◌, refl, ap, sym, arith, append_assoc, append-nil}
+use Rattle.std.proofs.Common.{◌≡◌, ◌≢◌, ◌∙◌, ℕ, ◌+◌, ◌≤◌, leb, ltb, cond, false, min, Option, Some, None, option_to_list, List, [], ◌∷◌, ◌++◌, refl, ap, sym, arith, append_assoc, append-nil}
 use Rattle.std.proofs.lemmas.Bool.{cond_both, cond-true, le-leb, leb-true, ltb-false}
-use Rattle.xp_answer.specs.ForwardedClear.{AreCounts}
+use Rattle.xp_answer.specs.ForwardedClear.{IsInRange}
 use Rattle.xp_charge.specs.Counted.{Counted}
+use Rattle.xp_charge.specs.Duration.{duration}
 use Rattle.xp_charge.specs.Meter.{counted_from, far_end as other_end, opening}
-use Rattle.xp_facilities.specs.declared.segment_counts.SegmentCounts.{SegmentCounts}
+use Rattle.xp_facilities.specs.Limits.{largest_duration}
+use Rattle.xp_facilities.specs.declared.charging_information.ChargingInformation.{ChargingInformation}
 use Rattle.xp_packets.specs.declared.end.End.{End}
 use Rattle.xp_packets.specs.declared.end.End.TheVariants.{Caller, Called}
 use Rattle.xp_relay.specs.Coupled.{Coupled, after, coupled}
@@ -13,8 +15,7 @@ use Rattle.xp_subs.specs.Sound.{IsSound}
 use Rattle.xp_subs.specs.Tables.{Tables}
 use Rattle.xp_core.specs.declared.entry.Entry.{Entry}
 use Rattle.xp_machine.specs.declared.agreement.Agreement.{Agreement}
-use Rattle.xp_core.specs.RelayedPackets.{RelayedPacket, arrivals, relayed_in, directions}
-use Rattle.xp_machine.specs.RelayTerms.{terms_of}
+use Rattle.xp_core.specs.RelayedPackets.{RelayedPacket, arrivals, relay_terms, relayed_in, directions}
 use Rattle.xp_core.specs.steps.Relays.{counted_by, counted_with}
 use Rattle.xp_machine.specs.Relays.{counting}
 use Rattle.xp_core.specs.Segments.{all_judged_from, is_past_limit, judged_at, judged_from, segments_from, segments_of, sum_within}
@@ -57,30 +58,32 @@ grown counted Called (Some more) past = ap (λ n. record counted { from_called =
 
 -- ---- what is told
 
-told_counts : (call : Call) (counted : End → ℕ) (end : End) (agreed : Option Agreement) → ((e : End) → counted e ≤ 99_999_999) → AreCounts (information_as call counted end agreed)
-told_counts call counted end None few = tt
-told_counts call counted end (Some agreement) few =
-    let told : Option SegmentCounts = Some (record { sent = counted (other_end end); received = counted end }) in
-    cond_both _ told None AreCounts (λ pays. (few (other_end end), few end)) (λ other. tt)
+told_counts : (call : Call) (counted : End → ℕ) (ended : ℕ) (end : End) (agreed : Option Agreement) → ((e : End) → counted e ≤ 99_999_999) → IsInRange (information_as call counted ended end agreed)
+told_counts call counted ended end None few = tt
+told_counts call counted ended end (Some agreement) few =
+    let seconds : ℕ = min largest_duration (duration (Some agreement.connected) ended) in
+    let told : Option ChargingInformation = Some (record { duration = seconds; segments = record { sent = counted (other_end end); received = counted end } }) in
+    cond_both _ told None IsInRange (λ pays. (omega arith, few (other_end end), few end)) (λ other. tt)
 
 module _ {A : Type 0} where
-  segments_few : (tables : Tables) (history : List (Entry A)) (number : ℕ) (agreed : Option Agreement) (end : End) → segments_from tables history number agreed end ≤ tables.segment_limit
-  segments_few tables history number None end = omega arith
-  segments_few tables history number (Some agreement) end = sum_few tables.segment_limit 0 (all_judged_from end (coupled (terms_of agreement)) (arrivals tables history number)) (omega arith)
+  segments_few : (tables : Tables) (history : List (Entry A)) (number : ℕ) (call : Call) (agreed : Option Agreement) (end : End) → segments_from tables history number call agreed end ≤ tables.segment_limit
+  segments_few tables history number call None end = omega arith
+  segments_few tables history number call (Some agreement) end =
+      sum_few tables.segment_limit 0 (all_judged_from end (coupled (relay_terms tables call agreement)) (arrivals tables history number)) (omega arith)
 
-  information_counts : (tables : Tables) → IsSound tables → (history : List (Entry A)) (number : ℕ) (call : Call) (end : End)
-      → AreCounts (information_for call (segments_of tables history number call) end)
-  information_counts tables sound history number call end =
-      told_counts call (segments_of tables history number call) end call.agreed
-      (λ e. omega (arith, segments_few tables history number call.agreed e, sound.limits.eight_digits))
+  information_counts : (tables : Tables) → IsSound tables → (history : List (Entry A)) (number : ℕ) (call : Call) (ended : ℕ) (end : End)
+      → IsInRange (information_for call (segments_of tables history number call) ended end)
+  information_counts tables sound history number call ended end =
+      told_counts call (segments_of tables history number call) ended end call.agreed
+      (λ e. omega (arith, segments_few tables history number call call.agreed e, sound.limits.eight_digits))
 
-  pub own_counts : (at : StepContext A) → IsSound at.tables → (found : Option (ℕ × Call)) → AreCounts (own_information at found)
+  pub own_counts : (at : StepContext A) → IsSound at.tables → (found : Option (ℕ × Call)) → IsInRange (own_information at found)
   own_counts at sound None = tt
-  own_counts at sound (Some found) = information_counts at.tables sound at.before found.0 found.1 _
+  own_counts at sound (Some found) = information_counts at.tables sound at.before found.0 found.1 at.moment _
 
-  pub far_counts : (at : StepContext A) → IsSound at.tables → (found : Option (ℕ × Call)) → AreCounts (far_information at found)
+  pub far_counts : (at : StepContext A) → IsSound at.tables → (found : Option (ℕ × Call)) → IsInRange (far_information at found)
   far_counts at sound None = tt
-  far_counts at sound (Some found) = information_counts at.tables sound at.before found.0 found.1 _
+  far_counts at sound (Some found) = information_counts at.tables sound at.before found.0 found.1 at.moment _
 
   -- ---- one entry more
 
@@ -93,53 +96,53 @@ module _ {A : Type 0} where
       (option_to_list (judged_from end (run (after first.here (turn_on call first)) came) arrival)))
 
   -- what a meter has for an end
-  pub counted_here : (tables : Tables) (history : List (Entry A)) (number : ℕ) (agreed : Option Agreement) (end : End)
-      → counted_from end (counted_by tables history number agreed) ≡ segments_from tables history number agreed end
-  counted_here tables history number agreed Caller = refl
-  counted_here tables history number agreed Called = refl
+  pub counted_here : (tables : Tables) (history : List (Entry A)) (number : ℕ) (call : Call) (agreed : Option Agreement) (end : End)
+      → counted_from end (counted_by tables history number call agreed) ≡ segments_from tables history number call agreed end
+  counted_here tables history number call agreed Caller = refl
+  counted_here tables history number call agreed Called = refl
 
   -- what is counted of packets
-  abbrev count_of : Tables → Agreement → List (Arrival A) → Counted
-  count_of tables agreement came = record {
+  abbrev count_of : Tables → Call → Agreement → List (Arrival A) → Counted
+  count_of tables call agreement came = record {
     limit = tables.segment_limit;
-    from_caller = sum_within tables.segment_limit 0 (all_judged_from Caller (coupled (terms_of agreement)) came);
-    from_called = sum_within tables.segment_limit 0 (all_judged_from Called (coupled (terms_of agreement)) came);
+    from_caller = sum_within tables.segment_limit 0 (all_judged_from Caller (coupled (relay_terms tables call agreement)) came);
+    from_called = sum_within tables.segment_limit 0 (all_judged_from Called (coupled (relay_terms tables call agreement)) came);
   }
 
-  pub counted_none : (tables : Tables) (history : List (Entry A)) (number : ℕ) (agreement : Agreement) → arrivals tables history number ≡ []
-      → counted_by tables history number (Some agreement) ≡ opening tables.segment_limit
-  counted_none tables history number agreement none = ap (count_of tables agreement) none
+  pub counted_none : (tables : Tables) (history : List (Entry A)) (number : ℕ) (call : Call) (agreement : Agreement) → arrivals tables history number ≡ []
+      → counted_by tables history number call (Some agreement) ≡ opening tables.segment_limit
+  counted_none tables history number call agreement none = ap (count_of tables call agreement) none
 
   module _ (tables : Tables) (before : List (Entry A)) (world : World) (entry : Entry A) (led : world ≡ world_after tables before) where
     -- no packet for a call of this number
-    pub counted_still : (number : ℕ) (agreement : Agreement) → ((carried : RelayedPacket A) → relayed_in world entry.event ≡ Some carried → number ≢ carried.number)
-        → counted_by tables (before ++ entry ∷ []) number (Some agreement) ≡ counted_by tables before number (Some agreement)
-    counted_still number agreement other =
-        ap (count_of tables agreement) (arrivals_still tables before world entry number led other)
+    pub counted_still : (number : ℕ) (call : Call) (agreement : Agreement) → ((carried : RelayedPacket A) → relayed_in world entry.event ≡ Some carried → number ≢ carried.number)
+        → counted_by tables (before ++ entry ∷ []) number call (Some agreement) ≡ counted_by tables before number call (Some agreement)
+    counted_still number call agreement other =
+        ap (count_of tables call agreement) (arrivals_still tables before world entry number led other)
 
     -- one for it that is within the limit
     module _ (c : RelayedPacket A) (by : relayed_in world entry.event ≡ Some c) where
       abbrev start : Coupled A
-      start = coupled (terms_of c.agreement)
+      start = coupled (relay_terms tables c.call c.agreement)
 
-      segments_on : (end : End) → segments_from tables (before ++ entry ∷ []) c.number (Some c.agreement) end
-          ≡ sum_within tables.segment_limit (segments_from tables before c.number (Some c.agreement) end)
-          (option_to_list (judged_from end (directions tables before c.number c.agreement) c.arrival))
+      segments_on : (end : End) → segments_from tables (before ++ entry ∷ []) c.number c.call (Some c.agreement) end
+          ≡ sum_within tables.segment_limit (segments_from tables before c.number c.call (Some c.agreement) end)
+          (option_to_list (judged_from end (directions tables before c.number c.call c.agreement) c.arrival))
       segments_on end =
           ap (λ came. sum_within tables.segment_limit 0 (all_judged_from end start came)) (arrivals_on tables before world entry c led by)
           ∙ ap (sum_within tables.segment_limit 0) (judged_more end start (arrivals tables before c.number) c.arrival)
           ∙ sum_more tables.segment_limit 0 (all_judged_from end start (arrivals tables before c.number)) _
 
       pub counted_on : is_past_limit tables before (Some c) ≡ false
-          → counted_by tables (before ++ entry ∷ []) c.number (Some c.agreement) ≡ counted_with tables before c
+          → counted_by tables (before ++ entry ∷ []) c.number c.call (Some c.agreement) ≡ counted_with tables before c
       counted_on past =
-          ap (λ n. record { limit = tables.segment_limit; from_caller = n; from_called = segments_from tables (before ++ entry ∷ []) c.number (Some c.agreement) Called }) (segments_on Caller)
+          ap (λ n. record { limit = tables.segment_limit; from_caller = n; from_called = segments_from tables (before ++ entry ∷ []) c.number c.call (Some c.agreement) Called }) (segments_on Caller)
           ∙ ap (λ n. record {
             limit = tables.segment_limit;
-            from_caller = sum_within tables.segment_limit (segments_from tables before c.number (Some c.agreement) Caller)
-                (option_to_list (judged_from Caller (directions tables before c.number c.agreement) c.arrival));
+            from_caller = sum_within tables.segment_limit (segments_from tables before c.number c.call (Some c.agreement) Caller)
+                (option_to_list (judged_from Caller (directions tables before c.number c.call c.agreement) c.arrival));
             from_called = n;
           }) (segments_on Called)
-          ∙ grown (counted_by tables before c.number (Some c.agreement)) c.arrival.here (judged_at (directions tables before c.number c.agreement) c.arrival)
-          (ap (λ n. goes_past tables.segment_limit n (judged_at (directions tables before c.number c.agreement) c.arrival))
-          (counted_here tables before c.number (Some c.agreement) c.arrival.here) ∙ past)
+          ∙ grown (counted_by tables before c.number c.call (Some c.agreement)) c.arrival.here (judged_at (directions tables before c.number c.call c.agreement) c.arrival)
+          (ap (λ n. goes_past tables.segment_limit n (judged_at (directions tables before c.number c.call c.agreement) c.arrival))
+          (counted_here tables before c.number c.call (Some c.agreement) c.arrival.here) ∙ past)

@@ -1,26 +1,35 @@
 -- What connected calls accept is delivered.
-use Rattle.std.proofs.Common.{◌≡◌, Option, Some, IfSome, List, subst}
+use Rattle.std.proofs.Common.{◌≡◌, ℕ, Option, Some, IfSome, List, subst}
 use Rattle.xp_answer.specs.Terms.{AreSettled, AreTerms}
+use Rattle.xp_packets.specs.declared.modulus.Modulus.{Modulus}
 use Rattle.xp_relay.proofs.Deliveries.{everything_is_delivered}
-use Rattle.xp_subs.specs.Tables.{Tables}
+use Rattle.xp_relay.specs.Terms.{IsWithinTerms}
+use Rattle.xp_subs.specs.Tables.{Tables, modulus_of}
 use Rattle.xp_core.specs.declared.entry.Entry.{Entry}
 use Rattle.xp_machine.specs.declared.agreement.Agreement.{Agreement}
-use Rattle.xp_core.specs.Agreed.{HasTerms}
-use Rattle.xp_core.specs.RelayedPackets.{arrivals}
-use Rattle.xp_machine.specs.RelayTerms.{terms_of}
+use Rattle.xp_core.specs.Agreed.{AllHaveTerms, HasTerms}
+use Rattle.xp_core.specs.RelayedPackets.{arrivals, relay_terms}
 use Rattle.xp_core.specs.Delivered.{AreDelivered}
 use Rattle.xp_core.specs.Run.{Run}
-use Rattle.xp_machine.specs.World.{Call, World}
+use Rattle.xp_machine.specs.World.{Call, World, call_numbered}
 use Rattle.xp_core.proofs.Agreed.{run_agreed}
 use Rattle.xp_machine.proofs.Terms.{terms_within}
 
 -- the terms of a connected call
-pub agreed_terms : (call : Call) (agreement : Agreement) → call.agreed ≡ Some agreement → HasTerms call → AreTerms agreement.terms
-agreed_terms call agreement is has =
-    let P : Option Agreement → Type 0 = λ a. IfSome a (λ agreed. AreSettled call.setup.indicated agreed.terms) in
+agreed_terms : (modulus : Modulus) (call : Call) (agreement : Agreement) → call.agreed ≡ Some agreement → HasTerms modulus call → AreTerms modulus agreement.terms
+agreed_terms modulus call agreement is has =
+    let P : Option Agreement → Type 0 = λ a. IfSome a (λ agreed. AreSettled modulus call.setup.indicated agreed.terms) in
     (subst P is has.agreed).sizes
+
+-- its relay can be set up
+pub relay_within : (tables : Tables) (world : World) (number : ℕ) (call : Call) (agreement : Agreement) → AllHaveTerms tables world → call_numbered world number ≡ Some call
+    → call.agreed ≡ Some agreement → IsWithinTerms (relay_terms tables call agreement)
+relay_within tables world number call agreement terms live is =
+    let both = terms number call live in
+    terms_within agreement (modulus_of tables call.caller) (modulus_of tables call.called)
+    (agreed_terms (modulus_of tables call.caller) call agreement is both.0) (agreed_terms (modulus_of tables call.called) call agreement is both.1)
 
 pub run_delivered : {A : Type 0} (tables : Tables) (history : List (Entry A)) (world : World) → Run tables history world → AreDelivered tables history world
 run_delivered tables history world run number call agreement live is sender =
-    everything_is_delivered (terms_of agreement) (terms_within agreement (agreed_terms call agreement is (run_agreed tables history world run number call live)))
+    everything_is_delivered (relay_terms tables call agreement) (relay_within tables world number call agreement (run_agreed tables history world run) live is)
     (arrivals tables history number) sender

@@ -25,6 +25,7 @@ use Rattle.xp_machine.specs.World.{Call, World, call_numbered, far_end, opening}
 use Rattle.xp_machine.proofs.Coupled.{CanBe}
 use Rattle.xp_core.proofs.Ledger.{IsBegun, IsBooked, Tallies, begun_still, live_none, live_of, run_booked, step_tallies}
 use Rattle.xp_machine.proofs.Maps.{get_gone, get_other}
+use Rattle.xp_core.proofs.Moments.{IsTimed, run_timed}
 use Rattle.xp_core.proofs.RunLemmas.{run_split}
 use Rattle.xp_core.proofs.Shapes.{ComesOf, IsNew, none, one, two, cancelled_by}
 use Rattle.xp_core.proofs.Sounds.{IsRight, cancel_right, run_right, shape_of}
@@ -44,6 +45,9 @@ module _ {A : Type 0} where
     booked : IsBooked tables moment.before moment.world
     booked = run_booked tables moment.before moment.world moment.run
 
+    timed : IsTimed tables moment.before moment.world
+    timed = run_timed tables moment.before moment.world moment.run
+
     tallies : Tallies moment.world moment.next moment.entry.records.items
     tallies = step_tallies tables moment.before moment.world moment.entry moment.next _ right moment.step
 
@@ -52,13 +56,13 @@ module _ {A : Type 0} where
     counted = segments_of tables moment.before
 
     abbrev Comes : Change → Type 0
-    Comes change = ComesOf (step_context tables moment.before moment.world moment.entry.event.line) moment.entry.event.what
+    Comes change = ComesOf (step_context tables moment.before moment.world moment.entry.event.line moment.entry.event.moment) moment.entry.event.what
         (action_at moment.world moment.entry.event) moment.entry.outcome moment.step.told change
 
     -- the record of a call that was refused here, from a world of the same numbers
     refused_recorded : (w : World) (line identifier : ℕ) (dialled : List ℕ) (why : Refusal) → w.next ≡ moment.world.next
         → (call_numbered moment.next w.next ≡ None) → Comes (IsRefused line identifier dialled why)
-        → IsRecordOf moment (refused_record w.next line dialled why)
+        → IsRecordOf moment (refused_record w.next moment.entry.event.moment line dialled why)
     refused_recorded w line identifier dialled why same missing from =
         let request : HasBegun moment w.next from.asked.request = record { asks = from.asked.asks; new = from.asked.new; numbered = same } in
         let fresh : call_numbered moment.world w.next ≡ None = right.sound.fresh w.next (omega (arith, same)) in
@@ -78,6 +82,9 @@ module _ {A : Type 0} where
           payer = sym (ap payer_of from.turned);
           from_caller = none Caller;
           from_called = none Called;
+          requested = refl;
+          connected = timed.unused w.next (omega (arith, same));
+          ended = refl;
           block = None;
           told = ap (clears_to line) moment.step.outputs ∙ from.tells;
         }
@@ -86,7 +93,7 @@ module _ {A : Type 0} where
     ended_recorded_as : (number : ℕ) (call : Call) (line cause diagnostic : ℕ) (block : Option (Block A)) → call_numbered moment.world number ≡ Some call
         → call_numbered moment.next number ≡ None → line ≡ moment.entry.event.line
         → clears_to (far_end call line) (outputs_of moment.step.told) ≡ Clear cause (Some diagnostic) block ∷ []
-        → IsRecordOf moment (record_of number call (counted number call) cause diagnostic)
+        → IsRecordOf moment (record_of number call (counted number call) moment.entry.event.moment cause diagnostic)
     ended_recorded_as number call line cause diagnostic block live missing at tells =
         let begun : IsBegun tables history number call =
         begun_still tables moment.before history (moment.entry ∷ moment.rest) moment.splits number call (booked.begun number call live) in
@@ -105,6 +112,9 @@ module _ {A : Type 0} where
           payer = begun.payer;
           from_caller = ap (λ found. segments_if_live tables moment.before number found Caller) (sym live);
           from_called = ap (λ found. segments_if_live tables moment.before number found Called) (sym live);
+          requested = begun.requested;
+          connected = timed.connected number call live;
+          ended = refl;
           block = block;
           told = subst Q at (ap (clears_to (far_end call line)) moment.step.outputs ∙ tells);
         }
@@ -113,17 +123,17 @@ module _ {A : Type 0} where
     leads_by changes is = moment.step.leads ∙ ap (λ c. all_changed c moment.world) is
 
     of_change : (change : Change) → moment.next ≡ changed change moment.world → CanBe moment.world change → Comes change
-        → All (IsRecordOf moment) (recorded counted moment.world change)
+        → All (IsRecordOf moment) (recorded counted moment.entry.event.moment moment.world change)
     of_change (Rises line) leads can from = All-nil (IsRecordOf moment)
     of_change (Leaves line way) leads can from = All-nil (IsRecordOf moment)
-    of_change (Begins line identifier called dialled setup) leads can from = All-nil (IsRecordOf moment)
+    of_change (Begins line identifier called dialled setup requested) leads can from = All-nil (IsRecordOf moment)
     of_change (Connects number call agreement) leads can from = All-nil (IsRecordOf moment)
     of_change (IsRefused line identifier dialled why) leads can from =
-        All-cons (IsRecordOf moment) (refused_record moment.world.next line dialled why) []
+        All-cons (IsRecordOf moment) (refused_record moment.world.next moment.entry.event.moment line dialled why) []
         (refused_recorded moment.world line identifier dialled why refl (ap (λ w. call_numbered w moment.world.next) leads ∙ right.sound.fresh moment.world.next (omega arith)) from)
         (All-nil (IsRecordOf moment))
     of_change (Ends number call line way cause diagnostic) leads can from =
-        All-cons (IsRecordOf moment) (record_of number call (counted number call) cause diagnostic) []
+        All-cons (IsRecordOf moment) (record_of number call (counted number call) moment.entry.event.moment cause diagnostic) []
         (ended_recorded_as number call line cause diagnostic from.block can.live
         (ap (λ w. call_numbered w number) leads ∙ get_gone moment.world.calls number number refl) from.line_is from.tells)
         (All-nil (IsRecordOf moment))
@@ -153,7 +163,7 @@ module _ {A : Type 0} where
         missing = get_gone moment.world.calls number number refl
 
         by : (c : Change) → Comes c → call_numbered (changed c mid) number ≡ None
-        by (Begins line identifier called dialled setup) comes =
+        by (Begins line identifier called dialled setup requested) comes =
             get_other mid.calls mid.next _ number (λ same. absurd (omega (arith, same, below))) ∙ missing
         by (IsRefused line identifier dialled why) comes = missing
         by (Rises line) comes = missing
@@ -161,58 +171,58 @@ module _ {A : Type 0} where
         by (Connects n c agreement) comes = absurd (comes.old new)
         by (Ends n c line way cause diagnostic) comes = absurd (comes.old new)
 
-      second_recorded : (change : Change) → moment.next ≡ changed change mid → Comes change → All (IsRecordOf moment) (recorded counted mid change)
+      second_recorded : (change : Change) → moment.next ≡ changed change mid → Comes change → All (IsRecordOf moment) (recorded counted moment.entry.event.moment mid change)
       second_recorded (Rises line) leads from = All-nil (IsRecordOf moment)
       second_recorded (Leaves line way) leads from = All-nil (IsRecordOf moment)
-      second_recorded (Begins line identifier called dialled setup) leads from = All-nil (IsRecordOf moment)
+      second_recorded (Begins line identifier called dialled setup requested) leads from = All-nil (IsRecordOf moment)
       second_recorded (Connects n c agreement) leads from = All-nil (IsRecordOf moment)
       second_recorded (IsRefused line identifier dialled why) leads from =
-          All-cons (IsRecordOf moment) (refused_record mid.next line dialled why) []
+          All-cons (IsRecordOf moment) (refused_record mid.next moment.entry.event.moment line dialled why) []
           (refused_recorded mid line identifier dialled why refl (ap (λ w. call_numbered w mid.next) leads ∙ mid_right.sound.fresh mid.next (omega arith)) from)
           (All-nil (IsRecordOf moment))
       second_recorded (Ends n c line way cause diagnostic) leads from = absurd (from.old new)
 
       both_recorded : (change : Change) → moment.next ≡ changed change mid → Comes change
           → clears_to (far_end call moment.entry.event.line) (outputs_of moment.step.told) ≡ Clear NUMBER_BUSY (Some CALL_COLLISION) None ∷ []
-          → All (IsRecordOf moment) (record_of number call (counted number call) NUMBER_BUSY CALL_COLLISION ∷ recorded counted mid change)
+          → All (IsRecordOf moment) (record_of number call (counted number call) moment.entry.event.moment NUMBER_BUSY CALL_COLLISION ∷ recorded counted moment.entry.event.moment mid change)
       both_recorded change leads from tells =
-          All-cons (IsRecordOf moment) (record_of number call (counted number call) NUMBER_BUSY CALL_COLLISION) (recorded counted mid change)
+          All-cons (IsRecordOf moment) (record_of number call (counted number call) moment.entry.event.moment NUMBER_BUSY CALL_COLLISION) (recorded counted moment.entry.event.moment mid change)
           (ended_recorded_as number call moment.entry.event.line NUMBER_BUSY CALL_COLLISION None first.live (gone change leads from) refl tells)
           (second_recorded change leads from)
 
     each_recorded : All (IsRecordOf moment) moment.entry.records.items
     each_recorded = elim (shape_of tables moment.before moment.world moment.entry moment.next (length moment.before) right moment.step) [
-      | none is old ↦ All-same (IsRecordOf moment) moment.entry.records.items [] (moment.step.records ∙ ap (recorded_by counted moment.world) is) (All-nil (IsRecordOf moment))
+      | none is old ↦ All-same (IsRecordOf moment) moment.entry.records.items [] (moment.step.records ∙ ap (recorded_by counted moment.entry.event.moment moment.world) is) (All-nil (IsRecordOf moment))
       | one change is can from ↦
-          All-same (IsRecordOf moment) moment.entry.records.items (recorded counted moment.world change)
-          (moment.step.records ∙ ap (recorded_by counted moment.world) is ∙ append-nil (recorded counted moment.world change))
+          All-same (IsRecordOf moment) moment.entry.records.items (recorded counted moment.entry.event.moment moment.world change)
+          (moment.step.records ∙ ap (recorded_by counted moment.entry.event.moment moment.world) is ∙ append-nil (recorded counted moment.entry.event.moment moment.world change))
           (of_change change (leads_by (change ∷ []) is) can from)
       | two number call change new is first can tells from ↦
-          All-same (IsRecordOf moment) moment.entry.records.items (record_of number call (counted number call) NUMBER_BUSY CALL_COLLISION ∷ recorded counted (mid number call new first) change)
-          (moment.step.records ∙ ap (recorded_by counted moment.world) is ∙ ap (λ more. record_of number call (counted number call) NUMBER_BUSY CALL_COLLISION ∷ more) (append-nil (recorded counted (mid number call new first) change)))
+          All-same (IsRecordOf moment) moment.entry.records.items (record_of number call (counted number call) moment.entry.event.moment NUMBER_BUSY CALL_COLLISION ∷ recorded counted moment.entry.event.moment (mid number call new first) change)
+          (moment.step.records ∙ ap (recorded_by counted moment.entry.event.moment moment.world) is ∙ ap (λ more. record_of number call (counted number call) moment.entry.event.moment NUMBER_BUSY CALL_COLLISION ∷ more) (append-nil (recorded counted moment.entry.event.moment (mid number call new first) change)))
           (both_recorded number call new first change (leads_by (ends number call new first ∷ change ∷ []) is) from tells)
     ]
 
-    few_of : (w : World) (change : Change) → length (recorded counted w change) ≤ 1
+    few_of : (w : World) (change : Change) → length (recorded counted moment.entry.event.moment w change) ≤ 1
     few_of w (Rises line) = omega arith
     few_of w (Leaves line way) = omega arith
-    few_of w (Begins line identifier called dialled setup) = omega arith
+    few_of w (Begins line identifier called dialled setup requested) = omega arith
     few_of w (IsRefused line identifier dialled why) = omega arith
     few_of w (Connects number call agreement) = omega arith
     few_of w (Ends number call line way cause diagnostic) = omega arith
 
     few_recorded : length moment.entry.records.items ≤ 2
     few_recorded = elim (shape_of tables moment.before moment.world moment.entry moment.next (length moment.before) right moment.step) [
-      | none is old ↦ omega (arith, ap length (moment.step.records ∙ ap (recorded_by counted moment.world) is))
+      | none is old ↦ omega (arith, ap length (moment.step.records ∙ ap (recorded_by counted moment.entry.event.moment moment.world) is))
       | one change is can from ↦ omega (
         arith,
         few_of moment.world change,
-        ap length (moment.step.records ∙ ap (recorded_by counted moment.world) is ∙ append-nil (recorded counted moment.world change)),
+        ap length (moment.step.records ∙ ap (recorded_by counted moment.entry.event.moment moment.world) is ∙ append-nil (recorded counted moment.entry.event.moment moment.world change)),
       )
       | two number call change new is first can tells from ↦ omega (
         arith,
         few_of (mid number call new first) change,
-        ap length (moment.step.records ∙ ap (recorded_by counted moment.world) is ∙ ap (λ more. record_of number call (counted number call) NUMBER_BUSY CALL_COLLISION ∷ more) (append-nil (recorded counted (mid number call new first) change))),
+        ap length (moment.step.records ∙ ap (recorded_by counted moment.entry.event.moment moment.world) is ∙ ap (λ more. record_of number call (counted number call) moment.entry.event.moment NUMBER_BUSY CALL_COLLISION ∷ more) (append-nil (recorded counted moment.entry.event.moment (mid number call new first) change))),
       )
     ]
 
@@ -220,7 +230,7 @@ module _ {A : Type 0} where
     numbers : (w : World) (change : Change) → IsNew (action_at moment.world moment.entry.event) → Comes change → (changed change w).next ≡ w.next + 1
     numbers w (Rises line) new from = absurd (from new)
     numbers w (Leaves line way) new from = absurd (from new)
-    numbers w (Begins line identifier called dialled setup) new from = refl
+    numbers w (Begins line identifier called dialled setup requested) new from = refl
     numbers w (IsRefused line identifier dialled why) new from = refl
     numbers w (Connects number call agreement) new from = absurd (from.old new)
     numbers w (Ends number call line way cause diagnostic) new from = absurd (from.old new)

@@ -76,12 +76,12 @@ module _ {A E : Type 0} (at : StepContext A) (what : What A) (action : Action) (
       → IfOk result (PlansRequest at request [] []) → ArePlanned action
   request_planned request is asks planned = subst ArePlanned is (if_ok result _ _ (λ plan p.
       let P : Option (CallRequest A) → Type 0 = λ asked. Requests at.tables at.world at.line [] asked plan.outcome p.told in
-      let Q : Option (CallRequest A) → Type 0 = λ asked. IsPlan plan at p.told (requests at.line asked plan.outcome) in
-      record { told = p.told; acts = subst P asks p.acts; relays = requests_quiet at.tables at.line (request_in what) plan.outcome plan.relay_update p.quiet; planned = subst Q asks p.planned }) planned)
+      let Q : Option (CallRequest A) → Type 0 = λ asked. IsPlan plan at p.told (requests at.line at.moment asked plan.outcome) in
+      record { told = p.told; acts = subst P asks p.acts; relays = requests_quiet at.tables at.line at.moment (request_in what) plan.outcome plan.relay_update p.quiet; planned = subst Q asks p.planned }) planned)
 
   pub collision_planned : (request : CallRequest A) → Collision ≡ action → Some request ≡ request_in what
       → IfOk result (PlansRequest at request (cancels at.line (call_on at.world at.line)) (outputs_of_cancel at.world at.line)) → ArePlanned action
   collision_planned request is asks planned = subst ArePlanned is (if_ok result _ _ (λ plan p.
       let P : Option (CallRequest A) → Type 0 = λ asked. Requests at.tables at.world at.line (outputs_of_cancel at.world at.line) asked plan.outcome p.told in
-      let Q : Option (CallRequest A) → Type 0 = λ asked. IsPlan plan at p.told (collides at.line asked (call_on at.world at.line) plan.outcome) in
-      record { told = p.told; acts = subst P asks p.acts; relays = collides_quiet at.tables at.line (request_in what) (call_on at.world at.line) plan.outcome plan.relay_update p.quiet; planned = subst Q asks p.planned }) planned)
+      let Q : Option (CallRequest A) → Type 0 = λ asked. IsPlan plan at p.told (collides at.line at.moment asked (call_on at.world at.line) plan.outcome) in
+      record { told = p.told; acts = subst P asks p.acts; relays = collides_quiet at.tables at.line at.moment (request_in what) (call_on at.world at.line) plan.outcome plan.relay_update p.quiet; planned = subst Q asks p.planned }) planned)

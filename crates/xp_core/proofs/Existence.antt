@@ -14,9 +14,10 @@ use Rattle.xp_decide.specs.Decided.{Decided}
 use Rattle.xp_decide.specs.Written.{CanBeWritten}
 use Rattle.xp_decide.specs.declared.verdict.Verdict.{Verdict}
 use Rattle.xp_decide.specs.declared.verdict.Verdict.TheVariants.{Take, Refuse}
+use Rattle.xp_packets.specs.declared.modulus.Modulus.TheVariants.{Long}
 use Rattle.xp_packets.specs.declared.packet.Packet.TheVariants.{Call as CallPacket}
 use Rattle.xp_subs.specs.Sound.{IsSound}
-use Rattle.xp_subs.specs.Tables.{Tables, address_of, line_count}
+use Rattle.xp_subs.specs.Tables.{Tables, address_of, line_count, modulus_of}
 use Rattle.xp_core.specs.declared.entry.Entry.{Entry}
 use Rattle.xp_core.specs.declared.event.Event.{Event}
 use Rattle.xp_core.specs.declared.event.What.{What}
@@ -37,7 +38,7 @@ use Rattle.xp_core.specs.StepContext.{StepContext, step_context}
 use Rattle.xp_core.specs.Effects.{changes_of}
 use Rattle.xp_core.specs.Table.{CallAccepted, CallRequest, ClearRequest, accepted_in, action_at, clear_in, packet_in, request_in}
 use Rattle.xp_core.specs.EventOutputs.{EventOutputs, far_information, outputs_of}
-use Rattle.xp_core.proofs.Agreed.{run_agreed}
+use Rattle.xp_core.proofs.Agreed.{run_agreed, terms_long}
 use Rattle.xp_core.proofs.Counting.{far_counts}
 use Rattle.xp_core.proofs.Fitting.{request_few}
 use Rattle.xp_machine.proofs.InCall.{shown_on}
@@ -50,7 +51,7 @@ module _ {A : Type 0} where
     told : EventOutputs A
     acts : Does outcome told
 
-  module _ (at : StepContext A) (what : What A) (sound : IsSound at.tables) (terms : AllHaveTerms at.world) (readable : IsReadable what) where
+  module _ (at : StepContext A) (what : What A) (sound : IsSound at.tables) (terms : AllHaveTerms at.tables at.world) (readable : IsReadable what) where
     verdict_acts : (far : List (Output A)) (request : CallRequest A) → request_in what ≡ Some request
         → (verdict : Verdict A) → Decided at.tables (line_states at.world) at.line request.block verdict
         → HasActs (IsRequested at.tables at.world at.line far request)
@@ -88,7 +89,7 @@ module _ {A : Type 0} where
         → Answered found.1.setup (address_of at.tables at.line) found.1.dialled accepted.d accepted.block answer
         → HasActs (Answers at (Some accepted) (Some found))
     answered_acts accepted found (answered.Connected connection) is = record {
-      outcome = Connected (agreement_of connection);
+      outcome = Connected (agreement_of at.moment connection);
       told = _;
       acts = record { connection = connection; answered = is; agreement_is = refl; told_is = refl };
     }
@@ -101,7 +102,7 @@ module _ {A : Type 0} where
     answer_acts (Some accepted) None on = record { outcome = Plain; told = _; acts = (refl, refl) }
     answer_acts (Some accepted) (Some found) on =
         let live = (shown_on at.world at.line found on).1 in
-        let indicated : AreTerms found.1.setup.indicated = (terms found.0 found.1 live).indicated in
+        let indicated : AreTerms Long found.1.setup.indicated = terms_long (modulus_of at.tables found.1.caller) found.1.setup.indicated (terms found.0 found.1 live).0.indicated in
         let it = one_answer found.1.setup (address_of at.tables at.line) found.1.dialled accepted.d accepted.block indicated in
         answered_acts accepted found it.some.0 it.some.1
 
@@ -130,7 +131,7 @@ module _ {A : Type 0} where
   pub has_step : (tables : Tables) (history : List (Entry A)) (world : World) (event : Event A) → IsSound tables → Run tables history world
       → event.line < line_count tables → IsReadable event.what → HasStep tables history world event
   has_step tables history world event sound run line readable =
-      let at : StepContext A = step_context tables history world event.line in
+      let at : StepContext A = step_context tables history world event.line event.moment in
       let it = has_acts at event.what sound (run_agreed tables history world run) readable (action_at world event) in
       let entry : Entry A = record {
         number = length history + 1;
@@ -138,7 +139,7 @@ module _ {A : Type 0} where
         outcome = it.outcome;
         outputs = outputs_of it.told;
         records = record {
-          items = recorded_by (segments_of tables history) world (changes_of tables history world (record {
+          items = recorded_by (segments_of tables history) event.moment world (changes_of tables history world (record {
             number = length history + 1;
             event = event;
             outcome = it.outcome;

@@ -1,14 +1,15 @@
 -- An entry puts out few packets to a line.
-use Rattle.std.proofs.Common.{◌≡◌, ℕ, suc, ◌≤◌, Bool, true, false, cond, eqb, IfOk, OnOk, Result, Ok, Err, Option, Some, None, List, [], ◌∷◌, ◌++◌, filter, length, map, refl, ap, sym, subst, arith, length-append}
+use Rattle.std.proofs.Common.{◌≡◌, ℕ, suc, ◌+◌, ◌≤◌, Bool, true, false, cond, eqb, IfOk, OnOk, Result, Ok, Err, Option, Some, None, List, [], ◌∷◌, ◌++◌, filter, length, map, refl, ap, sym, subst, arith, length-append}
 use Rattle.std.proofs.lemmas.List.{length-map}
-use Rattle.xp_causes.specs.declared.clearing_cause.TheConstants.{LOCAL_PROCEDURE_ERROR, NETWORK_CONGESTION, NUMBER_BUSY, REMOTE_PROCEDURE_ERROR}
+use Rattle.xp_causes.specs.declared.clearing_cause.TheConstants.{LOCAL_PROCEDURE_ERROR, NETWORK_CONGESTION, NUMBER_BUSY, OUT_OF_ORDER, REMOTE_PROCEDURE_ERROR}
 use Rattle.xp_causes.specs.declared.diagnostic.TheConstants.{CALL_COLLISION, NO_ADDITIONAL_INFORMATION, TIMER_EXPIRED_FOR_INCOMING_CALL}
 use Rattle.xp_channel.specs.declared.action.Action.{Action}
 use Rattle.xp_channel.specs.declared.action.Action.TheVariants.{Nothing, Rise, Fall, NewCall, Collision, Answer, Confirm, Free, Error, Relayed, Expired}
 use Rattle.xp_charge.specs.declared.record.Record.{Record}
 use Rattle.xp_packets.specs.declared.packet.Packet.{Packet}
-use Rattle.xp_answer.specs.Terms.{AreTerms}
+use Rattle.xp_answer.specs.Information.{cleared_with}
 use Rattle.xp_relay.proofs.Few.{puts_out_few}
+use Rattle.xp_relay.specs.Terms.{IsWithinTerms}
 use Rattle.xp_subs.specs.Tables.{Tables}
 use Rattle.xp_core.specs.declared.entry.Entry.{Entry}
 use Rattle.xp_core.specs.declared.event.Event.{Event}
@@ -20,22 +21,20 @@ use Rattle.xp_core.specs.declared.output.Output.{Output}
 use Rattle.xp_machine.specs.declared.relays.MeteredRelay.{MeteredRelay}
 use Rattle.xp_core.specs.declared.stepped.Stepped.{Stepped}
 use Rattle.xp_core.specs.Acts.{Acts, Answers, CarriesAs, Confirms, IsAnswered, IsPlain, IsRequested, Requests, outputs_of_cancel, closed, outputs_to_both, outputs_of_error, outputs_of_fall}
-use Rattle.xp_core.specs.Agreed.{AllHaveTerms, HasTerms}
-use Rattle.xp_core.specs.RelayedPackets.{RelayedPacket, arrivals, relayed_by, turn_of_relayed}
-use Rattle.xp_machine.specs.RelayTerms.{terms_of}
+use Rattle.xp_core.specs.Agreed.{AllHaveTerms}
+use Rattle.xp_core.specs.RelayedPackets.{RelayedPacket, arrivals, relay_terms, relayed_by, turn_of_relayed}
 use Rattle.xp_core.specs.OutputsPerLine.{AreFew, GrowsByFew, to_line}
 use Rattle.xp_core.specs.Exchange.{Exchange}
 use Rattle.xp_core.specs.StepContext.{StepContext, step_context}
 use Rattle.xp_core.specs.Step.{Step}
 use Rattle.xp_core.specs.Table.{CallAccepted, CallRequest, ClearRequest, accepted_in, action_at, clear_in, packet_in, request_in}
-use Rattle.xp_core.specs.EventOutputs.{EventOutputs, outputs_of_relayed, clear_indication, no_outputs, outputs_of, send_far, send_on}
+use Rattle.xp_core.specs.EventOutputs.{EventOutputs, outputs_of_relayed, clear_indication, far_information, no_outputs, outputs_of, send_far, send_on}
 use Rattle.xp_core.specs.steps.PreparedEntry.{Enters}
 use Rattle.xp_machine.specs.World.{Call, World, call_on}
 use Rattle.xp_core.proofs.RelayedPackets.{of_carried}
-use Rattle.xp_core.proofs.Delivered.{agreed_terms}
+use Rattle.xp_core.proofs.Delivered.{relay_within}
 use Rattle.xp_core.proofs.Showing.{exchange_of}
 use Rattle.xp_machine.proofs.InCall.{shown_on}
-use Rattle.xp_machine.proofs.Terms.{terms_within}
 
 module _ {A : Type 0} where
   to_line_few : (line : ℕ) (outputs : List (Output A)) → length (to_line line outputs) ≤ length outputs
@@ -46,23 +45,20 @@ module _ {A : Type 0} where
       elim (eqb output.line line) as Few [ true ↦ omega (arith, rest) | false ↦ omega (arith, rest) ]
 
   abbrev Few : EventOutputs A → Type 0
-  Few told = (length told.carried ≤ 9) × (length told.own ≤ 1) × (length told.far ≤ 1) × (length told.taken ≤ 1)
+  Few told = length told.carried + length told.own + length told.far + length told.taken ≤ 17
 
   few_in_all : (told : EventOutputs A) → Few told → length (outputs_of told) ≤ 17
   few_in_all told few =
       let all = length-append (told.carried ++ told.own ++ told.far) told.taken in
       let three = length-append (told.carried ++ told.own) told.far in
       let two = length-append told.carried told.own in
-      let a = few.0 in
-      let b = few.1 in
-      let c = few.2 in
-      let d = few.3 in omega (arith, all, three, two, a, b, c, d)
+      omega (arith, all, three, two, few)
 
   these : (this told : EventOutputs A) → told ≡ this → Few this → Few told
   these this told is few = subst Few (sym is) few
 
   none_few : (outcome : Outcome) (told : EventOutputs A) → IsPlain no_outputs outcome told → Few told
-  none_few outcome told is = these no_outputs told is.1 (omega arith, omega arith, omega arith, omega arith)
+  none_few outcome told is = these no_outputs told is.1 (omega arith)
 
   far_few : (world : World) (line : ℕ) (found : Option (ℕ × Call)) (packet : Packet A) → length (send_far world line found packet) ≤ 1
   far_few world line None packet = omega arith
@@ -79,8 +75,8 @@ module _ {A : Type 0} where
 module _ {A : Type 0} (tables : Tables) (world : World) (line : ℕ) where
   request_few : (far : List (Output A)) (request : CallRequest A) (outcome : Outcome) (told : EventOutputs A) → length far ≤ 1
       → IsRequested tables world line far request outcome told → Few told
-  request_few far request (Put called setup) told few is = these _ told is.told_is (omega arith, omega arith, few, omega arith)
-  request_few far request (Refused why) told few is = these _ told is.told_is (omega arith, omega arith, few, omega arith)
+  request_few far request (Put called setup) told few is = these _ told is.told_is (omega (arith, few))
+  request_few far request (Refused why) told few is = these _ told is.told_is (omega (arith, few))
   request_few far request Plain told few is = absurd is
   request_few far request (Connected agreement) told few is = absurd is
   request_few far request (Declined diagnostic) told few is = absurd is
@@ -94,13 +90,14 @@ module _ {A : Type 0} (tables : Tables) (world : World) (line : ℕ) where
 module _ {A : Type 0} (at : StepContext A) where
   both_few : (near far diagnostic : ℕ) (told : EventOutputs A) → told ≡ outputs_to_both at near far diagnostic → Few told
   both_few near far diagnostic told is =
-      these (outputs_to_both at near far diagnostic) told is (omega arith, omega arith, far_few at.world at.line (call_on at.world at.line) _, omega arith)
+      these (outputs_to_both at near far diagnostic) told is
+      (omega (arith, far_few {A = A} at.world at.line (call_on at.world at.line) (cleared_with far diagnostic (far_information at (call_on at.world at.line)))))
 
   error_few : (diagnostic : ℕ) (told : EventOutputs A) → told ≡ outputs_of_error at diagnostic → Few told
   error_few diagnostic told is = both_few LOCAL_PROCEDURE_ERROR REMOTE_PROCEDURE_ERROR diagnostic told is
 
   answer_few : (answer : CallAccepted A) (call : Call) (outcome : Outcome) (told : EventOutputs A) → IsAnswered at answer call outcome told → Few told
-  answer_few answer call (Connected agreement) told is = these _ told is.told_is (omega arith, omega arith, omega arith, omega arith)
+  answer_few answer call (Connected agreement) told is = these _ told is.told_is (omega arith)
   answer_few answer call (Declined diagnostic) told is = error_few diagnostic told is.told_is
   answer_few answer call Plain told is = absurd is
   answer_few answer call (Put called setup) told is = absurd is
@@ -114,20 +111,21 @@ module _ {A : Type 0} (at : StepContext A) where
 
   confirms_few : (clear : Option (ClearRequest A)) (found : Option (ℕ × Call)) (outcome : Outcome) (told : EventOutputs A) → Confirms at clear found outcome told → Few told
   confirms_few None found outcome told is = none_few outcome told is
-  confirms_few (Some clear) None outcome told is = these _ told is.1 (omega arith, omega arith, omega arith, omega arith)
-  confirms_few (Some clear) (Some found) outcome told is = these _ told is.told_is (omega arith, omega arith, omega arith, omega arith)
+  confirms_few (Some clear) None outcome told is = these _ told is.1 (omega arith)
+  confirms_few (Some clear) (Some found) outcome told is = these _ told is.told_is (omega arith)
 
-module _ {A : Type 0} (at : StepContext A) (what : What A) (terms : AllHaveTerms at.world) where
+module _ {A : Type 0} (at : StepContext A) (what : What A) (terms : AllHaveTerms at.tables at.world) where
   carried_few : (carried : Option (RelayedPacket A)) → relayed_by at.line (call_on at.world at.line) (packet_in what) ≡ carried → (told : EventOutputs A)
       → told ≡ outputs_of_relayed at.tables at.before at.world carried → Few told
-  carried_few None by told is = these no_outputs told is (omega arith, omega arith, omega arith, omega arith)
+  carried_few None by told is = these no_outputs told is (omega arith)
   carried_few (Some carried) by told is =
       let it = of_carried at.line (call_on at.world at.line) (packet_in what) carried by in
-      let has : HasTerms carried.call = terms carried.number carried.call (shown_on at.world at.line (carried.number, carried.call) it.on).1 in
-      let sizes : AreTerms carried.agreement.terms = agreed_terms carried.call carried.agreement it.agreed has in
+      let live = (shown_on at.world at.line (carried.number, carried.call) it.on).1 in
+      let within : IsWithinTerms (relay_terms at.tables carried.call carried.agreement) =
+      relay_within at.tables at.world carried.number carried.call carried.agreement terms live it.agreed in
       let moves = (turn_of_relayed at.tables at.before carried).moves in
-      let few = puts_out_few (terms_of carried.agreement) (terms_within carried.agreement sizes) (arrivals at.tables at.before carried.number) carried.arrival in
-      these _ told is (omega (arith, few, sizes.window.called_most, sizes.window.calling_most, length-map moves (send_on at.world carried.call)), omega arith, omega arith, omega arith)
+      let few = puts_out_few (relay_terms at.tables carried.call carried.agreement) within (arrivals at.tables at.before carried.number) carried.arrival in
+      these _ told is (omega (arith, few, within.from_caller.most_window, within.from_called.most_window, length-map moves (send_on at.world carried.call)))
 
   carries_few : (carried : Option (RelayedPacket A)) → relayed_by at.line (call_on at.world at.line) (packet_in what) ≡ carried → (past : Bool) (outcome : Outcome) (told : EventOutputs A)
       → CarriesAs at carried past outcome told → Few told
@@ -137,8 +135,11 @@ module _ {A : Type 0} (at : StepContext A) (what : What A) (terms : AllHaveTerms
   few_told : (action : Action) (outcome : Outcome) (told : EventOutputs A) → Acts at what action outcome told → Few told
   few_told Nothing outcome told acts = none_few outcome told acts
   few_told Rise outcome told acts = none_few outcome told acts
-  few_told Fall outcome told acts = these (outputs_of_fall at what) told acts.1
-      (omega arith, closed_few at.world at.line what, far_few at.world at.line (call_on at.world at.line) _, omega arith)
+  few_told Fall outcome told acts = these (outputs_of_fall at what) told acts.1 (omega (
+    arith,
+    closed_few at.world at.line what,
+    far_few {A = A} at.world at.line (call_on at.world at.line) (cleared_with OUT_OF_ORDER NO_ADDITIONAL_INFORMATION (far_information at (call_on at.world at.line))),
+  ))
   few_told NewCall outcome told acts = requests_few at.tables at.world at.line [] (request_in what) outcome told (omega arith) acts
   few_told Collision outcome told acts = requests_few at.tables at.world at.line (outputs_of_cancel at.world at.line) (request_in what) outcome told
       (far_few at.world at.line (call_on at.world at.line) (clear_indication NUMBER_BUSY CALL_COLLISION)) acts
@@ -150,16 +151,16 @@ module _ {A : Type 0} (at : StepContext A) (what : What A) (terms : AllHaveTerms
   few_told Expired outcome told acts = error_few at TIMER_EXPIRED_FOR_INCOMING_CALL told acts.1
 
 module _ {A : Type 0} where
-  pub few_of_step : (tables : Tables) (before : List (Entry A)) (world : World) (entry : Entry A) (next : World) → AllHaveTerms world → Step tables before world entry next → AreFew entry.outputs
+  pub few_of_step : (tables : Tables) (before : List (Entry A)) (world : World) (entry : Entry A) (next : World) → AllHaveTerms tables world → Step tables before world entry next → AreFew entry.outputs
   few_of_step tables before world entry next terms step line =
-      let at : StepContext A = step_context tables before world entry.event.line in
+      let at : StepContext A = step_context tables before world entry.event.line entry.event.moment in
       let each : length (to_line line entry.outputs) ≤ length entry.outputs = to_line_few line entry.outputs in
       let few : length (outputs_of step.told) ≤ 17 = few_in_all step.told (few_told at entry.event.what terms (action_at world entry.event) entry.outcome step.told step.acts) in
       omega (arith, each, few, ap length step.outputs)
 
   -- the outcome of a call that returns what `advance` returned
   pub outcome_few : {E : Type 0} (tables : Tables) (old : World) (relays : List (Option (MeteredRelay A))) (history : List (Entry A)) (records : List Record) (event : Event A)
-      (new : World) (later : List (Option (MeteredRelay A))) (entries : List (Entry A)) (charged : List Record) (tells : Bool) (outcome : Result (Stepped A) E) → AllHaveTerms old
+      (new : World) (later : List (Option (MeteredRelay A))) (entries : List (Entry A)) (charged : List Record) (tells : Bool) (outcome : Result (Stepped A) E) → AllHaveTerms tables old
       → IfOk outcome (λ told. Enters tables old relays history records event new later entries charged tells told) → tells ≡ true → IfOk outcome (λ told. AreFew told.outputs)
   outcome_few tables old relays history records event new later entries charged tells (Ok told) terms done does =
       let P : List (Output A) → Type 0 = λ outputs. AreFew outputs in
@@ -169,7 +170,7 @@ module _ {A : Type 0} where
   -- the entry of a call that returns what `advance` returned, on an exchange of this history
   pub outcome_grows : {E : Type 0} (tables : Tables) (old : World) (relays : List (Option (MeteredRelay A))) (history : List (Entry A)) (records : List Record) (event : Event A)
       (new : World) (later : List (Option (MeteredRelay A))) (entries : List (Entry A)) (charged : List Record) (tells : Bool) (outcome : Result (Stepped A) E) (exchange : Exchange A) (stalls : ℕ)
-      → AllHaveTerms old → IfOk outcome (λ told. Enters tables old relays history records event new later entries charged tells told)
+      → AllHaveTerms tables old → IfOk outcome (λ told. Enters tables old relays history records event new later entries charged tells told)
       → exchange_of tables history stalls ≡ exchange → OnOk outcome (GrowsByFew exchange.history entries)
   outcome_grows tables old relays history records event new later entries charged tells (Ok told) exchange stalls terms done is =
       let P : Exchange A → Type 0 = λ e. GrowsByFew e.history entries in

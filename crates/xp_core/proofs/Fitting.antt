@@ -10,11 +10,13 @@ use Rattle.xp_answer.specs.Fields.{CanBeSent}
 use Rattle.xp_decide.proofs.Written.{told_can_be_written}
 use Rattle.xp_packets.specs.declared.block.Block.{Block}
 use Rattle.xp_packets.specs.declared.fault.Malformed.TheVariants.{Format, Facilities, Long}
+use Rattle.xp_packets.specs.declared.modulus.Modulus.{Modulus}
+use Rattle.xp_packets.specs.declared.modulus.Modulus.TheVariants.{Long as Wide}
 use Rattle.xp_packets.specs.declared.packet.Packet.{Packet}
 use Rattle.xp_packets.specs.declared.packet.Packet.TheVariants as packets
 use Rattle.xp_packets.specs.Encodability.{encoding_fault}
 use Rattle.xp_subs.specs.Sound.{IsSound}
-use Rattle.xp_subs.specs.Tables.{Tables, address_of, line_count}
+use Rattle.xp_subs.specs.Tables.{Tables, address_of, line_count, modulus_of}
 use Rattle.xp_core.specs.declared.entry.Entry.{Entry}
 use Rattle.xp_core.specs.declared.event.What.{What}
 use Rattle.xp_core.specs.declared.event.What.TheVariants.{Frame}
@@ -47,8 +49,8 @@ set_narrow : (lines : List Line) (at : ℕ) (becomes : Line) (line : ℕ) → be
     → (get_or (set lines at becomes) line off_line).identifier < 4096
 set_narrow lines at becomes line new old = get_or-set (λ l. l.identifier < 4096) lines at becomes line off_line new old
 
-clear_fits : (A : Type 0) (identifier cause diagnostic : ℕ) → identifier < 4096 → encoding_fault {A = A} identifier (clear_indication cause diagnostic) ≡ None
-clear_fits A identifier cause diagnostic narrow = ap (λ b. cond b (Some Format) None) (le-ltb 4095 identifier (omega (arith, narrow)))
+clear_fits : (A : Type 0) (modulus : Modulus) (identifier cause diagnostic : ℕ) → identifier < 4096 → encoding_fault {A = A} modulus identifier (clear_indication cause diagnostic) ≡ None
+clear_fits A modulus identifier cause diagnostic narrow = ap (λ b. cond b (Some Format) None) (le-ltb 4095 identifier (omega (arith, narrow)))
 
 module _ {A : Type 0} where
   -- ---- what was read
@@ -79,7 +81,7 @@ module _ {A : Type 0} where
       subst P same readable.few
   request_few what request is readable = absurd (cc)
 
-  accepted_user : (identifier : ℕ) (d : Bool) (block : Option (Block A)) → encoding_fault identifier (packets.Accepted d block) ≡ None → length (user_in block) ≤ 128
+  accepted_user : (identifier : ℕ) (d : Bool) (block : Option (Block A)) → encoding_fault Wide identifier (packets.Accepted d block) ≡ None → length (user_in block) ≤ 128
   accepted_user identifier d None fit = omega arith
   accepted_user identifier d (Some block) fit = (block_short identifier block fit).1
 
@@ -90,7 +92,7 @@ module _ {A : Type 0} where
       subst P same (accepted_user identifier d block readable.encodable)
   answer_short what answer is readable = absurd (cc)
 
-  cleared_user : (identifier cause : ℕ) (diagnostic : Option ℕ) (block : Option (Block A)) → encoding_fault identifier (packets.Clear cause diagnostic block) ≡ None
+  cleared_user : (identifier cause : ℕ) (diagnostic : Option ℕ) (block : Option (Block A)) → encoding_fault Wide identifier (packets.Clear cause diagnostic block) ≡ None
       → length (user_in block) ≤ 128
   cleared_user identifier cause diagnostic None fit = omega arith
   cleared_user identifier cause None (Some block) fit = absurd (cc)
@@ -108,20 +110,20 @@ module _ {A : Type 0} where
   module _ (at : StepContext A) (what : What A) (sound : IsSound at.tables) (readable : IsReadable what) (narrow : IsNarrow at.world)
       (before : AreReadable at.before) where
     abbrev Written : Output A → Type 0
-    Written output = IsWritable output.outgoing.put
+    Written output = IsWritable (modulus_of at.tables output.line) output.outgoing.put
 
-    sent_as : (line identifier : ℕ) (packet : Packet A) (output : Output A) → output ≡ send_as at.world line identifier packet → encoding_fault identifier packet ≡ None → Written output
+    sent_as : (line identifier : ℕ) (packet : Packet A) (output : Output A) → output ≡ send_as at.world line identifier packet → encoding_fault (modulus_of at.tables line) identifier packet ≡ None → Written output
     sent_as line identifier packet output is fit = let W : Output A → Type 0 = λ o. Written o in subst W (sym is) fit
 
     sent : (line : ℕ) (packet : Packet A) (output : Output A) → output ≡ send at.world line packet → CanBeSent packet → Written output
-    sent line packet output is can = sent_as line _ packet output is (can.fit (line_at at.world line).identifier (omega (arith, narrow line)))
+    sent line packet output is can = sent_as line _ packet output is (can.fit (modulus_of at.tables line) (line_at at.world line).identifier (omega (arith, narrow line)))
 
     sent_fits : (output : Output A) → IsSent at what output → Written output
     sent_fits output (closing is) = let W : Output A → Type 0 = λ o. Written o in subst W (sym is) tt
     sent_fits output (confirming information is) = sent at.line _ output is (confirmed_information A information)
     sent_fits output (clearing cause diagnostic information is) = sent at.line _ output is (cleared_information A cause diagnostic information)
     sent_fits output (refusing request why asks is) =
-        sent_as at.line _ _ output is (clear_fits A request.identifier why.cause why.diagnostic (request_short what request asks readable).0)
+        sent_as at.line _ _ output is (clear_fits A (modulus_of at.tables at.line) request.identifier why.cause why.diagnostic (request_short what request asks readable).0)
     sent_fits output (clearing_far found cause diagnostic information live is) =
         sent (far_end found.1 at.line) _ output is (cleared_information A cause diagnostic information)
     sent_fits output (carrying_on found clear information packet live clears carried is) =
@@ -134,7 +136,7 @@ module _ {A : Type 0} where
         let written = told_can_be_written at.tables (line_states at.world) at.line request.block sound (request_few what request asks readable) ring decided in
         let can = incoming_call_sent ring (address_of at.tables ring.line) (address_of at.tables at.line) request.d request.block packet written
         (request_short what request asks readable).1 incoming in
-        sent_as ring.line 1 packet output is (can.fit 1 (omega arith))
+        sent_as ring.line 1 packet output is (can.fit (modulus_of at.tables ring.line) 1 (omega arith))
     sent_fits output (carrying carried move by in_it is) =
         let line : ℕ = line_at_end carried.call move.side in
         sent_as line _ move.packet output is (move_can at what carried move before readable by in_it (line_at at.world line).identifier (narrow line))
@@ -148,7 +150,7 @@ module _ {A : Type 0} where
     changed_narrow : (change : Change) (world : World) → ComesOf at what change → IsNarrow world → IsNarrow (changed change world)
     changed_narrow (Rises line) world from narrow = λ l. set_narrow world.lines line _ l (omega arith) (narrow l)
     changed_narrow (Leaves line way) world from narrow = λ l. set_narrow world.lines line _ l (narrow line) (narrow l)
-    changed_narrow (Begins line identifier called dialled setup) world from narrow = λ l.
+    changed_narrow (Begins line identifier called dialled setup requested) world from narrow = λ l.
         set_narrow _ called _ l (omega arith) (set_narrow world.lines line _ l (asked_narrow line identifier dialled from.asked) (narrow l))
     changed_narrow (IsRefused line identifier dialled why) world from narrow = λ l.
         set_narrow world.lines line _ l (asked_narrow line identifier dialled from) (narrow l)
@@ -164,35 +166,35 @@ module _ {A : Type 0} where
 
   -- ---- along a run
 
-  abbrev Fits : List (Entry A) → World → Type 0
-  Fits before world = AreReadable before → IsNarrow world × All (λ entry. AreWritable entry.outputs) before
+  abbrev Fits : Tables → List (Entry A) → World → Type 0
+  Fits tables before world = AreReadable before → IsNarrow world × All (λ entry. AreWritable tables entry.outputs) before
 
   step_fits : (tables : Tables) (sound : IsSound tables) (before : List (Entry A)) (world : World) (entry : Entry A) (next : World)
-      → Fits before world → Step tables before world entry next → Fits (before ++ entry ∷ []) next
+      → Fits tables before world → Step tables before world entry next → Fits tables (before ++ entry ∷ []) next
   step_fits tables sound before world entry next fits step = λ readable.
-      let at : StepContext A = step_context tables before world entry.event.line in
+      let at : StepContext A = step_context tables before world entry.event.line entry.event.moment in
       let parts = All-pop (λ e. IsReadable e.event.what) (before ++ entry ∷ []) before (Some entry) refl readable in
-      let old : IsNarrow world × All (λ e. AreWritable e.outputs) before = fits parts.0 in
+      let old : IsNarrow world × All (λ e. AreWritable tables e.outputs) before = fits parts.0 in
       let N : World → Type 0 = λ w. IsNarrow w in
-      let W : List (Output A) → Type 0 = λ outputs. AreWritable outputs in
+      let W : List (Output A) → Type 0 = λ outputs. AreWritable tables outputs in
       let from = all_come at entry.event.what (action_at world entry.event) entry.outcome step.told step.acts in
       let narrow : IsNarrow next = subst N (sym step.leads)
       (all_changed_narrow at entry.event.what parts.1 (changes_of tables before world entry) world from old.0) in
-      let writable : AreWritable entry.outputs = subst W (sym step.outputs)
-      (All-weaker (IsSent at entry.event.what) (λ output. IsWritable output.outgoing.put)
+      let writable : AreWritable tables entry.outputs = subst W (sym step.outputs)
+      (All-weaker (IsSent at entry.event.what) (λ output. IsWritable (modulus_of tables output.line) output.outgoing.put)
       (sent_fits at entry.event.what sound parts.1 old.0 parts.0) (outputs_of step.told)
       (all_sent at entry.event.what (action_at world entry.event) entry.outcome step.told step.acts)) in
-      (narrow, All-push (λ e. AreWritable e.outputs) before entry old.1 writable)
+      (narrow, All-push (λ e. AreWritable tables e.outputs) before entry old.1 writable)
 
-  run_keeps_fit : (tables : Tables) (history : List (Entry A)) (world : World) → IsSound tables → Run tables history world → Fits history world
+  run_keeps_fit : (tables : Tables) (history : List (Entry A)) (world : World) → IsSound tables → Run tables history world → Fits tables history world
   run_keeps_fit tables history world sound run =
-      run_keeps Fits tables (step_fits tables sound) [] (opening (line_count tables)) history world (λ readable. (
+      run_keeps (Fits tables) tables (step_fits tables sound) [] (opening (line_count tables)) history world (λ readable. (
         λ line. omega (arith, ap (λ l. l.identifier) (line_at-opening (line_count tables) line)),
-        All-nil (λ entry. AreWritable entry.outputs),
+        All-nil (λ entry. AreWritable tables entry.outputs),
       )) run
 
   pub run_fits : (tables : Tables) (history : List (Entry A)) (world : World) → IsSound tables → Run tables history world → AreReadable history
-      → All (λ entry. AreWritable entry.outputs) history
+      → All (λ entry. AreWritable tables entry.outputs) history
   run_fits tables history world sound run readable = (run_keeps_fit tables history world sound run readable).1
 
   pub run_narrow : (tables : Tables) (history : List (Entry A)) (world : World) → IsSound tables → Run tables history world → AreReadable history → IsNarrow world

@@ -22,7 +22,7 @@ module _ {A : Type 0} (tables : Tables) (history : List (Entry A)) (world : Worl
 
   module _ (call : LiveCall) (on : Some (entry_of call) ≡ call_on world line) where
     abbrev its : Agreement → FlowState
-    its agreement = state_at (end_of (call_of_stored call) line) (directions tables history call.number agreement)
+    its agreement = state_at (end_of (call_of_stored call) line) (directions tables history call.number (call_of_stored call) agreement)
 
     seen : option_map its call.agreed ≡ flow_at tables history world line
     seen = ap (flow_in tables history line) on
@@ -31,15 +31,15 @@ module _ {A : Type 0} (tables : Tables) (history : List (Entry A)) (world : Worl
     unconnected none = ap (option_map its) none ∙ seen
 
     module _ (agreement : Agreement) (agreed : Some agreement ≡ call.agreed) (relays : List (Option (MeteredRelay A))) (carried : RelaysRepresentCalls tables history world relays) where
-      is_kept : IsRepresentedBy (relay_under relays call.caller) (directions tables history call.number agreement) (counted_by tables history call.number (Some agreement))
+      is_kept : IsRepresentedBy (relay_under relays call.caller) (directions tables history call.number (call_of_stored call) agreement) (counted_by tables history call.number (call_of_stored call) (Some agreement))
       is_kept = carried call.number (call_of_stored call) agreement (shown_on world line (entry_of call) (sym on)).1 (sym agreed)
 
       pub never_lost : None ≡ relay_under relays call.caller → ⊥
-      never_lost none = let P : Option (MeteredRelay A) → Type 0 = λ r. IsRepresentedBy r (directions tables history call.number agreement) (counted_by tables history call.number (Some agreement)) in subst P (sym none) is_kept
+      never_lost none = let P : Option (MeteredRelay A) → Type 0 = λ r. IsRepresentedBy r (directions tables history call.number (call_of_stored call) agreement) (counted_by tables history call.number (call_of_stored call) (Some agreement)) in subst P (sym none) is_kept
 
       pub connected : (kept : MeteredRelay A) (state : FlowState) → Some kept ≡ relay_under relays call.caller
           → ((shown : Coupled A) → RepresentsCall kept.relay shown → state ≡ state_at (end_of (call_of_stored call) line) shown)
           → Some state ≡ flow_at tables history world line
       connected kept state under is =
-          let P : Option (MeteredRelay A) → Type 0 = λ r. IsRepresentedBy r (directions tables history call.number agreement) (counted_by tables history call.number (Some agreement)) in
-          ap (λ s. Some s) (is (directions tables history call.number agreement) (subst P (sym under) is_kept).0) ∙ ap (option_map its) agreed ∙ seen
+          let P : Option (MeteredRelay A) → Type 0 = λ r. IsRepresentedBy r (directions tables history call.number (call_of_stored call) agreement) (counted_by tables history call.number (call_of_stored call) (Some agreement)) in
+          ap (λ s. Some s) (is (directions tables history call.number (call_of_stored call) agreement) (subst P (sym under) is_kept).0) ∙ ap (option_map its) agreed ∙ seen

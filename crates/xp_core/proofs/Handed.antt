@@ -4,29 +4,41 @@ use Rattle.std.proofs.lemmas.Bool.{cond_both}
 use Rattle.std.proofs.lemmas.List.Elements.{All-append, All-contains, All-cons, All-head, All-nil, All-tail}
 use Rattle.std.specs.List.{Contains}
 use Rattle.xp_packets.specs.Encodability.{CanBeEncoded}
+use Rattle.xp_packets.specs.declared.end.End.{End}
+use Rattle.xp_packets.specs.declared.end.End.TheVariants.{Caller, Called}
+use Rattle.xp_packets.specs.declared.modulus.Modulus.{Modulus}
+use Rattle.xp_packets.specs.declared.modulus.Modulus.TheVariants.{Long}
 use Rattle.xp_packets.specs.declared.packet.Packet.{Packet}
 use Rattle.xp_relay.proofs.Encodable.{puts_out_encodable}
 use Rattle.xp_relay.specs.Encodable.{CameEncoded}
+use Rattle.xp_relay.specs.Terms.{modulus_at}
 use Rattle.xp_relay.specs.declared.moves.Move.{Move}
-use Rattle.xp_subs.specs.Tables.{Tables, line_count}
+use Rattle.xp_relay.specs.declared.terms.Terms.{Terms}
+use Rattle.xp_subs.specs.Tables.{Tables, line_count, modulus_of}
 use Rattle.xp_core.specs.declared.entry.Entry.{Entry}
 use Rattle.xp_core.specs.declared.event.What.{What}
 use Rattle.xp_core.specs.declared.event.What.TheVariants as events
-use Rattle.xp_core.specs.RelayedPackets.{RelayedPacket, arrival_for, arrivals, arrivals_from, relayed_by, relayed_in, turn_of_relayed}
-use Rattle.xp_machine.specs.RelayTerms.{terms_of}
+use Rattle.xp_core.specs.RelayedPackets.{RelayedPacket, arrival_for, arrivals, arrivals_from, relay_terms, relayed_by, relayed_in, turn_of_relayed}
 use Rattle.xp_core.specs.Exchange.{IsReadable}
 use Rattle.xp_core.specs.StepContext.{StepContext}
 use Rattle.xp_core.specs.Table.{action_at, packet_in}
-use Rattle.xp_machine.specs.World.{World, call_on, opening}
+use Rattle.xp_machine.specs.CallEnds.{line_at_end}
+use Rattle.xp_machine.specs.World.{Call, World, call_on, opening}
+use Rattle.xp_machine.specs.declared.agreement.Agreement.{Agreement}
 use Rattle.xp_core.specs.Worlds.{world_next}
 use Rattle.xp_core.specs.steps.Writable.{AreReadable}
 use Rattle.xp_core.proofs.RelayedPackets.{is_relayed, of_carried}
 
+-- the modulus of a call's line at an end
+modulus_there : (tables : Tables) (call : Call) (agreement : Agreement) (end : End) → modulus_at end (relay_terms tables call agreement) ≡ modulus_of tables (line_at_end call end)
+modulus_there tables call agreement Caller = refl
+modulus_there tables call agreement Called = refl
+
 module _ {A : Type 0} where
-  packet_can : (what : What A) (packet : Packet A) → packet_in what ≡ Some packet → IsReadable what → (identifier : ℕ) × CanBeEncoded identifier packet
+  packet_can : (what : What A) (packet : Packet A) → packet_in what ≡ Some packet → IsReadable what → (identifier : ℕ) × CanBeEncoded Long identifier packet
   packet_can (events.Frame identifier came) packet is readable =
       let same : came ≡ packet = cc in
-      let P : Packet A → Type 0 = λ p. CanBeEncoded identifier p in
+      let P : Packet A → Type 0 = λ p. CanBeEncoded Long identifier p in
       (identifier, subst P same readable.encodable)
   packet_can what packet is readable = absurd (cc)
 
@@ -52,9 +64,12 @@ module _ {A : Type 0} where
   -- each move that a packet leads to can be encoded
   pub move_can : (at : StepContext A) (what : What A) (carried : RelayedPacket A) (move : Move A) → AreReadable at.before → IsReadable what
       → relayed_by at.line (call_on at.world at.line) (packet_in what) ≡ Some carried → Contains (turn_of_relayed at.tables at.before carried).moves move
-      → (identifier : ℕ) → identifier < 4096 → CanBeEncoded identifier move.packet
+      → (identifier : ℕ) → identifier < 4096 → CanBeEncoded (modulus_of at.tables (line_at_end carried.call move.side)) identifier move.packet
   move_can at what carried move before readable by in_it identifier narrow =
-      All-contains (λ (m : Move A). CanBeEncoded identifier m.packet) (turn_of_relayed at.tables at.before carried).moves move
-      (puts_out_encodable (terms_of carried.agreement) (record { caller = refl; called = refl }) (arrivals at.tables at.before carried.number) carried.arrival
+      let terms : Terms = relay_terms at.tables carried.call carried.agreement in
+      let P : Modulus → Type 0 = λ m. CanBeEncoded m identifier move.packet in
+      subst P (modulus_there at.tables carried.call carried.agreement move.side)
+      (All-contains (λ (m : Move A). CanBeEncoded (modulus_at m.side terms) identifier m.packet) (turn_of_relayed at.tables at.before carried).moves move
+      (puts_out_encodable terms (arrivals at.tables at.before carried.number) carried.arrival
       (came_from carried.number at.tables [] (opening (line_count at.tables)) at.before before)
-      (carried_can at.line (call_on at.world at.line) what carried by readable) identifier (omega (arith, narrow))) in_it
+      (carried_can at.line (call_on at.world at.line) what carried by readable) identifier (omega (arith, narrow))) in_it)

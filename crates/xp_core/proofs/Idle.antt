@@ -15,7 +15,7 @@ use Rattle.xp_decide.specs.declared.verdict.Verdict.TheVariants.{Take}
 use Rattle.xp_hunt.specs.declared.lines.LineState.{LineState}
 use Rattle.xp_hunt.specs.declared.lines.LineState.TheVariants.{Busy, Idle}
 use Rattle.xp_packets.specs.declared.block.Block.{Block}
-use Rattle.xp_subs.specs.Tables.{Tables}
+use Rattle.xp_subs.specs.Tables.{Tables, modulus_of}
 use Rattle.xp_machine.specs.World.{line_states, World, off_line, state_at}
 use Rattle.xp_machine.specs.Channel.{State, Off, Ready, Waiting, Ringing, Talking, Cleared, line_state_of}
 
@@ -39,7 +39,7 @@ module _ {A : Type 0} (tables : Tables) (states : ℕ → LineState) (from : ℕ
   taken_idle (decided.not_asked _ _ e) = cc
   taken_idle (decided.not_reached _ _ _ _ e) = cc
   taken_idle (decided.reached request end asked way e) =
-      let same : ring ≡ incoming_call_of request.asked end block.called = cc in
+      let same : ring ≡ incoming_call_of (modulus_of tables end.line) request.asked end block.called = cc in
       ap (λ (r : IncomingCall A). state_for_caller from states r.line) same ∙ reached_idle _ block.called end way
 
 ready_of : (state : State) → line_state_of state ≡ Idle → state ≡ Ready

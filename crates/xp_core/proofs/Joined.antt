@@ -51,8 +51,8 @@ module _ {A : Type 0} (at : StepContext A) (what : What A) (sound : IsSound at.t
     changed_joined (Rises line) world from joined = joined
     changed_joined (Leaves line way) world from joined = joined
     changed_joined (IsRefused line identifier dialled why) world from joined = joined
-    changed_joined (Begins line identifier called dialled setup) world from joined = λ number call is.
-        let made : Call = record { caller = line; called = called; dialled = dialled; setup = setup; agreed = None } in
+    changed_joined (Begins line identifier called dialled setup requested) world from joined = λ number call is.
+        let made : Call = record { caller = line; called = called; dialled = dialled; setup = setup; requested = requested; agreed = None } in
         let P : Call → Type 0 = λ c. MayTalk at.tables c.caller c.called in
         elim (new_or_old world.calls world.next made number call is) [
           | inl new ↦ subst P new.1 (begun_joined line identifier called dialled setup from)
@@ -131,7 +131,7 @@ module _ {A : Type 0} where
   step_joined : (tables : Tables) (sound : IsSound tables) (before : List (Entry A)) (world : World) (entry : Entry A) (next : World)
       → AreJoined tables before world → Step tables before world entry next → AreJoined tables (before ++ entry ∷ []) next
   step_joined tables sound before world entry next joined step =
-      let at : StepContext A = step_context tables before world entry.event.line in
+      let at : StepContext A = step_context tables before world entry.event.line entry.event.moment in
       let P : World → Type 0 = λ w. MayAllTalk tables w in
       record {
         live = subst P (sym step.leads)

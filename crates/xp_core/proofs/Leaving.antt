@@ -2,7 +2,7 @@
 use Rattle.std.proofs.Common.{◌≡◌, ◌∙◌, ℕ, is_none, false, option_to_list, Option, Some, None, List, [], ◌∷◌, ◌++◌, append-nil, refl, ap, sym, subst}
 use Rattle.xp_charge.specs.Meter.{counted_from, far_end as other_end, opening}
 use Rattle.xp_charge.specs.declared.record.Record.{Record}
-use Rattle.xp_facilities.specs.declared.segment_counts.SegmentCounts.{SegmentCounts}
+use Rattle.xp_facilities.specs.declared.charging_information.ChargingInformation.{ChargingInformation}
 use Rattle.xp_packets.specs.declared.end.End.{End}
 use Rattle.xp_subs.specs.Tables.{Tables}
 use Rattle.xp_machine.specs.declared.call.LiveCall.{LiveCall}
@@ -38,15 +38,15 @@ module _ {A : Type 0} where
   -- ---- the meter of a live call
 
   module _ (tables : Tables) (before : List (Entry A)) (call : LiveCall) where
-    pub meter_of_none : call.agreed ≡ None → opening tables.segment_limit ≡ counted_by tables before call.number call.agreed
-    meter_of_none none = ap (counted_by tables before call.number) (sym none)
+    pub meter_of_none : call.agreed ≡ None → opening tables.segment_limit ≡ counted_by tables before call.number (call_of_stored call) call.agreed
+    meter_of_none none = ap (counted_by tables before call.number (call_of_stored call)) (sym none)
 
     module _ (world : World) (relays : List (Option (MeteredRelay A))) (carried : RelaysRepresentCalls tables before world relays) (live : call_numbered world call.number ≡ Some (call_of_stored call))
         (some : is_none call.agreed ≡ false) where
       abbrev Shows : Option (MeteredRelay A) → Type 0
       Shows r =
           let agreement = (some_of call.agreed some).0 in
-          IsRepresentedBy r (directions tables before call.number agreement) (counted_by tables before call.number (Some agreement))
+          IsRepresentedBy r (directions tables before call.number (call_of_stored call) agreement) (counted_by tables before call.number (call_of_stored call) (Some agreement))
 
       shows : Shows (relay_under relays call.caller)
       shows = let it = some_of call.agreed some in carried call.number (call_of_stored call) it.0 live it.1
@@ -54,10 +54,10 @@ module _ {A : Type 0} where
       pub meter_not_lost : None ≡ relay_under relays call.caller → ⊥
       meter_not_lost none = subst Shows (sym none) shows
 
-      pub meter_kept : (metered : MeteredRelay A) → Some metered ≡ relay_under relays call.caller → metered.meter ≡ counted_by tables before call.number call.agreed
+      pub meter_kept : (metered : MeteredRelay A) → Some metered ≡ relay_under relays call.caller → metered.meter ≡ counted_by tables before call.number (call_of_stored call) call.agreed
       meter_kept metered under =
           let it = some_of call.agreed some in
-          (subst Shows (sym under) shows).1 ∙ ap (counted_by tables before call.number) (sym it.1)
+          (subst Shows (sym under) shows).1 ∙ ap (counted_by tables before call.number (call_of_stored call)) (sym it.1)
 
   -- ---- what is told and recorded of it
 
@@ -78,26 +78,26 @@ module _ {A : Type 0} where
       counts_are : (λ end. counted_from end it.meter) ≡ segments_of at.tables at.before it.call.now.number call
       counts_are =
           ap (λ m. λ (end : End). counted_from end m) in_it.1
-          ∙ (λ i end. counted_here at.tables at.before it.call.now.number it.call.now.agreed end i)
+          ∙ (λ i end. counted_here at.tables at.before it.call.now.number call it.call.now.agreed end i)
 
-      pub told_own : (told : Option SegmentCounts) → told ≡ information_for call (λ end. counted_from end it.meter) (end_of call at.line)
+      pub told_own : (told : Option ChargingInformation) → told ≡ information_for call (λ end. counted_from end it.meter) at.moment (end_of call at.line)
           → told ≡ own_information at (call_on at.world at.line)
       told_own told is_told =
-          is_told ∙ ap (λ counted. information_for call counted (end_of call at.line)) counts_are ∙ ap (own_information at) (sym in_call)
+          is_told ∙ ap (λ counted. information_for call counted at.moment (end_of call at.line)) counts_are ∙ ap (own_information at) (sym in_call)
 
-      pub told_far : (told : Option SegmentCounts) → told ≡ information_for call (λ end. counted_from end it.meter) (other_end (end_of call at.line))
+      pub told_far : (told : Option ChargingInformation) → told ≡ information_for call (λ end. counted_from end it.meter) at.moment (other_end (end_of call at.line))
           → told ≡ far_information at (call_on at.world at.line)
       told_far told is_told =
-          is_told ∙ ap (λ counted. information_for call counted (other_end (end_of call at.line))) counts_are ∙ ap (far_information at) (sym in_call)
+          is_told ∙ ap (λ counted. information_for call counted at.moment (other_end (end_of call at.line))) counts_are ∙ ap (far_information at) (sym in_call)
 
-      pub withdrawn : (way : NoCallState) (cause diagnostic : ℕ) (charge : Record) → charge ≡ record_of it.call.now.number call (λ end. counted_from end it.meter) cause diagnostic
+      pub withdrawn : (way : NoCallState) (cause diagnostic : ℕ) (charge : Record) → charge ≡ record_of it.call.now.number call (λ end. counted_from end it.meter) at.moment cause diagnostic
           → IsWithdrawal (record { change = kept.Leave at.line way; charged = Some charge }) at (leaves at.line (no_call_state_of way) cause diagnostic (call_on at.world at.line))
       withdrawn way cause diagnostic charge is_charge =
           let W : Option (ℕ × Call) → Type 0 =
           λ found. IsWithdrawal (record { change = kept.Leave at.line way; charged = Some charge }) at (leaves at.line (no_call_state_of way) cause diagnostic found) in
           subst W (sym in_call) (record {
             does = ap (λ found. left at.line (no_call_state_of way) found at.world) in_call;
-            records = ap (λ r. r ∷ []) (is_charge ∙ ap (λ counted. record_of it.call.now.number call counted cause diagnostic) counts_are);
+            records = ap (λ r. r ∷ []) (is_charge ∙ ap (λ counted. record_of it.call.now.number call counted at.moment cause diagnostic) counts_are);
           })
 
     pub told_none : charged ≡ None → None ≡ own_information at (call_on at.world at.line)

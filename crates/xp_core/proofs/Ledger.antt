@@ -67,11 +67,11 @@ tallies_same world next number same = record {
   beyond = λ n past. omega (arith, live_same world next n (same n));
 }
 
-pub changed_tallies : (counted : ℕ → Call → End → ℕ) (world : World) (change : Change) → ((number : ℕ) → world.next ≤ number → call_numbered world number ≡ None)
-    → CanBe world change → Tallies world (changed change world) (recorded counted world change)
-changed_tallies counted world (Rises line) fresh can = tallies_same world _ refl (λ number. refl)
-changed_tallies counted world (Leaves line way) fresh can = tallies_same world _ refl (λ number. refl)
-changed_tallies counted world (Connects number call agreement) fresh can = record {
+pub changed_tallies : (counted : ℕ → Call → End → ℕ) (moment : ℕ) (world : World) (change : Change) → ((number : ℕ) → world.next ≤ number → call_numbered world number ≡ None)
+    → CanBe world change → Tallies world (changed change world) (recorded counted moment world change)
+changed_tallies counted moment world (Rises line) fresh can = tallies_same world _ refl (λ number. refl)
+changed_tallies counted moment world (Leaves line way) fresh can = tallies_same world _ refl (λ number. refl)
+changed_tallies counted moment world (Connects number call agreement) fresh can = record {
   grows = omega arith;
   old = λ n below. same n;
   new = λ n past below. absurd (omega (arith, past, below));
@@ -88,10 +88,10 @@ changed_tallies counted world (Connects number call agreement) fresh can = recor
         omega (arith, subst P (sym is) here)
     | inr other ↦ omega (arith, live_same world (changed (Connects number call agreement) world) n (get_other world.calls number agreed n other))
   ]
-changed_tallies counted world (Begins line identifier called dialled setup) fresh can =
-    let change : Change = Begins line identifier called dialled setup in
+changed_tallies counted moment world (Begins line identifier called dialled setup requested) fresh can =
+    let change : Change = Begins line identifier called dialled setup requested in
     let next : World = changed change world in
-    let call : Call = record { caller = line; called = called; dialled = dialled; setup = setup; agreed = None } in
+    let call : Call = record { caller = line; called = called; dialled = dialled; setup = setup; requested = requested; agreed = None } in
     let other : (number : ℕ) → number ≢ world.next → live_of next number ≡ live_of world number =
     λ number differs. live_same world next number (get_other world.calls world.next call number differs) in
     record {
@@ -104,18 +104,18 @@ changed_tallies counted world (Begins line identifier called dialled setup) fres
           omega (arith, subst P same here);
       beyond = λ number past. omega (arith, other number (λ same. absurd (omega (arith, same, past))));
     }
-changed_tallies counted world (IsRefused line identifier dialled why) fresh can =
-    let charged : Record = refused_record world.next line dialled why in
+changed_tallies counted moment world (IsRefused line identifier dialled why) fresh can =
+    let charged : Record = refused_record world.next moment line dialled why in
     record {
       grows = omega arith;
       old = λ number below. omega (arith, count_of-other number charged (λ same. absurd (omega (arith, same, below))));
       new = λ number past below. omega (arith, count_of-one number charged (omega (arith, past, below)));
       beyond = λ number past. omega (arith, count_of-other number charged (λ same. absurd (omega (arith, same, past))));
     }
-changed_tallies counted world (Ends number call line way cause diagnostic) fresh can =
+changed_tallies counted moment world (Ends number call line way cause diagnostic) fresh can =
     let change : Change = Ends number call line way cause diagnostic in
     let next : World = changed change world in
-    let charged : Record = record_of number call (counted number call) cause diagnostic in
+    let charged : Record = record_of number call (counted number call) moment cause diagnostic in
     let all : (n : ℕ) → count_of n (charged ∷ []) + live_of next n ≡ live_of world n =
     λ n. elim (cases_eq n number) [
       | inl same ↦
@@ -148,19 +148,19 @@ module _ {A : Type 0} where
       let changes : List Change = changes_of tables before world entry in
       let counted : ℕ → Call → End → ℕ = segments_of tables before in
       subst Q (sym step.leads) (subst (P (all_changed changes world)) (sym step.records) (
-      let R : List Change → Type 0 = λ changes. P (all_changed changes world) (recorded_by counted world changes) in
+      let R : List Change → Type 0 = λ changes. P (all_changed changes world) (recorded_by counted entry.event.moment world changes) in
       elim (shape_of tables before world entry next entries right step) [
         | none is old ↦ subst R (sym is) (tallies_same world world refl (λ number. refl))
         | one change is can from ↦
-            let tallies = changed_tallies counted world change right.sound.fresh can in
-            subst R (sym is) (subst (P (changed change world)) (sym (append-nil (recorded counted world change))) tallies)
+            let tallies = changed_tallies counted entry.event.moment world change right.sound.fresh can in
+            subst R (sym is) (subst (P (changed change world)) (sym (append-nil (recorded counted entry.event.moment world change))) tallies)
         | two number call change new is first can told from ↦
             let ends : Change = cancelled_by number call entry.event.line in
             let mid : World = changed ends world in
             let after = cancel_right tables entries world number call entry.event.line right first in
-            let both = tallies_both world mid (changed change mid) (recorded counted world ends) (recorded counted mid change) refl
-            (changed_tallies counted world ends right.sound.fresh first) (changed_tallies counted mid change after.sound.fresh can) in
-            subst R (sym is) (subst (P (changed change mid)) (ap (λ more. recorded counted world ends ++ more) (sym (append-nil (recorded counted mid change)))) both)
+            let both = tallies_both world mid (changed change mid) (recorded counted entry.event.moment world ends) (recorded counted entry.event.moment mid change) refl
+            (changed_tallies counted entry.event.moment world ends right.sound.fresh first) (changed_tallies counted entry.event.moment mid change after.sound.fresh can) in
+            subst R (sym is) (subst (P (changed change mid)) (ap (λ more. recorded counted entry.event.moment world ends ++ more) (sym (append-nil (recorded counted entry.event.moment mid change)))) both)
       ]))
 
   -- this live call was begun at a moment of the history
@@ -172,6 +172,7 @@ module _ {A : Type 0} where
     pub called : Some call.called ≡ taken_by beginning.entry.outcome
     pub payer : call.setup.payer ≡ payer_of beginning.entry.outcome
     pub dialled : call.dialled ≡ request.block.called
+    pub requested : call.requested ≡ beginning.entry.event.moment
 
   pub record IsBooked (tables : Tables) (before : List (Entry A)) (world : World) : Type 0 where
     pub once : (number : ℕ) → holders before world number ≤ 1
@@ -201,6 +202,7 @@ module _ {A : Type 0} where
     called = begun.called;
     payer = begun.payer;
     dialled = begun.dialled;
+    requested = begun.requested;
   }
 
   abbrev pub here : (tables : Tables) (before : List (Entry A)) (world : World) (entry : Entry A) (next : World)
@@ -222,7 +224,7 @@ module _ {A : Type 0} where
     Begun w = (number : ℕ) (call : Call) → call_numbered w number ≡ Some call → IsBegun tables (before ++ entry ∷ []) number call
 
     begun_changed : (change : Change) (w : World) → w.next ≡ world.next → Begun w → CanBe w change
-        → ComesOf (step_context tables before world entry.event.line) entry.event.what (action_at world entry.event) entry.outcome step.told change
+        → ComesOf (step_context tables before world entry.event.line entry.event.moment) entry.event.what (action_at world entry.event) entry.outcome step.told change
         → Begun (changed change w)
     begun_changed (Rises line) w same old can from = old
     begun_changed (Leaves line way) w same old can from = old
@@ -241,12 +243,13 @@ module _ {A : Type 0} where
                 called = was.called;
                 payer = was.payer;
                 dialled = was.dialled;
+                requested = was.requested;
               }))
           | inr before_it ↦ old n c before_it.1
         ]
     begun_changed (Ends number call line way cause diagnostic) w same old can from = λ n c is. old n c (was_there w.calls number n c is).1
-    begun_changed (Begins line identifier called dialled setup) w same old can from = λ n c is.
-        elim (new_or_old w.calls w.next (record { caller = line; called = called; dialled = dialled; setup = setup; agreed = None }) n c is) [
+    begun_changed (Begins line identifier called dialled setup requested) w same old can from = λ n c is.
+        elim (new_or_old w.calls w.next (record { caller = line; called = called; dialled = dialled; setup = setup; requested = requested; agreed = None }) n c is) [
           | inl new ↦ record {
             beginning = here tables before world entry next run step;
             request = from.asked.request;
@@ -255,6 +258,7 @@ module _ {A : Type 0} where
             called = ap (λ x. Some x.called) (sym new.1) ∙ sym (ap taken_by from.took);
             payer = ap (λ x. x.setup.payer) (sym new.1) ∙ sym (ap payer_of from.took);
             dialled = sym (ap (λ x. x.dialled) new.1) ∙ from.asked.dialled_is;
+            requested = sym (ap (λ x. x.requested) new.1) ∙ from.requested_is;
           }
           | inr earlier ↦ old n c earlier.1
         ]

@@ -20,6 +20,7 @@ pub mod Joined
 pub mod Leaving
 pub mod Ledger
 pub mod Live
+pub mod Moments
 pub mod Names
 pub mod Origins
 pub mod Outcomes

@@ -50,7 +50,7 @@ not_connected changes change number first other connects =
 module _ {A : Type 0} (tables : Tables) (before : List (Entry A)) (world : World) (entry : Entry A) (next : World) (entries : ℕ)
     (right : IsRight tables entries world) (step : Step tables before world entry next) where
   abbrev Comes : Change → Type 0
-  Comes change = ComesOf (step_context tables before world entry.event.line) entry.event.what (action_at world entry.event) entry.outcome step.told change
+  Comes change = ComesOf (step_context tables before world entry.event.line entry.event.moment) entry.event.what (action_at world entry.event) entry.outcome step.told change
 
   -- a call that is answered was not connected
   unagreed : (number : ℕ) (call : Call) → action_at world entry.event ≡ Answer → call_on world entry.event.line ≡ Some (number, call) → call.agreed ≡ None
@@ -76,10 +76,10 @@ module _ {A : Type 0} (tables : Tables) (before : List (Entry A)) (world : World
   one_was (Rises line) from number call is = same is (not_connected _ (Rises line) number refl (λ c a e. absurd (cc)))
   one_was (Leaves line way) from number call is = same is (not_connected _ (Leaves line way) number refl (λ c a e. absurd (cc)))
   one_was (IsRefused line identifier dialled why) from number call is = same is (not_connected _ (IsRefused line identifier dialled why) number refl (λ c a e. absurd (cc)))
-  one_was (Begins line identifier called dialled setup) from number call is =
-      elim (new_or_old world.calls world.next (record { caller = line; called = called; dialled = dialled; setup = setup; agreed = None }) number call is) [
+  one_was (Begins line identifier called dialled setup requested) from number call is =
+      elim (new_or_old world.calls world.next (record { caller = line; called = called; dialled = dialled; setup = setup; requested = requested; agreed = None }) number call is) [
         | inl new ↦ begun new.0 (ap (λ c. c.agreed) (sym new.1))
-        | inr old ↦ same old.1 (not_connected _ (Begins line identifier called dialled setup) number refl (λ c a e. absurd (cc)))
+        | inr old ↦ same old.1 (not_connected _ (Begins line identifier called dialled setup requested) number refl (λ c a e. absurd (cc)))
       ]
   one_was (Connects n c a) from number call is =
       elim (new_or_old world.calls n (record c { agreed = Some a }) number call is) [
@@ -108,10 +108,10 @@ module _ {A : Type 0} (tables : Tables) (before : List (Entry A)) (world : World
     two_was (Connects n' c' a) new from number call is = absurd (from.old new)
     two_was (Ends n' c' line way cause diagnostic) new from number call is = absurd (from.old new)
     two_was (IsRefused line identifier dialled why) new from number call is = still (IsRefused line identifier dialled why) number call is
-    two_was (Begins line identifier called dialled setup) new from number call is =
-        elim (new_or_old (changed ended world).calls world.next (record { caller = line; called = called; dialled = dialled; setup = setup; agreed = None }) number call is) [
+    two_was (Begins line identifier called dialled setup requested) new from number call is =
+        elim (new_or_old (changed ended world).calls world.next (record { caller = line; called = called; dialled = dialled; setup = setup; requested = requested; agreed = None }) number call is) [
           | inl made ↦ begun made.0 (ap (λ k. k.agreed) (sym made.1))
-          | inr old ↦ still (Begins line identifier called dialled setup) number call old.1
+          | inr old ↦ still (Begins line identifier called dialled setup requested) number call old.1
         ]
 
   abbrev changes : List Change
@@ -158,7 +158,7 @@ module _ {A : Type 0} (tables : Tables) (before : List (Entry A)) (world : World
   next_of (Rises line) w = omega arith
   next_of (Leaves line way) w = omega arith
   next_of (IsRefused line identifier dialled why) w = omega arith
-  next_of (Begins line identifier called dialled setup) w = omega arith
+  next_of (Begins line identifier called dialled setup requested) w = omega arith
   next_of (Connects n c a) w = omega arith
   next_of (Ends n c line way cause diagnostic) w = omega arith
 

@@ -76,30 +76,30 @@ module _ {A : Type 0} (at : StepContext A) (what : What A) (sound : IsSound at.t
   abbrev counted : ℕ → Call → End → ℕ
   counted = segments_of at.tables at.before
 
-  records_named : (change : Change) (world : World) → ComesOf at what change → Recorded (recorded counted world change)
+  records_named : (change : Change) (world : World) → ComesOf at what change → Recorded (recorded counted at.moment world change)
   records_named (Rises line) world from = All-nil (NamesLines (line_count at.tables))
   records_named (Leaves line way) world from = All-nil (NamesLines (line_count at.tables))
-  records_named (Begins line identifier called dialled setup) world from = All-nil (NamesLines (line_count at.tables))
+  records_named (Begins line identifier called dialled setup requested) world from = All-nil (NamesLines (line_count at.tables))
   records_named (Connects number call agreement) world from = All-nil (NamesLines (line_count at.tables))
   records_named (IsRefused line identifier dialled why) world from =
-      All-cons (NamesLines (line_count at.tables)) (refused_record world.next line dialled why) []
+      All-cons (NamesLines (line_count at.tables)) (refused_record world.next at.moment line dialled why) []
       (record { caller = omega (arith, from.line_is, within); called = tt }) (All-nil (NamesLines (line_count at.tables)))
   records_named (Ends number call line way cause diagnostic) world from =
       let held : IsHeld at.tables at.world number call = coupled.held number call from.0 in
-      All-cons (NamesLines (line_count at.tables)) (record_of number call (counted number call) cause diagnostic) []
+      All-cons (NamesLines (line_count at.tables)) (record_of number call (counted number call) at.moment cause diagnostic) []
       (record { caller = held.caller; called = held.called }) (All-nil (NamesLines (line_count at.tables)))
 
-  all_records_named : (changes : List Change) (world : World) → AllByRecursion (ComesOf at what) changes → Recorded (recorded_by counted world changes)
+  all_records_named : (changes : List Change) (world : World) → AllByRecursion (ComesOf at what) changes → Recorded (recorded_by counted at.moment world changes)
   all_records_named [] world from = All-nil (NamesLines (line_count at.tables))
   all_records_named (change ∷ changes) world from =
-      All-append (NamesLines (line_count at.tables)) (recorded counted world change) (recorded_by counted (changed change world) changes)
+      All-append (NamesLines (line_count at.tables)) (recorded counted at.moment world change) (recorded_by counted at.moment (changed change world) changes)
       (records_named change world from.0) (all_records_named changes (changed change world) from.1)
 
 module _ {A : Type 0} where
   entry_named : (tables : Tables) (before : List (Entry A)) (world : World) (entry : Entry A) (next : World) → IsSound tables → IsRight tables (length before) world
       → Step tables before world entry next → HasLines (line_count tables) entry
   entry_named tables before world entry next sound right step =
-      let at : StepContext A = step_context tables before world entry.event.line in
+      let at : StepContext A = step_context tables before world entry.event.line entry.event.moment in
       let within : entry.event.line < line_count tables = omega (arith, step.line, right.sound.lines) in
       let N : Output A → Type 0 = λ output. output.line < line_count tables in
       record {

@@ -19,7 +19,7 @@ use Rattle.xp_channel.specs.declared.action.Action.TheVariants.{Nothing, Rise, F
 use Rattle.xp_decide.specs.Decided.{Decided}
 use Rattle.xp_decide.specs.declared.verdict.IncomingCall.{IncomingCall}
 use Rattle.xp_decide.specs.declared.verdict.Verdict.TheVariants.{Take}
-use Rattle.xp_facilities.specs.declared.segment_counts.SegmentCounts.{SegmentCounts}
+use Rattle.xp_facilities.specs.declared.charging_information.ChargingInformation.{ChargingInformation}
 use Rattle.xp_packets.specs.declared.packet.Packet.{Packet}
 use Rattle.xp_relay.specs.declared.moves.Move.{Move}
 use Rattle.xp_subs.specs.Tables.{address_of}
@@ -64,13 +64,13 @@ module _ {A : Type 0} where
     pub answer : CallAccepted A
     pub connection : Connection A
     pub answered : Answered call.setup (address_of at.tables at.line) call.dialled answer.d answer.block (answered.Connected connection)
-    pub agreement_is : agreement ≡ agreement_of connection
+    pub agreement_is : agreement ≡ agreement_of at.moment connection
 
   -- where a change comes from
   abbrev pub ComesOf : StepContext A → What A → Change → Type 0
   ComesOf at what (Rises line) = line ≡ at.line
   ComesOf at what (Leaves line way) = line ≡ at.line
-  ComesOf at what (Begins line identifier called dialled setup) = IsBegun at what line identifier called dialled setup
+  ComesOf at what (Begins line identifier called dialled setup requested) = IsBegun at what line identifier called dialled setup
   ComesOf at what (IsRefused line identifier dialled why) = IsAsked at what line identifier dialled
   ComesOf at what (Connects number call agreement) = IsConnection at number call agreement
   ComesOf at what (Ends number call line way cause diagnostic) = (call_numbered at.world number ≡ Some call) × (line ≡ at.line)
@@ -78,14 +78,14 @@ module _ {A : Type 0} where
   -- where something that is put out comes from
   pub data IsSent (at : StepContext A) (what : What A) (output : Output A) : Type 0 where
     closing : output ≡ close at.world at.line → IsSent at what output
-    confirming : (information : Option SegmentCounts) → output ≡ send at.world at.line (confirmed_with information) → IsSent at what output
-    clearing : (cause diagnostic : ℕ) (information : Option SegmentCounts)
+    confirming : (information : Option ChargingInformation) → output ≡ send at.world at.line (confirmed_with information) → IsSent at what output
+    clearing : (cause diagnostic : ℕ) (information : Option ChargingInformation)
         → output ≡ send at.world at.line (cleared_with cause diagnostic information) → IsSent at what output
     refusing : (request : CallRequest A) (why : Refusal) → request_in what ≡ Some request
         → output ≡ send_as at.world at.line request.identifier (clear_indication why.cause why.diagnostic) → IsSent at what output
-    clearing_far : (found : ℕ × Call) (cause diagnostic : ℕ) (information : Option SegmentCounts) → call_numbered at.world found.0 ≡ Some found.1
+    clearing_far : (found : ℕ × Call) (cause diagnostic : ℕ) (information : Option ChargingInformation) → call_numbered at.world found.0 ≡ Some found.1
         → output ≡ send at.world (far_end found.1 at.line) (cleared_with cause diagnostic information) → IsSent at what output
-    carrying_on : (found : ℕ × Call) (clear : ClearRequest A) (information : Option SegmentCounts) (packet : Packet A) → call_numbered at.world found.0 ≡ Some found.1 → clear_in what ≡ Some clear
+    carrying_on : (found : ℕ × Call) (clear : ClearRequest A) (information : Option ChargingInformation) (packet : Packet A) → call_numbered at.world found.0 ≡ Some found.1 → clear_in what ≡ Some clear
         → ForwardedClear found.1.setup.fast clear.cause clear.diagnostic clear.block information packet
         → output ≡ send at.world (far_end found.1 at.line) packet → IsSent at what output
     connecting : (found : ℕ × Call) (answer : CallAccepted A) (connection : Connection A) → call_numbered at.world found.0 ≡ Some found.1 → accepted_in what ≡ Some answer
@@ -112,7 +112,7 @@ module _ {A : Type 0} where
     leaving way cause diagnostic (Some found) is = (((shown_on at.world at.line found is).1, refl), tt)
 
     requested : (request : CallRequest A) (far : List (Output A)) (outcome : Outcome) (told : EventOutputs A) → request_in what ≡ Some request
-        → IsRequested at.tables at.world at.line far request outcome told → AllCome (requests at.line (Some request) outcome)
+        → IsRequested at.tables at.world at.line far request outcome told → AllCome (requests at.line at.moment (Some request) outcome)
     requested request far (Put called setup) told asks is = (
       record {
         asked = record { request = request; asks = asks; line_is = refl; identifier_is = refl; dialled_is = refl };
@@ -130,12 +130,12 @@ module _ {A : Type 0} where
     requested request far Exceeded told asks is = absurd is
 
     requesting : (far : List (Output A)) (asked : Option (CallRequest A)) (outcome : Outcome) (told : EventOutputs A) → request_in what ≡ asked
-        → Requests at.tables at.world at.line far asked outcome told → AllCome (requests at.line asked outcome)
+        → Requests at.tables at.world at.line far asked outcome told → AllCome (requests at.line at.moment asked outcome)
     requesting far None outcome told asks is = tt
     requesting far (Some request) outcome told asks is = requested request far outcome told asks is
 
     colliding : (far : List (Output A)) (asked : Option (CallRequest A)) (found : Option (ℕ × Call)) (outcome : Outcome) (told : EventOutputs A) → request_in what ≡ asked
-        → call_on at.world at.line ≡ found → Requests at.tables at.world at.line far asked outcome told → AllCome (collides at.line asked found outcome)
+        → call_on at.world at.line ≡ found → Requests at.tables at.world at.line far asked outcome told → AllCome (collides at.line at.moment asked found outcome)
     colliding far None found outcome told asks on is = tt
     colliding far (Some request) None outcome told asks on is = requested request far outcome told asks is
     colliding far (Some request) (Some found) outcome told asks on is =
@@ -206,7 +206,7 @@ module _ {A : Type 0} where
     none_sent : (outcome : Outcome) (told : EventOutputs A) → IsPlain no_outputs outcome told → All (IsSent at what) (outputs_of told)
     none_sent outcome told is = these no_outputs told is.1 refl tt tt tt
 
-    far_cleared : (cause diagnostic : ℕ) (information : Option SegmentCounts) (found : Option (ℕ × Call)) → call_on at.world at.line ≡ found
+    far_cleared : (cause diagnostic : ℕ) (information : Option ChargingInformation) (found : Option (ℕ × Call)) → call_on at.world at.line ≡ found
         → AreSent (send_far at.world at.line found (cleared_with cause diagnostic information))
     far_cleared cause diagnostic information None on = tt
     far_cleared cause diagnostic information (Some found) on = (clearing_far found cause diagnostic information (shown_on at.world at.line found on).1 refl, tt)

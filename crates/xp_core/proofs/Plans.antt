@@ -26,12 +26,12 @@ all_changed-append : (changes more : List Change) (world : World) → all_change
 all_changed-append [] more world = refl
 all_changed-append (change ∷ changes) more world = all_changed-append changes more (changed change world)
 
-recorded_by-append : (counted : ℕ → Call → End → ℕ) (changes more : List Change) (world : World)
-    → recorded_by counted world (changes ++ more) ≡ recorded_by counted world changes ++ recorded_by counted (all_changed changes world) more
-recorded_by-append counted [] more world = refl
-recorded_by-append counted (change ∷ changes) more world =
-    ap (λ records. recorded counted world change ++ records) (recorded_by-append counted changes more (changed change world))
-    ∙ sym (append_assoc (recorded counted world change) (recorded_by counted (changed change world) changes) (recorded_by counted (all_changed changes (changed change world)) more))
+recorded_by-append : (counted : ℕ → Call → End → ℕ) (moment : ℕ) (changes more : List Change) (world : World)
+    → recorded_by counted moment world (changes ++ more) ≡ recorded_by counted moment world changes ++ recorded_by counted moment (all_changed changes world) more
+recorded_by-append counted moment [] more world = refl
+recorded_by-append counted moment (change ∷ changes) more world =
+    ap (λ records. recorded counted moment world change ++ records) (recorded_by-append counted moment changes more (changed change world))
+    ∙ sym (append_assoc (recorded counted moment world change) (recorded_by counted moment (changed change world) changes) (recorded_by counted moment (all_changed changes (changed change world)) more))
 
 pub planned : {A : Type 0} (plan : Plan A) (at : StepContext A) (cancelled : Cancelled A) (ended : List Change) (far : List (Output A)) (kept : KeptChange) (change : Change)
     (own taken : List (Output A)) (records : List Record)
@@ -39,13 +39,13 @@ pub planned : {A : Type 0} (plan : Plan A) (at : StepContext A) (cancelled : Can
     → plan.outputs.outputs ≡ own ++ option_to_list cancelled.told ++ taken
     → plan.cancelled ≡ cancelled.line → plan.change ≡ Some kept
     → plan.records.items ≡ option_to_list cancelled.charged ++ records
-    → ((w : World) → applied kept w ≡ changed change w) → records ≡ recorded (segments_of at.tables at.before) (all_changed ended at.world) change
+    → ((w : World) → applied kept w ≡ changed change w) → records ≡ recorded (segments_of at.tables at.before) at.moment (all_changed ended at.world) change
     → IsPlan plan at (record { carried = []; own = own; far = far; taken = taken }) (ended ++ change ∷ [])
 planned plan at cancelled ended far kept change own taken records ends outputs cancels changes charged does recorded_is = record {
   outputs = outputs ∙ ap (λ told. own ++ told ++ taken) ends.told;
   records = charged ∙ ap (λ front. front ++ records) ends.records
-      ∙ ap (λ last. recorded_at at ended ++ last) (recorded_is ∙ sym (append-nil (recorded (segments_of at.tables at.before) (all_changed ended at.world) change)))
-      ∙ sym (recorded_by-append (segments_of at.tables at.before) ended (change ∷ []) at.world);
+      ∙ ap (λ last. recorded_at at ended ++ last) (recorded_is ∙ sym (append-nil (recorded (segments_of at.tables at.before) at.moment (all_changed ended at.world) change)))
+      ∙ sym (recorded_by-append (segments_of at.tables at.before) at.moment ended (change ∷ []) at.world);
   does = ap (λ c. applied_if_any c (freed_if_any plan.cancelled at.world)) changes
       ∙ ap (λ l. applied kept (freed_if_any l at.world)) cancels
       ∙ ap (applied kept) ends.does
@@ -61,8 +61,8 @@ module _ {A : Type 0} (cancelled : Cancelled A) (at : StepContext A) where
       → IsCancelled cancelled at (cancels at.line (call_on at.world at.line)) (outputs_of_cancel at.world at.line)
   none_cancelled none is = subst cancels_it (sym is) (none at)
 
-  pub call_cancelled : (found : ℕ × Call) (counted : Counted) → call_on at.world at.line ≡ Some found → counted ≡ counted_by at.tables at.before found.0 found.1.agreed
-      → cancelled.line ≡ Some at.line → option_to_list cancelled.charged ≡ record_of found.0 found.1 (λ end. counted_from end counted) NUMBER_BUSY CALL_COLLISION ∷ []
+  pub call_cancelled : (found : ℕ × Call) (counted : Counted) → call_on at.world at.line ≡ Some found → counted ≡ counted_by at.tables at.before found.0 found.1 found.1.agreed
+      → cancelled.line ≡ Some at.line → option_to_list cancelled.charged ≡ record_of found.0 found.1 (λ end. counted_from end counted) at.moment NUMBER_BUSY CALL_COLLISION ∷ []
       → option_to_list cancelled.told ≡ outputs_of_cancel at.world at.line
       → IsCancelled cancelled at (cancels at.line (call_on at.world at.line)) (outputs_of_cancel at.world at.line)
   call_cancelled found counted is counted_is line charged told =
@@ -70,6 +70,6 @@ module _ {A : Type 0} (cancelled : Cancelled A) (at : StepContext A) where
       subst P (sym is) (record {
         does = ap (λ l. freed_if_any l at.world) line ∙ ap (λ f. left at.line IsFree f at.world) is;
         next = refl;
-        records = charged ∙ ap (λ m. record_of found.0 found.1 (λ end. counted_from end m) NUMBER_BUSY CALL_COLLISION ∷ []) counted_is;
+        records = charged ∙ ap (λ m. record_of found.0 found.1 (λ end. counted_from end m) at.moment NUMBER_BUSY CALL_COLLISION ∷ []) counted_is;
         told = told;
       })

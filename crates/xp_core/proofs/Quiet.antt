@@ -16,18 +16,18 @@ module _ {A : Type 0} (tables : Tables) (line : ℕ) where
   leaves_quiet way cause diagnostic None relay_update none = none
   leaves_quiet way cause diagnostic (Some found) relay_update none = none
 
-  pub requests_quiet : (asked : Option (CallRequest A)) (outcome : Outcome) (relay_update : Option (RelayUpdate A)) → relay_update ≡ None
-      → RelaysFor tables (requests line asked outcome) relay_update
-  requests_quiet None outcome relay_update none = none
-  requests_quiet (Some request) (Put called setup) relay_update none = none
-  requests_quiet (Some request) (Refused why) relay_update none = none
-  requests_quiet (Some request) Plain relay_update none = none
-  requests_quiet (Some request) (Connected agreement) relay_update none = none
-  requests_quiet (Some request) (Declined diagnostic) relay_update none = none
-  requests_quiet (Some request) Exceeded relay_update none = none
+  pub requests_quiet : (moment : ℕ) (asked : Option (CallRequest A)) (outcome : Outcome) (relay_update : Option (RelayUpdate A)) → relay_update ≡ None
+      → RelaysFor tables (requests line moment asked outcome) relay_update
+  requests_quiet moment None outcome relay_update none = none
+  requests_quiet moment (Some request) (Put called setup) relay_update none = none
+  requests_quiet moment (Some request) (Refused why) relay_update none = none
+  requests_quiet moment (Some request) Plain relay_update none = none
+  requests_quiet moment (Some request) (Connected agreement) relay_update none = none
+  requests_quiet moment (Some request) (Declined diagnostic) relay_update none = none
+  requests_quiet moment (Some request) Exceeded relay_update none = none
 
-  pub collides_quiet : (asked : Option (CallRequest A)) (found : Option (ℕ × Call)) (outcome : Outcome) (relay_update : Option (RelayUpdate A)) → relay_update ≡ None
-      → RelaysFor tables (collides line asked found outcome) relay_update
-  collides_quiet None found outcome relay_update none = none
-  collides_quiet (Some request) None outcome relay_update none = requests_quiet (Some request) outcome relay_update none
-  collides_quiet (Some request) (Some found) outcome relay_update none = none
+  pub collides_quiet : (moment : ℕ) (asked : Option (CallRequest A)) (found : Option (ℕ × Call)) (outcome : Outcome) (relay_update : Option (RelayUpdate A)) → relay_update ≡ None
+      → RelaysFor tables (collides line moment asked found outcome) relay_update
+  collides_quiet moment None found outcome relay_update none = none
+  collides_quiet moment (Some request) None outcome relay_update none = requests_quiet moment (Some request) outcome relay_update none
+  collides_quiet moment (Some request) (Some found) outcome relay_update none = none

@@ -10,9 +10,8 @@ use Rattle.xp_relay.specs.Runs.{run}
 use Rattle.xp_subs.specs.Tables.{Tables, line_count}
 use Rattle.xp_core.specs.declared.entry.Entry.{Entry}
 use Rattle.xp_machine.specs.declared.agreement.Agreement.{Agreement}
-use Rattle.xp_core.specs.RelayedPackets.{RelayedPacket, arrival_for, arrivals, arrivals_from, relayed_as, relayed_by, relayed_in, directions, turn_of_relayed}
+use Rattle.xp_core.specs.RelayedPackets.{RelayedPacket, arrival_for, arrivals, arrivals_from, relayed_as, relayed_by, relayed_in, directions, relay_terms, turn_of_relayed}
 use Rattle.xp_machine.specs.CallEnds.{end_of}
-use Rattle.xp_machine.specs.RelayTerms.{terms_of}
 use Rattle.xp_machine.specs.World.{Call, World, opening}
 use Rattle.xp_core.specs.Worlds.{world_after, world_from, world_next}
 
@@ -94,11 +93,11 @@ module _ {A : Type 0} where
       none None differs = refl
       none (Some c) differs = cond-false (eqb c.number number) (c.arrival ∷ []) [] (ne_eqb c.number number (λ same. differs c refl (sym same)))
 
-  pub directions_still : (tables : Tables) (before : List (Entry A)) (world : World) (entry : Entry A) (number : ℕ) (agreement : Agreement) → world ≡ world_after tables before
+  pub directions_still : (tables : Tables) (before : List (Entry A)) (world : World) (entry : Entry A) (number : ℕ) (call : Call) (agreement : Agreement) → world ≡ world_after tables before
       → ((carried : RelayedPacket A) → relayed_in world entry.event ≡ Some carried → number ≢ carried.number)
-      → directions tables (before ++ entry ∷ []) number agreement ≡ directions tables before number agreement
-  directions_still tables before world entry number agreement is other =
-      ap (run (coupled (terms_of agreement))) (arrivals_still tables before world entry number is other)
+      → directions tables (before ++ entry ∷ []) number call agreement ≡ directions tables before number call agreement
+  directions_still tables before world entry number call agreement is other =
+      ap (run (coupled (relay_terms tables call agreement))) (arrivals_still tables before world entry number is other)
 
   -- one packet more for this call
   pub arrivals_on : (tables : Tables) (before : List (Entry A)) (world : World) (entry : Entry A) (carried : RelayedPacket A) → world ≡ world_after tables before
@@ -112,7 +111,7 @@ module _ {A : Type 0} where
 
   pub directions_on : (tables : Tables) (before : List (Entry A)) (world : World) (entry : Entry A) (carried : RelayedPacket A) → world ≡ world_after tables before
       → relayed_in world entry.event ≡ Some carried
-      → directions tables (before ++ entry ∷ []) carried.number carried.agreement ≡ after carried.arrival.here (turn_of_relayed tables before carried)
+      → directions tables (before ++ entry ∷ []) carried.number carried.call carried.agreement ≡ after carried.arrival.here (turn_of_relayed tables before carried)
   directions_on tables before world entry carried is by =
-      ap (run (coupled (terms_of carried.agreement))) (arrivals_on tables before world entry carried is by)
-      ∙ run_more (coupled (terms_of carried.agreement)) (arrivals tables before carried.number) carried.arrival
+      ap (run (coupled (relay_terms tables carried.call carried.agreement))) (arrivals_on tables before world entry carried is by)
+      ∙ run_more (coupled (relay_terms tables carried.call carried.agreement)) (arrivals tables before carried.number) carried.arrival

@@ -14,8 +14,7 @@ use Rattle.xp_core.specs.declared.outcome.Outcome.TheVariants.{Exceeded}
 use Rattle.xp_machine.specs.declared.relays.RelayUpdate.{RelayUpdate}
 use Rattle.xp_machine.specs.declared.relays.MeteredRelay.{MeteredRelay}
 use Rattle.xp_core.specs.Acts.{Acts, Carries, CarriesAs}
-use Rattle.xp_core.specs.RelayedPackets.{RelayedPacket, arrivals, relayed_in, directions, turn_of_relayed}
-use Rattle.xp_machine.specs.RelayTerms.{terms_of}
+use Rattle.xp_core.specs.RelayedPackets.{RelayedPacket, arrivals, relay_terms, relayed_in, directions, turn_of_relayed}
 use Rattle.xp_machine.specs.Changes.{Change, Rises, Leaves, Begins, IsRefused, Connects, Ends, all_changed}
 use Rattle.xp_core.specs.Effects.{carries, changes_of, effects_of}
 use Rattle.xp_core.specs.steps.Relays.{RelaysRepresentCalls, IsRelayed, IsRepresentedBy, Relays, RelaysFor, RelaysOn, counted_by, counted_with}
@@ -48,12 +47,12 @@ one_caller tables entries world right number other call its is is' at =
 -- changes that need a relay connect a call
 asks : {A : Type 0} (tables : Tables) (changes : List Change) (relay_update : Option (RelayUpdate A)) → RelaysFor tables changes relay_update
     → (relay_update ≡ None) ⊎ ((number : ℕ) × (call : Call) × (agreement : Agreement) × (rest : List Change) × (changes ≡ Connects number call agreement ∷ rest)
-    × IsRelayed call (coupled (terms_of agreement)) (opening_meter tables.segment_limit) relay_update)
+    × IsRelayed call (coupled (relay_terms tables call agreement)) (opening_meter tables.segment_limit) relay_update)
 asks tables [] relay_update none = inl none
 asks tables (Connects number call agreement ∷ changes) relay_update relayed = inr (number, call, agreement, changes, refl, relayed)
 asks tables (Rises line ∷ changes) relay_update none = inl none
 asks tables (Leaves line way ∷ changes) relay_update none = inl none
-asks tables (Begins line identifier called dialled setup ∷ changes) relay_update none = inl none
+asks tables (Begins line identifier called dialled setup requested ∷ changes) relay_update none = inl none
 asks tables (IsRefused line identifier dialled why ∷ changes) relay_update none = inl none
 asks tables (Ends number call line way cause diagnostic ∷ changes) relay_update none = inl none
 
@@ -74,7 +73,7 @@ module _ {A : Type 0} where
         (shown_on world entry.event.line (carried.number, carried.call) it.on).1,
         it.agreed,
         λ tables before.
-            ap (λ action. effects_of (step_context tables before world entry.event.line) entry.event.what action entry.outcome) relayed.0
+            ap (λ action. effects_of (step_context tables before world entry.event.line entry.event.moment) entry.event.what action entry.outcome) relayed.0
             ∙ ap (λ found. carries entry.event.line found entry.outcome) it.on,
       )
 
@@ -158,28 +157,28 @@ module _ {A : Type 0} where
     caller_within : (number : ℕ) (call : Call) → call_numbered world number ≡ Some call → call.caller < length relays
     caller_within number call live = omega (arith, places, (its.coupled.held number call live).caller)
 
-    abbrev ShownAs : ℕ → ℕ → Agreement → Type 0
-    ShownAs line number agreement =
-        IsRepresentedBy (relay_under later line) (directions tables (before ++ entry ∷ []) number agreement) (counted_by tables (before ++ entry ∷ []) number (Some agreement))
+    abbrev ShownAs : ℕ → ℕ → Call → Agreement → Type 0
+    ShownAs line number call agreement =
+        IsRepresentedBy (relay_under later line) (directions tables (before ++ entry ∷ []) number call agreement) (counted_by tables (before ++ entry ∷ []) number call (Some agreement))
 
     abbrev Shown : ℕ → Call → Agreement → Type 0
-    Shown number call agreement = ShownAs call.caller number agreement
+    Shown number call agreement = ShownAs call.caller number call agreement
 
     -- a call whose relay and packets stay
     stays : (number : ℕ) (call : Call) (agreement : Agreement) → call_numbered world number ≡ Some call → call.agreed ≡ Some agreement
         → ((c : RelayedPacket A) → relayed_in world entry.event ≡ Some c → number ≢ c.number) → relay_under later call.caller ≡ relay_under relays call.caller → Shown number call agreement
     stays number call agreement live agreed other under =
         let P : Option (MeteredRelay A) → Type 0 =
-        λ r. IsRepresentedBy r (directions tables (before ++ entry ∷ []) number agreement) (counted_by tables (before ++ entry ∷ []) number (Some agreement)) in
-        let Q : Coupled A → Type 0 = λ d. IsRepresentedBy (relay_under relays call.caller) d (counted_by tables (before ++ entry ∷ []) number (Some agreement)) in
-        let R : Counted → Type 0 = λ m. IsRepresentedBy (relay_under relays call.caller) (directions tables before number agreement) m in
-        subst P (sym under) (subst Q (sym (directions_still tables before world entry number agreement here other))
-        (subst R (sym (counted_still tables before world entry here number agreement other)) (carried number call agreement live agreed)))
+        λ r. IsRepresentedBy r (directions tables (before ++ entry ∷ []) number call agreement) (counted_by tables (before ++ entry ∷ []) number call (Some agreement)) in
+        let Q : Coupled A → Type 0 = λ d. IsRepresentedBy (relay_under relays call.caller) d (counted_by tables (before ++ entry ∷ []) number call (Some agreement)) in
+        let R : Counted → Type 0 = λ m. IsRepresentedBy (relay_under relays call.caller) (directions tables before number call agreement) m in
+        subst P (sym under) (subst Q (sym (directions_still tables before world entry number call agreement here other))
+        (subst R (sym (counted_still tables before world entry here number call agreement other)) (carried number call agreement live agreed)))
 
     -- a packet came for a call
     module _ (c : RelayedPacket A) (by : relayed_in world entry.event ≡ Some c) where
       abbrev at : StepContext A
-      at = step_context tables before world entry.event.line
+      at = step_context tables before world entry.event.line entry.event.moment
 
       its_acts : CarriesAs at (Some c) (is_past_limit tables before (Some c)) entry.outcome step.told
       its_acts =
@@ -212,7 +211,7 @@ module _ {A : Type 0} where
               let shows = shown_now relays later c.call (after c.arrival.here (turn_of_relayed tables before c)) (counted_with tables before c) on.relay_update on.become relayed
               (caller_within c.number c.call it.0) in
               let D : Coupled A → Type 0 = λ d. IsRepresentedBy (relay_under later c.call.caller) d (counted_with tables before c) in
-              let M : Counted → Type 0 = λ m. IsRepresentedBy (relay_under later c.call.caller) (directions tables (before ++ entry ∷ []) c.number c.agreement) m in
+              let M : Counted → Type 0 = λ m. IsRepresentedBy (relay_under later c.call.caller) (directions tables (before ++ entry ∷ []) c.number c.call c.agreement) m in
               let P : Call → Type 0 = λ k. Shown c.number k c.agreement in
               let Q : ℕ → Type 0 = λ n. Shown n call c.agreement in
               let R : Agreement → Type 0 = λ a. Shown number call a in
@@ -263,7 +262,7 @@ module _ {A : Type 0} where
                   let C : ℕ → Type 0 = λ n. Connected (changes_of tables before world entry) n in
                   absurd (other (subst C (sym is) (record { call = asked.1; agreement = asked.2; rest = asked.3; is = asked.4 })))
               | inr differs ↦ stays number call agreement live agreed (none_came number)
-                  (still_under relays later asked.1 (coupled (terms_of asked.2)) (opening_meter tables.segment_limit) on.relay_update on.become relayed call.caller differs)
+                  (still_under relays later asked.1 (coupled (relay_terms tables asked.1 asked.2)) (opening_meter tables.segment_limit) on.relay_update on.become relayed call.caller differs)
             ]
       ]
 
@@ -276,19 +275,19 @@ module _ {A : Type 0} where
           let agreement_is : a ≡ agreement = cc in
           let nothing_yet : arrivals tables (before ++ entry ∷ []) number ≡ [] =
           arrivals_still tables before world entry number here (none_came number) ∙ (run_unused tables before world run).unconnected number c live none in
-          let shows = shown_now relays later c (coupled (terms_of a)) (opening_meter tables.segment_limit) on.relay_update on.become relayed (caller_within number c live) in
+          let shows = shown_now relays later c (coupled (relay_terms tables c a)) (opening_meter tables.segment_limit) on.relay_update on.become relayed (caller_within number c live) in
           let D : Coupled A → Type 0 = λ d. IsRepresentedBy (relay_under later c.caller) d (opening_meter tables.segment_limit) in
-          let M : Counted → Type 0 = λ m. IsRepresentedBy (relay_under later c.caller) (directions tables (before ++ entry ∷ []) number a) m in
-          let K : ℕ → Type 0 = λ line. ShownAs line number a in
+          let M : Counted → Type 0 = λ m. IsRepresentedBy (relay_under later c.caller) (directions tables (before ++ entry ∷ []) number c a) m in
+          let K : Call → Type 0 = λ k. Shown number k a in
           let R : Agreement → Type 0 = λ b. Shown number call b in
-          subst R agreement_is (subst K (sym (ap (λ k. k.caller) becomes)) (subst M (sym (counted_none tables (before ++ entry ∷ []) number a nothing_yet))
-          (subst D (sym (ap (run_of (coupled (terms_of a))) nothing_yet)) shows)))
+          subst R agreement_is (subst K (sym becomes) (subst M (sym (counted_none tables (before ++ entry ∷ []) number c a nothing_yet))
+          (subst D (sym (ap (run_of (coupled (relay_terms tables c a))) nothing_yet)) shows)))
 
     pub carried_next : RelaysRepresentCalls tables (before ++ entry ∷ []) next later
     carried_next number call agreement live agreed = by (relayed_in world entry.event) refl on.is
       where
         by_limit : (c : RelayedPacket A) → relayed_in world entry.event ≡ Some c → (past : Bool) → is_past_limit tables before (Some c) ≡ past
-            → RelaysOn tables before c past on.relay_update → CarriesAs (step_context tables before world entry.event.line) (Some c) past entry.outcome step.told → Shown number call agreement
+            → RelaysOn tables before c past on.relay_update → CarriesAs (step_context tables before world entry.event.line entry.event.moment) (Some c) past entry.outcome step.told → Shown number call agreement
         by_limit c is false past relayed acts = elim (was tables before world entry next (length before) its step number call live) [
           | same there other ↦ led_on c is past relayed number call agreement there agreed
           | begun number_is none ↦ absurd (cc)

@@ -29,7 +29,7 @@ module _ {A : Type 0} (at : StepContext A) (request : CallRequest A) (ended : Li
   Acts told outcome = IsRequested at.tables at.world at.line far request outcome told
 
   abbrev Planned : EventOutputs A → Outcome → Type 0
-  Planned told outcome = IsPlan plan at told (ended ++ requests at.line (Some request) outcome)
+  Planned told outcome = IsPlan plan at told (ended ++ requests at.line at.moment (Some request) outcome)
 
   abbrev IsOf : Verdict A → Type 0
   IsOf v = Decided at.tables (line_states at.world) at.line request.block v
@@ -47,7 +47,7 @@ module _ {A : Type 0} (at : StepContext A) (request : CallRequest A) (ended : Li
   pub put_through : (ring : IncomingCall A) (called calling : List ℕ) (packet : Packet A) (setup : Setup) → verdict ≡ Take ring
       → called ≡ address_of at.tables ring.line → calling ≡ address_of at.tables at.line
       → IsIncomingCall ring called calling request.d request.block packet → setup ≡ setup_of ring → plan.outcome ≡ Put ring.line setup → plan.relay_update ≡ None
-      → IsPlan plan at (outputs_of_incoming_call at.world far ring.line packet) (ended ++ Begins at.line request.identifier ring.line request.block.called setup ∷ [])
+      → IsPlan plan at (outputs_of_incoming_call at.world far ring.line packet) (ended ++ Begins at.line request.identifier ring.line request.block.called setup at.moment ∷ [])
       → PlansRequest at request ended far plan
   put_through ring called calling packet setup is called_is calling_is incoming setup_is outcome quiet planned =
       let told = outputs_of_incoming_call at.world far ring.line packet in

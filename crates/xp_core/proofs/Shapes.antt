@@ -55,8 +55,9 @@ module _ {A : Type 0} where
     pub identifier_is : identifier ≡ request.identifier
     pub dialled_is : dialled ≡ request.block.called
 
-  pub record IsTaken (at : StepContext A) (what : What A) (action : Action) (outcome : Outcome) (told : EventOutputs A) (line identifier called : ℕ) (dialled : List ℕ) (setup : Setup) : Type 0 where
+  pub record IsTaken (at : StepContext A) (what : What A) (action : Action) (outcome : Outcome) (told : EventOutputs A) (line identifier called : ℕ) (dialled : List ℕ) (setup : Setup) (requested : ℕ) : Type 0 where
     pub asked : IsAsked at what action line identifier dialled
+    pub requested_is : requested ≡ at.moment
     pub took : outcome ≡ Put called setup
     pub far : List (Output A)
     pub put : IsPut at.tables at.world at.line far asked.request called setup told
@@ -72,7 +73,7 @@ module _ {A : Type 0} where
     pub settled : outcome ≡ Connected agreement
     pub on : call_on at.world at.line ≡ Some (number, call)
     pub answer : CallAccepted A
-    pub connected : IsConnected at.tables at.world at.line answer call agreement told
+    pub connected : IsConnected at answer call agreement told
 
   pub record IsEnded (at : StepContext A) (action : Action) (told : EventOutputs A) (call : Call) (line cause diagnostic : ℕ) : Type 0 where
     pub old : IsNew action → ⊥
@@ -84,7 +85,7 @@ module _ {A : Type 0} where
   abbrev pub ComesOf : StepContext A → What A → Action → Outcome → EventOutputs A → Change → Type 0
   ComesOf at what action outcome told (Rises line) = IsNew action → ⊥
   ComesOf at what action outcome told (Leaves line way) = IsNew action → ⊥
-  ComesOf at what action outcome told (Begins line identifier called dialled setup) = IsTaken at what action outcome told line identifier called dialled setup
+  ComesOf at what action outcome told (Begins line identifier called dialled setup requested) = IsTaken at what action outcome told line identifier called dialled setup requested
   ComesOf at what action outcome told (IsRefused line identifier dialled why) = IsTurned at what action outcome told line identifier dialled why
   ComesOf at what action outcome told (Connects number call agreement) = IsJoined at action outcome told number call agreement
   ComesOf at what action outcome told (Ends number call line way cause diagnostic) = IsEnded at action told call line cause diagnostic
@@ -100,9 +101,9 @@ module _ {A : Type 0} where
         → ComesOf at what action outcome told change
         → Shape at what action outcome told changes
 
-module _ {A : Type 0} (tables : Tables) (before : List (Entry A)) (world : World) (line : ℕ) (coupled : AreCoupled tables world) (lines : length world.lines ≡ line_count tables) (within : line < length world.lines) where
+module _ {A : Type 0} (tables : Tables) (before : List (Entry A)) (world : World) (line moment : ℕ) (coupled : AreCoupled tables world) (lines : length world.lines ≡ line_count tables) (within : line < length world.lines) where
   abbrev here : StepContext A
-  here = step_context tables before world line
+  here = step_context tables before world line moment
 
   -- the far end of the line's call is another line
   module _ (found : ℕ × Call) (is : call_on world line ≡ Some found) where
@@ -214,9 +215,10 @@ module _ {A : Type 0} (tables : Tables) (before : List (Entry A)) (world : World
 
   taking : (what : What A) (action : Action) (told : EventOutputs A) (request : CallRequest A) (called : ℕ) (setup : Setup) (far : List (Output A)) → request_in what ≡ Some request → IsNew action
       → IsPut tables world line far request called setup told
-      → ComesOf here what action (Put called setup) told (Begins line request.identifier called request.block.called setup)
+      → ComesOf here what action (Put called setup) told (Begins line request.identifier called request.block.called setup moment)
   taking what action told request called setup far asks new put = record {
     asked = record { request = request; asks = asks; new = new; line_is = refl; identifier_is = refl; dialled_is = refl };
+    requested_is = refl;
     took = refl;
     far = far;
     put = put;
@@ -228,11 +230,11 @@ module _ {A : Type 0} (tables : Tables) (before : List (Entry A)) (world : World
       subst P (sym put.called_is) (taken_ready tables world line request.block put.ring put.decided)
 
   requesting : (what : What A) (outcome : Outcome) (told : EventOutputs A) (asked : Option (CallRequest A)) → request_in what ≡ asked
-      → call_of (state_at world line) ≡ None → Requests tables world line [] asked outcome told → Shape here what NewCall outcome told (requests line asked outcome)
+      → call_of (state_at world line) ≡ None → Requests tables world line [] asked outcome told → Shape here what NewCall outcome told (requests line moment asked outcome)
   requesting what outcome told None asks out acts = none refl (λ request is new. absurd (cc))
   requesting what (Put called setup) told (Some request) asks out acts =
       let ready = ready_for request called setup [] told acts in
-      one (Begins line request.identifier called request.block.called setup) refl
+      one (Begins line request.identifier called request.block.called setup moment) refl
       (record {
         one = record { within = within; none = out };
         second = record { within = ready.within; none = ap call_of ready.ready };
@@ -293,10 +295,10 @@ module _ {A : Type 0} (tables : Tables) (before : List (Entry A)) (world : World
     }
 
     colliding_in : (what : What A) (outcome : Outcome) (told : EventOutputs A) (request : CallRequest A) → request_in what ≡ Some request
-        → IsRequested tables world line (outputs_of_cancel world line) request outcome told → Shape here what Collision outcome told (collides line (Some request) (Some found) outcome)
+        → IsRequested tables world line (outputs_of_cancel world line) request outcome told → Shape here what Collision outcome told (collides line moment (Some request) (Some found) outcome)
     colliding_in what (Put called setup) told request asks acts =
         let ready = ready_for request called setup (outputs_of_cancel world line) told acts in
-        two found.0 found.1 (Begins line request.identifier called request.block.called setup) (inr refl) refl (in_call found is)
+        two found.0 found.1 (Begins line request.identifier called request.block.called setup moment) (inr refl) refl (in_call found is)
         (record { one = line_out; second = other_out called ready; differ = ready.differ })
         (ap (λ t. clears_to (far_end found.1 line) (outputs_of t)) acts.told_is
         ∙ collision_taken world line found is called acts.packet (put_told (far_end found.1 line) called INITIAL_IDENTIFIER _ _ acts.packet acts.incoming.whole))
@@ -316,7 +318,7 @@ module _ {A : Type 0} (tables : Tables) (before : List (Entry A)) (world : World
 
   colliding : (what : What A) (outcome : Outcome) (told : EventOutputs A) (asked : Option (CallRequest A)) (found : Option (ℕ × Call)) → request_in what ≡ asked → call_on world line ≡ found
       → (number : ℕ) × (state_at world line ≡ Ringing number)
-      → Requests tables world line (outputs_of_cancel world line) asked outcome told → Shape here what Collision outcome told (collides line asked found outcome)
+      → Requests tables world line (outputs_of_cancel world line) asked outcome told → Shape here what Collision outcome told (collides line moment asked found outcome)
   colliding what outcome told None found asks is rings acts = none refl (λ request asked new. absurd (cc))
   colliding what outcome told (Some request) None asks is rings acts =
       let none : call_of (state_at world line) ≡ None = none_on tables world coupled line is in
@@ -353,7 +355,7 @@ module _ {A : Type 0} (tables : Tables) (before : List (Entry A)) (world : World
 
 pub step_shape : {A : Type 0} (tables : Tables) (before : List (Entry A)) (world : World) (entry : Entry A) (next : World) → AreCoupled tables world
     → length world.lines ≡ line_count tables → (step : Step tables before world entry next)
-    → Shape (step_context tables before world entry.event.line) entry.event.what (action_at world entry.event) entry.outcome step.told (changes_of tables before world entry)
+    → Shape (step_context tables before world entry.event.line entry.event.moment) entry.event.what (action_at world entry.event) entry.outcome step.told (changes_of tables before world entry)
 step_shape tables before world entry next coupled lines step =
-    shape tables before world entry.event.line coupled lines step.line entry.event.what (action_at world entry.event) entry.outcome step.told
+    shape tables before world entry.event.line entry.event.moment coupled lines step.line entry.event.what (action_at world entry.event) entry.outcome step.told
     (suits (state_at world entry.event.line) (kind_of entry.event.what)) step.acts

@@ -44,7 +44,7 @@ places_kept (Some relay_update) relays later is = ap length is ∙ length-set re
 module _ {A : Type 0} where
   -- what was planned and applied
   pub works_out : (tables : Tables) (before : List (Entry A)) (old : World) (event : Event A) (plan : Plan A) (work : PreparedEntry A) (new : World)
-      (relays later : List (Option (MeteredRelay A))) → Plans (step_context tables before old event.line) event.what (action_at old event) plan
+      (relays later : List (Option (MeteredRelay A))) → Plans (step_context tables before old event.line event.moment) event.what (action_at old event) plan
       → work.outcome ≡ plan.outcome → work.outputs ≡ plan.outputs.outputs → work.records ≡ plan.records
       → new ≡ applied_by plan old → later ≡ relays_with plan.relay_update relays → IsPreparedEntry tables before old relays event work new later
   works_out tables before old event plan work new relays later plans outcome outputs records applied relayed =
@@ -149,16 +149,16 @@ module _ {A : Type 0} where
     pub advances_untold : (stalls left : ℕ) → AdvancesUntold (before stalls) event (after left) told.entry
     advances_untold stalls left = (done.entry.outputs, advances_with done.entry.outputs refl stalls left)
 
-    pub told_fits : tells ≡ true → AreWritable told.outputs
+    pub told_fits : tells ≡ true → AreWritable tables told.outputs
     told_fits does =
-        let W : List _ → Type 0 = λ outputs. AreWritable outputs in
+        let W : List _ → Type 0 = λ outputs. AreWritable tables outputs in
         subst W (sym (done.outputs does))
-        (All-pop (λ e. AreWritable e.outputs) entries history (Some done.entry) done.grown (run_fits tables entries _ shows_next.sound shows_next.run shows_next.readable)).1
+        (All-pop (λ e. AreWritable tables e.outputs) entries history (Some done.entry) done.grown (run_fits tables entries _ shows_next.sound shows_next.run shows_next.readable)).1
 
   -- the live calls that are kept have their terms
-  pub kept_terms : (tables : Tables) (history : List (Entry A)) (machine : World) (relays : List (Option (MeteredRelay A))) (records : List Record) → CoreInvariant tables history machine relays records → AllHaveTerms machine
+  pub kept_terms : (tables : Tables) (history : List (Entry A)) (machine : World) (relays : List (Option (MeteredRelay A))) (records : List Record) → CoreInvariant tables history machine relays records → AllHaveTerms tables machine
   kept_terms tables history machine relays records shows =
-      let P : World → Type 0 = λ w. AllHaveTerms w in subst P (sym shows.shown) (run_agreed tables history _ shows.run)
+      let P : World → Type 0 = λ w. AllHaveTerms tables w in subst P (sym shows.shown) (run_agreed tables history _ shows.run)
 
   -- the outcome of a call that returns what `advance` returned
   pub outcome_shows : {E : Type 0} (tables : Tables) (history : List (Entry A)) (machine : World) (relays : List (Option (MeteredRelay A))) (records : List Record) (event : Event A) (new : World) (later : List (Option (MeteredRelay A))) (entries : List (Entry A))
@@ -197,7 +197,7 @@ module _ {A : Type 0} where
 
   pub outcome_fits : {E : Type 0} (tables : Tables) (history : List (Entry A)) (machine : World) (relays : List (Option (MeteredRelay A))) (records : List Record) (event : Event A) (new : World) (later : List (Option (MeteredRelay A))) (entries : List (Entry A))
       (charged : List Record) (tells : Bool) (outcome : Result (Stepped A) E) → CoreInvariant tables history machine relays records → IsReadable event.what
-      → IfOk outcome (λ told. Enters tables machine relays history records event new later entries charged tells told) → tells ≡ true → IfOk outcome (λ told. AreWritable told.outputs)
+      → IfOk outcome (λ told. Enters tables machine relays history records event new later entries charged tells told) → tells ≡ true → IfOk outcome (λ told. AreWritable tables told.outputs)
   outcome_fits tables history machine relays records event new later entries charged tells (Ok told) shows readable done does =
       told_fits tables history machine relays records shows event readable new later entries charged tells told done does
   outcome_fits tables history machine relays records event new later entries charged tells (Err fault) shows readable done does = tt

@@ -66,7 +66,7 @@ changed_sound tables entries world (Leaves line way) sound can = record {
   fresh = sound.fresh;
   connection = λ l. set_within world (entries + 1) line _ world.lines l (omega (arith, sound.connection line)) (omega (arith, sound.connection l));
 }
-changed_sound tables entries world (Begins line identifier called dialled setup) sound can = record {
+changed_sound tables entries world (Begins line identifier called dialled setup requested) sound can = record {
   lines = length-set _ called _ ∙ length-set world.lines line _ ∙ sound.lines;
   next = omega (arith, sound.next);
   fresh = λ number past. get_other world.calls world.next _ number (λ same. absurd (omega (arith, past, same))) ∙ sound.fresh number (omega (arith, past));
@@ -133,7 +133,7 @@ cancel_right tables entries world number call line right can = record {
 module _ {A : Type 0} where
   pub shape_of : (tables : Tables) (before : List (Entry A)) (world : World) (entry : Entry A) (next : World) (entries : ℕ)
       → IsRight tables entries world → (step : Step tables before world entry next)
-      → Shape (step_context tables before world entry.event.line) entry.event.what (action_at world entry.event) entry.outcome step.told (changes_of tables before world entry)
+      → Shape (step_context tables before world entry.event.line entry.event.moment) entry.event.what (action_at world entry.event) entry.outcome step.told (changes_of tables before world entry)
   shape_of tables before world entry next entries right step = step_shape tables before world entry next right.coupled right.sound.lines step
 
   pub step_right : (tables : Tables) (before : List (Entry A)) (world : World) (entry : Entry A) (next : World)
@@ -153,6 +153,10 @@ module _ {A : Type 0} where
   run_right tables history world run =
       run_keeps (λ before w. IsRight tables (length before) w) tables (step_right tables) [] (opening (line_count tables)) history world
       (record { sound = opening_sound tables; coupled = opening_coupled tables }) run
+
+  pub coupled_here : (tables : Tables) (history : List (Entry A)) (world machine : World) → Run tables history world → machine ≡ world → AreCoupled tables machine
+  coupled_here tables history world machine run is =
+      let P : World → Type 0 = λ w. AreCoupled tables w in subst P (sym is) (run_right tables history world run).coupled
 
   pub right_here : (tables : Tables) (history : List (Entry A)) (world machine : World) → Run tables history world → machine ≡ world → IsSound tables (length history) machine
   right_here tables history world machine run is =

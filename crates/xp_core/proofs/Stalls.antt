@@ -53,7 +53,7 @@ when_on Cleared on = refl
 
 module _ {A : Type 0} (at : StepContext A) (work : PreparedEntry A) (next : World) (plain : work.outcome ≡ Plain) where
   -- by what the table of actions has for it
-  makes : (action : Action) (told : EventOutputs A) → action_at {A = A} at.world (stall_of at.line) ≡ action
+  makes : (action : Action) (told : EventOutputs A) → action_at {A = A} at.world (stall_of at.line at.moment) ≡ action
       → Acts at Stall action work.outcome told
       → work.outputs ≡ outputs_of told
       → work.records.items ≡ recorded_at at (effects_of at Stall action work.outcome)
@@ -96,8 +96,8 @@ stall_what (Frame identifier packet) is = absurd (cc)
 stall_what (WrongFrame wrong) is = absurd (cc)
 stall_what Expire is = absurd (cc)
 
-pub stall_is : {A : Type 0} (event : Event A) → is_stall event.what ≡ true → stall_of event.line ≡ event
-stall_is event is = ap (λ w. record { line = event.line; what = w }) (sym (stall_what event.what is))
+pub stall_is : {A : Type 0} (event : Event A) → is_stall event.what ≡ true → stall_of event.line event.moment ≡ event
+stall_is event is = ap (λ w. record { line = event.line; moment = event.moment; what = w }) (sym (stall_what event.what is))
 
 -- any other event has to have four places left
 pub places_for_others : {A : Type 0} (what : What A) → is_stall what ≡ false → places_for what ≡ 4

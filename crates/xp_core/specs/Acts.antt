@@ -104,17 +104,18 @@ module _ {A : Type 0} where
 
   -- ---- an answer (clauses 4.1.4 and 4.1.5)
 
-  abbrev pub agreement_of : Connection A → Agreement
-  agreement_of connection = record { terms = connection.terms; charging = connection.charging }
+  -- what a call is connected on, at this moment
+  abbrev pub agreement_of : ℕ → Connection A → Agreement
+  agreement_of moment connection = record { terms = connection.terms; charging = connection.charging; connected = moment }
 
   abbrev pub outputs_of_answer : World → ℕ → Packet A → EventOutputs A
   outputs_of_answer world caller packet = record { carried = []; own = []; far = send world caller packet ∷ []; taken = [] }
 
-  pub record IsConnected (tables : Tables) (world : World) (line : ℕ) (answer : CallAccepted A) (call : Call) (agreement : Agreement) (told : EventOutputs A) : Type 0 where
+  pub record IsConnected (at : StepContext A) (answer : CallAccepted A) (call : Call) (agreement : Agreement) (told : EventOutputs A) : Type 0 where
     pub connection : Connection A
-    pub answered : Answered call.setup (address_of tables line) call.dialled answer.d answer.block (answers.Connected connection)
-    pub agreement_is : agreement ≡ agreement_of connection
-    pub told_is : told ≡ outputs_of_answer world call.caller connection.packet
+    pub answered : Answered call.setup (address_of at.tables at.line) call.dialled answer.d answer.block (answers.Connected connection)
+    pub agreement_is : agreement ≡ agreement_of at.moment connection
+    pub told_is : told ≡ outputs_of_answer at.world call.caller connection.packet
 
   -- a fault in it is a procedure error
   pub record IsDeclined (at : StepContext A) (answer : CallAccepted A) (call : Call) (diagnostic : ℕ) (told : EventOutputs A) : Type 0 where
@@ -122,7 +123,7 @@ module _ {A : Type 0} where
     pub told_is : told ≡ outputs_of_error at diagnostic
 
   abbrev pub IsAnswered : StepContext A → CallAccepted A → Call → Outcome → EventOutputs A → Type 0
-  IsAnswered at answer call (Connected agreement) told = IsConnected at.tables at.world at.line answer call agreement told
+  IsAnswered at answer call (Connected agreement) told = IsConnected at answer call agreement told
   IsAnswered at answer call (Declined diagnostic) told = IsDeclined at answer call diagnostic told
   IsAnswered at answer call Plain told = ⊥
   IsAnswered at answer call (Put called setup) told = ⊥

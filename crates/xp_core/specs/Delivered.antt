@@ -6,8 +6,7 @@ use Rattle.xp_relay.specs.Runs.{IsDelivered, nothing_observed, observed_over}
 use Rattle.xp_subs.specs.Tables.{Tables}
 use Rattle.xp_core.specs.declared.entry.Entry.{Entry}
 use Rattle.xp_machine.specs.declared.agreement.Agreement.{Agreement}
-use Rattle.xp_core.specs.RelayedPackets.{arrivals, directions}
-use Rattle.xp_machine.specs.RelayTerms.{terms_of}
+use Rattle.xp_core.specs.RelayedPackets.{arrivals, directions, relay_terms}
 use Rattle.xp_machine.specs.World.{Call, World, call_numbered}
 
 -- The receiver received a front of what was accepted from the sender since the last reset: each packet once, in order,
@@ -16,5 +15,5 @@ use Rattle.xp_machine.specs.World.{Call, World, call_numbered}
 abbrev pub AreDelivered : {A : Type 0} → Tables → List (Entry A) → World → Type 0
 AreDelivered tables history world =
     (number : ℕ) (call : Call) (agreement : Agreement) → call_numbered world number ≡ Some call → call.agreed ≡ Some agreement
-    → (sender : End) → IsDelivered (terms_of agreement) sender (directions tables history number agreement)
-    (observed_over sender (coupled (terms_of agreement)) nothing_observed (arrivals tables history number))
+    → (sender : End) → IsDelivered (relay_terms tables call agreement) sender (directions tables history number call agreement)
+    (observed_over sender (coupled (relay_terms tables call agreement)) nothing_observed (arrivals tables history number))

@@ -1,16 +1,25 @@
--- How far a step is determined: the machine chooses nothing but which idle line of a hunt group a new call is put to.
-use Rattle.std.specs.Prelude.{◌≡◌, List}
-use Rattle.xp_subs.specs.Tables.{Tables}
+-- How far a step is determined: the machine chooses nothing but which idle line of a hunt group a new call is put to. The
+-- windows that are indicated are lowered to what that line's modulus allows.
+use Rattle.std.specs.Prelude.{◌≡◌, Option, option_map, List}
+use Rattle.xp_packets.specs.declared.modulus.Modulus.{Modulus}
+use Rattle.xp_subs.specs.Tables.{Tables, modulus_of}
 use Rattle.xp_core.specs.declared.entry.Entry.{Entry}
-use Rattle.xp_core.specs.Outcomes.{taken_by, with_line}
+use Rattle.xp_core.specs.declared.outcome.Outcome.{Outcome}
+use Rattle.xp_core.specs.Outcomes.{taken_by, with_line, with_usual_windows}
 use Rattle.xp_core.specs.Step.{Step}
 use Rattle.xp_machine.specs.World.{World}
 
+-- the modulus of the line that a new call was put to
+abbrev pub modulus_taken : Tables → Outcome → Option Modulus
+modulus_taken tables outcome = option_map (modulus_of tables) (taken_by outcome)
+
 -- two entries, and the states that they lead to
-pub record IsSameButLine {A : Type 0} (one : Entry A) (next : World) (other : Entry A) (next' : World) : Type 0 where
+pub record IsSameButLine {A : Type 0} (tables : Tables) (one : Entry A) (next : World) (other : Entry A) (next' : World) : Type 0 where
   pub number : one.number ≡ other.number
-  -- only the line is a choice: a refusal is none, and what an answer settles is none
-  pub outcome : with_line 0 one.outcome ≡ with_line 0 other.outcome
+  -- only the line is a choice, and with it the windows: a refusal is none, and what an answer settles is none
+  pub outcome : with_line 0 (with_usual_windows one.outcome) ≡ with_line 0 (with_usual_windows other.outcome)
+  -- only the line, if the lines that are taken number alike
+  pub windows : modulus_taken tables one.outcome ≡ modulus_taken tables other.outcome → with_line 0 one.outcome ≡ with_line 0 other.outcome
   pub records : one.records.items ≡ other.records.items
   -- if the same line is taken, the same is settled and put out
   pub whole : taken_by one.outcome ≡ taken_by other.outcome → one.outcome ≡ other.outcome
@@ -23,4 +32,4 @@ abbrev pub IsDeterminedButLine : Type 0 → Type 0
 IsDeterminedButLine A =
     (tables : Tables) (history : List (Entry A)) (world : World) (one : Entry A) (next : World) (other : Entry A) (next' : World)
     → Step tables history world one next → Step tables history world other next' → one.event ≡ other.event
-    → IsSameButLine one next other next'
+    → IsSameButLine tables one next other next'

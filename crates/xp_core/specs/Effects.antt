@@ -45,20 +45,20 @@ carries line found (Connected agreement) = []
 carries line found (Declined diagnostic) = []
 
 module _ {A : Type 0} where
-  -- a call request is put to a line, or refused, as was settled
-  abbrev pub requests : ℕ → Option (CallRequest A) → Outcome → List Change
-  requests line None outcome = []
-  requests line (Some request) (Put called setup) = Begins line request.identifier called request.block.called setup ∷ []
-  requests line (Some request) (Refused why) = IsRefused line request.identifier request.block.called why ∷ []
-  requests line (Some request) Plain = []
-  requests line (Some request) (Connected agreement) = []
-  requests line (Some request) (Declined diagnostic) = []
-  requests line (Some request) Exceeded = []
+  -- a call request of this moment is put to a line, or refused, as was settled
+  abbrev pub requests : ℕ → ℕ → Option (CallRequest A) → Outcome → List Change
+  requests line moment None outcome = []
+  requests line moment (Some request) (Put called setup) = Begins line request.identifier called request.block.called setup moment ∷ []
+  requests line moment (Some request) (Refused why) = IsRefused line request.identifier request.block.called why ∷ []
+  requests line moment (Some request) Plain = []
+  requests line moment (Some request) (Connected agreement) = []
+  requests line moment (Some request) (Declined diagnostic) = []
+  requests line moment (Some request) Exceeded = []
 
   -- the call that was put to the line is cancelled, and the line's own request is put to a line, or refused
-  abbrev pub collides : ℕ → Option (CallRequest A) → Option (ℕ × Call) → Outcome → List Change
-  collides line None found outcome = []
-  collides line (Some request) found outcome = cancels line found ++ requests line (Some request) outcome
+  abbrev pub collides : ℕ → ℕ → Option (CallRequest A) → Option (ℕ × Call) → Outcome → List Change
+  collides line moment None found outcome = []
+  collides line moment (Some request) found outcome = cancels line found ++ requests line moment (Some request) outcome
 
   -- a clear request: the line leaves the call that it is in, if it is in one
   abbrev pub confirms : ℕ → Option (ClearRequest A) → Option (ℕ × Call) → List Change
@@ -70,8 +70,8 @@ module _ {A : Type 0} where
   effects_of at what Nothing outcome = []
   effects_of at what Rise outcome = Rises at.line ∷ []
   effects_of at what Fall outcome = leaves at.line GoesOut OUT_OF_ORDER NO_ADDITIONAL_INFORMATION (call_on at.world at.line) ∷ []
-  effects_of at what NewCall outcome = requests at.line (request_in what) outcome
-  effects_of at what Collision outcome = collides at.line (request_in what) (call_on at.world at.line) outcome
+  effects_of at what NewCall outcome = requests at.line at.moment (request_in what) outcome
+  effects_of at what Collision outcome = collides at.line at.moment (request_in what) (call_on at.world at.line) outcome
   effects_of at what Answer outcome = answers at.line (call_on at.world at.line) outcome
   effects_of at what Confirm outcome = confirms at.line (clear_in what) (call_on at.world at.line)
   effects_of at what Free outcome = Leaves at.line IsFree ∷ []
@@ -82,4 +82,4 @@ module _ {A : Type 0} where
   -- the changes that an entry makes
   abbrev pub changes_of : Tables → List (Entry A) → World → Entry A → List Change
   changes_of tables before world entry =
-      effects_of (step_context tables before world entry.event.line) entry.event.what (action_at world entry.event) entry.outcome
+      effects_of (step_context tables before world entry.event.line entry.event.moment) entry.event.what (action_at world entry.event) entry.outcome

@@ -2,7 +2,7 @@
 use Rattle.std.specs.Prelude.{ℕ, Option, None, Some, List, [], ◌∷◌, ◌++◌, map}
 use Rattle.xp_answer.specs.Information.{cleared_with, confirmed_with}
 use Rattle.xp_charge.specs.Meter.{far_end as other_end}
-use Rattle.xp_facilities.specs.declared.segment_counts.SegmentCounts.{SegmentCounts}
+use Rattle.xp_facilities.specs.declared.charging_information.ChargingInformation.{ChargingInformation}
 use Rattle.xp_packets.specs.declared.packet.Packet.{Packet}
 use Rattle.xp_packets.specs.declared.packet.Packet.TheVariants.{Clear}
 use Rattle.xp_relay.specs.declared.moves.Move.{Move}
@@ -72,14 +72,14 @@ module _ {A : Type 0} where
   -- ---- with charging information, where a line is to have it as the call that the line of an event is in ends
 
   -- for that line
-  abbrev pub own_information : StepContext A → Option (ℕ × Call) → Option SegmentCounts
+  abbrev pub own_information : StepContext A → Option (ℕ × Call) → Option ChargingInformation
   own_information at None = None
-  own_information at (Some found) = information_for found.1 (segments_of at.tables at.before found.0 found.1) (end_of found.1 at.line)
+  own_information at (Some found) = information_for found.1 (segments_of at.tables at.before found.0 found.1) at.moment (end_of found.1 at.line)
 
   -- for its far end
-  abbrev pub far_information : StepContext A → Option (ℕ × Call) → Option SegmentCounts
+  abbrev pub far_information : StepContext A → Option (ℕ × Call) → Option ChargingInformation
   far_information at None = None
-  far_information at (Some found) = information_for found.1 (segments_of at.tables at.before found.0 found.1) (other_end (end_of found.1 at.line))
+  far_information at (Some found) = information_for found.1 (segments_of at.tables at.before found.0 found.1) at.moment (other_end (end_of found.1 at.line))
 
   abbrev pub clear_own : StepContext A → Option (ℕ × Call) → ℕ → ℕ → Output A
   clear_own at found cause diagnostic = send at.world at.line (cleared_with cause diagnostic (own_information at found))

@@ -1,6 +1,7 @@
 -- What a serial exchange shows, and what one step of it does.
 use Rattle.std.specs.Prelude.{◌≡◌, ℕ, ◌≤◌, List, [], ◌∷◌, ◌++◌, length}
 use Rattle.xp_packets.specs.Encodability.{CanBeEncoded}
+use Rattle.xp_packets.specs.declared.modulus.Modulus.TheVariants.{Long}
 use Rattle.xp_packets.specs.declared.packet.Packet.{Packet}
 use Rattle.xp_packets.specs.declared.packet.Packet.TheVariants.{Call}
 use Rattle.xp_subs.specs.Tables.{Tables}
@@ -30,9 +31,10 @@ module _ {A : Type 0} where
   DialsFew (Call d block) = length block.called ≤ 15
   DialsFew packet = Unit {0}
 
-  -- some octets encode the identifier and the packet. That few digits are dialled follows from their type.
+  -- Some octets encode the identifier and the packet: on a line that numbers modulo 128, if on no other. That few digits
+  -- are dialled follows from their type.
   pub record CanBeRead (identifier : ℕ) (packet : Packet A) : Type 0 where
-    pub encodable : CanBeEncoded identifier packet
+    pub encodable : CanBeEncoded Long identifier packet
     pub few : DialsFew packet
 
   -- the packet of a frame can be read

@@ -1,5 +1,6 @@
 -- What an event settled that the table of actions leaves open.
 use Rattle.std.specs.Prelude.{ℕ, Option, None, Some}
+use Rattle.xp_decide.specs.IncomingCalls.{default_window_sizes}
 use Rattle.xp_packets.specs.declared.end.End.{End}
 use Rattle.xp_packets.specs.declared.end.End.TheVariants.{Caller}
 use Rattle.xp_core.specs.declared.outcome.Outcome.{Outcome}
@@ -22,6 +23,15 @@ with_line other (Refused why) = Refused why
 with_line other (Connected agreement) = Connected agreement
 with_line other (Declined diagnostic) = Declined diagnostic
 with_line other Exceeded = Exceeded
+
+-- the same, with windows of the usual size in place of those indicated
+abbrev pub with_usual_windows : Outcome → Outcome
+with_usual_windows (Put line setup) = Put line (record setup { indicated = record setup.indicated { window = default_window_sizes } })
+with_usual_windows Plain = Plain
+with_usual_windows (Refused why) = Refused why
+with_usual_windows (Connected agreement) = Connected agreement
+with_usual_windows (Declined diagnostic) = Declined diagnostic
+with_usual_windows Exceeded = Exceeded
 
 -- who pays for the call that a call request made: the caller for one that was refused
 abbrev pub payer_of : Outcome → End

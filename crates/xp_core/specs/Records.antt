@@ -1,6 +1,6 @@
 -- The charging records of a history: one for each call that ended.
 use Rattle.std.specs.Prelude.{◌≡◌, ℕ, ◌+◌, ◌<◌, ◌≤◌, ◌==◌, ◌⊎◌, if◌then◌else◌, is_some, Option, None, Some, List, [], ◌∷◌, ◌++◌, All, count_by, flat_map, length}
-use Rattle.xp_channel.specs.declared.action.Action.TheVariants.{Collision, NewCall}
+use Rattle.xp_channel.specs.declared.action.Action.TheVariants.{Answer, Collision, NewCall}
 use Rattle.xp_charge.specs.declared.record.Record.{Record}
 use Rattle.xp_packets.specs.declared.block.Block.{Block}
 use Rattle.xp_packets.specs.declared.end.End.TheVariants.{Caller, Called}
@@ -8,6 +8,7 @@ use Rattle.xp_packets.specs.declared.packet.Packet.{Packet}
 use Rattle.xp_packets.specs.declared.packet.Packet.TheVariants.{Clear}
 use Rattle.xp_subs.specs.Tables.{Tables}
 use Rattle.xp_core.specs.declared.entry.Entry.{Entry}
+use Rattle.xp_core.specs.declared.outcome.Outcome.TheVariants.{Connected}
 use Rattle.xp_core.specs.declared.output.Output.{Output}
 use Rattle.xp_core.specs.declared.output.Put.{Put}
 use Rattle.xp_core.specs.declared.output.Put.TheVariants.{Send}
@@ -16,7 +17,9 @@ use Rattle.xp_core.specs.Outcomes.{payer_of, taken_by}
 use Rattle.xp_core.specs.Segments.{segments_if_live}
 use Rattle.xp_core.specs.Step.{Step}
 use Rattle.xp_core.specs.Table.{CallRequest, action_at, request_in}
-use Rattle.xp_machine.specs.World.{Call, World, call_numbered}
+use Rattle.xp_machine.specs.Channel.{Ringing}
+use Rattle.xp_machine.specs.World.{Call, World, call_numbered, state_at}
+use Rattle.xp_machine.specs.declared.agreement.Agreement.{Agreement}
 
 -- a live call has this number
 abbrev pub IsLive : World → ℕ → Type 0
@@ -69,13 +72,28 @@ module _ {A : Type 0} {tables : Tables} {history : List (Entry A)} where
     pub new : (action_at moment.world moment.entry.event ≡ NewCall) ⊎ (action_at moment.world moment.entry.event ≡ Collision)
     pub numbered : number ≡ moment.world.next
 
+  -- the entry is the answer of the line that the call of this number was put to, and connects the call
+  pub record Connects (moment : Moment tables history) (number : ℕ) : Type 0 where
+    pub answers : action_at moment.world moment.entry.event ≡ Answer
+    pub rings : state_at moment.world moment.entry.event.line ≡ Ringing number
+    pub agreement : Agreement
+    pub settled : moment.entry.outcome ≡ Connected agreement
+
   -- the call of this number was live before, or begins here, and is not live afterwards
   pub record Ends (moment : Moment tables history) (number : ℕ) : Type 0 where
     pub was : IsLive moment.world number ⊎ ((request : CallRequest A) × Begins moment number request)
     pub gone : IsLive moment.next number → ⊥
 
-  -- This is the record of a call that this entry ends. It tells of the entry that began the call, and of the one clear
-  -- indication in which this entry tells how the call ended. Its segments are those of the entries before.
+-- an entry of this history connected the call of this number, at this moment, or none did
+abbrev pub WasConnected : {A : Type 0} → Tables → List (Entry A) → ℕ → Option ℕ → Type 0
+WasConnected tables history number None = (moment : Moment tables history) → Connects moment number → ⊥
+WasConnected tables history number (Some connected) =
+    (moment : Moment tables history) × Connects moment number × (connected ≡ moment.entry.event.moment)
+
+module _ {A : Type 0} {tables : Tables} {history : List (Entry A)} where
+  -- This is the record of a call that this entry ends. It tells of the entry that began the call, of the one that
+  -- connected it, and of the one clear indication in which this entry tells how the call ended. Its segments are those of
+  -- the entries before.
   pub record IsRecordOf (ending : Moment tables history) (charged : Record) : Type 0 where
     pub ends : Ends ending charged.number
     pub beginning : Moment tables history
@@ -87,6 +105,9 @@ module _ {A : Type 0} {tables : Tables} {history : List (Entry A)} where
     pub payer : charged.payer ≡ payer_of beginning.entry.outcome
     pub from_caller : charged.from_caller ≡ segments_if_live tables ending.before charged.number (call_numbered ending.world charged.number) Caller
     pub from_called : charged.from_called ≡ segments_if_live tables ending.before charged.number (call_numbered ending.world charged.number) Called
+    pub requested : charged.requested ≡ beginning.entry.event.moment
+    pub connected : WasConnected tables ending.before charged.number charged.connected
+    pub ended : charged.ended ≡ ending.entry.event.moment
     pub block : Option (Block A)
     pub told : clears_to (told_end charged.caller charged.called ending.entry.event.line) ending.entry.outputs
         ≡ Clear charged.cause (Some charged.diagnostic) block ∷ []

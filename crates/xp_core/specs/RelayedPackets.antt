@@ -6,7 +6,8 @@ use Rattle.xp_packets.specs.declared.packet.Packet.{Packet}
 use Rattle.xp_relay.specs.Coupled.{Coupled, coupled}
 use Rattle.xp_relay.specs.Runs.{Arrival, run, turn_on}
 use Rattle.xp_relay.specs.Turns.{Turn}
-use Rattle.xp_subs.specs.Tables.{Tables, line_count}
+use Rattle.xp_relay.specs.declared.terms.Terms.{Terms}
+use Rattle.xp_subs.specs.Tables.{Tables, line_count, modulus_of}
 use Rattle.xp_core.specs.declared.entry.Entry.{Entry}
 use Rattle.xp_core.specs.declared.event.Event.{Event}
 use Rattle.xp_machine.specs.declared.agreement.Agreement.{Agreement}
@@ -15,6 +16,10 @@ use Rattle.xp_machine.specs.World.{Call, World, call_on, opening}
 use Rattle.xp_core.specs.Worlds.{world_next}
 use Rattle.xp_machine.specs.CallEnds.{end_of}
 use Rattle.xp_machine.specs.RelayTerms.{terms_of}
+
+-- what was agreed for the data of a call, with the numbering of both lines
+abbrev pub relay_terms : Tables → Call → Agreement → Terms
+relay_terms tables call agreement = terms_of agreement (modulus_of tables call.caller) (modulus_of tables call.called)
 
 -- a packet for a connected call
 pub record RelayedPacket (A : Type 0) : Type 0 where
@@ -62,9 +67,9 @@ module _ {A : Type 0} where
   arrivals tables history number = arrivals_from number tables [] (opening (line_count tables)) history
 
   -- the two directions of the call of this number, which its packets led to
-  abbrev pub directions : Tables → List (Entry A) → ℕ → Agreement → Coupled A
-  directions tables history number agreement = run (coupled (terms_of agreement)) (arrivals tables history number)
+  abbrev pub directions : Tables → List (Entry A) → ℕ → Call → Agreement → Coupled A
+  directions tables history number call agreement = run (coupled (relay_terms tables call agreement)) (arrivals tables history number)
 
   -- what one more packet leads to
   abbrev pub turn_of_relayed : Tables → List (Entry A) → RelayedPacket A → Turn A
-  turn_of_relayed tables before carried = turn_on (directions tables before carried.number carried.agreement) carried.arrival
+  turn_of_relayed tables before carried = turn_on (directions tables before carried.number carried.call carried.agreement) carried.arrival

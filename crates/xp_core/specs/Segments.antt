@@ -6,8 +6,7 @@ use Rattle.xp_relay.specs.Runs.{Arrival, same_end, turn_on}
 use Rattle.xp_subs.specs.Tables.{Tables}
 use Rattle.xp_core.specs.declared.entry.Entry.{Entry}
 use Rattle.xp_machine.specs.declared.agreement.Agreement.{Agreement}
-use Rattle.xp_core.specs.RelayedPackets.{RelayedPacket, arrivals, directions}
-use Rattle.xp_machine.specs.RelayTerms.{terms_of}
+use Rattle.xp_core.specs.RelayedPackets.{RelayedPacket, arrivals, directions, relay_terms}
 use Rattle.xp_machine.specs.World.{Call}
 use Rattle.xp_machine.specs.Segments.{goes_past, judged}
 
@@ -32,14 +31,14 @@ module _ {A : Type 0} where
   all_judged_from end call (arrival ∷ rest) = option_to_list (judged_from end call arrival) ++ all_judged_from end (after arrival.here (turn_on call arrival)) rest
 
   -- the segments accepted from an end of a call so far, on what was agreed: none before the call is connected
-  abbrev pub segments_from : Tables → List (Entry A) → ℕ → Option Agreement → End → ℕ
-  segments_from tables history number None end = 0
-  segments_from tables history number (Some agreement) end =
-      sum_within tables.segment_limit 0 (all_judged_from end (coupled (terms_of agreement)) (arrivals tables history number))
+  abbrev pub segments_from : Tables → List (Entry A) → ℕ → Call → Option Agreement → End → ℕ
+  segments_from tables history number call None end = 0
+  segments_from tables history number call (Some agreement) end =
+      sum_within tables.segment_limit 0 (all_judged_from end (coupled (relay_terms tables call agreement)) (arrivals tables history number))
 
   -- those of a live call
   abbrev pub segments_of : Tables → List (Entry A) → ℕ → Call → End → ℕ
-  segments_of tables history number call end = segments_from tables history number call.agreed end
+  segments_of tables history number call end = segments_from tables history number call call.agreed end
 
   -- those of the call of a number, if it is live
   abbrev pub segments_if_live : Tables → List (Entry A) → ℕ → Option Call → End → ℕ
@@ -50,5 +49,5 @@ module _ {A : Type 0} where
   abbrev pub is_past_limit : Tables → List (Entry A) → Option (RelayedPacket A) → Bool
   is_past_limit tables before None = false
   is_past_limit tables before (Some carried) =
-      goes_past tables.segment_limit (segments_from tables before carried.number (Some carried.agreement) carried.arrival.here)
-      (judged_at (directions tables before carried.number carried.agreement) carried.arrival)
+      goes_past tables.segment_limit (segments_from tables before carried.number carried.call (Some carried.agreement) carried.arrival.here)
+      (judged_at (directions tables before carried.number carried.call carried.agreement) carried.arrival)

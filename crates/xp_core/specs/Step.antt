@@ -16,7 +16,7 @@ module _ {A : Type 0} where
     pub number : entry.number ≡ length before + 1
     pub line : entry.event.line < length world.lines
     pub told : EventOutputs A
-    pub acts : Acts (step_context tables before world entry.event.line) entry.event.what (action_at world entry.event) entry.outcome told
+    pub acts : Acts (step_context tables before world entry.event.line entry.event.moment) entry.event.what (action_at world entry.event) entry.outcome told
     pub outputs : entry.outputs ≡ outputs_of told
-    pub records : entry.records.items ≡ recorded_by (segments_of tables before) world (changes_of tables before world entry)
+    pub records : entry.records.items ≡ recorded_by (segments_of tables before) entry.event.moment world (changes_of tables before world entry)
     pub leads : next ≡ all_changed (changes_of tables before world entry) world

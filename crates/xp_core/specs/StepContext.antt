@@ -10,9 +10,10 @@ pub record StepContext (A : Type 0) : Type 0 where
   pub before : List (Entry A)
   -- the state that they led to
   pub world : World
-  -- the line of the event
+  -- the line of the event, and its moment
   pub line : ℕ
+  pub moment : ℕ
 
 module _ {A : Type 0} where
-  abbrev pub step_context : Tables → List (Entry A) → World → ℕ → StepContext A
-  step_context tables before world line = record { tables = tables; before = before; world = world; line = line }
+  abbrev pub step_context : Tables → List (Entry A) → World → ℕ → ℕ → StepContext A
+  step_context tables before world line moment = record { tables = tables; before = before; world = world; line = line; moment = moment }

@@ -12,7 +12,7 @@ use Rattle.xp_machine.specs.World.{Call, World, call_on}
 abbrev pub flow_in : {A : Type 0} → Tables → List (Entry A) → ℕ → Option (ℕ × Call) → Option FlowState
 flow_in tables history line None = None
 flow_in tables history line (Some found) =
-    option_map (λ agreement. state_at (end_of found.1 line) (directions tables history found.0 agreement)) found.1.agreed
+    option_map (λ agreement. state_at (end_of found.1 line) (directions tables history found.0 found.1 agreement)) found.1.agreed
 
 abbrev pub flow_at : {A : Type 0} → Tables → List (Entry A) → World → ℕ → Option FlowState
 flow_at tables history world line = flow_in tables history line (call_on world line)

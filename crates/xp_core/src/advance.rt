@@ -4,6 +4,7 @@ ghost use Rattle.std.specs.Prelude.{◌≡◌, ◌+◌, ◌<◌, ◌≤◌, ◌^
 ghost use Rattle.xp_subs.specs.Sound.{IsSound as IsSubs};
 ghost use Rattle.xp_subs.specs.Tables.{line_count};
 ghost use Rattle.xp_core.specs.Agreed.{AllHaveTerms};
+ghost use Rattle.xp_machine.specs.Coupling.{AreCoupled};
 ghost use Rattle.xp_core.specs.steps.Journal.{IsSpent};
 ghost use Rattle.xp_core.specs.steps.Relays.{RelaysRepresentCalls};
 ghost use Rattle.xp_core.specs.steps.Sound.{IsSound};
@@ -49,7 +50,8 @@ pub fn advance<A: Allocator + Copy>(
     requires subs { IsSubs subs.now }
     requires line { event.line < line_count subs.now }
     requires sound { IsSound subs.now (length journal.old.history) machine.old }
-    requires terms { AllHaveTerms machine.old }
+    requires terms { AllHaveTerms subs.now machine.old }
+    requires coupled { AreCoupled subs.now machine.old }
     requires carried { RelaysRepresentCalls subs.now journal.old.history machine.old relays.old }
     requires few { length journal.old.history < 2 ^ 32 }
     ensures ok { IfOk result (λ told. Enters subs.now machine.old relays.old journal.old.history journal.old.records event machine.new relays.new journal.new.history journal.new.records tells told) }
@@ -85,7 +87,8 @@ fn prepare_entry<A: Allocator + Copy>(
     requires subs { IsSubs subs.now }
     requires line { event.now.line < line_count subs.now }
     requires sound { IsSound subs.now (length journal.old.history) machine.old }
-    requires terms { AllHaveTerms machine.old }
+    requires terms { AllHaveTerms subs.now machine.old }
+    requires coupled { AreCoupled subs.now machine.old }
     requires carried { RelaysRepresentCalls subs.now journal.old.history machine.old relays.old }
     requires few { length journal.old.history < 2 ^ 32 }
     ensures ok { IfOk result (λ work. IsPreparedEntry subs.now journal.old.history machine.old relays.old event.now work machine.new relays.new) }
@@ -102,7 +105,16 @@ fn prepare_entry<A: Allocator + Copy>(
 {
     if let Some(spare) = prepared(journal, event) {
         let before = journal.history();
-        return Ok(give_up(alloc, subs, machine, relays, before, spare, event.line));
+        return Ok(give_up(
+            alloc,
+            subs,
+            machine,
+            relays,
+            before,
+            spare,
+            event.line,
+            event.moment,
+        ));
     }
     let Plan {
         outcome,

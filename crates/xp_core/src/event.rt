@@ -1,5 +1,6 @@
 ghost use Rattle.std.specs.Prelude.{◌≡◌, IfOk};
 ghost use Rattle.xp_packets.specs.Encodability.{CanBeEncoded};
+ghost use Rattle.xp_packets.specs.declared.modulus.Modulus.TheVariants.{Long};
 ghost use Rattle.xp_core.specs.Exchange.{DialsFew, IsReadable};
 ghost use Rattle.xp_core.specs.Stalls.{places_for};
 
@@ -13,7 +14,9 @@ use xp_subs::LineNo;
 pub struct Event<A: Allocator = Global> {
     /// The line, one of the subscriptions'.
     pub line: LineNo,
-    /// What happened on it.
+    /// The moment at which it happened, in seconds.
+    pub moment: u64,
+    /// What happened on the line.
     pub what: What<A>,
 }
 
@@ -45,10 +48,10 @@ impl<A: Allocator + Copy> Event<A> {
 }
 
 impl<A: Allocator> What<A> {
-    /// Returns the event that a packet came. The packet can be encoded with this identifier, as can every packet that
-    /// is read.
+    /// Returns the event that a packet came. The packet can be encoded modulo 128 with this identifier, as can every
+    /// packet that is read, by either modulus.
     pub fn frame(identifier: u16, packet: Packet<A>) -> What<A>
-        requires { CanBeEncoded identifier packet }
+        requires { CanBeEncoded Long identifier packet }
         ensures frame { result ≡ What.Frame identifier packet }
         ensures readable { IsReadable result }
     {

@@ -73,8 +73,8 @@ impl<A: Allocator + Copy> Core<A> {
     /// what is put out.
     ///
     /// The condition is that the line is one of the subscriptions', and that a frame is one that can be read: its
-    /// identifier is at most 4,095, and its packet can be encoded. A prepared stall allocates nothing, and is then used
-    /// up.
+    /// identifier is at most 4,095, and its packet can be encoded modulo 128. A prepared stall allocates nothing, and is
+    /// then used up.
     ///
     /// # Errors
     ///
@@ -84,7 +84,7 @@ impl<A: Allocator + Copy> Core<A> {
         requires line { event.line < line_count self.old.subs }
         requires readable { IsReadable event.what }
         ensures ok { IfOk result (λ told. Advances self.old event self.new told) }
-        ensures writable { IfOk result (λ told. AreWritable told.outputs) }
+        ensures writable { IfOk result (λ told. AreWritable self.old.subs told.outputs) }
         ensures few { IfOk result (λ told. AreFew told.outputs) }
         ensures full { self.old.subs.journal < length self.old.history + places_for event.what → result ≡ Err (StepFault.JournalFull event) }
         ensures room { length self.old.history + places_for event.what ≤ self.old.subs.journal → IfErr result (λ fault. fault ≡ StepFault.Memory event) }
@@ -125,7 +125,7 @@ impl<A: Allocator + Copy> Core<A> {
         requires readable { IsReadable event.what }
         ensures untold { IfOk result (λ told. AdvancesUntold self.old event self.new told.entry) }
         ensures ok { tells ≡ true → IfOk result (λ told. Advances self.old event self.new told) }
-        ensures writable { tells ≡ true → IfOk result (λ told. AreWritable told.outputs) }
+        ensures writable { tells ≡ true → IfOk result (λ told. AreWritable self.old.subs told.outputs) }
         ensures few { tells ≡ true → IfOk result (λ told. AreFew told.outputs) }
         ensures entry_few { OnOk result (GrowsByFew self.old.history self.new.history) }
         ensures full { self.old.subs.journal < length self.old.history + places_for event.what → result ≡ Err (StepFault.JournalFull event) }
@@ -207,17 +207,17 @@ impl<A: Allocator> Core<A> {
         self.journal.records()
     }
 
-    /// Returns all entries, which lead to the present state. Each packet that they put out can be encoded. Each line
-    /// that they put something out to, and each line that they record, is one of the subscriptions'. Closed user groups
-    /// let the stations of each call be joined, the sizes of each live call are in their ranges, and what a connected
-    /// call accepts arrives.
+    /// Returns all entries, which lead to the present state. Each packet that they put out can be encoded by the modulus
+    /// of its line. Each line that they put something out to, and each line that they record, is one of the
+    /// subscriptions'. Closed user groups let the stations of each call be joined, the sizes of each live call are in
+    /// their ranges, and what a connected call accepts arrives.
     pub fn history(&self) -> &[Entry<A>]
         ensures entries { result.now ≡ self.now.history }
         ensures run { Run self.now.subs self.now.history (world_of self.now) }
-        ensures writable { All (λ entry. AreWritable entry.outputs) self.now.history }
+        ensures writable { All (λ entry. AreWritable self.now.subs entry.outputs) self.now.history }
         ensures lines { All (HasLines (line_count self.now.subs)) self.now.history }
         ensures joined { AreJoined self.now.subs self.now.history (world_of self.now) }
-        ensures terms { AllHaveTerms (world_of self.now) }
+        ensures terms { AllHaveTerms self.now.subs (world_of self.now) }
         ensures delivered { AreDelivered self.now.subs self.now.history (world_of self.now) }
     {
         self.journal.history()

@@ -62,7 +62,7 @@ impl<A: Allocator + Copy> Spare<A> {
     }
 }
 
-/// Gives a line up. If the line is out of service already, it stays so, and nothing is put out.
+/// Gives a line up at this moment. If the line is out of service already, it stays so, and nothing is put out.
 #[cold]
 #[inline(never)]
 pub fn give_up<A: Allocator + Copy>(
@@ -73,17 +73,18 @@ pub fn give_up<A: Allocator + Copy>(
     before: &[Entry<A>],
     spare: Spare<A>,
     line: LineNo,
+    moment: u64,
 ) -> PreparedEntry<A>
     requires sound { IsSound subs.now }
     requires carried { RelaysRepresentCalls subs.now before.now machine.old relays.now }
-    ensures makes { MakesStall (step_context subs.now before.now machine.old line) result machine.new }
+    ensures makes { MakesStall (step_context subs.now before.now machine.old line moment) result machine.new }
     ensures copied { result.told ≡ result.outputs }
     ensures one { length result.records.items ≤ 1 }
 {
     if is_off(machine.line(line).state) {
         return unused(spare);
     }
-    let work = fall(alloc, subs, machine, relays, before, spare, line);
+    let work = fall(alloc, subs, machine, relays, before, spare, line, moment);
     machine.go_out(line);
     work
 }
@@ -124,10 +125,11 @@ fn fall<A: Allocator + Copy>(
     before: &[Entry<A>],
     spare: Spare<A>,
     line: LineNo,
+    moment: u64,
 ) -> PreparedEntry<A>
     requires sound { IsSound subs.now }
     requires carried { RelaysRepresentCalls subs.now before.now machine.now relays.now }
-    ensures fallen { IsFallen (step_context subs.now before.now machine.now line) result }
+    ensures fallen { IsFallen (step_context subs.now before.now machine.now line moment) result }
     ensures one { length result.records.items ≤ 1 }
 {
     let charged = charged_on(subs, machine, relays, before, line);
@@ -135,6 +137,7 @@ fn fall<A: Allocator + Copy>(
         subs,
         machine,
         line,
+        moment,
         charged,
     };
     let Spare {

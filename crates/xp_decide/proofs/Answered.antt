@@ -1,9 +1,10 @@
 -- What a decision is, once the way is gone.
-use Rattle.std.proofs.Common.{◌≡◌, ℕ, Result, Ok, Err, ap, subst}
+use Rattle.std.proofs.Common.{◌≡◌, ◌∙◌, ℕ, Result, Ok, Err, ap, subst}
 use Rattle.xp_causes.specs.declared.refusal.Refusal.{Refusal}
 use Rattle.xp_hunt.specs.declared.lines.LineState.{LineState}
 use Rattle.xp_packets.specs.declared.block.Block.{Block}
-use Rattle.xp_subs.specs.Tables.{Tables}
+use Rattle.xp_packets.specs.declared.modulus.Modulus.{Modulus}
+use Rattle.xp_subs.specs.Tables.{Tables, modulus_of}
 use Rattle.xp_decide.specs.Asks.{Asks, wanted_of}
 use Rattle.xp_decide.specs.steps.Asks.{Opens}
 use Rattle.xp_decide.specs.Decided.{Decided}
@@ -34,9 +35,12 @@ module _ {A : Type 0} (tables : Tables) (states : ℕ → LineState) (from : ℕ
   reaches result way =
       let P : Wanted → Type 0 = λ w. Reaches tables (state_for_caller from states) w block.called result in subst P same way
 
-  pub takes : (end : Destination) (ring : IncomingCall A) → Reaches tables (state_for_caller from states) wanted block.called (Ok end)
-      → ring ≡ incoming_call_of request.asked end block.called → Decided tables states from block (Take ring)
-  takes end ring way is = decided.reached request end asked (reaches (Ok end) way) (ap Take is)
+  pub takes : (end : Destination) (ring : IncomingCall A) (modulus : Modulus) → Reaches tables (state_for_caller from states) wanted block.called (Ok end)
+      → modulus ≡ modulus_of tables end.line → ring ≡ incoming_call_of modulus request.asked end block.called
+      → Decided tables states from block (Take ring)
+  takes end ring modulus way numbered is =
+      decided.reached request end asked (reaches (Ok end) way)
+      (ap Take (is ∙ ap (λ m. incoming_call_of m request.asked end block.called) numbered))
 
   pub refuses : (refusal : Refusal) → Reaches tables (state_for_caller from states) wanted block.called (Err refusal)
       → Decided tables states from block (Refuse refusal)

@@ -15,10 +15,10 @@ use Rattle.xp_causes.specs.declared.refusal.Refusal.{Refusal}
 use Rattle.xp_causes.specs.declared.refusal.TheConstants.Refusal.{FACILITY_LENGTH, FACILITY_NOT_ALLOWED, FACILITY_PARAMETER, USER_DATA_TOO_LONG, ACCESS_BARRED, TOO_MANY_REDIRECTIONS}
 use Rattle.xp_hunt.specs.declared.lines.LineState.{LineState}
 use Rattle.xp_packets.specs.declared.block.Block.{Block}
-use Rattle.xp_subs.specs.Tables.{Tables}
+use Rattle.xp_subs.specs.Tables.{Tables, modulus_of}
 use Rattle.xp_decide.proofs.AtAddress.{Answers, answered}
 use Rattle.xp_decide.proofs.AtAddress as here
-use Rattle.xp_decide.specs.Asks.{station_of_line, is_fast, HasRoom, HasNoRoom, Asks, MayNotAsk, wanted_of}
+use Rattle.xp_decide.specs.Asks.{station_of_line, is_fast, windows_fit, HasRoom, HasNoRoom, Asks, MayNotAsk, wanted_of}
 use Rattle.xp_decide.specs.Asks as asks
 use Rattle.xp_decide.specs.Decided as decided
 use Rattle.xp_decide.specs.Laws.{HasVerdict}
@@ -94,18 +94,20 @@ module _ {A : Type 0} (tables : Tables) (from : ℕ) (block : Block A) where
     by (inl many) true is = inl (inr is)
     by (inl many) false is = inr (many, is)
 
-  intended : (asked : RequestedFacilities A) → Means block.facilities asked → HasRoom block asked
+  intended : (asked : RequestedFacilities A) → Means block.facilities asked
+      → windows_fit (modulus_of tables from) asked.window ≡ true → HasRoom block asked
       → (station_of_line tables from).facilities.outgoing_barred ≡ false
       → (result : Result Intent Refusal) → Intends (station_of_line tables from) asked.selection result → Opened
-  intended asked means room not_barred (Ok intent) intends =
-      may (record { asked = asked; intent = intent }) (record { means = means; room = room; outgoing = not_barred; intends = intends })
-  intended asked means room not_barred (Err refusal) intends = may_not refusal (asks.not_intended asked means room not_barred intends)
+  intended asked means fits room not_barred (Ok intent) intends =
+      may (record { asked = asked; intent = intent }) (record { means = means; window = fits; room = room; outgoing = not_barred; intends = intends })
+  intended asked means fits room not_barred (Err refusal) intends = may_not refusal (asks.not_intended asked means fits room not_barred intends)
 
-  with_room : (asked : RequestedFacilities A) → Means block.facilities asked → HasRoom block asked
+  with_room : (asked : RequestedFacilities A) → Means block.facilities asked
+      → windows_fit (modulus_of tables from) asked.window ≡ true → HasRoom block asked
       → (barred : Bool) → (station_of_line tables from).facilities.outgoing_barred ≡ barred → Opened
-  with_room asked means room true barred = may_not ACCESS_BARRED (asks.outgoing_barred asked means room barred refl)
-  with_room asked means room false not_barred =
-      let some = intends_some (station_of_line tables from) asked.selection in intended asked means room not_barred some.0 some.1
+  with_room asked means fits room true barred = may_not ACCESS_BARRED (asks.outgoing_barred asked means fits room barred refl)
+  with_room asked means fits room false not_barred =
+      let some = intends_some (station_of_line tables from) asked.selection in intended asked means fits room not_barred some.0 some.1
 
   faulty : (fault : FacilityFault) → IsFaulty block.facilities fault → Opened
   faulty Length is = may_not FACILITY_LENGTH (asks.facility_length is refl)
@@ -115,12 +117,18 @@ module _ {A : Type 0} (tables : Tables) (from : ℕ) (block : Block A) where
 
   opened : Opened
   opened = by (some_reading block.facilities) where
-    read : (asked : RequestedFacilities A) → Means block.facilities asked → HasRoom block asked ⊎ HasNoRoom block asked → Opened
-    read asked means (inl room) = with_room asked means room (station_of_line tables from).facilities.outgoing_barred refl
-    read asked means (inr none) = may_not USER_DATA_TOO_LONG (asks.user_data asked means none refl)
+    fitting : (asked : RequestedFacilities A) → Means block.facilities asked
+        → windows_fit (modulus_of tables from) asked.window ≡ true → HasRoom block asked ⊎ HasNoRoom block asked → Opened
+    fitting asked means fits (inl room) = with_room asked means fits room (station_of_line tables from).facilities.outgoing_barred refl
+    fitting asked means fits (inr none) = may_not USER_DATA_TOO_LONG (asks.user_data asked means fits none refl)
+
+    read : (asked : RequestedFacilities A) → Means block.facilities asked
+        → (fit : Bool) → windows_fit (modulus_of tables from) asked.window ≡ fit → Opened
+    read asked means true fits = fitting asked means fits (room_or_none asked)
+    read asked means false wide = may_not FACILITY_PARAMETER (asks.window asked means wide refl)
 
     by : ((asked : RequestedFacilities A) × Means block.facilities asked) ⊎ ((fault : FacilityFault) × IsFaulty block.facilities fault) → Opened
-    by (inl (asked, means)) = read asked means (room_or_none asked)
+    by (inl (asked, means)) = read asked means (windows_fit (modulus_of tables from) asked.window) refl
     by (inr (fault, is)) = faulty fault is
 
 -- the decision
@@ -129,7 +137,7 @@ module _ {A : Type 0} (tables : Tables) (states : ℕ → LineState) (from : ℕ
   ended : (request : Request A) → Asks tables from block request → (result : Result Destination Refusal)
       → Reaches tables (state_for_caller from states) (wanted_of request) block.called result → HasVerdict tables states from block
   ended request asked (Ok end) reaches =
-      record { verdict = Take (incoming_call_of request.asked end block.called); decided = decided.reached request end asked reaches refl }
+      record { verdict = Take (incoming_call_of (modulus_of tables end.line) request.asked end block.called); decided = decided.reached request end asked reaches refl }
   ended request asked (Err refusal) reaches =
       record { verdict = Refuse refusal; decided = decided.not_reached request refusal asked reaches refl }
 

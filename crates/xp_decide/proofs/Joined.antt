@@ -7,7 +7,7 @@ use Rattle.xp_hunt.specs.declared.lines.LineState.{LineState}
 use Rattle.xp_hunt.specs.declared.lines.LineState.TheVariants.{Idle, Busy}
 use Rattle.xp_packets.specs.declared.block.Block.{Block}
 use Rattle.xp_subs.specs.Sound.{IsSound, IsTarget}
-use Rattle.xp_subs.specs.Tables.{Tables, line_count, station_at, station_of, target_of}
+use Rattle.xp_subs.specs.Tables.{Tables, line_count, modulus_of, station_at, station_of, target_of}
 use Rattle.xp_subs.specs.declared.station.Station.{Station}
 use Rattle.xp_subs.specs.declared.target.Target.{Target}
 use Rattle.xp_decide.specs.Asks.{station_of_line, Asks, wanted_of}
@@ -18,6 +18,7 @@ use Rattle.xp_decide.specs.IncomingCalls.{incoming_call_of}
 use Rattle.xp_decide.specs.Routes.{Place, place_of, place_at, lines_of, Reaches, TakesAt}
 use Rattle.xp_decide.specs.Routes as routes
 use Rattle.xp_decide.specs.LinesForCaller.{state_for_caller}
+use Rattle.xp_decide.specs.declared.acceptance.Wanted.{Wanted}
 use Rattle.xp_decide.specs.declared.request.Request.{Request}
 use Rattle.xp_decide.specs.declared.route.Destination.{Destination}
 use Rattle.xp_decide.specs.declared.verdict.IncomingCall.{IncomingCall}
@@ -63,6 +64,16 @@ is_placed tables address place line sound known contains =
       station = ap (λ (q : Place). q.station) p.place_is ∙ ap (station_at tables) (sym own.1);
     }
 
+-- a line that a call reaches stands in the tables
+pub line_known : (tables : Tables) (states : ℕ → LineState) (wanted : Wanted) (dialled : List ℕ) (end : Destination) → IsSound tables
+    → Reaches tables states wanted dialled (Ok end) → end.line < line_count tables
+line_known tables states wanted dialled end sound (routes.taken hops last line admission _ _ _ takes e) =
+    let same : end ≡ record { line = line; admission = admission; reason = routes.first_reason hops } = cc in
+    let here = is_placed tables last takes.place line sound takes.known takes.idle.0 in
+    subst (λ l. l < line_count tables) (sym (ap (λ (r : Destination). r.line) same)) here.known
+line_known tables states wanted dialled end sound (routes.refused _ _ _ _ _ _ _ e) = cc
+line_known tables states wanted dialled end sound (routes.too_many _ _ _ _ e) = cc
+
 -- a line that counts as idle is idle, and not the caller's
 seen_idle : (caller : ℕ) (states : ℕ → LineState) (line : ℕ) → state_for_caller caller states line ≡ Idle
     → (states line ≡ Idle) × (line ≡ caller → ⊥)
@@ -99,7 +110,7 @@ module _ {A : Type 0} (tables : Tables) (states : ℕ → LineState) (from : ℕ
   ends_at (decided.not_asked _ _ e) = cc
   ends_at (decided.not_reached _ _ _ _ e) = cc
   ends_at (decided.reached request end asked way e) =
-      let same : ring ≡ incoming_call_of request.asked end block.called = cc in
+      let same : ring ≡ incoming_call_of (modulus_of tables end.line) request.asked end block.called = cc in
       let P : ℕ → Type 0 = λ l. EndsAt tables states from (station_of_line tables from) l in
       subst P (sym (ap (λ (r : IncomingCall A). r.line) same)) (by_way request end asked way)
 

@@ -12,9 +12,9 @@ use Rattle.xp_causes.specs.declared.refusal.Refusal.{Refusal}
 use Rattle.xp_causes.specs.declared.refusal.TheConstants.Refusal.{FACILITY_LENGTH, FACILITY_NOT_ALLOWED, FACILITY_PARAMETER, USER_DATA_TOO_LONG, ACCESS_BARRED}
 use Rattle.xp_hunt.specs.declared.lines.LineState.{LineState}
 use Rattle.xp_packets.specs.declared.block.Block.{Block}
-use Rattle.xp_subs.specs.Tables.{Tables}
+use Rattle.xp_subs.specs.Tables.{Tables, modulus_of}
 use Rattle.xp_decide.proofs.Determined.{refuses_at_same, takes_at_same, taken_or_refused, follows_same, follows_longer}
-use Rattle.xp_decide.specs.Asks.{station_of_line, HasRoom, HasNoRoom, Asks, MayNotAsk, wanted_of}
+use Rattle.xp_decide.specs.Asks.{station_of_line, windows_fit, HasRoom, HasNoRoom, Asks, MayNotAsk, wanted_of}
 use Rattle.xp_decide.specs.Asks as asks
 use Rattle.xp_decide.specs.Decided.{Decided}
 use Rattle.xp_decide.specs.Decided as decided
@@ -97,10 +97,14 @@ module _ {A : Type 0} (tables : Tables) (from : ℕ) (block : Block A) where
     told : refusal ≡ fault_refusal fault
 
   data StandsAgainst (asked : RequestedFacilities A) (refusal : Refusal) : Type 0 where
-    no_room : HasNoRoom block asked → refusal ≡ USER_DATA_TOO_LONG → StandsAgainst asked refusal
-    outgoing_barred : HasRoom block asked → (station_of_line tables from).facilities.outgoing_barred ≡ true → refusal ≡ ACCESS_BARRED
+    window : windows_fit (modulus_of tables from) asked.window ≡ false → refusal ≡ FACILITY_PARAMETER → StandsAgainst asked refusal
+    no_room : windows_fit (modulus_of tables from) asked.window ≡ true → HasNoRoom block asked → refusal ≡ USER_DATA_TOO_LONG
         → StandsAgainst asked refusal
-    not_intended : HasRoom block asked → (station_of_line tables from).facilities.outgoing_barred ≡ false
+    outgoing_barred : windows_fit (modulus_of tables from) asked.window ≡ true → HasRoom block asked
+        → (station_of_line tables from).facilities.outgoing_barred ≡ true → refusal ≡ ACCESS_BARRED
+        → StandsAgainst asked refusal
+    not_intended : windows_fit (modulus_of tables from) asked.window ≡ true → HasRoom block asked
+        → (station_of_line tables from).facilities.outgoing_barred ≡ false
         → Intends (station_of_line tables from) asked.selection (Err refusal) → StandsAgainst asked refusal
 
   record IsAgainst (refusal : Refusal) : Type 0 where
@@ -112,24 +116,34 @@ module _ {A : Type 0} (tables : Tables) (from : ℕ) (block : Block A) where
   kind refusal (asks.facility_length faulty is) = inl (record { fault = Length; faulty = faulty; told = is })
   kind refusal (asks.facility_code faulty is) = inl (record { fault = Code; faulty = faulty; told = is })
   kind refusal (asks.facility_parameter faulty is) = inl (record { fault = Param; faulty = faulty; told = is })
-  kind refusal (asks.user_data asked means none is) = inr (record { asked = asked; means = means; against = no_room none is })
-  kind refusal (asks.outgoing_barred asked means room barred is) = inr (record { asked = asked; means = means; against = outgoing_barred room barred is })
-  kind refusal (asks.not_intended asked means room not_barred intends) = inr (record { asked = asked; means = means; against = not_intended room not_barred intends })
+  kind refusal (asks.window asked means wide is) = inr (record { asked = asked; means = means; against = window wide is })
+  kind refusal (asks.user_data asked means fits none is) = inr (record { asked = asked; means = means; against = no_room fits none is })
+  kind refusal (asks.outgoing_barred asked means fits room barred is) =
+      inr (record { asked = asked; means = means; against = outgoing_barred fits room barred is })
+  kind refusal (asks.not_intended asked means fits room not_barred intends) =
+      inr (record { asked = asked; means = means; against = not_intended fits room not_barred intends })
 
   room_or_none : (asked : RequestedFacilities A) → HasRoom block asked → HasNoRoom block asked → ⊥
   room_or_none asked (inl few) none = omega arith
   room_or_none asked (inr fast) none = cc
 
   against_same : (asked : RequestedFacilities A) (one other : Refusal) → StandsAgainst asked one → StandsAgainst asked other → one ≡ other
-  against_same asked one other (no_room _ is) (no_room _ also) = is ∙ sym also
-  against_same asked one other (no_room none _) (outgoing_barred room _ _) = absurd (room_or_none asked room none)
-  against_same asked one other (no_room none _) (not_intended room _ _) = absurd (room_or_none asked room none)
-  against_same asked one other (outgoing_barred room _ _) (no_room none _) = absurd (room_or_none asked room none)
-  against_same asked one other (outgoing_barred _ _ is) (outgoing_barred _ _ also) = is ∙ sym also
-  against_same asked one other (outgoing_barred _ barred _) (not_intended _ not_barred _) = cc
-  against_same asked one other (not_intended room _ _) (no_room none _) = absurd (room_or_none asked room none)
-  against_same asked one other (not_intended _ not_barred _) (outgoing_barred _ barred _) = cc
-  against_same asked one other (not_intended _ _ first) (not_intended _ _ second) =
+  against_same asked one other (window _ is) (window _ also) = is ∙ sym also
+  against_same asked one other (window wide _) (no_room fits _ _) = cc
+  against_same asked one other (window wide _) (outgoing_barred fits _ _ _) = cc
+  against_same asked one other (window wide _) (not_intended fits _ _ _) = cc
+  against_same asked one other (no_room fits _ _) (window wide _) = cc
+  against_same asked one other (no_room _ _ is) (no_room _ _ also) = is ∙ sym also
+  against_same asked one other (no_room _ none _) (outgoing_barred _ room _ _) = absurd (room_or_none asked room none)
+  against_same asked one other (no_room _ none _) (not_intended _ room _ _) = absurd (room_or_none asked room none)
+  against_same asked one other (outgoing_barred fits _ _ _) (window wide _) = cc
+  against_same asked one other (outgoing_barred _ room _ _) (no_room _ none _) = absurd (room_or_none asked room none)
+  against_same asked one other (outgoing_barred _ _ _ is) (outgoing_barred _ _ _ also) = is ∙ sym also
+  against_same asked one other (outgoing_barred _ _ barred _) (not_intended _ _ not_barred _) = cc
+  against_same asked one other (not_intended fits _ _ _) (window wide _) = cc
+  against_same asked one other (not_intended _ room _ _) (no_room _ none _) = absurd (room_or_none asked room none)
+  against_same asked one other (not_intended _ _ not_barred _) (outgoing_barred _ _ barred _) = cc
+  against_same asked one other (not_intended _ _ _ first) (not_intended _ _ _ second) =
       let same : ◌≡◌ {A = Result Intent Refusal} (Err one) (Err other) =
       intent_determined (station_of_line tables from) asked.selection (Err one) (Err other) first second in cc
 
@@ -146,9 +160,10 @@ module _ {A : Type 0} (tables : Tables) (from : ℕ) (block : Block A) where
   asked_or_not : (request : Request A) (refusal : Refusal) → Asks tables from block request → MayNotAsk tables from block refusal → ⊥
   asked_or_not request refusal may may_not = by (kind refusal may_not) where
     at : StandsAgainst request.asked refusal → ⊥
-    at (no_room none _) = room_or_none request.asked may.room none
-    at (outgoing_barred _ barred _) = cc (may.outgoing)
-    at (not_intended _ _ intends) =
+    at (window wide _) = cc (may.window)
+    at (no_room _ none _) = room_or_none request.asked may.room none
+    at (outgoing_barred _ _ barred _) = cc (may.outgoing)
+    at (not_intended _ _ _ intends) =
         let same : ◌≡◌ {A = Result Intent Refusal} (Ok request.intent) (Err refusal) =
         intent_determined (station_of_line tables from) request.asked.selection (Ok request.intent) (Err refusal) may.intends intends in cc
 
@@ -171,9 +186,11 @@ module _ {A : Type 0} (tables : Tables) (from : ℕ) (block : Block A) where
 
 module _ {A : Type 0} (tables : Tables) (states : ℕ → LineState) (from : ℕ) (block : Block A) where
   ends_same : (request : Request A) (end end' : Destination) → (end.admission ≡ end'.admission) × (end.reason ≡ end'.reason)
-      → IsSameButLine (Take (incoming_call_of request.asked end block.called)) (Take (incoming_call_of request.asked end' block.called))
+      → IsSameButLine tables (Take (incoming_call_of (modulus_of tables end.line) request.asked end block.called))
+      (Take (incoming_call_of (modulus_of tables end'.line) request.asked end' block.called))
   ends_same request end end' same = record {
-    told = cc (same.0, same.1);
+    told = λ modulus. cc (modulus, same.0, same.1);
+    told_besides = cc (same.0, same.1);
     asked = refl;
     reason = same.1;
   }
@@ -184,9 +201,9 @@ module _ {A : Type 0} (tables : Tables) (states : ℕ → LineState) (from : ℕ
   way request request' result same reaches =
       let P : Request A → Type 0 = λ r. Reaches tables (state_for_caller from states) (wanted_of r) block.called result in subst P same reaches
 
-  pub decided_same : (one other : Verdict A) → Decided tables states from block one → Decided tables states from block other → IsSameButLine one other
+  pub decided_same : (one other : Verdict A) → Decided tables states from block one → Decided tables states from block other → IsSameButLine tables one other
   decided_same one other (decided.not_asked refusal may_not is) (decided.not_asked refusal' may_not' also) =
-      along IsSameButLine _ _ _ _ is also (may_not_same tables from block refusal refusal' may_not may_not')
+      along (IsSameButLine tables) _ _ _ _ is also (may_not_same tables from block refusal refusal' may_not may_not')
   decided_same one other (decided.not_asked refusal may_not _) (decided.not_reached request _ may _ _) =
       absurd (asked_or_not tables from block request refusal may may_not)
   decided_same one other (decided.not_asked refusal may_not _) (decided.reached request _ may _ _) =
@@ -195,7 +212,7 @@ module _ {A : Type 0} (tables : Tables) (states : ℕ → LineState) (from : ℕ
       absurd (asked_or_not tables from block request refusal may may_not)
   decided_same one other (decided.not_reached request refusal may reaches is) (decided.not_reached request' refusal' may' reaches' also) =
       let same = asks_same tables from block request request' may may' in
-      along IsSameButLine _ _ _ _ is also
+      along (IsSameButLine tables) _ _ _ _ is also
       (reaches_same tables (state_for_caller from states) (wanted_of request') block.called (Err refusal) (Err refusal') (way request request' _ same reaches) reaches')
   decided_same one other (decided.not_reached request refusal may reaches _) (decided.reached request' end may' reaches' _) =
       let same = asks_same tables from block request request' may may' in
@@ -208,5 +225,5 @@ module _ {A : Type 0} (tables : Tables) (states : ℕ → LineState) (from : ℕ
   decided_same one other (decided.reached request end may reaches is) (decided.reached request' end' may' reaches' also) =
       let same = asks_same tables from block request request' may may' in
       let ends = reaches_same tables (state_for_caller from states) (wanted_of request') block.called (Ok end) (Ok end') (way request request' _ same reaches) reaches' in
-      let R : Request A → Type 0 = λ r. one ≡ Take (incoming_call_of r.asked end block.called) in
-      along IsSameButLine _ _ _ _ (subst R same is) also (ends_same request' end end' ends)
+      let R : Request A → Type 0 = λ r. one ≡ Take (incoming_call_of (modulus_of tables end.line) r.asked end block.called) in
+      along (IsSameButLine tables) _ _ _ _ (subst R same is) also (ends_same request' end end' ends)

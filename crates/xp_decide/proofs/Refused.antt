@@ -55,9 +55,10 @@ module _ {A : Type 0} (tables : Tables) (states : ℕ → LineState) (from : ℕ
   not_asked (asks.facility_length _ is) = named refusal FACILITY_LENGTH is (0, lit< tt, refl) (λ h. cc) (λ h. cc)
   not_asked (asks.facility_code _ is) = named refusal FACILITY_NOT_ALLOWED is (1, lit< tt, refl) (λ h. cc) (λ h. cc)
   not_asked (asks.facility_parameter _ is) = named refusal FACILITY_PARAMETER is (2, lit< tt, refl) (λ h. cc) (λ h. cc)
-  not_asked (asks.user_data _ _ _ is) = named refusal USER_DATA_TOO_LONG is (3, lit< tt, refl) (λ h. cc) (λ h. cc)
-  not_asked (asks.outgoing_barred _ _ _ _ is) = named refusal ACCESS_BARRED is (4, lit< tt, refl) (λ h. cc) (λ h. cc)
-  not_asked (asks.not_intended _ _ _ _ intends) = by_groups refusal (intent_refusal _ _ _ intends)
+  not_asked (asks.window _ _ _ is) = named refusal FACILITY_PARAMETER is (2, lit< tt, refl) (λ h. cc) (λ h. cc)
+  not_asked (asks.user_data _ _ _ _ is) = named refusal USER_DATA_TOO_LONG is (3, lit< tt, refl) (λ h. cc) (λ h. cc)
+  not_asked (asks.outgoing_barred _ _ _ _ _ is) = named refusal ACCESS_BARRED is (4, lit< tt, refl) (λ h. cc) (λ h. cc)
+  not_asked (asks.not_intended _ _ _ _ _ intends) = by_groups refusal (intent_refusal _ _ _ intends)
 
   -- a refusal for want of a line is known too, and no line is idle
   record IsWithoutLine : Type 0 where

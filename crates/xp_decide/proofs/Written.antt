@@ -1,6 +1,6 @@
 -- What the decision tells a line can be written.
-use Rattle.std.proofs.Common.{◌≡◌, ℕ, ◌≤◌, ◌&&◌, min, true, leb, length, List, Option, None, Some, Ok, Err, inr, refl, sym, ◌∙◌, ap, subst, arith}
-use Rattle.std.proofs.Math.Nat.{le-min, min-le_right}
+use Rattle.std.proofs.Common.{◌≡◌, ℕ, ◌≤◌, ◌&&◌, min, true, leb, length, List, Option, None, Some, Ok, Err, refl, sym, ◌∙◌, ap, subst, arith}
+use Rattle.std.proofs.Math.Nat.{le-min, min-le_left, min-le_right}
 use Rattle.std.proofs.lemmas.Bool.{and_parts, and_from, leb-true, le-leb}
 use Rattle.std.proofs.lemmas.List.Elements.{All-contains}
 use Rattle.std.specs.Prelude.{IfSome}
@@ -9,7 +9,8 @@ use Rattle.xp_facilities.proofs.Meant.{AsksInRange, asks_in_range}
 use Rattle.xp_facilities.specs.Items.{octets_of_all}
 use Rattle.xp_facilities.specs.Limits.{largest_window}
 use Rattle.xp_facilities.specs.Octets.{is_within}
-use Rattle.xp_facilities.specs.Indicated.{index_fits, sizes_fit, counts_fit, is_in_range, indicated_items, Indicates, Writes}
+use Rattle.xp_facilities.specs.Indicated as indicated
+use Rattle.xp_facilities.specs.Indicated.{index_fits, sizes_fit, duration_fits, counts_fit, is_in_range, indicated_items, Indicates, Writes}
 use Rattle.xp_facilities.specs.declared.requested.RequestedFacilities.{RequestedFacilities}
 use Rattle.xp_facilities.specs.declared.fault.FacilityFault.{FacilityFault}
 use Rattle.xp_facilities.specs.declared.fault.FacilityFault.TheVariants.{Length, Code, Param, Memory}
@@ -25,19 +26,21 @@ use Rattle.xp_groups.specs.declared.admission.Admission.{Admission}
 use Rattle.xp_groups.specs.declared.intention.Intent.{Intent}
 use Rattle.xp_hunt.specs.declared.lines.LineState.{LineState}
 use Rattle.xp_packets.specs.declared.block.Block.{Block}
+use Rattle.xp_packets.specs.declared.modulus.Modulus.{Modulus}
+use Rattle.xp_packets.specs.declared.modulus.Modulus.TheVariants.{Eight, Long}
 use Rattle.xp_subs.specs.Sound.{IsSound, HasShortIndexes}
-use Rattle.xp_subs.specs.Tables.{Tables, station_of}
+use Rattle.xp_subs.specs.Tables.{Tables, modulus_of, station_of}
 use Rattle.xp_subs.specs.declared.station.Membership.{Membership}
 use Rattle.xp_subs.specs.declared.station.Station.{Station}
 use Rattle.xp_decide.proofs.Joined.{is_placed}
-use Rattle.xp_decide.specs.Asks.{Asks, wanted_of}
+use Rattle.xp_decide.specs.Asks.{windows_fit, Asks, wanted_of}
 use Rattle.xp_decide.specs.Decided.{Decided}
 use Rattle.xp_decide.specs.Decided as decided
-use Rattle.xp_decide.specs.IncomingCalls.{indicated_packet, indicated_window, notified, told_of, incoming_call_of}
+use Rattle.xp_decide.specs.IncomingCalls.{reduced_to, indicated_packet, indicated_window, notified, told_of, incoming_call_of}
 use Rattle.xp_decide.specs.Routes.{first_reason, Reaches, TakesAt}
 use Rattle.xp_decide.specs.Routes as routes
 use Rattle.xp_decide.specs.LinesForCaller.{state_for_caller}
-use Rattle.xp_decide.specs.Indicated.{TellsWithin, IndicatesSizes}
+use Rattle.xp_decide.specs.Indicated.{largest_window_on, TellsWithin, IndicatesSizes, IndicatesSizesForBoth}
 use Rattle.xp_decide.specs.Written.{CanBeWritten}
 use Rattle.xp_decide.specs.declared.acceptance.Wanted.{Wanted}
 use Rattle.xp_decide.specs.declared.request.Request.{Request}
@@ -74,36 +77,84 @@ taker_short tables states wanted address line admission sound takes =
     let short = sound.indexes (station_of tables line) (sound.placed line placed.known) in
     index_told wanted.intent takes.place.station admission (subst HasShortIndexes (sym placed.station) short) takes.accepts.admitted
 
--- 1,024 octets bound packet sizes that are in their range
-size_capped : (size : ℕ) → (leb 4 size && leb size 12) ≡ true → (leb 4 (min size 10) && leb (min size 10) 10) ≡ true
-size_capped size fits =
+-- a size that is in its range, reduced to at most `bound`
+size_reduced : (least bound most size : ℕ) → least ≤ bound → (leb least size && leb size most) ≡ true
+    → (leb least (min size bound) && leb (min size bound) bound) ≡ true
+size_reduced least bound most size low fits =
     and_from _ _
-    (le-leb 4 (min size 10) (le-min (leb-true 4 size (and_parts _ _ fits).0) (omega arith)))
-    (le-leb (min size 10) 10 (min-le_right size 10))
+    (le-leb least (min size bound) (le-min (leb-true least size (and_parts _ _ fits).0) low))
+    (le-leb (min size bound) bound (min-le_right size bound))
+
+sizes_reduced : (least bound most : ℕ) (sizes : DirectionSizes) → least ≤ bound → is_within least most sizes ≡ true
+    → is_within least bound (reduced_to bound sizes) ≡ true
+sizes_reduced least bound most sizes low fits =
+    let parts = and_parts _ _ fits in
+    and_from _ _ (size_reduced least bound most sizes.from_called low parts.0) (size_reduced least bound most sizes.from_calling low parts.1)
 
 packet_indicated : (asked : Option DirectionSizes) → sizes_fit 4 12 asked ≡ true → is_within 4 10 (indicated_packet asked) ≡ true
 unfolding sizes_fit
 packet_indicated None fits = refl
-packet_indicated (Some sizes) fits =
+packet_indicated (Some sizes) fits = sizes_reduced 4 10 12 sizes (omega arith) fits
+
+-- a line has a window of 1, and none over the largest
+some_window : (modulus : Modulus) → 1 ≤ largest_window_on modulus
+some_window Eight = omega arith
+some_window Long = omega arith
+
+largest_of_all : (modulus : Modulus) → largest_window_on modulus ≤ largest_window
+largest_of_all Eight = omega arith
+largest_of_all Long = omega arith
+
+-- what a line may not have over, it is not told
+window_indicated : (modulus : Modulus) (asked : Option DirectionSizes) → sizes_fit 1 largest_window asked ≡ true
+    → is_within 1 (largest_window_on modulus) (indicated_window modulus asked) ≡ true
+unfolding sizes_fit
+window_indicated Eight None fits = refl
+window_indicated Long None fits = refl
+window_indicated modulus (Some sizes) fits = sizes_reduced 1 (largest_window_on modulus) largest_window sizes (some_window modulus) fits
+
+-- a range that is wider
+size_wider : (least most more size : ℕ) → most ≤ more → (leb least size && leb size most) ≡ true → (leb least size && leb size more) ≡ true
+size_wider least most more size wide fits =
     let parts = and_parts _ _ fits in
-    and_from _ _ (size_capped sizes.from_called parts.0) (size_capped sizes.from_calling parts.1)
+    and_from _ _ parts.0 (le-leb size more (omega (arith, leb-true size most parts.1)))
+
+sizes_wider : (least most more : ℕ) (sizes : DirectionSizes) → most ≤ more → is_within least most sizes ≡ true → is_within least more sizes ≡ true
+sizes_wider least most more sizes wide fits =
+    let parts = and_parts _ _ fits in
+    and_from _ _ (size_wider least most more sizes.from_called wide parts.0) (size_wider least most more sizes.from_calling wide parts.1)
 
 -- so a field can tell them
-size_told : (size : ℕ) → (leb 4 size && leb size 10) ≡ true → (leb 4 size && leb size 12) ≡ true
-size_told size fits =
-    let parts = and_parts _ _ fits in
-    and_from _ _ parts.0 (le-leb size 12 (omega (arith, leb-true size 10 parts.1)))
-
 packet_told : (asked : Option DirectionSizes) → sizes_fit 4 12 asked ≡ true → is_within 4 12 (indicated_packet asked) ≡ true
-packet_told asked fits =
-    let sizes = indicated_packet asked in
-    let parts = and_parts _ _ (packet_indicated asked fits) in
-    and_from _ _ (size_told sizes.from_called parts.0) (size_told sizes.from_calling parts.1)
+packet_told asked fits = sizes_wider 4 10 12 (indicated_packet asked) (omega arith) (packet_indicated asked fits)
 
-window_told : (asked : Option DirectionSizes) → sizes_fit 1 largest_window asked ≡ true → is_within 1 largest_window (indicated_window asked) ≡ true
-unfolding sizes_fit
-window_told None fits = refl
-window_told (Some sizes) fits = fits
+window_told : (modulus : Modulus) (asked : Option DirectionSizes) → sizes_fit 1 largest_window asked ≡ true
+    → is_within 1 largest_window (indicated_window modulus asked) ≡ true
+window_told modulus asked fits =
+    sizes_wider 1 (largest_window_on modulus) largest_window (indicated_window modulus asked) (largest_of_all modulus) (window_indicated modulus asked fits)
+
+-- what the caller's line may not have over, it may not ask for; and the windows are not made larger
+size_kept : (bound most size : ℕ) → leb size most ≡ true → leb (min size bound) most ≡ true
+size_kept bound most size few =
+    let less = min-le_left size bound in
+    le-leb (min size bound) most (omega (arith, leb-true size most few, less))
+
+window_kept : (caller modulus : Modulus) (asked : Option DirectionSizes) → windows_fit caller asked ≡ true → sizes_fit 1 largest_window asked ≡ true
+    → is_within 1 (largest_window_on caller) (indicated_window modulus asked) ≡ true
+window_kept Eight Eight None few fits = refl
+window_kept Eight Long None few fits = refl
+window_kept Long Eight None few fits = refl
+window_kept Long Long None few fits = refl
+window_kept caller modulus (Some sizes) few fits =
+    let within = and_parts _ _ (window_indicated modulus (Some sizes) fits) in
+    let called = and_parts _ _ within.0 in
+    let calling = and_parts _ _ within.1 in
+    let parts = and_parts _ _ few in
+    let bound = largest_window_on modulus in
+    let most = largest_window_on caller in
+    and_from _ _
+    (and_from _ _ called.0 (size_kept bound most sizes.from_called parts.0))
+    (and_from _ _ calling.0 (size_kept bound most sizes.from_calling parts.1))
 
 dialled_few : (reason : Option Reason) (dialled : List ℕ) → length dialled ≤ 15 → IfSome (notified reason dialled) (λ r. length r.dialled ≤ 15)
 dialled_few None dialled few = tt
@@ -132,17 +183,17 @@ within_bounds least most sizes fits =
       calling_most = leb-true sizes.from_calling most calling.1;
     }
 
-module _ {A : Type 0} (asked : RequestedFacilities A) (admission : Admission) (reason : Option Reason) (dialled : List ℕ) where
-  told_in_range : index_fits admission.indicated ≡ true → AsksInRange asked → is_in_range (told_of asked admission reason dialled) ≡ true
-  unfolding is_in_range sizes_fit counts_fit
+module _ {A : Type 0} (modulus : Modulus) (asked : RequestedFacilities A) (admission : Admission) (reason : Option Reason) (dialled : List ℕ) where
+  told_in_range : index_fits admission.indicated ≡ true → AsksInRange asked → is_in_range (told_of modulus asked admission reason dialled) ≡ true
+  unfolding is_in_range sizes_fit duration_fits counts_fit
   told_in_range index asks =
       let few = le-leb (length asked.dte) 80 asks.dte.few in
-      rw (index, packet_told asked.packet asks.packet, window_told asked.window asks.window, few) refl
+      rw (index, packet_told asked.packet asks.packet, window_told modulus asked.window asks.window, few) refl
 
   told_written : index_fits admission.indicated ≡ true → AsksInRange asked → length dialled ≤ 15
-      → CanBeWritten (told_of asked admission reason dialled)
+      → CanBeWritten (told_of modulus asked admission reason dialled)
   told_written index asks few =
-      let told = told_of asked admission reason dialled in
+      let told = told_of modulus asked admission reason dialled in
       let field = octets_of_all (indicated_items told asks.dte.carried) in
       let tells : Indicates told field = record {
         carried = asks.dte.carried;
@@ -153,20 +204,20 @@ module _ {A : Type 0} (asked : RequestedFacilities A) (admission : Admission) (r
       record {
         field = field;
         tells = tells;
-        most = λ other also. told-exchange told (length other) (told-length told other also (dialled_few reason dialled few)) (inr (refl, refl));
+        most = λ other also. told-exchange told (length other) (told-length told other also (dialled_few reason dialled few)) (indicated.incoming refl refl refl);
         refused = for_memory told field tells;
       }
 
 module _ {A : Type 0} (tables : Tables) (states : ℕ → LineState) (from : ℕ) (block : Block A) (sound : IsSound tables) (few : length block.called ≤ 15) where
   by_way : (request : Request A) (end : Destination) → Asks tables from block request
       → Reaches tables (state_for_caller from states) (wanted_of request) block.called (Ok end)
-      → CanBeWritten (told_of request.asked end.admission end.reason block.called)
+      → CanBeWritten (told_of (modulus_of tables end.line) request.asked end.admission end.reason block.called)
   by_way request end asks (routes.taken hops last line admission _ _ _ takes e) =
       let same : end ≡ record { line = line; admission = admission; reason = first_reason hops } = cc in
       let index = taker_short tables (state_for_caller from states) (wanted_of request) last line admission sound takes in
-      let P : Destination → Type 0 = λ r. CanBeWritten (told_of request.asked r.admission r.reason block.called) in
+      let P : Destination → Type 0 = λ r. CanBeWritten (told_of (modulus_of tables r.line) request.asked r.admission r.reason block.called) in
       subst P (sym same) (
-      told_written request.asked admission (first_reason hops) block.called index (asks_in_range block.facilities request.asked asks.means) few
+      told_written (modulus_of tables line) request.asked admission (first_reason hops) block.called index (asks_in_range block.facilities request.asked asks.means) few
       )
   by_way request end asks (routes.refused _ _ _ _ _ _ _ e) = cc
   by_way request end asks (routes.too_many _ _ _ _ e) = cc
@@ -175,19 +226,30 @@ module _ {A : Type 0} (tables : Tables) (states : ℕ → LineState) (from : ℕ
   told_can_be_written ring (decided.not_asked _ _ e) = cc
   told_can_be_written ring (decided.not_reached _ _ _ _ e) = cc
   told_can_be_written ring (decided.reached request end asks way e) =
-      let same : ring ≡ incoming_call_of request.asked end block.called = cc in
+      let same : ring ≡ incoming_call_of (modulus_of tables end.line) request.asked end block.called = cc in
       let P : IncomingCall A → Type 0 = λ r. CanBeWritten r.told in
       subst P (sym same) (by_way request end asks way)
 
 module _ {A : Type 0} (tables : Tables) (states : ℕ → LineState) (from : ℕ) (block : Block A) where
-  pub told_sizes : (ring : IncomingCall A) → Decided tables states from block (Take ring) → IndicatesSizes ring.told
+  sizes_for : (modulus : Modulus) (request : Request A) (end : Destination) → Asks tables from block request
+      → is_within 1 (largest_window_on modulus) (indicated_window (modulus_of tables end.line) request.asked.window) ≡ true
+      → IndicatesSizes modulus (told_of (modulus_of tables end.line) request.asked end.admission end.reason block.called)
+  sizes_for modulus request end asks windows =
+      let range = asks_in_range block.facilities request.asked asks.means in
+      record {
+        packet = within_bounds 4 10 (indicated_packet request.asked.packet) (packet_indicated request.asked.packet range.packet);
+        window = within_bounds 1 (largest_window_on modulus) (indicated_window (modulus_of tables end.line) request.asked.window) windows;
+      }
+
+  pub told_sizes : (ring : IncomingCall A) → Decided tables states from block (Take ring) → IndicatesSizesForBoth tables from ring
   told_sizes ring (decided.not_asked _ _ e) = cc
   told_sizes ring (decided.not_reached _ _ _ _ e) = cc
   told_sizes ring (decided.reached request end asks way e) =
-      let same : ring ≡ incoming_call_of request.asked end block.called = cc in
+      let same : ring ≡ incoming_call_of (modulus_of tables end.line) request.asked end block.called = cc in
       let range = asks_in_range block.facilities request.asked asks.means in
-      let P : IncomingCall A → Type 0 = λ r. IndicatesSizes r.told in
-      subst P (sym same) (record {
-        packet = within_bounds 4 10 (indicated_packet request.asked.packet) (packet_indicated request.asked.packet range.packet);
-        window = within_bounds 1 largest_window (indicated_window request.asked.window) (window_told request.asked.window range.window);
-      })
+      let caller = modulus_of tables from in
+      let called = modulus_of tables end.line in
+      subst (IndicatesSizesForBoth tables from) (sym same) (
+        sizes_for caller request end asks (window_kept caller called request.asked.window asks.window range.window),
+        sizes_for called request end asks (window_indicated called request.asked.window range.window),
+      )

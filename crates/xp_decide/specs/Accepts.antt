@@ -1,5 +1,5 @@
 -- Whether a station's subscription permits it to take a call (X.25 clauses 6.5, 6.14, 6.17 and 6.19).
-use Rattle.std.specs.Prelude.{◌≡◌, true, false, Result, Ok, Err}
+use Rattle.std.specs.Prelude.{◌≡◌, true, false, Ok, Err}
 use Rattle.xp_groups.specs.Admits.{Admits}
 use Rattle.xp_groups.specs.declared.admission.Admission.{Admission}
 use Rattle.xp_causes.specs.declared.refusal.Refusal.{Refusal}

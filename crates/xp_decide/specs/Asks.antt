@@ -1,6 +1,8 @@
--- What a call request asks for, and whether the caller's station may make it (X.25 clauses 5.2.2, 6.6 and 6.14).
-use Rattle.std.specs.Prelude.{◌≡◌, ℕ, ◌<◌, ◌≤◌, length, Bool, true, false, Result, Ok, Err, ◌⊎◌}
+-- What a call request asks for, and whether the caller's line and station may make it (X.25 clauses 5.2.2, 6.6, 6.12 and
+-- 6.14).
+use Rattle.std.specs.Prelude.{◌≡◌, ℕ, ◌<◌, ◌≤◌, length, nat_le, ◌&&◌, Bool, true, false, Option, None, Some, Ok, Err, ◌⊎◌}
 use Rattle.xp_facilities.specs.Requested.{Means, IsFaulty}
+use Rattle.xp_facilities.specs.declared.direction_sizes.DirectionSizes.{DirectionSizes}
 use Rattle.xp_facilities.specs.declared.requested.RequestedFacilities.{RequestedFacilities}
 use Rattle.xp_facilities.specs.declared.fast_select.FastSelect.{FastSelect}
 use Rattle.xp_facilities.specs.declared.fast_select.FastSelect.TheVariants.{No, Unrestricted, Restricted}
@@ -9,8 +11,10 @@ use Rattle.xp_groups.specs.Intends.{Intends}
 use Rattle.xp_causes.specs.declared.refusal.Refusal.{Refusal}
 use Rattle.xp_causes.specs.declared.refusal.TheConstants.Refusal.{FACILITY_LENGTH, FACILITY_NOT_ALLOWED, FACILITY_PARAMETER, USER_DATA_TOO_LONG, ACCESS_BARRED}
 use Rattle.xp_packets.specs.declared.block.Block.{Block}
-use Rattle.xp_subs.specs.Tables.{Tables, station_at, station_of}
+use Rattle.xp_packets.specs.declared.modulus.Modulus.{Modulus}
+use Rattle.xp_subs.specs.Tables.{Tables, modulus_of, station_at, station_of}
 use Rattle.xp_subs.specs.declared.station.Station.{Station}
+use Rattle.xp_decide.specs.Indicated.{largest_window_on}
 use Rattle.xp_decide.specs.declared.acceptance.Wanted.{Wanted}
 use Rattle.xp_decide.specs.declared.request.Request.{Request}
 
@@ -23,6 +27,12 @@ abbrev pub is_fast : FastSelect → Bool
 is_fast No = false
 is_fast Unrestricted = true
 is_fast Restricted = true
+
+-- the windows are at most the largest of a line with this modulus
+abbrev pub windows_fit : Modulus → Option DirectionSizes → Bool
+windows_fit modulus None = true
+windows_fit modulus (Some windows) =
+    nat_le windows.from_called (largest_window_on modulus) && nat_le windows.from_calling (largest_window_on modulus)
 
 module _ {A : Type 0} where
   -- what the call requests of each station that it reaches
@@ -38,6 +48,7 @@ module _ {A : Type 0} where
 
   pub record Asks (tables : Tables) (from : ℕ) (block : Block A) (request : Request A) : Type 0 where
     pub means : Means block.facilities request.asked
+    pub window : windows_fit (modulus_of tables from) request.asked.window ≡ true
     pub room : HasRoom block request.asked
     pub outgoing : (station_of_line tables from).facilities.outgoing_barred ≡ false
     pub intends : Intends (station_of_line tables from) request.asked.selection (Ok request.intent)
@@ -50,11 +61,17 @@ module _ {A : Type 0} where
         → refusal ≡ FACILITY_NOT_ALLOWED → MayNotAsk tables from block refusal
     facility_parameter : IsFaulty block.facilities Param
         → refusal ≡ FACILITY_PARAMETER → MayNotAsk tables from block refusal
-    user_data : (asked : RequestedFacilities A) → Means block.facilities asked → HasNoRoom block asked
+    window : (asked : RequestedFacilities A) → Means block.facilities asked
+        → windows_fit (modulus_of tables from) asked.window ≡ false
+        → refusal ≡ FACILITY_PARAMETER → MayNotAsk tables from block refusal
+    user_data : (asked : RequestedFacilities A) → Means block.facilities asked
+        → windows_fit (modulus_of tables from) asked.window ≡ true → HasNoRoom block asked
         → refusal ≡ USER_DATA_TOO_LONG → MayNotAsk tables from block refusal
-    outgoing_barred : (asked : RequestedFacilities A) → Means block.facilities asked → HasRoom block asked
+    outgoing_barred : (asked : RequestedFacilities A) → Means block.facilities asked
+        → windows_fit (modulus_of tables from) asked.window ≡ true → HasRoom block asked
         → (station_of_line tables from).facilities.outgoing_barred ≡ true
         → refusal ≡ ACCESS_BARRED → MayNotAsk tables from block refusal
-    not_intended : (asked : RequestedFacilities A) → Means block.facilities asked → HasRoom block asked
+    not_intended : (asked : RequestedFacilities A) → Means block.facilities asked
+        → windows_fit (modulus_of tables from) asked.window ≡ true → HasRoom block asked
         → (station_of_line tables from).facilities.outgoing_barred ≡ false
         → Intends (station_of_line tables from) asked.selection (Err refusal) → MayNotAsk tables from block refusal

@@ -1,9 +1,9 @@
 -- The outcome of a call request. Several outcomes are permitted if several lines are idle: any of them may ring.
-use Rattle.std.specs.Prelude.{◌≡◌, ℕ, Result, Ok, Err}
+use Rattle.std.specs.Prelude.{◌≡◌, ℕ, Ok, Err}
 use Rattle.xp_causes.specs.declared.refusal.Refusal.{Refusal}
 use Rattle.xp_hunt.specs.declared.lines.LineState.{LineState}
 use Rattle.xp_packets.specs.declared.block.Block.{Block}
-use Rattle.xp_subs.specs.Tables.{Tables}
+use Rattle.xp_subs.specs.Tables.{Tables, modulus_of}
 use Rattle.xp_decide.specs.Asks.{Asks, MayNotAsk, wanted_of}
 use Rattle.xp_decide.specs.IncomingCalls.{incoming_call_of}
 use Rattle.xp_decide.specs.Routes.{Reaches}
@@ -23,10 +23,10 @@ module _ {A : Type 0} where
     not_reached : (request : Request A) (refusal : Refusal) → Asks tables from block request
         → Reaches tables (state_for_caller from states) (wanted_of request) block.called (Err refusal)
         → verdict ≡ Refuse refusal → Decided tables states from block verdict
-    -- the call reaches a line that takes it
+    -- the call reaches a line that takes it, and is told what its modulus permits
     reached : (request : Request A) (end : Destination) → Asks tables from block request
         → Reaches tables (state_for_caller from states) (wanted_of request) block.called (Ok end)
-        → verdict ≡ Take (incoming_call_of request.asked end block.called) → Decided tables states from block verdict
+        → verdict ≡ Take (incoming_call_of (modulus_of tables end.line) request.asked end block.called) → Decided tables states from block verdict
 
   -- a property of the line that rings, and one of the refusal
   abbrev pub IfTaken : Verdict A → (IncomingCall A → Type 0) → Type 0

@@ -1,5 +1,5 @@
 -- Laws of the decision on a call request.
-use Rattle.std.specs.Prelude.{◌≡◌, ◌≢◌, ℕ, ◌<◌, ◌≤◌, List, length, Some, ◌⊎◌, Contains}
+use Rattle.std.specs.Prelude.{◌≡◌, ◌≢◌, ℕ, ◌<◌, ◌≤◌, List, length, None, Some, ◌⊎◌, Contains}
 use Rattle.xp_causes.specs.Refusals.{call_refusals}
 use Rattle.xp_groups.specs.MayJoin.{MayJoin}
 use Rattle.xp_causes.specs.declared.refusal.Refusal.{Refusal}
@@ -9,10 +9,10 @@ use Rattle.xp_hunt.specs.declared.lines.LineState.{LineState}
 use Rattle.xp_hunt.specs.declared.lines.LineState.TheVariants.{Idle}
 use Rattle.xp_packets.specs.declared.block.Block.{Block}
 use Rattle.xp_subs.specs.Sound.{IsSound}
-use Rattle.xp_subs.specs.Tables.{Tables, line_count}
+use Rattle.xp_subs.specs.Tables.{Tables, line_count, modulus_of}
 use Rattle.xp_decide.specs.Asks.{station_of_line, Asks, wanted_of}
 use Rattle.xp_decide.specs.Decided.{Decided}
-use Rattle.xp_decide.specs.Indicated.{IndicatesSizes}
+use Rattle.xp_decide.specs.Indicated.{IndicatesSizesForBoth}
 use Rattle.xp_decide.specs.Routes.{Place, place_at, Hop, Follows, IsLast}
 use Rattle.xp_decide.specs.LinesForCaller.{state_for_caller}
 use Rattle.xp_decide.specs.Written.{CanBeWritten}
@@ -48,11 +48,11 @@ ToldCanBeWritten A =
     → IsSound tables → length block.called ≤ 15 → Decided tables states from block (Take ring)
     → CanBeWritten ring.told
 
--- the line that rings receives packet and window sizes that a call may have
+-- the line that rings receives packet and window sizes that it and the caller's line may have
 abbrev pub ToldSizesAreIndicated : Type 0 → Type 0
 ToldSizesAreIndicated A =
     (tables : Tables) (states : ℕ → LineState) (from : ℕ) (block : Block A) (ring : IncomingCall A)
-    → Decided tables states from block (Take ring) → IndicatesSizes ring.told
+    → Decided tables states from block (Take ring) → IndicatesSizesForBoth tables from ring
 
 -- a refusal is one of the refusals of call requests
 abbrev pub RefusalsAreKnown : Type 0 → Type 0
@@ -82,23 +82,25 @@ RefusesWithoutIdleLine A = (tables : Tables) (states : ℕ → LineState) (from 
     → Decided tables states from block (Refuse refusal) → IsWantOfLine refusal
     → EndsWithoutLine tables states from block
 
--- the same outcome, except for the line that rings
-pub record IsSameRing {A : Type 0} (one other : IncomingCall A) : Type 0 where
-  pub told : one.told ≡ other.told
+-- The same outcome, except for the line that rings. What it is told is the same but for the windows, and the windows are
+-- the same for lines with the same modulus.
+pub record IsSameRing {A : Type 0} (tables : Tables) (one other : IncomingCall A) : Type 0 where
+  pub told : modulus_of tables one.line ≡ modulus_of tables other.line → one.told ≡ other.told
+  pub told_besides : record one.told { window = None } ≡ record other.told { window = None }
   pub asked : one.asked ≡ other.asked
   pub reason : one.reason ≡ other.reason
 
-abbrev pub IsSameButLine : {A : Type 0} → Verdict A → Verdict A → Type 0
-IsSameButLine (Take one) (Take other) = IsSameRing one other
-IsSameButLine (Refuse one) (Refuse other) = one ≡ other
-IsSameButLine (Take one) (Refuse other) = ⊥
-IsSameButLine (Refuse one) (Take other) = ⊥
+abbrev pub IsSameButLine : {A : Type 0} → Tables → Verdict A → Verdict A → Type 0
+IsSameButLine tables (Take one) (Take other) = IsSameRing tables one other
+IsSameButLine tables (Refuse one) (Refuse other) = one ≡ other
+IsSameButLine tables (Take one) (Refuse other) = ⊥
+IsSameButLine tables (Refuse one) (Take other) = ⊥
 
 -- a call request has only one outcome, except for the line that rings
 abbrev pub IsDeterminedButLine : Type 0 → Type 0
 IsDeterminedButLine A =
     (tables : Tables) (states : ℕ → LineState) (from : ℕ) (block : Block A) (one other : Verdict A)
-    → Decided tables states from block one → Decided tables states from block other → IsSameButLine one other
+    → Decided tables states from block one → Decided tables states from block other → IsSameButLine tables one other
 
 -- a verdict that the rules permit
 pub record HasVerdict {A : Type 0} (tables : Tables) (states : ℕ → LineState) (from : ℕ) (block : Block A) : Type 0 where

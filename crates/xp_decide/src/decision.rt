@@ -3,10 +3,11 @@ ghost use Rattle.xp_causes.specs.Refusals.{call_refusals};
 ghost use Rattle.xp_decide.specs.Asks.{station_of_line};
 ghost use Rattle.xp_decide.specs.Decided.{Decided, IfTaken, IfRefused};
 ghost use Rattle.xp_decide.specs.steps.Decided.{PutsThrough};
-ghost use Rattle.xp_decide.specs.Indicated.{IndicatesSizes};
+ghost use Rattle.xp_decide.specs.Indicated.{IndicatesSizesForBoth};
 ghost use Rattle.xp_decide.specs.Laws.{IsFree};
 ghost use Rattle.xp_decide.specs.Written.{CanBeWritten};
 ghost use Rattle.xp_groups.specs.MayJoin.{MayJoin};
+ghost use Rattle.xp_subs.specs.Sound.{IsSound};
 ghost use Rattle.xp_subs.specs.Tables.{line_count};
 
 use crate::fault::CallFault;
@@ -23,8 +24,9 @@ use xp_subs::{LineNo, Subs};
 /// Decides on the call request with this block that the line `from` makes. If several lines are idle, the contract
 /// does not say which one gets the call.
 ///
-/// The first fault refuses the call: first the faults of the facilities, then of the user data, then of what the
-/// caller's station may request, and then those of the address where the call ends.
+/// The first fault refuses the call: first the faults of the facilities, then windows too large for the caller's line,
+/// then the faults of the user data, then of what the caller's station may request, and then those of the address
+/// where the call ends.
 ///
 /// # Errors
 ///
@@ -45,8 +47,8 @@ pub fn decide<A: Allocator + Copy, L: Lines>(
     ensures joined { IfOk result (λ v. IfTaken v (λ ring.
         MayJoin (station_of_line subs.now from) (station_of_line subs.now ring.line))) }
 
-    // The facilities that it receives have packet and window sizes within their ranges, and can be written.
-    ensures indicated { IfOk result (λ v. IfTaken v (λ ring. IndicatesSizes ring.told)) }
+    // The facilities that it receives have packet and window sizes that both lines may have, and can be written.
+    ensures indicated { IfOk result (λ v. IfTaken v (IndicatesSizesForBoth subs.now from)) }
     ensures written { IfOk result (λ v. IfTaken v (λ ring. CanBeWritten ring.told)) }
 
     // A refusal is one of the refusals of call requests.
@@ -75,7 +77,8 @@ fn put_through<A: Allocator + Copy, L: Lines>(
     from: LineNo,
     block: &Block<A>,
 ) -> Result<IncomingCall<A>, CallFault>
-    requires { from < line_count subs.now }
+    requires sound { IsSound subs.now }
+    requires line { from < line_count subs.now }
     ensures { PutsThrough subs.now (L.states lines.now) from block.now result }
 {
     let request = open(alloc, subs, from, block)?;
@@ -84,5 +87,6 @@ fn put_through<A: Allocator + Copy, L: Lines>(
         caller: from,
     };
     let reached = reach(subs, &seen, &request.wanted(), &block.called)?;
-    Ok(incoming_call(request.asked, &reached, &block.called)?)
+    let modulus = subs.modulus_of(reached.line);
+    Ok(incoming_call(modulus, request.asked, &reached, &block.called)?)
 }

@@ -24,7 +24,8 @@ pub fn told_can_be_written<A: Allocator>()
     ensures { ToldCanBeWritten A }
 {}
 
-/// The line that rings receives packet sizes of 16 to 1,024 octets and window sizes of 1 to 7.
+/// The line that rings receives packet sizes of 16 to 1,024 octets, and window sizes of 1 to the largest that both lines
+/// may have: 7, or 15 if both number modulo 128.
 pub fn told_sizes_are_indicated<A: Allocator>()
     ensures { ToldSizesAreIndicated A }
 {}
@@ -34,7 +35,8 @@ pub fn refusals_are_known<A: Allocator>()
     ensures { RefusalsAreKnown A }
 {}
 
-/// A call request has only one outcome, except for which idle line rings.
+/// A call request has only one outcome, except for which idle line rings, and for the windows that it receives, which are
+/// the same for lines with the same modulus.
 pub fn decision_is_determined_but_the_line<A: Allocator>()
     ensures { IsDeterminedButLine A }
 {}

@@ -12,6 +12,7 @@ mod request;
 mod route;
 mod verdict;
 mod visit;
+mod window;
 
 pub use decision::decide;
 pub use laws::{

@@ -5,6 +5,7 @@ ghost use Rattle.xp_subs.specs.Tables.{line_count};
 
 use crate::acceptance::Wanted;
 use crate::fault::CallFault;
+use crate::window::windows_fit;
 use std::alloc::{Allocator, Global};
 use xp_causes::Refusal;
 use xp_facilities::{FastSelect, RequestedFacilities, parse};
@@ -39,8 +40,8 @@ impl<A: Allocator> Request<A> {
 ///
 /// # Errors
 ///
-/// A failed allocation, or the first refusal: the facilities are faulty, there is too much user data, or the caller's
-/// station may not make the call.
+/// A failed allocation, or the first refusal: the facilities are faulty, a window is too large for the caller's line,
+/// there is too much user data, or the caller's station may not make the call.
 pub fn open<A: Allocator + Copy>(
     alloc: A,
     subs: &Subs,
@@ -51,6 +52,9 @@ pub fn open<A: Allocator + Copy>(
     ensures { Opens subs.now from block.now result }
 {
     let asked = parse(alloc, block.facilities.as_slice())?;
+    if !windows_fit(subs.modulus_of(from), asked.window) {
+        return Err(CallFault::Refused(Refusal::FACILITY_PARAMETER));
+    }
     if !has_room(block, &asked) {
         return Err(CallFault::Refused(Refusal::USER_DATA_TOO_LONG));
     }

@@ -5,6 +5,7 @@ use Rattle.std.proofs.lemmas.List.Elements.{All-append, All-nil, All-cons}
 use Rattle.xp_frames.specs.Deframer.{DeframerState, IsNew}
 use Rattle.xp_core.specs.declared.event.Event.{Event}
 use Rattle.xp_exchange.specs.steps.Acting.{IsBetweenFrames}
+use Rattle.xp_packets.specs.declared.modulus.Modulus.{Modulus}
 use Rattle.xp_exchange.specs.FrameEvents.{ReadsEvents}
 use Rattle.xp_exchange.specs.Play.{unfinished_at}
 
@@ -36,10 +37,10 @@ idle_set streams line at stream new same =
     ∙ ap (λ place. set (map (λ held. held.rest) streams) place []) same
 
 -- what was heard on a stream was heard on its line
-pub heard_at : {A : Type 0} (streams : List DeframerState) (line at : ℕ) (taken kept : DeframerState) (octets : List ℕ) (events : List (Event A)) → at < length streams → at ≡ line
-    → taken ≡ get_or streams at taken → ReadsEvents line taken.rest octets events kept.rest
-    → ReadsEvents line (unfinished_at (rests streams) line) octets events (unfinished_at (rests (set streams at kept)) line)
-heard_at streams line at taken kept octets events within here read heard =
+pub heard_at : {A : Type 0} (modulus : Modulus) (moment : ℕ) (streams : List DeframerState) (line at : ℕ) (taken kept : DeframerState) (octets : List ℕ) (events : List (Event A)) → at < length streams → at ≡ line
+    → taken ≡ get_or streams at taken → ReadsEvents modulus line moment taken.rest octets events kept.rest
+    → ReadsEvents modulus line moment (unfinished_at (rests streams) line) octets events (unfinished_at (rests (set streams at kept)) line)
+heard_at modulus moment streams line at taken kept octets events within here read heard =
     let first : unfinished_at (rests streams) line ≡ taken.rest = (
     ap (λ i. get_or (rests streams) i []) (sym here)
     ∙ get_or-map (λ held. held.rest) streams at taken [] within
@@ -50,8 +51,8 @@ heard_at streams line at taken kept octets events within here read heard =
     ∙ get_or-map (λ held. held.rest) (set streams at kept) at kept [] (subst (λ n. at < n) (sym (length-set streams at kept)) within)
     ∙ ap (λ held. held.rest) (get_or-set_same streams at kept kept within)
     ) in
-    subst (λ before. ReadsEvents line before octets events (unfinished_at (rests (set streams at kept)) line)) (sym first)
-    (subst (λ after. ReadsEvents line taken.rest octets events after) (sym last) heard)
+    subst (λ before. ReadsEvents modulus line moment before octets events (unfinished_at (rests (set streams at kept)) line)) (sym first)
+    (subst (λ after. ReadsEvents modulus line moment taken.rest octets events after) (sym last) heard)
 
 -- the other lines' octets stay
 pub kept_at : (streams : List DeframerState) (line at : ℕ) (kept : DeframerState) → at < length streams → at ≡ line

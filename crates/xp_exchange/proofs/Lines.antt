@@ -1,6 +1,5 @@
 -- Lines that are played one after the other.
 use Rattle.std.proofs.Common.{◌≡◌, ℕ, ◌+◌, List, [], ◌∷◌, ◌++◌, length, refl, sym, ap, ◌∙◌, append_assoc, append-nil, subst, arith, Option, Some, Ok, Err, inl, inr}
-use Rattle.xp_core.specs.Exchange.{Exchange}
 use Rattle.xp_exchange.specs.declared.fault.ReplayFault.{ReplayFault}
 use Rattle.xp_exchange.specs.declared.fault.ReplayFault.TheVariants.{Script, Journal, Memory, Read, Write}
 use Rattle.xp_exchange.specs.Play.{PlayState, PlaysAll}
@@ -17,7 +16,7 @@ no_feed_both (first ∷ octets) more none other = (none.0, no_feed_both octets m
 module _ {A : Type 0} where
   -- the subscriptions stay
   pub same_subs : (old : PlayState A) (lines : List (List ℕ)) (new : PlayState A) → PlaysAll old lines new → new.exchange.subs ≡ old.exchange.subs
-  same_subs old [] new same = ap (λ moment. moment.exchange.subs) same
+  same_subs old [] new same = ap (λ state. state.exchange.subs) same
   same_subs old (line ∷ earlier) new played = played.2.acts.subs ∙ same_subs old earlier played.0 played.1
 
   pub took_none : (old : Progress A) → TakesIn old [] old []
@@ -27,7 +26,7 @@ module _ {A : Type 0} where
     each = tt;
     played = refl;
     number = omega arith;
-    told = told_nothing old.moment.exchange;
+    told = told_nothing old.state.exchange;
   }
 
   -- some octets more of the line
@@ -55,16 +54,16 @@ module _ {A : Type 0} where
 
   -- a line feed: the line is played
   pub took_line : (old between new : Progress A) (front : List ℕ) (octet : ℕ) (text more : List ℕ) → TakesIn old front between text → octet ≡ line_feed → HasNoFeed between.line
-      → Played between.moment between.number between.line (Ok tt) new.moment more → new.line ≡ [] → new.number ≡ between.number + 1
+      → Played between.state between.number between.line (Ok tt) new.state more → new.line ≡ [] → new.number ≡ between.number + 1
       → TakesIn old (front ++ octet ∷ []) new (text ++ more)
   took_line old between new front octet text more took feed clean played empty next = record {
     lines = between.line ∷ took.lines;
     whole = up_to_feed old between front octet text took feed ∙ sym (append-nil (joined (between.line ∷ took.lines)))
         ∙ ap (λ rest. joined (between.line ∷ took.lines) ++ rest) (sym empty);
     each = (clean, took.each);
-    played = (between.moment, took.played, played.0);
+    played = (between.state, took.played, played.0);
     number = omega (arith, took.number, next);
-    told = outputs_to_both old.moment.exchange between.moment.exchange new.moment.exchange text more (same_subs old.moment took.lines between.moment took.played) took.told played.1;
+    told = outputs_to_both old.state.exchange between.state.exchange new.state.exchange text more (same_subs old.state took.lines between.state took.played) took.told played.1;
   }
 
   -- a line at which it stops
@@ -85,8 +84,8 @@ module _ {A : Type 0} where
 
   -- it stops at a line that is over
   pub took_stops : (fault : ReplayFault) (old between : Progress A) (new : PlayState A) (front more : List ℕ) (left : Option (List ℕ)) (text other : List ℕ) → TakesIn old front between text
-      → EndsLine more → HasNoFeed between.line → Played between.moment between.number between.line (Err fault) new other
-      → Stops old.moment old.number (old.line ++ (front ++ more)) fault left new.exchange (text ++ other)
+      → EndsLine more → HasNoFeed between.line → Played between.state between.number between.line (Err fault) new other
+      → Stops old.state old.number (old.line ++ (front ++ more)) fault left new.exchange (text ++ other)
   took_stops fault old between new front more left text other took over clean played = record {
     lines = took.lines;
     line = between.line;
@@ -94,19 +93,19 @@ module _ {A : Type 0} where
     whole = onward old between front more text took;
     each = took.each;
     no_feed = clean;
-    at = between.moment;
+    at = between.state;
     played = took.played;
     earlier = text;
     own = other;
     text_is = refl;
     told = took.told;
-    why = stops_at fault between.moment new between.line more left between.number (old.number + length took.lines) other took.number over played;
+    why = stops_at fault between.state new between.line more left between.number (old.number + length took.lines) other took.number over played;
   }
 
   -- it stops in the midst of a line
   pub took_overflows : (fault : ReplayFault) (old between : Progress A) (front octets more : List ℕ) (left : Option (List ℕ)) (text : List ℕ) → TakesIn old front between text
       → HasNoFeed octets → HasNoFeed between.line → Overflows between octets fault
-      → Stops old.moment old.number (old.line ++ (front ++ (octets ++ more))) fault left between.moment.exchange text
+      → Stops old.state old.number (old.line ++ (front ++ (octets ++ more))) fault left between.state.exchange text
   took_overflows (Script found) old between front octets more left text took other clean over = record {
     lines = took.lines;
     line = between.line ++ octets;
@@ -114,7 +113,7 @@ module _ {A : Type 0} where
     whole = onward old between front (octets ++ more) text took ∙ ap (λ rest. joined took.lines ++ rest) (sym (append_assoc between.line octets more));
     each = took.each;
     no_feed = no_feed_both between.line octets clean other;
-    at = between.moment;
+    at = between.state;
     played = took.played;
     earlier = text;
     own = [];
@@ -129,7 +128,7 @@ module _ {A : Type 0} where
     whole = onward old between front (octets ++ more) text took;
     each = took.each;
     no_feed = clean;
-    at = between.moment;
+    at = between.state;
     played = took.played;
     earlier = text;
     own = [];
@@ -143,7 +142,7 @@ module _ {A : Type 0} where
 
   -- it can't be read on
   pub took_unread : (old between : Progress A) (front more : List ℕ) (left : Option (List ℕ)) (text : List ℕ) → TakesIn old front between text → HasNoFeed between.line
-      → left ≡ Some more → Stops old.moment old.number (old.line ++ (front ++ more)) Read left between.moment.exchange text
+      → left ≡ Some more → Stops old.state old.number (old.line ++ (front ++ more)) Read left between.state.exchange text
   took_unread old between front more left text took clean rest = record {
     lines = took.lines;
     line = between.line;
@@ -151,7 +150,7 @@ module _ {A : Type 0} where
     whole = onward old between front more text took;
     each = took.each;
     no_feed = clean;
-    at = between.moment;
+    at = between.state;
     played = took.played;
     earlier = text;
     own = [];
@@ -162,16 +161,16 @@ module _ {A : Type 0} where
 
   -- the last line was played
   pub took_all : (old between new : Progress A) (octets : List ℕ) (text other : List ℕ) → TakesIn old octets between text → HasNoFeed between.line
-      → Played between.moment between.number between.line (Ok tt) new.moment other
-      → PlaysOut old.moment (old.line ++ octets) new.moment.exchange (text ++ other)
+      → Played between.state between.number between.line (Ok tt) new.state other
+      → PlaysOut old.state (old.line ++ octets) new.state.exchange (text ++ other)
   took_all old between new octets text other took clean played = record {
     lines = took.lines;
     last = between.line;
     split = record { whole = took.whole; each = took.each; no_feed = clean };
-    at = new.moment;
-    played = (between.moment, took.played, played.0);
+    at = new.state;
+    played = (between.state, took.played, played.0);
     after_is = refl;
-    told = outputs_to_both old.moment.exchange between.moment.exchange new.moment.exchange text other (same_subs old.moment took.lines between.moment took.played) took.told played.1;
+    told = outputs_to_both old.state.exchange between.state.exchange new.state.exchange text other (same_subs old.state took.lines between.state took.played) took.told played.1;
   }
 
   -- nothing was read yet

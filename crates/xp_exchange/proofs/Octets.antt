@@ -94,26 +94,26 @@ module _ {A : Type 0} where
       let clean = subst HasNoFeed (sym (ap (λ progress. progress.line) added)) (no_feed_both before.line (take end rest) taken.line found.clean) in (
         taken.text ++ ended.0,
         appends_both old between new taken.text ended.0 taken.wrote ended.1,
-        λ more left. subst (λ whole. Stops first.moment first.number (first.line ++ whole) fault left now.moment.exchange (taken.text ++ ended.0))
+        λ more left. subst (λ whole. Stops first.state first.number (first.line ++ whole) fault left now.state.exchange (taken.text ++ ended.0))
             (append_assoc taken.front (take end rest) (line_feed ∷ (drop (end + 1) rest ++ more)) ∙ sym (onward octets taken.front rest (take end rest) (line_feed ∷ drop (end + 1) rest) more taken.parts found.parts))
-            (took_stops fault first full now.moment front (line_feed ∷ (drop (end + 1) rest ++ more)) left taken.text ended.0 took refl clean ended.2),
+            (took_stops fault first full now.state front (line_feed ∷ (drop (end + 1) rest ++ more)) left taken.text ended.0 took refl clean ended.2),
       )
 
   -- it stops in the midst of a line
   pub taken_overflows : (fault : ReplayFault) (first before now : Progress A) (octets rest some tail : List ℕ) (old new : Option (List ℕ)) → Taken first octets rest before old new → rest ≡ some ++ tail → HasNoFeed some
-      → Overflows before some fault → now.moment ≡ before.moment
+      → Overflows before some fault → now.state ≡ before.state
       → (text : List ℕ) × Appends old new text × Took first octets (Err fault) now text
   taken_overflows fault first before now octets rest some tail old new taken parts other over kept = (
     taken.text,
     taken.wrote,
-    λ more left. subst (λ whole. Stops first.moment first.number (first.line ++ whole) fault left now.moment.exchange taken.text) (sym (onward octets taken.front rest some tail more taken.parts parts))
-        (subst (λ moment. Stops first.moment first.number (first.line ++ (taken.front ++ (some ++ (tail ++ more)))) fault left moment.exchange taken.text) (sym kept)
+    λ more left. subst (λ whole. Stops first.state first.number (first.line ++ whole) fault left now.state.exchange taken.text) (sym (onward octets taken.front rest some tail more taken.parts parts))
+        (subst (λ state. Stops first.state first.number (first.line ++ (taken.front ++ (some ++ (tail ++ more)))) fault left state.exchange taken.text) (sym kept)
         (took_overflows fault first before taken.front some (tail ++ more) left taken.text taken.took other taken.line over)),
   )
 
   -- the rest is the beginning of a line
   pub taken_rest : (result : Result (Unit {0}) ReplayFault) (first before now : Progress A) (octets rest : List ℕ) (old new : Option (List ℕ)) → Taken first octets rest before old new → HasNoFeed rest
-      → OnOk result (now ≡ record before { line = before.line ++ rest }) → IfErr result (λ fault. Overflows before rest fault) → now.moment ≡ before.moment
+      → OnOk result (now ≡ record before { line = before.line ++ rest }) → IfErr result (λ fault. Overflows before rest fault) → now.state ≡ before.state
       → (text : List ℕ) × Appends old new text × Took first octets result now text
   taken_rest (Ok done) first before now octets rest old new taken clean added over kept = (
     taken.text,

@@ -2,20 +2,20 @@
 use Rattle.std.proofs.Common.{◌≡◌, ◌⊎◌, ℕ, List, [], Option, Some, Result, Ok, Err, inl, inr, sym, subst, append-nil}
 use Rattle.std.specs.Io.KnownBytes.{Appends, Keeps}
 use Rattle.xp_core.specs.declared.event.Event.{Event}
-use Rattle.xp_core.specs.Exchange.{Exchange, world_of}
+use Rattle.xp_core.specs.Exchange.{Exchange}
 use Rattle.xp_script.specs.declared.command.Command.{Command}
 use Rattle.xp_script.specs.Command.{said}
 use Rattle.xp_exchange.specs.declared.fault.ReplayFault.{ReplayFault}
 use Rattle.xp_exchange.specs.declared.fault.ReplayFault.TheVariants.{Script, Journal, Memory, Read, Write}
 use Rattle.xp_exchange.specs.steps.Acting.{Acted, ActsOnFirst}
-use Rattle.xp_exchange.specs.Play.{PlayState, Plays, BeginsLine}
+use Rattle.xp_exchange.specs.Play.{PlayState, Plays, BeginsLine, moment_after}
 use Rattle.xp_exchange.specs.steps.Playing.{Played}
 use Rattle.xp_exchange.proofs.Bytes.{appends_kept}
 use Rattle.xp_exchange.proofs.Tellings.{told_whole}
 
 module _ {A : Type 0} where
   abbrev begins : (old : PlayState A) (line : List ℕ) (command : Command A) (events : List (Event A)) (after : List (List ℕ)) (now : Exchange A)
-      → said old.exchange.subs line ≡ Some command → Plays (world_of old.exchange) old.unfinished command events after
+      → said old.exchange.subs line ≡ Some command → Plays old command events after
       → ActsOnFirst old.exchange events now → BeginsLine old line now
   begins old line command events after now says plays acted = record {
     command = command;
@@ -31,18 +31,18 @@ module _ {A : Type 0} where
 
   -- what came of its events is what came of the line
   pub played : (result : Result (Unit {0}) ReplayFault) (old new : PlayState A) (number : ℕ) (line : List ℕ) (command : Command A) (events : List (Event A)) (text : List ℕ)
-      → said old.exchange.subs line ≡ Some command → Plays (world_of old.exchange) old.unfinished command events new.unfinished
+      → said old.exchange.subs line ≡ Some command → Plays old command events new.unfinished → new.moment ≡ moment_after old.moment command
       → Acted old.exchange events result new.exchange text → Played old number line result new text
-  played (Ok done) old new number line command events text says plays acted =
-      (record { command = command; says = says; events = events; plays = plays; acts = acted.0 }, acted.1)
-  played (Err Journal) old new number line command events text says plays acted =
+  played (Ok done) old new number line command events text says plays then acted =
+      (record { command = command; says = says; events = events; plays = plays; moment = then; acts = acted.0 }, acted.1)
+  played (Err Journal) old new number line command events text says plays then acted =
       (begins old line command events new.unfinished new.exchange says plays acted.0, acted.1, acted.2, acted.3)
-  played (Err Memory) old new number line command events text says plays acted =
+  played (Err Memory) old new number line command events text says plays then acted =
       inr (begins old line command events new.unfinished new.exchange says plays acted.0, acted.1)
-  played (Err Write) old new number line command events text says plays acted =
+  played (Err Write) old new number line command events text says plays then acted =
       (begins old line command events new.unfinished new.exchange says plays acted.0, acted.1)
-  played (Err (Script found)) old new number line command events text says plays acted = elim acted [ ]
-  played (Err Read) old new number line command events text says plays acted = elim acted [ ]
+  played (Err (Script found)) old new number line command events text says plays then acted = elim acted [ ]
+  played (Err Read) old new number line command events text says plays then acted = elim acted [ ]
 
   -- what was played to its end was also begun
   pub played_in_part : (old new : PlayState A) (number : ℕ) (line text : List ℕ) → Played old number line (Ok tt) new text → Played old number line (Err Write) new text

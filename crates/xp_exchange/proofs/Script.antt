@@ -5,7 +5,7 @@ use Rattle.std.specs.Io.KnownBytes.{Appends, Consumes, Keeps, IsAtEnd}
 use Rattle.xp_subs.specs.Tables.{Tables}
 use Rattle.xp_core.specs.Exchange.{Exchange}
 use Rattle.xp_exchange.specs.declared.fault.ReplayFault.{ReplayFault}
-use Rattle.xp_exchange.specs.declared.fault.ReplayFault.TheVariants.{Script, Journal, Memory, Read, Write}
+use Rattle.xp_exchange.specs.declared.fault.ReplayFault.TheVariants.{Memory, Read}
 use Rattle.xp_exchange.specs.Play.{PlayState, PlaysAll, opened, start}
 use Rattle.xp_exchange.specs.steps.Replaying.{Progress, TakesIn, Took, Finished, ReplaysFrom}
 use Rattle.xp_exchange.specs.WholeScript.{StopsAt, Stops, Replays, ReplaysAlone}
@@ -56,15 +56,15 @@ module _ {A : Type 0} where
         ∙ sym (append_assoc (joined first.lines) (joined second.lines) new.line)
         ∙ ap (λ some. some ++ new.line) (sym (joined-append second.lines first.lines));
     each = each-append second.lines first.lines second.each first.each;
-    played = plays-append old.moment first.lines between.moment second.lines new.moment first.played second.played;
+    played = plays-append old.state first.lines between.state second.lines new.state first.played second.played;
     number = omega (arith, first.number, second.number, length-append second.lines first.lines);
-    told = outputs_to_both old.moment.exchange between.moment.exchange new.moment.exchange text other
-        (same_subs old.moment first.lines between.moment first.played) first.told second.told;
+    told = outputs_to_both old.state.exchange between.state.exchange new.state.exchange text other
+        (same_subs old.state first.lines between.state first.played) first.told second.told;
   }
 
   stops_later : (fault : ReplayFault) (old between : Progress A) (front more : List ℕ) (left : Option (List ℕ)) (after : Exchange A) (text other : List ℕ) → TakesIn old front between text
-      → Stops between.moment between.number (between.line ++ more) fault left after other
-      → Stops old.moment old.number (old.line ++ (front ++ more)) fault left after (text ++ other)
+      → Stops between.state between.number (between.line ++ more) fault left after other
+      → Stops old.state old.number (old.line ++ (front ++ more)) fault left after (text ++ other)
   stops_later fault old between front more left after text other first stops = record {
     lines = stops.lines ++ first.lines;
     line = stops.line;
@@ -77,12 +77,12 @@ module _ {A : Type 0} where
     each = each-append stops.lines first.lines stops.each first.each;
     no_feed = stops.no_feed;
     at = stops.at;
-    played = plays-append old.moment first.lines between.moment stops.lines stops.at first.played stops.played;
+    played = plays-append old.state first.lines between.state stops.lines stops.at first.played stops.played;
     earlier = text ++ stops.earlier;
     own = stops.own;
     text_is = ap (λ rest. text ++ rest) stops.text_is ∙ sym (append_assoc text stops.earlier stops.own);
-    told = outputs_to_both old.moment.exchange between.moment.exchange stops.at.exchange text stops.earlier
-        (same_subs old.moment first.lines between.moment first.played) first.told stops.told;
+    told = outputs_to_both old.state.exchange between.state.exchange stops.at.exchange text stops.earlier
+        (same_subs old.state first.lines between.state first.played) first.told stops.told;
     why = subst (λ number. StopsAt stops.at stops.line stops.more number fault left after stops.own)
         (let same : between.number + length stops.lines ≡ old.number + length (stops.lines ++ first.lines) = omega (arith, first.number, length-append stops.lines first.lines) in same)
         stops.why;
@@ -133,44 +133,44 @@ module _ {A : Type 0} where
   pub told_stops : (first : Progress A) (source before now : Option (List ℕ)) (progress next : Progress A) (piece octets : List ℕ) (old between new : Option (List ℕ)) (fault : ReplayFault)
       → ReadTo first source before progress old between → Consumes before now piece → octets ≡ piece
       → (text : List ℕ) × Appends between new text × Took progress octets (Err fault) next text
-      → IfSome source (Told first old new (Err fault) now next.moment.exchange)
+      → IfSome source (Told first old new (Err fault) now next.state.exchange)
   told_stops first source before now progress next piece octets old between new fault so_far consumed same took =
-      on_script source now (so_far.taken ++ octets) (Told first old new (Err fault) now next.moment.exchange)
+      on_script source now (so_far.taken ++ octets) (Told first old new (Err fault) now next.state.exchange)
       (consumes_both source before now so_far.taken octets so_far.consumed (subst (Consumes before now) (sym same) consumed))
       (λ more. (
         so_far.text ++ took.0,
         appends_both old between new so_far.text took.0 so_far.puts took.1,
-        subst (λ rest. Stops first.moment first.number (first.line ++ rest) fault now next.moment.exchange (so_far.text ++ took.0)) (sym (append_assoc so_far.taken octets more))
-            (stops_later fault first progress so_far.taken (octets ++ more) now next.moment.exchange so_far.text took.0 so_far.took (took.2 more now)),
+        subst (λ rest. Stops first.state first.number (first.line ++ rest) fault now next.state.exchange (so_far.text ++ took.0)) (sym (append_assoc so_far.taken octets more))
+            (stops_later fault first progress so_far.taken (octets ++ more) now next.state.exchange so_far.text took.0 so_far.took (took.2 more now)),
       ))
 
   pub told_unread : (first : Progress A) (source before now : Option (List ℕ)) (progress : Progress A) (old new : Option (List ℕ))
       → ReadTo first source before progress old new → Keeps before now → HasNoFeed progress.line
-      → IfSome source (Told first old new (Err Read) now progress.moment.exchange)
+      → IfSome source (Told first old new (Err Read) now progress.state.exchange)
   told_unread first source before now progress old new so_far keeps clean =
-      on_rest source now so_far.taken (Told first old new (Err Read) now progress.moment.exchange) (consumes_kept source before now so_far.taken so_far.consumed keeps)
+      on_rest source now so_far.taken (Told first old new (Err Read) now progress.state.exchange) (consumes_kept source before now so_far.taken so_far.consumed keeps)
       (λ more rest. (so_far.text, so_far.puts, took_unread first progress so_far.taken more now so_far.text so_far.took clean rest))
 
   pub told_all : (first : Progress A) (source before now : Option (List ℕ)) (progress next : Progress A) (nothing : List ℕ) (old between new : Option (List ℕ)) (result : Result (Unit {0}) ReplayFault)
       → ReadTo first source before progress old between → Consumes before now nothing → nothing ≡ [] → IsAtEnd now → HasNoFeed progress.line
       → (text : List ℕ) × Appends between new text × Finished progress result next text
-      → IfSome source (Told first old new result now next.moment.exchange)
+      → IfSome source (Told first old new result now next.state.exchange)
   told_all first source before now progress next nothing old between new result so_far consumed none over clean finished =
-      on_whole source now so_far.taken (Told first old new result now next.moment.exchange) whole over
+      on_whole source now so_far.taken (Told first old new result now next.state.exchange) whole over
       (λ empty. (so_far.text ++ finished.0, appends_both old between new so_far.text finished.0 so_far.puts finished.1, go result empty finished.2))
     where
       whole : Consumes source now so_far.taken
       whole = subst (Consumes source now) (append-nil so_far.taken)
           (consumes_both source before now so_far.taken [] so_far.consumed (subst (Consumes before now) none consumed))
 
-      go : (result : Result (Unit {0}) ReplayFault) → now ≡ Some [] → Finished progress result next finished.0 → ReplaysFrom first so_far.taken result now next.moment.exchange (so_far.text ++ finished.0)
+      go : (result : Result (Unit {0}) ReplayFault) → now ≡ Some [] → Finished progress result next finished.0 → ReplaysFrom first so_far.taken result now next.state.exchange (so_far.text ++ finished.0)
       go (Ok done) empty played = (empty, took_all first progress next so_far.taken so_far.text finished.0 so_far.took clean played)
       go (Err fault) empty stopped =
-          subst (λ rest. Stops first.moment first.number (first.line ++ rest) fault now next.moment.exchange (so_far.text ++ finished.0)) (append-nil so_far.taken)
-          (took_stops fault first progress next.moment so_far.taken [] now so_far.text finished.0 so_far.took tt clean stopped)
+          subst (λ rest. Stops first.state first.number (first.line ++ rest) fault now next.state.exchange (so_far.text ++ finished.0)) (append-nil so_far.taken)
+          (took_stops fault first progress next.state so_far.taken [] now so_far.text finished.0 so_far.took tt clean stopped)
 
   from_start : (old : Exchange A) (script : List ℕ) (result : Result (Unit {0}) ReplayFault) (left : Option (List ℕ)) (after : Exchange A) (text : List ℕ)
-      → ReplaysFrom (record { moment = start old; line = []; number = 1 }) script result left after text → Replays old script result left after text
+      → ReplaysFrom (record { state = start old; line = []; number = 1 }) script result left after text → Replays old script result left after text
   from_start old script (Ok done) left after text replays = replays
   from_start old script (Err fault) left after text replays = replays
 
@@ -179,7 +179,7 @@ module _ {A : Type 0} where
 
   -- a replay that began with nothing
   pub told_from_start : (exchange : Exchange A) (source old new left : Option (List ℕ)) (first : Progress A) (result : Result (Unit {0}) ReplayFault) (after : Exchange A)
-      → first ≡ record { moment = start exchange; line = []; number = 1 } → IfSome source (Told first old new result left after)
+      → first ≡ record { state = start exchange; line = []; number = 1 } → IfSome source (Told first old new result left after)
       → IfSome source (Wrote exchange old new result left after)
   told_from_start exchange None old new left first result after begun told = tt
   told_from_start exchange (Some script) old new left first result after begun told =

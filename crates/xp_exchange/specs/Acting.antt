@@ -1,7 +1,6 @@
 -- What is written of a text.
-use Rattle.std.specs.Prelude.{◌≡◌, ℕ, ◌+◌, ◌<◌, Bool, true, false, List, [], ◌++◌, length, take, Option, Result, Ok, Err}
+use Rattle.std.specs.Prelude.{◌≡◌, ℕ, List, take, Option, Result, Ok, Err}
 use Rattle.std.specs.Io.KnownBytes.{Appends}
-use Rattle.xp_core.specs.declared.fault.StepFault.TheVariants as steps
 use Rattle.xp_exchange.specs.declared.fault.ReplayFault.{ReplayFault}
 use Rattle.xp_exchange.specs.declared.fault.ReplayFault.TheVariants.{Write}
 

@@ -1,7 +1,8 @@
 -- The events of octets that come in on a line: one for each frame, and that the line goes down at a bad header.
-use Rattle.std.specs.Prelude.{◌≡◌, ℕ, false, List, [], ◌∷◌, ◌++◌}
+use Rattle.std.specs.Prelude.{◌≡◌, ℕ, List, [], ◌∷◌, ◌++◌}
 use Rattle.xp_packets.specs.Examination.{IsMalformed}
 use Rattle.xp_packets.specs.Spelling.{Spells}
+use Rattle.xp_packets.specs.declared.modulus.Modulus.{Modulus}
 use Rattle.xp_frames.specs.declared.fault.FrameFault.{FrameFault}
 use Rattle.xp_frames.specs.Frame.{Stream, BadHeader, HasNoBadHeader}
 use Rattle.xp_core.specs.declared.event.Event.{Event}
@@ -9,38 +10,41 @@ use Rattle.xp_core.specs.declared.event.What.{What}
 use Rattle.xp_core.specs.declared.event.What.TheVariants.{Up, Down, Frame, WrongFrame, Expire, Stall}
 
 module _ {A : Type 0} where
-  -- what a frame with these octets is to the exchange: a packet, or a frame that holds none
-  abbrev pub IsReadAs : List ℕ → What A → Type 0
-  IsReadAs packet (Frame identifier read) = Spells packet identifier read
-  IsReadAs packet (WrongFrame wrong) = IsMalformed packet wrong
-  IsReadAs packet Up = ⊥
-  IsReadAs packet Down = ⊥
-  IsReadAs packet Expire = ⊥
-  IsReadAs packet Stall = ⊥
+  -- what a frame with these octets is to the exchange, by the modulus of its line: a packet, or a frame that holds none
+  abbrev pub IsReadAs : Modulus → List ℕ → What A → Type 0
+  IsReadAs modulus packet (Frame identifier read) = Spells modulus packet identifier read
+  IsReadAs modulus packet (WrongFrame wrong) = IsMalformed modulus packet wrong
+  IsReadAs modulus packet Up = ⊥
+  IsReadAs modulus packet Down = ⊥
+  IsReadAs modulus packet Expire = ⊥
+  IsReadAs modulus packet Stall = ⊥
 
-  -- one event of the line for the octets of each frame, in order
-  abbrev pub AreRead : ℕ → List (List ℕ) → List (Event A) → Type 0
-  AreRead line [] [] = Unit {0}
-  AreRead line (packet ∷ packets) (event ∷ events) =
-      (event.line ≡ line) × IsReadAs packet event.what × AreRead line packets events
-  AreRead line [] (event ∷ events) = ⊥
-  AreRead line (packet ∷ packets) [] = ⊥
+  -- one event of the line, at this moment, for the octets of each frame, in order
+  abbrev pub AreRead : Modulus → ℕ → ℕ → List (List ℕ) → List (Event A) → Type 0
+  AreRead modulus line moment [] [] = Unit {0}
+  AreRead modulus line moment (packet ∷ packets) (event ∷ events) =
+      (event.line ≡ line) × (event.moment ≡ moment) × IsReadAs modulus packet event.what
+      × AreRead modulus line moment packets events
+  AreRead modulus line moment [] (event ∷ events) = ⊥
+  AreRead modulus line moment (packet ∷ packets) [] = ⊥
 
   -- Octets are left after the last whole frame. If they begin with a bad header, the line goes down and none is kept.
   -- If not, they begin the next frame and all are kept
-  abbrev pub LeavesOff : ℕ → List ℕ → List (Event A) → List ℕ → Type 0
-  LeavesOff line left [] kept = HasNoBadHeader left × (kept ≡ left)
-  LeavesOff line left (event ∷ []) kept =
-      ((fault : FrameFault) × BadHeader left fault) × (event ≡ record { line = line; what = Down }) × (kept ≡ [])
-  LeavesOff line left (event ∷ other ∷ events) kept = ⊥
+  abbrev pub LeavesOff : ℕ → ℕ → List ℕ → List (Event A) → List ℕ → Type 0
+  LeavesOff line moment left [] kept = HasNoBadHeader left × (kept ≡ left)
+  LeavesOff line moment left (event ∷ []) kept =
+      ((fault : FrameFault) × BadHeader left fault) × (event ≡ record { line = line; moment = moment; what = Down })
+      × (kept ≡ [])
+  LeavesOff line moment left (event ∷ other ∷ events) kept = ⊥
 
-  -- Octets come in on a line, after those of an unfinished frame: their events, and the octets that are kept.
-  pub record ReadsEvents (line : ℕ) (unfinished octets : List ℕ) (events : List (Event A)) (kept : List ℕ) : Type 0 where
+  -- Octets come in on a line of this modulus at this moment, after those of an unfinished frame: their events, and the
+  -- octets that are kept.
+  pub record ReadsEvents (modulus : Modulus) (line moment : ℕ) (unfinished octets : List ℕ) (events : List (Event A)) (kept : List ℕ) : Type 0 where
     pub packets : List (List ℕ)
     pub left : List ℕ
     pub stream : Stream (unfinished ++ octets) packets left
     pub frames : List (Event A)
     pub last : List (Event A)
     pub events_are : events ≡ frames ++ last
-    pub each : AreRead line packets frames
-    pub ends : LeavesOff line left last kept
+    pub each : AreRead modulus line moment packets frames
+    pub ends : LeavesOff line moment left last kept

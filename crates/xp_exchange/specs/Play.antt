@@ -1,6 +1,7 @@
 -- What the lines of a script do, in turn.
 use Rattle.std.specs.Prelude.{◌≡◌, ◌⊎◌, ◌+◌, ◌≤◌, ℕ, Bool, true, false, List, [], ◌∷◌, ◌++◌, length, map, replicate, slice_index_or, slice_set, Some}
-use Rattle.xp_subs.specs.Tables.{Tables, line_count}
+use Rattle.xp_packets.specs.declared.modulus.Modulus.{Modulus}
+use Rattle.xp_subs.specs.Tables.{Tables, line_count, modulus_of}
 use Rattle.xp_core.specs.declared.entry.Entry.{Entry}
 use Rattle.xp_core.specs.declared.event.Event.{Event}
 use Rattle.xp_core.specs.declared.event.What.{What}
@@ -27,42 +28,52 @@ abbrev pub risen : Bool → ℕ → List (List ℕ) → List (List ℕ)
 risen true line unfinished = slice_set unfinished line []
 risen false line unfinished = unfinished
 
-module _ {A : Type 0} where
-  abbrev pub event_of : ℕ → What A → Event A
-  event_of line what = record { line = line; what = what }
-
-  -- octets that come in on a line out of service are no event
-  abbrev pub ReadsEventsAt : Bool → ℕ → List (List ℕ) → List ℕ → List (Event A) → List (List ℕ) → Type 0
-  ReadsEventsAt true line unfinished octets events after = (events ≡ []) × (after ≡ unfinished)
-  ReadsEventsAt false line unfinished octets events after =
-      (kept : List ℕ) × ReadsEvents line (unfinished_at unfinished line) octets events kept
-      × (after ≡ slice_set unfinished line kept)
-
-  -- the events of a command, and the octets of unfinished frames afterwards
-  abbrev pub Plays : World → List (List ℕ) → Command A → List (Event A) → List (List ℕ) → Type 0
-  Plays world unfinished commands.Nothing events after = (events ≡ []) × (after ≡ unfinished)
-  Plays world unfinished (commands.Up line) events after =
-      (events ≡ event_of line Up ∷ []) × (after ≡ risen (is_off_at world line) line unfinished)
-  Plays world unfinished (commands.Down line) events after =
-      (events ≡ event_of line Down ∷ []) × (after ≡ unfinished)
-  Plays world unfinished (commands.Expire line) events after =
-      (events ≡ event_of line TimerExpires ∷ []) × (after ≡ unfinished)
-  Plays world unfinished (commands.In line octets) events after =
-      ReadsEventsAt (is_off_at world line) line unfinished octets events after
-
--- The state between two lines of a script: the exchange, and for each line the octets of an unfinished frame.
+-- The state between two lines of a script: the exchange, for each line the octets of an unfinished frame, and the
+-- moment of the events that follow.
 pub record PlayState (A : Type 0) : Type 0 where
   pub exchange : Exchange A
   pub unfinished : List (List ℕ)
+  pub moment : ℕ
+
+module _ {A : Type 0} where
+  abbrev pub event_of : ℕ → ℕ → What A → Event A
+  event_of line moment what = record { line = line; moment = moment; what = what }
+
+  -- octets that come in on a line out of service are no event
+  abbrev pub ReadsEventsAt : Bool → Modulus → ℕ → ℕ → List (List ℕ) → List ℕ → List (Event A) → List (List ℕ) → Type 0
+  ReadsEventsAt true modulus line moment unfinished octets events after = (events ≡ []) × (after ≡ unfinished)
+  ReadsEventsAt false modulus line moment unfinished octets events after =
+      (kept : List ℕ) × ReadsEvents modulus line moment (unfinished_at unfinished line) octets events kept
+      × (after ≡ slice_set unfinished line kept)
+
+  -- The events of a command, and the octets of unfinished frames afterwards. A line is read by its own modulus
+  abbrev pub Plays : PlayState A → Command A → List (Event A) → List (List ℕ) → Type 0
+  Plays state commands.Nothing events after = (events ≡ []) × (after ≡ state.unfinished)
+  Plays state (commands.Up line) events after =
+      (events ≡ event_of line state.moment Up ∷ [])
+      × (after ≡ risen (is_off_at (world_of state.exchange) line) line state.unfinished)
+  Plays state (commands.Down line) events after =
+      (events ≡ event_of line state.moment Down ∷ []) × (after ≡ state.unfinished)
+  Plays state (commands.Expire line) events after =
+      (events ≡ event_of line state.moment TimerExpires ∷ []) × (after ≡ state.unfinished)
+  Plays state (commands.In line octets) events after =
+      ReadsEventsAt (is_off_at (world_of state.exchange) line) (modulus_of state.exchange.subs line) line state.moment
+      state.unfinished octets events after
+  Plays state (commands.At moment) events after = (events ≡ []) × (after ≡ state.unfinished)
+
+  -- the moment of the events that follow a command
+  abbrev pub moment_after : ℕ → Command A → ℕ
+  moment_after before (commands.At moment) = moment
+  moment_after before command = before
 
 module _ {A : Type 0} where
   -- a new exchange
   abbrev pub opened : Tables → Exchange A
   opened tables = record { subs = tables; history = []; stalls = 0 }
 
-  -- a script begins: no frame is unfinished
+  -- a script begins: no frame is unfinished, and the moment is 0
   abbrev pub start : Exchange A → PlayState A
-  start exchange = record { exchange = exchange; unfinished = replicate (line_count exchange.subs) [] }
+  start exchange = record { exchange = exchange; unfinished = replicate (line_count exchange.subs) []; moment = 0 }
 
   -- The exchange acts on these events in turn, and enters one entry for each.
   pub record ActsOn (old : Exchange A) (events : List (Event A)) (new : Exchange A) : Type 0 where
@@ -79,7 +90,8 @@ module _ {A : Type 0} where
     pub command : Command A
     pub says : said old.exchange.subs line ≡ Some command
     pub events : List (Event A)
-    pub plays : Plays (world_of old.exchange) old.unfinished command events new.unfinished
+    pub plays : Plays old command events new.unfinished
+    pub moment : new.moment ≡ moment_after old.moment command
     pub acts : ActsOn old.exchange events new.exchange
 
   -- One line of a script is played in part: its first events are acted on. They may be none, and they may be all.
@@ -88,7 +100,7 @@ module _ {A : Type 0} where
     pub says : said old.exchange.subs line ≡ Some command
     pub events : List (Event A)
     pub after : List (List ℕ)
-    pub plays : Plays (world_of old.exchange) old.unfinished command events after
+    pub plays : Plays old command events after
     pub first : List (Event A)
     pub later : List (Event A)
     pub in_order : events ≡ first ++ later

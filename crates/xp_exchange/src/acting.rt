@@ -83,7 +83,7 @@ fn tell<A: Allocator, W: Write>(
     text: &mut Vec<u8, A>,
     writer: &mut W,
 ) -> Result<(), ReplayFault>
-    requires writable { AreWritable entry.now.outputs }
+    requires writable { AreWritable subs.now entry.now.outputs }
     requires lines { HasLines (line_count subs.now) entry.now }
     ensures { Tells (W.contents writer.old) (W.contents writer.new) (entry_text subs.now entry.now) result }
 {

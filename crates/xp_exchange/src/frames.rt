@@ -9,28 +9,30 @@ use std::alloc::{AllocError, Allocator};
 use std::collections::VecDeque;
 use xp_core::{Event, What};
 use xp_frames::{Deframer, FrameFault};
-use xp_packets::{PacketFault, decode};
+use xp_packets::{Modulus, PacketFault, decode};
 use xp_subs::LineNo;
 
-/// Fills the queue with the events of octets that come in on a line: one for each frame, and that the line goes down if a
-/// bad header follows the frames. After a bad header the stream begins anew.
+/// Fills the queue with the events of octets that come in on a line of this modulus at this moment: one for each frame,
+/// and that the line goes down if a bad header follows the frames. After a bad header the stream begins anew.
 pub fn read_events<A: Allocator + Copy>(
     alloc: A,
+    modulus: Modulus,
     line: LineNo,
+    moment: u64,
     stream: &mut Deframer<A>,
     octets: &[u8],
     events: &mut VecDeque<Event<A>, A>,
 ) -> Result<(), AllocError>
     requires { IsBetweenFrames stream.old }
-    ensures heard { OnOk result (ReadsEvents line stream.old.rest octets.now events.new.items stream.new.rest) }
+    ensures heard { OnOk result (ReadsEvents modulus line moment stream.old.rest octets.now events.new.items stream.new.rest) }
     ensures between { OnOk result (IsBetweenFrames stream.new) }
     ensures fit { OnOk result (All (λ event. (event.line ≡ line) × CanCome event.what) events.new.items) }
 {
     let fails = fails_with(stream, octets)?;
-    read_all(alloc, line, stream, events)?;
+    read_all(alloc, modulus, line, moment, stream, events)?;
     if fails {
         let what = What::Down;
-        events.push_back(Event { line, what })?;
+        events.push_back(Event { line, moment, what })?;
         *stream = Deframer::new(alloc);
     }
     Ok(())
@@ -54,37 +56,43 @@ fn fails_with<A: Allocator + Copy>(
 /// Takes the packets that wait off the stream, and fills the queue with their events.
 fn read_all<A: Allocator + Copy>(
     alloc: A,
+    modulus: Modulus,
     line: LineNo,
+    moment: u64,
     stream: &mut Deframer<A>,
     events: &mut VecDeque<Event<A>, A>,
 ) -> Result<(), AllocError>
-    ensures read { OnOk result (AreRead line stream.old.waiting events.new.items) }
+    ensures read { OnOk result (AreRead modulus line moment stream.old.waiting events.new.items) }
     ensures fit { OnOk result (All (λ event. (event.line ≡ line) × CanCome event.what) events.new.items) }
     ensures stream { OnOk result (stream.new ≡ emptied stream.old) }
 {
     events.clear();
     while let Some(packet) = stream.next() {
-        let event = event_of(alloc, line, &packet)?;
+        let event = event_of(alloc, modulus, line, moment, &packet)?;
         events.push_back(event)?;
         stream.reuse(packet);
     }
     Ok(())
 }
 
-/// Returns the event of one frame of a line, which holds these octets. They are a packet or they are none.
+/// Returns the event of one frame of a line of this modulus, which holds these octets. They are a packet or they are
+/// none.
 fn event_of<A: Allocator + Copy>(
     alloc: A,
+    modulus: Modulus,
     line: LineNo,
+    moment: u64,
     octets: &[u8],
 ) -> Result<Event<A>, AllocError>
     ensures line { IfOk result (λ event. event.line ≡ line) }
-    ensures read { IfOk result (λ event. IsReadAs octets.now event.what) }
+    ensures moment { IfOk result (λ event. event.moment ≡ moment) }
+    ensures read { IfOk result (λ event. IsReadAs modulus octets.now event.what) }
     ensures fit { IfOk result (λ event. CanCome event.what) }
 {
-    let what = match decode(alloc, octets) {
+    let what = match decode(alloc, modulus, octets) {
         Ok((identifier, packet)) => What::frame(identifier, packet),
         Err(PacketFault::Malformed(wrong)) => What::WrongFrame(wrong),
         Err(PacketFault::Memory) => return Err(AllocError),
     };
-    Ok(Event { line, what })
+    Ok(Event { line, moment, what })
 }

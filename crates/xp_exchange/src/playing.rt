@@ -4,7 +4,7 @@ ghost use Rattle.std.specs.Prelude.{◌≡◌, ◌+◌, ◌<◌, ◌^◌, ℕ, L
 ghost use Rattle.std.specs.Io.KnownBytes.{Appends};
 ghost use Rattle.xp_core.specs.Exchange.{world_of};
 ghost use Rattle.xp_exchange.specs.steps.FrameEvents.{CanCome};
-ghost use Rattle.xp_exchange.specs.Play.{Plays, is_off_at};
+ghost use Rattle.xp_exchange.specs.Play.{Plays, event_of, is_off_at, moment_after};
 ghost use Rattle.xp_exchange.specs.steps.Playing.{Played};
 ghost use Rattle.xp_script.specs.Command.{HasLine};
 ghost use Rattle.xp_subs.specs.Tables.{line_count};
@@ -27,6 +27,8 @@ pub struct Playing<A: Allocator = Global> {
     alloc: A,
     core: Core<A>,
     streams: Streams<A>,
+    /// The moment of the events that follow, in seconds.
+    moment: u64,
     /// The octets that come in on a line, and later those of a frame that is sent. This vector, the queue and the text
     /// are kept for their memory alone: no line uses what the line before left in them.
     octets: Vec<u8, A>,
@@ -43,7 +45,7 @@ impl<A: Allocator> Model for Playing<A> {
 
     ghost Value = { PlayState A };
 
-    ghost view = { λ p. record { exchange = p.core; unfinished = p.streams } };
+    ghost view = { λ p. record { exchange = p.core; unfinished = p.streams; moment = p.moment } };
 
     ghost invariant = { λ p. length p.streams ≡ line_count p.core.subs };
 }
@@ -61,6 +63,7 @@ impl<A: Allocator + Copy> Playing<A> {
                 alloc,
                 core,
                 streams,
+                moment: 0,
                 octets: Vec::new(alloc),
                 events: VecDeque::new(alloc),
                 text: Vec::new(alloc),
@@ -91,13 +94,16 @@ impl<A: Allocator + Copy> Playing<A> {
             Err(LineFault::Faulty) => return Err(ReplayFault::Script(number)),
             Err(LineFault::Memory) => return Err(ReplayFault::Memory),
         };
+        let next = moment_after(self.moment, &command);
         read_events(
             &self.core,
             &mut self.streams,
+            self.moment,
             command,
             &mut self.events,
             &mut self.octets,
         )?;
+        self.moment = next;
         act_on_all(
             &mut self.core,
             &mut self.events,
@@ -108,36 +114,48 @@ impl<A: Allocator + Copy> Playing<A> {
     }
 }
 
-/// Fills the queue with the events of a command. Puts the vector of its octets back into `memory`.
+/// Returns the moment of the events that follow a command.
+fn moment_after<A: Allocator>(before: u64, command: &Command<A>) -> u64
+    ensures { result ≡ moment_after before command.now }
+{
+    match command {
+        Command::At(moment) => *moment,
+        _ => before,
+    }
+}
+
+/// Fills the queue with the events of a command at this moment. Puts the vector of its octets back into `memory`.
 fn read_events<A: Allocator + Copy>(
     core: &Core<A>,
     streams: &mut Streams<A>,
+    moment: u64,
     command: Command<A>,
     events: &mut VecDeque<Event<A>, A>,
     memory: &mut Vec<u8, A>,
 ) -> Result<(), AllocError>
     requires line { HasLine (line_count core.now.subs) command }
     requires lines { length streams.old ≡ line_count core.now.subs }
-    ensures plays { OnOk result (Plays (world_of core.now) streams.old command events.new.items streams.new) }
+    ensures plays { OnOk result (Plays (record { exchange = core.now; unfinished = streams.old; moment = moment }) command events.new.items streams.new) }
     ensures fit { OnOk result (All (λ event. (event.line < line_count core.now.subs) × CanCome event.what) events.new.items) }
     ensures lines { length streams.new ≡ length streams.old }
 {
     events.clear();
     match command {
-        Command::Nothing => Ok(()),
+        Command::Nothing | Command::At(_) => Ok(()),
         Command::Up(line) => {
             if is_off(core, line) {
                 streams.begin(line);
             }
-            put(line, What::Up, events)
+            put(line, moment, What::Up, events)
         }
-        Command::Down(line) => put(line, What::Down, events),
-        Command::Expire(line) => put(line, What::Expire, events),
+        Command::Down(line) => put(line, moment, What::Down, events),
+        Command::Expire(line) => put(line, moment, What::Expire, events),
         Command::In(line, octets) => {
             if is_off(core, line) {
                 return Ok(());
             }
-            streams.read_events(line, octets.as_slice(), events)?;
+            let modulus = core.subs().modulus_of(line);
+            streams.read_events(modulus, line, moment, octets.as_slice(), events)?;
             *memory = octets.into_vec();
             Ok(())
         }
@@ -154,11 +172,12 @@ fn is_off<A: Allocator>(core: &Core<A>, line: LineNo) -> bool
 /// Adds an event to the queue.
 fn put<A: Allocator>(
     line: LineNo,
+    moment: u64,
     what: What<A>,
     events: &mut VecDeque<Event<A>, A>,
 ) -> Result<(), AllocError>
-    ensures { OnOk result (events.new.items ≡ events.old.items ++ record { line = line; what = what } ∷ []) }
+    ensures { OnOk result (events.new.items ≡ events.old.items ++ event_of line moment what ∷ []) }
 {
-    events.push_back(Event { line, what })?;
+    events.push_back(Event { line, moment, what })?;
     Ok(())
 }

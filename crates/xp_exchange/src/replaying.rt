@@ -109,7 +109,7 @@ impl<A: Allocator> Model for UnfinishedScript<A> {
 
     ghost Value = { Progress A };
 
-    ghost view = { λ r. record { moment = r.playing; line = r.line.items; number = r.number } };
+    ghost view = { λ r. record { state = r.playing; line = r.line.items; number = r.number } };
 
     ghost invariant = { λ r. HasNoFeed r.line.items };
 }
@@ -118,7 +118,7 @@ impl<A: Allocator + Copy> UnfinishedScript<A> {
     ghost use Rattle.xp_exchange.specs.Play.{start};
 
     fn new(alloc: A, core: Core<A>) -> Result<UnfinishedScript<A>, Core<A>>
-        ensures ok { IfOk result (λ script. script ≡ record { moment = start core; line = []; number = 1 }) }
+        ensures ok { IfOk result (λ script. script ≡ record { state = start core; line = []; number = 1 }) }
         ensures err { IfErr result (λ back. back ≡ core) }
     {
         let playing = Playing::new(alloc, core)?;
@@ -137,7 +137,7 @@ impl<A: Allocator + Copy> UnfinishedScript<A> {
     ) -> Result<(), ReplayFault>
         requires number { self.old.number ≤ 1 }
         requires line { HasNoFeed self.old.line }
-        ensures { IfSome (R.remaining reader.old) (λ octets. (text : List ℕ) × Appends (W.contents writer.old) (W.contents writer.new) text × ReplaysFrom self.old octets result (R.remaining reader.new) self.new.moment.exchange text) }
+        ensures { IfSome (R.remaining reader.old) (λ octets. (text : List ℕ) × Appends (W.contents writer.old) (W.contents writer.new) text × ReplaysFrom self.old octets result (R.remaining reader.new) self.new.state.exchange text) }
     {
         let mut piece = [0; PIECE];
         for _ in 0..MOST_READS {
@@ -188,7 +188,7 @@ impl<A: Allocator + Copy> UnfinishedScript<A> {
         requires { HasNoFeed octets.now }
         ensures added { OnOk result (self.new ≡ record self.old { line = self.old.line ++ octets.now }) }
         ensures refused { IfErr result (λ fault. Overflows self.old octets.now fault) }
-        ensures kept { self.new.moment ≡ self.old.moment }
+        ensures kept { self.new.state ≡ self.old.state }
         ensures line { HasNoFeed self.old.line }
     {
         if self.line.len() + octets.len() > MAX_LINE_OCTETS {

@@ -11,6 +11,7 @@ use std::collections::VecDeque;
 use std::marker::Model;
 use xp_core::Event;
 use xp_frames::Deframer;
+use xp_packets::Modulus;
 use xp_subs::LineNo;
 
 /// For each line, the octets of an unfinished frame on its connection.
@@ -51,22 +52,26 @@ impl<A: Allocator + Copy> Streams<A> {
         self.streams[usize::from(line)] = Deframer::new(self.alloc);
     }
 
-    /// Fills the queue with the events of octets that come in on a line: one for each frame, and that the line goes down
-    /// if a bad header follows the frames.
+    /// Fills the queue with the events of octets that come in on a line of this modulus at this moment: one for each
+    /// frame, and that the line goes down if a bad header follows the frames.
     pub fn read_events(
         &mut self,
+        modulus: Modulus,
         line: LineNo,
+        moment: u64,
         octets: &[u8],
         events: &mut VecDeque<Event<A>, A>,
     ) -> Result<(), AllocError>
         requires { line < length self.old }
-        ensures heard { OnOk result (ReadsEvents line (unfinished_at self.old line) octets.now events.new.items (unfinished_at self.new line)) }
+        ensures heard { OnOk result (ReadsEvents modulus line moment (unfinished_at self.old line) octets.now events.new.items (unfinished_at self.new line)) }
         ensures kept { OnOk result (self.new ≡ slice_set self.old line (unfinished_at self.new line)) }
         ensures lines { length self.new ≡ length self.old }
         ensures fit { OnOk result (All (λ event. (event.line ≡ line) × CanCome event.what) events.new.items) }
     {
         let stream = &mut self.streams[usize::from(line)];
-        if let Err(refused) = read_events(self.alloc, line, stream, octets, events) {
+        if let Err(refused) = read_events(
+            self.alloc, modulus, line, moment, stream, octets, events,
+        ) {
             // Without memory, packets may still wait in the stream.
             *stream = Deframer::new(self.alloc);
             return Err(refused);

@@ -35,7 +35,7 @@ out b1 0000001610010b77208002020800100642070743020201000000
 out a1 0000000b10010f0006420707430202
 out a1 00000003100117
 out b1 000000051001130000
-record 1 a1 b1 2080020 caller 0 0 00 0
+record 1 a1 b1 2080020 caller 0 0 00 0 0
 ";
 
 /// The entries of an exchange, which are a run of the machine to what it shows. A crate above knows it with no proof of

@@ -11,7 +11,7 @@ use std::process::Abort;
 use std::test::Fail;
 use xp_core::{Core, Entry, Event, StepFault, Stepped, What};
 use xp_machine::LineView;
-use xp_packets::{PacketFault, decode};
+use xp_packets::{Modulus, PacketFault, decode};
 use xp_script::{Command, write_entry};
 use xp_subs::{LineNo, Subs};
 use xp_testing::Refusing;
@@ -82,29 +82,32 @@ out b1 0000001610010b77208002020800100642070743020201000000
 out a1 0000000b10010f0006420707430202
 out a1 00000003100117
 out b1 000000051001130000
-record 1 a1 b1 2080020 caller 0 0 00 0
+record 1 a1 b1 2080020 caller 0 0 00 0 0
 out b1 0000001210010b772080020208001006420707430202
 out a1 0000000b10010f0006420707430202
 out b1 000000441001004141414141414141414141414141414141414141414141414141414141414141414141414141414141414141414141414141414141414141414141414141414141
 out a1 00000003100121
-out a1 0000000f100117000ac2080000000000000002
+out a1 000000151001170010c10400000000c2080000000000000002
 out b1 000000051001130000
-record 2 a1 b1 2080020 caller 2 0 00 0
+record 2 a1 b1 2080020 caller 2 0 00 0 0
 out b1 0000009410010b77208002020800100801c04207074302024141414141414141414141414141414141414141414141414141414141414141414141414141414141414141414141414141414141414141414141414141414141414141414141414141414141414141414141414141414141414141414141414141414141414141414141414141414141414141414141414141414141414141
 out b1 00000005100113132a
 out a1 00000005100113112a
-record 3 a1 b1 2080020 caller 0 0 11 42
+record 3 a1 b1 2080020 caller 0 0 11 42 0
 out a1 000000051001131327
 out b1 0000001410010b7720800202080010080101420707430202
 out a1 0000000b10010f0006420707430202
 out b1 000000441001004141414141414141414141414141414141414141414141414141414141414141414141414141414141414141414141414141414141414141414141414141414141
 out a1 00000003100117
-out b1 000000111001130000000ac2080000000200000000
-record 4 a1 b1 2080020 called 2 0 00 0
+out b1 0000001710011300000010c10400000000c2080000000200000000
+record 4 a1 b1 2080020 called 2 0 00 0 0
 out b1 0000001210010b772080020208004006420707430202
 out h1 0000001a10010b77208003020800100e420707430202c306010720800200
 out a1 0000001110010f0720800300080801420707430202
 ";
+
+/// The moment of each event.
+const MOMENT: u64 = 7;
 
 /// A data packet of one octet, the first from a1.
 const DATA: [u8; 4] = [0x10, 0x01, 0x00, 0x41];
@@ -119,15 +122,20 @@ pub fn event_of<A: Allocator + Copy>(
     if packet.is_empty() {
         return Ok(Event {
             line,
+            moment: MOMENT,
             what: What::Up,
         });
     }
-    let what = match decode(alloc, packet) {
+    let what = match decode(alloc, Modulus::Eight, packet) {
         Ok((identifier, packet)) => What::frame(identifier, packet),
         Err(PacketFault::Malformed(wrong)) => What::WrongFrame(wrong),
         Err(fault) => return Err(fault),
     };
-    Ok(Event { line, what })
+    Ok(Event {
+        line,
+        moment: MOMENT,
+        what,
+    })
 }
 
 /// Hands an event in.
@@ -196,7 +204,7 @@ fn text_of<A: Allocator + Copy>(
     entries: &[Entry<A>],
     ample: A,
 ) -> Result<Vec<u8, A>, AllocError>
-    requires writable { All (λ entry. AreWritable entry.outputs) entries.now }
+    requires writable { All (λ entry. AreWritable subs.now entry.outputs) entries.now }
     requires lines { All (HasLines (line_count subs.now)) entries.now }
 {
     let mut text = Vec::new(ample);
@@ -254,11 +262,12 @@ fn stall_all<A: Allocator + Copy>(
     }
     offer_again(rt, core, ample, A1, &DATA)?.ok_or("a second refusal")?;
     for line in [H1, A1, B1] {
-        let what = What::Stall;
-        assert!(rt;
-            offer(rt, core, Event { line, what }).is_ok(),
-            "line {line}"
-        );
+        let event = Event {
+            line,
+            moment: MOMENT,
+            what: What::Stall,
+        };
+        assert!(rt; offer(rt, core, event).is_ok(), "line {line}");
     }
     assert_eq!(rt; core.records().len(), 6);
     Ok(())

@@ -1,5 +1,5 @@
 -- The items of a told field are items, in ascending order of their codes, and few.
-use Rattle.std.proofs.Common.{◌≡◌, ℕ, ◌+◌, ◌*◌, ◌/◌, ◌<◌, ◌≤◌, Bool, true, false, cond, ltb, List, [], ◌∷◌, ◌++◌, length, map, drop, Option, Some, None, refl, ap, ◌∙◌, subst, arith, ◌⊎◌, inl, inr}
+use Rattle.std.proofs.Common.{◌≡◌, ℕ, ◌+◌, ◌*◌, ◌/◌, ◌<◌, ◌≤◌, Bool, true, false, cond, ltb, List, [], ◌∷◌, ◌++◌, length, map, drop, Option, Some, None, refl, ap, ◌∙◌, subst, arith}
 use Rattle.std.specs.Prelude.{IfSome, is_some}
 use Rattle.std.specs.List.{AllByRecursion}
 use Rattle.std.proofs.lemmas.Bool.{and_parts, leb-true}
@@ -7,8 +7,9 @@ use Rattle.std.proofs.lemmas.List.{length-append, append-nil}
 use Rattle.std.proofs.lemmas.List.Concat.{flat_map-append}
 use Rattle.xp_facilities.specs.Items.{Item, IsItem, octets_of, octets_of_all}
 use Rattle.xp_packets.specs.Writing.{packed}
-use Rattle.xp_facilities.specs.Indicated.{options, closed_index, open_index, two_digits, four_digits, eight_digits, two_digit_index, four_digit_index, throughput, modified, pair, counts, redirection, optional_item, table, marked, is_in_range, Indicates, IsIndicatedField, AscendFrom, most_octets}
+use Rattle.xp_facilities.specs.Indicated.{options, closed_index, open_index, two_digits, four_digits, eight_digits, two_digit_index, four_digit_index, duration_octets, throughput, modified, pair, duration, counts, redirection, optional_item, table, marked, is_in_range, Indicates, IsIndicatedField, IsOfExchange, AscendFrom, most_octets}
 use Rattle.xp_facilities.specs.steps.Indicated.{marked_octets}
+use Rattle.xp_facilities.specs.Indicated as indicated
 use Rattle.xp_facilities.specs.declared.fast_select.FastSelect.{FastSelect}
 use Rattle.xp_facilities.specs.declared.fast_select.FastSelect.TheVariants.{No, Unrestricted, Restricted}
 use Rattle.xp_facilities.specs.declared.direction_sizes.DirectionSizes.{DirectionSizes}
@@ -101,10 +102,13 @@ table-suits told = (
                 (
                   long-suits 0x48 (open_index told.selection) refl,
                   (
-                    counted-suits 0xc2 (counts told.segments) (omega arith),
+                    counted-suits 0xc1 (duration told.duration) (omega arith),
                     (
-                      counted-suits 0xc3 (redirection told.redirected) (omega arith),
-                      tt,
+                      counted-suits 0xc2 (counts told.segments) (omega arith),
+                      (
+                        counted-suits 0xc3 (redirection told.redirected) (omega arith),
+                        tt,
+                      ),
                     ),
                   ),
                 ),
@@ -160,15 +164,20 @@ unfolding modified optional_item
 modified-length None = omega arith
 modified-length (Some reason) = omega arith
 
-pub packet-length : (sizes : Option DirectionSizes) → row_length 0x42 (pair sizes) ≤ 3
+pub packet-length : (sizes : Option DirectionSizes) → row_length 0x42 (pair sizes) ≤ cond (is_some sizes) 3 0
 unfolding pair optional_item
 packet-length None = omega arith
 packet-length (Some sizes) = omega arith
 
-pub window-length : (sizes : Option DirectionSizes) → row_length 0x43 (pair sizes) ≤ 3
+pub window-length : (sizes : Option DirectionSizes) → row_length 0x43 (pair sizes) ≤ cond (is_some sizes) 3 0
 unfolding pair optional_item
 window-length None = omega arith
 window-length (Some sizes) = omega arith
+
+pub duration-length : (seconds : Option ℕ) → row_length 0xc1 (duration seconds) ≤ cond (is_some seconds) 6 0
+unfolding duration duration_octets optional_item
+duration-length None = omega arith
+duration-length (Some seconds) = omega arith
 
 pub counts-length : (segments : Option SegmentCounts) → row_length 0xc2 (counts segments) ≤ cond (is_some segments) 10 0
 unfolding counts eight_digits optional_item
@@ -223,20 +232,22 @@ table-length told few =
     let e6 = rows-length (0x43, pair told.window) (drop 7 t) in
     let e7 = rows-length (0x47, four_digit_index (closed_index told.selection)) (drop 8 t) in
     let e8 = rows-length (0x48, four_digit_index (open_index told.selection)) (drop 9 t) in
-    let e9 = rows-length (0xc2, counts told.segments) (drop 10 t) in
-    let e10 = rows-length (0xc3, redirection told.redirected) (drop 11 t) in
-    sums _ _ _ _ _ _ _ _ _ _ _ _ _ _
+    let e9 = rows-length (0xc1, duration told.duration) (drop 10 t) in
+    let e10 = rows-length (0xc2, counts told.segments) (drop 11 t) in
+    let e11 = rows-length (0xc3, redirection told.redirected) (drop 12 t) in
+    sums _ _ _ _ _ _ _ _ _ _ _ _ _ _ _ _ _ _
     (options-length told.fast told.reverse) (throughput-length told.throughput) (selection-length told.selection) (modified-length told.modified)
-    (packet-length told.packet) (window-length told.window) (counts-length told.segments) (redirection-length told.redirected few)
+    (packet-length told.packet) (window-length told.window) (duration-length told.duration) (counts-length told.segments) (redirection-length told.redirected few)
     (e0 ∙ ap (λ x. row_length 0x01 (options told.fast told.reverse) + x) (e1 ∙ ap (λ x. row_length 0x02 (throughput told.throughput) + x)
     (e2 ∙ ap (λ x. row_length 0x03 (two_digit_index (closed_index told.selection)) + x) (e3 ∙ ap (λ x. row_length 0x08 (modified told.modified) + x)
     (e4 ∙ ap (λ x. row_length 0x09 (two_digit_index (open_index told.selection)) + x) (e5 ∙ ap (λ x. row_length 0x42 (pair told.packet) + x)
     (e6 ∙ ap (λ x. row_length 0x43 (pair told.window) + x) (e7 ∙ ap (λ x. row_length 0x47 (four_digit_index (closed_index told.selection)) + x)
-    (e8 ∙ ap (λ x. row_length 0x48 (four_digit_index (open_index told.selection)) + x) (e9 ∙ ap (λ x. row_length 0xc2 (counts told.segments) + x) e10))))))))))
+    (e8 ∙ ap (λ x. row_length 0x48 (four_digit_index (open_index told.selection)) + x) (e9 ∙ ap (λ x. row_length 0xc1 (duration told.duration) + x)
+    (e10 ∙ ap (λ x. row_length 0xc2 (counts told.segments) + x) e11)))))))))))
   where
-    sums : (a b c d e f g h i j k m s r : ℕ) {all : ℕ} → a ≤ 2 → b ≤ 2 → c + e + h + i ≤ 3 → d ≤ m → f ≤ 3 → g ≤ 3 → j ≤ s → k ≤ r
-        → all ≡ a + (b + (c + (d + (e + (f + (g + (h + (i + (j + (k + 0)))))))))) → all + 82 ≤ 95 + m + s + r
-    sums a b c d e f g h i j k m s r pa pb pc pd pf pg pj pk same = omega arith
+    sums : (a b c d e f g h i j k l m p w t s r : ℕ) {all : ℕ} → a ≤ 2 → b ≤ 2 → c + e + h + i ≤ 3 → d ≤ m → f ≤ p → g ≤ w → j ≤ t → k ≤ s → l ≤ r
+        → all ≡ a + (b + (c + (d + (e + (f + (g + (h + (i + (j + (k + (l + 0))))))))))) → all + 82 ≤ 89 + m + p + w + t + s + r
+    sums a b c d e f g h i j k l m p w t s r pa pb pc pd pf pg pj pk pl same = omega arith
 
 pub marked-length : (dte : List ℕ) → length dte ≤ 80 → length (marked_octets dte) ≤ 82
 unfolding marked_octets
@@ -261,24 +272,41 @@ told-length told field tells few =
     add : (a b c most : ℕ) → a ≡ b + c → c ≤ 82 → b + 82 ≤ most → a ≤ most
     add a b c most same few fits = omega arith
 
-pub told-exchange : {A : Type 0} (told : IndicatedFacilities A) (count : ℕ) → count ≤ most_octets told
-    → (told.redirected ≡ None) ⊎ ((told.modified ≡ None) × (told.segments ≡ None)) → count ≤ 107
-told-exchange told count most (inl e) =
-    by_tests count (is_some told.modified) (is_some told.segments) (subst (λ x. count ≤ 95 + cond (is_some told.modified) 2 0 + cond (is_some told.segments) 10 0 + cond (is_some x) 12 0) e most)
+-- the bound, by which facilities are there
+abbrev most_with : Bool → Bool → Bool → Bool → Bool → Bool → ℕ
+most_with m p w t s r = 89 + cond m 2 0 + cond p 3 0 + cond w 3 0 + cond t 6 0 + cond s 10 0 + cond r 12 0
+
+at_most_most : (most : ℕ) (b : Bool) → cond b most 0 ≤ most
+at_most_most most true = omega arith
+at_most_most most false = omega arith
+
+pub told-exchange : {A : Type 0} (told : IndicatedFacilities A) (count : ℕ) → count ≤ most_octets told → IsOfExchange told → count ≤ 107
+told-exchange told count most (indicated.incoming modified duration segments) =
+    sum count (cond (is_some told.packet) 3 0) (cond (is_some told.window) 3 0) (cond (is_some told.redirected) 12 0)
+    (at_most_most 3 (is_some told.packet)) (at_most_most 3 (is_some told.window)) (at_most_most 12 (is_some told.redirected))
+    (subst (λ x. count ≤ most_with (is_some x) (is_some told.packet) (is_some told.window) false false (is_some told.redirected)) modified
+    (subst (λ x. count ≤ most_with (is_some told.modified) (is_some told.packet) (is_some told.window) (is_some x) false (is_some told.redirected)) duration
+    (subst (λ x. count ≤ most_with (is_some told.modified) (is_some told.packet) (is_some told.window) (is_some told.duration) (is_some x) (is_some told.redirected)) segments most)))
   where
-    by_tests : (count : ℕ) (m s : Bool) → count ≤ 95 + cond m 2 0 + cond s 10 0 + 0 → count ≤ 107
-    by_tests count true true h = omega (arith, h)
-    by_tests count true false h = omega (arith, h)
-    by_tests count false true h = omega (arith, h)
-    by_tests count false false h = omega (arith, h)
-told-exchange told count most (inr e) =
-    by_test count (is_some told.redirected)
-    (subst (λ x. count ≤ 95 + 0 + cond (is_some x) 10 0 + cond (is_some told.redirected) 12 0) e.1
-    (subst (λ x. count ≤ 95 + cond (is_some x) 2 0 + cond (is_some told.segments) 10 0 + cond (is_some told.redirected) 12 0) e.0 most))
+    sum : (count p w r : ℕ) → p ≤ 3 → w ≤ 3 → r ≤ 12 → count ≤ 89 + 0 + p + w + 0 + 0 + r → count ≤ 107
+    sum count p w r hp hw hr h = omega (arith, hp, hw, hr, h)
+told-exchange told count most (indicated.connected redirected duration) =
+    sum count (cond (is_some told.modified) 2 0) (cond (is_some told.packet) 3 0) (cond (is_some told.window) 3 0) (cond (is_some told.segments) 10 0)
+    (at_most_most 2 (is_some told.modified)) (at_most_most 3 (is_some told.packet)) (at_most_most 3 (is_some told.window)) (at_most_most 10 (is_some told.segments))
+    (subst (λ x. count ≤ most_with (is_some told.modified) (is_some told.packet) (is_some told.window) (is_some x) (is_some told.segments) false) duration
+    (subst (λ x. count ≤ most_with (is_some told.modified) (is_some told.packet) (is_some told.window) (is_some told.duration) (is_some told.segments) (is_some x)) redirected most))
   where
-    by_test : (count : ℕ) (r : Bool) → count ≤ 95 + 0 + 0 + cond r 12 0 → count ≤ 107
-    by_test count true h = omega (arith, h)
-    by_test count false h = omega (arith, h)
+    sum : (count m p w s : ℕ) → m ≤ 2 → p ≤ 3 → w ≤ 3 → s ≤ 10 → count ≤ 89 + m + p + w + 0 + s + 0 → count ≤ 107
+    sum count m p w s hm hp hw hs h = omega (arith, hm, hp, hw, hs, h)
+told-exchange told count most (indicated.cleared redirected packet window) =
+    sum count (cond (is_some told.modified) 2 0) (cond (is_some told.duration) 6 0) (cond (is_some told.segments) 10 0)
+    (at_most_most 2 (is_some told.modified)) (at_most_most 6 (is_some told.duration)) (at_most_most 10 (is_some told.segments))
+    (subst (λ x. count ≤ most_with (is_some told.modified) (is_some x) false (is_some told.duration) (is_some told.segments) false) packet
+    (subst (λ x. count ≤ most_with (is_some told.modified) (is_some told.packet) (is_some x) (is_some told.duration) (is_some told.segments) false) window
+    (subst (λ x. count ≤ most_with (is_some told.modified) (is_some told.packet) (is_some told.window) (is_some told.duration) (is_some told.segments) (is_some x)) redirected most)))
+  where
+    sum : (count m t s : ℕ) → m ≤ 2 → t ≤ 6 → s ≤ 10 → count ≤ 89 + m + 0 + 0 + t + s + 0 → count ≤ 107
+    sum count m t s hm ht hs h = omega (arith, hm, ht, hs, h)
 
 pub told_field : {A : Type 0} (told : IndicatedFacilities A) (field : List ℕ) (tells : Indicates told field) → IsIndicatedField told field tells
 told_field told field tells = record {
@@ -303,7 +331,7 @@ told_field told field tells = record {
                 omega arith,
                 (
                   omega arith,
-                  (omega arith, (omega arith, (omega arith, tt))),
+                  (omega arith, (omega arith, (omega arith, (omega arith, tt)))),
                 ),
               ),
             ),

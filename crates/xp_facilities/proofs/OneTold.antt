@@ -10,7 +10,7 @@ use Rattle.xp_packets.proofs.HalfOctets.{half_octets-packed}
 use Rattle.xp_facilities.specs.Requested.{chosen, last_of, sizes_within, octet_of, fast_of, first_bit, dte_of, before_marker}
 use Rattle.xp_facilities.specs.Laws.{HasDigits, IndicatesOnlyThis}
 use Rattle.xp_facilities.specs.Octets.{reason_octet}
-use Rattle.xp_facilities.specs.Indicated.{decimal_octet, eight_digits, modified, counts, redirection, table, counts_fit, indicated_items, Indicates}
+use Rattle.xp_facilities.specs.Indicated.{decimal_octet, duration_octets, eight_digits, modified, duration, counts, redirection, table, duration_fits, counts_fit, indicated_items, Indicates}
 use Rattle.xp_facilities.specs.declared.redirection.Reason.{Reason}
 use Rattle.xp_facilities.specs.declared.redirection.Reason.TheVariants.{Busy, Distribution, OutOfOrder, Systematic}
 use Rattle.xp_facilities.specs.declared.redirection.RedirectionNotification.{RedirectionNotification}
@@ -69,6 +69,33 @@ eight-back number few =
         let millions : n / 1_000_000 ≡ n / 100 / 100 / 100 = omega arith in
         rw (thousands, millions) (omega (arith, few))
 
+abbrev time_of : ℕ → ℕ → ℕ → ℕ → ℕ
+time_of days hours minutes seconds = 86_400 * two_of days + 3_600 * two_of hours + 60 * two_of minutes + two_of seconds
+
+time-back : (n : ℕ) → n ≤ 8_639_999
+    → time_of (decimal_octet (n / 86_400 % 100)) (decimal_octet (n / 3_600 % 24)) (decimal_octet (n / 60 % 60)) (decimal_octet (n % 60)) ≡ n
+time-back n few =
+    let a = two-back (n / 86_400 % 100) (omega arith) in
+    let b = two-back (n / 3_600 % 24) (omega arith) in
+    let c = two-back (n / 60 % 60) (omega arith) in
+    let d = two-back (n % 60) (omega arith) in
+    rw (a, b, c, d) (sum n few)
+  where
+    sum : (n : ℕ) → n ≤ 8_639_999 → 86_400 * (n / 86_400 % 100) + 3_600 * (n / 3_600 % 24) + 60 * (n / 60 % 60) + n % 60 ≡ n
+    sum n few =
+        let hours : n / 3_600 ≡ n / 60 / 60 = omega arith in
+        let days : n / 86_400 ≡ n / 60 / 60 / 24 = omega arith in
+        rw (hours, days) (omega (arith, few))
+
+abbrev duration_in : Option (List ℕ) → Option ℕ
+duration_in (Some (days ∷ hours ∷ minutes ∷ seconds ∷ octets)) = Some (time_of days hours minutes seconds)
+duration_in octets = None
+
+duration-back : (seconds : Option ℕ) → duration_fits seconds ≡ true → seconds ≡ duration_in (duration seconds)
+unfolding duration_fits duration duration_octets
+duration-back None fit = refl
+duration-back (Some n) fit = ap (λ (x : ℕ). Some x) (sym (time-back n (leb-true n 8_639_999 fit)))
+
 abbrev segments_in : Option (List ℕ) → Option SegmentCounts
 segments_in (Some (a ∷ b ∷ c ∷ d ∷ e ∷ f ∷ g ∷ h ∷ octets)) = Some (record { sent = eight_of a b c d; received = eight_of e f g h })
 segments_in octets = None
@@ -96,8 +123,8 @@ redirected-back (Some r) are =
 -- ---- the whole
 
 same_told : {A : Type 0} (a b : IndicatedFacilities A) → a.selection ≡ b.selection → a.fast ≡ b.fast → a.reverse ≡ b.reverse → a.throughput ≡ b.throughput
-    → a.modified ≡ b.modified → a.packet ≡ b.packet → a.window ≡ b.window → a.redirected ≡ b.redirected → a.segments ≡ b.segments → a.dte ≡ b.dte → a ≡ b
-same_told a b s f r t m p w c n d =
+    → a.modified ≡ b.modified → a.packet ≡ b.packet → a.window ≡ b.window → a.redirected ≡ b.redirected → a.duration ≡ b.duration → a.segments ≡ b.segments → a.dte ≡ b.dte → a ≡ b
+same_told a b s f r t m p w c l n d =
     λ i. record {
       selection = s i;
       fast = f i;
@@ -107,6 +134,7 @@ same_told a b s f r t m p w c n d =
       packet = p i;
       window = w i;
       redirected = c i;
+      duration = l i;
       segments = n i;
       dte = d i;
     }
@@ -134,8 +162,9 @@ one_told told field are tells other are_also also =
     sym (sizes-back 4 12 other.packet within_also.packet) ∙ ap (λ x. sizes_within 4 12 x) (same (0x42 ∷ [])) ∙ sizes-back 4 12 told.packet within.packet
     ))
     (same_Some other.window told.window (
-    sym (sizes-back 1 7 other.window within_also.window) ∙ ap (λ x. sizes_within 1 7 x) (same (0x43 ∷ [])) ∙ sizes-back 1 7 told.window within.window
+    sym (sizes-back 1 15 other.window within_also.window) ∙ ap (λ x. sizes_within 1 15 x) (same (0x43 ∷ [])) ∙ sizes-back 1 15 told.window within.window
     ))
     (redirected-back other.redirected are_also ∙ ap redirected_in (same (0xc3 ∷ [])) ∙ sym (redirected-back told.redirected are))
+    (duration-back other.duration within_also.duration ∙ ap duration_in (same (0xc1 ∷ [])) ∙ sym (duration-back told.duration within.duration))
     (segments-back other.segments within_also.segments ∙ ap segments_in (same (0xc2 ∷ [])) ∙ sym (segments-back told.segments within.segments))
     (same_Some other.dte told.dte (sym (dte-back other field also) ∙ ap dte_of items ∙ dte-back told field tells))

@@ -6,7 +6,7 @@ use Rattle.std.proofs.lemmas.Bool.{and_parts, or_parts, leb-true, ltb-true, lt-l
 use Rattle.xp_facilities.specs.Items.{Item, octets_of_all}
 use Rattle.xp_facilities.specs.Requested.{is_marker, before_marker, has_code, accepted_codes, has_accepted_codes, last_of, decimal, index_of, chosen, selection_of, sizes_within, packet_of, window_of, octet_of, fast_of, first_bit, opens, carried, dte_of}
 use Rattle.xp_facilities.specs.Laws.{CanBeRequested, IsReadBack}
-use Rattle.xp_facilities.specs.Indicated.{decimal_octet, two_digits, four_digits, fast_bits, options, closed_index, open_index, two_digit_index, four_digit_index, throughput, modified, pair, counts, redirection, optional_item, table, marked, index_fits, sizes_fit, counts_fit, is_in_range, indicated_items, Indicates}
+use Rattle.xp_facilities.specs.Indicated.{decimal_octet, two_digits, four_digits, fast_bits, options, closed_index, open_index, two_digit_index, four_digit_index, throughput, modified, pair, duration, counts, redirection, optional_item, table, marked, index_fits, sizes_fit, duration_fits, counts_fit, is_in_range, indicated_items, Indicates}
 use Rattle.xp_facilities.specs.declared.fast_select.FastSelect.{FastSelect}
 use Rattle.xp_facilities.specs.declared.fast_select.FastSelect.TheVariants.{No, Unrestricted, Restricted}
 use Rattle.xp_facilities.specs.declared.direction_sizes.DirectionSizes.{DirectionSizes}
@@ -163,7 +163,7 @@ sizes-back least most (Some sizes) fit = rw fit refl
 -- ---- the whole
 
 pub codes : {A : Type 0} (told : IndicatedFacilities A) → AreCodes (table told)
-codes told = (refl, (refl, (refl, (refl, (refl, (refl, (refl, (refl, (refl, (refl, (refl, tt)))))))))))
+codes told = (refl, (refl, (refl, (refl, (refl, (refl, (refl, (refl, (refl, (refl, (refl, (refl, tt))))))))))))
 
 -- what a reader finds for a code
 pub found-told : {A : Type 0} (told : IndicatedFacilities A) (behind : List Item) (which : List ℕ) → last_of which (before_marker (indicated_items told behind)) ≡ found which (table told)
@@ -172,7 +172,8 @@ found-told told behind which = ap (λ x. last_of which x) (before_marker-rows (t
 pub record InRange {A : Type 0} (told : IndicatedFacilities A) : Type 0 where
   pub selection : index_fits told.selection ≡ true
   pub packet : sizes_fit 4 12 told.packet ≡ true
-  pub window : sizes_fit 1 7 told.window ≡ true
+  pub window : sizes_fit 1 15 told.window ≡ true
+  pub duration : duration_fits told.duration ≡ true
   pub segments : counts_fit told.segments ≡ true
 
 pub in_range : {A : Type 0} (told : IndicatedFacilities A) → is_in_range told ≡ true → InRange told
@@ -180,11 +181,13 @@ unfolding is_in_range
 in_range told e =
     let but_dte = (and_parts _ _ e).0 in
     let but_segments = (and_parts _ _ but_dte).0 in
-    let but_window = (and_parts _ _ but_segments).0 in
+    let but_duration = (and_parts _ _ but_segments).0 in
+    let but_window = (and_parts _ _ but_duration).0 in
     record {
       selection = (and_parts _ _ but_window).0;
       packet = (and_parts _ _ but_window).1;
-      window = (and_parts _ _ but_segments).1;
+      window = (and_parts _ _ but_duration).1;
+      duration = (and_parts _ _ but_segments).1;
       segments = (and_parts _ _ but_dte).1;
     }
 
@@ -212,7 +215,7 @@ rows-accepted (entry ∷ entries) all = step entry.0 entry.1 (rows entries) all.
     step code (Some parameters) items (inr known) each = rw (known, each) refl
 
 accepted-back : {A : Type 0} (told : IndicatedFacilities A) (behind : List Item) → CanBeRequested told → has_accepted_codes (indicated_items told behind) ≡ true
-unfolding has_accepted_codes modified counts redirection
+unfolding has_accepted_codes modified duration counts redirection
 accepted-back told behind asked =
     ap (λ x. list_all (has_code accepted_codes) x) (before_marker-rows (table told) behind (codes told))
     ∙ rows-accepted (table told) (
@@ -229,7 +232,13 @@ accepted-back told behind asked =
                 inr refl,
                 (
                   inr refl,
-                  (inr refl, (inr refl, (inl (ap counts asked.segments), (inl (ap redirection asked.redirected), tt)))),
+                  (
+                    inr refl,
+                    (
+                      inr refl,
+                      (inl (ap duration asked.duration), (inl (ap counts asked.segments), (inl (ap redirection asked.redirected), tt))),
+                    ),
+                  ),
                 ),
               ),
             ),
@@ -261,6 +270,6 @@ read_back told field tells asked =
       throughput = throughput-back told.throughput ∙ ap octet_of (sym (found_of (0x02 ∷ [])));
       charging = uncharged ∙ ap (λ x. first_bit (octet_of x)) (sym (found_of (0x04 ∷ [])));
       packet = ap (λ x. sizes_within 4 12 x) (found_of (0x42 ∷ [])) ∙ sizes-back 4 12 told.packet within.packet;
-      window = ap (λ x. sizes_within 1 7 x) (found_of (0x43 ∷ [])) ∙ sizes-back 1 7 told.window within.window;
+      window = ap (λ x. sizes_within 1 15 x) (found_of (0x43 ∷ [])) ∙ sizes-back 1 15 told.window within.window;
       dte = dte-back told field tells;
     }

@@ -9,7 +9,7 @@ use Rattle.xp_facilities.specs.declared.fast_select.FastSelect.{FastSelect}
 use Rattle.xp_facilities.specs.declared.fast_select.FastSelect.TheVariants.{No, Unrestricted, Restricted}
 use Rattle.xp_facilities.specs.declared.fault.FacilityFault.{FacilityFault}
 use Rattle.xp_facilities.specs.declared.fault.FacilityFault.TheVariants.{Length, Code, Param, Memory}
-use Rattle.xp_facilities.specs.Limits.{largest_window}
+use Rattle.xp_facilities.specs.Limits.{largest_duration, largest_window}
 use Rattle.xp_facilities.specs.declared.direction_sizes.DirectionSizes.{DirectionSizes}
 use Rattle.xp_facilities.specs.declared.redirection.Reason.{Reason}
 use Rattle.xp_facilities.specs.declared.redirection.RedirectionNotification.{RedirectionNotification}
@@ -70,6 +70,14 @@ modified reason = option_map (λ (r : Reason). reason_octet r ∷ []) reason
 unfoldable pub pair : Option DirectionSizes → Option (List ℕ)
 pair sizes = option_map (λ (p : DirectionSizes). p.from_called ∷ p.from_calling ∷ []) sizes
 
+-- days (the last two digits), hours, minutes and seconds, of two digits each
+unfoldable pub duration_octets : ℕ → List ℕ
+duration_octets seconds =
+    decimal_octet (seconds / 86_400 % 100) ∷ decimal_octet (seconds / 3_600 % 24) ∷ decimal_octet (seconds / 60 % 60) ∷ decimal_octet (seconds % 60) ∷ []
+
+unfoldable pub duration : Option ℕ → Option (List ℕ)
+duration seconds = option_map duration_octets seconds
+
 -- the segments sent to the DTE, then those received from it
 unfoldable pub counts : Option SegmentCounts → Option (List ℕ)
 counts segments = option_map (λ (s : SegmentCounts). eight_digits s.sent ++ eight_digits s.received) segments
@@ -95,6 +103,7 @@ table told =
     ∷ (0x43, pair told.window)
     ∷ (0x47, four_digit_index (closed_index told.selection))
     ∷ (0x48, four_digit_index (open_index told.selection))
+    ∷ (0xc1, duration told.duration)
     ∷ (0xc2, counts told.segments)
     ∷ (0xc3, redirection told.redirected)
     ∷ []
@@ -118,6 +127,10 @@ unfoldable pub sizes_fit : ℕ → ℕ → Option DirectionSizes → Bool
 sizes_fit least most None = true
 sizes_fit least most (Some sizes) = is_within least most sizes
 
+unfoldable pub duration_fits : Option ℕ → Bool
+duration_fits None = true
+duration_fits (Some seconds) = nat_le seconds largest_duration
+
 unfoldable pub counts_fit : Option SegmentCounts → Bool
 counts_fit None = true
 counts_fit (Some segments) = nat_le segments.sent 99_999_999 && nat_le segments.received 99_999_999
@@ -125,7 +138,7 @@ counts_fit (Some segments) = nat_le segments.sent 99_999_999 && nat_le segments.
 unfoldable pub is_in_range : {A : Type 0} → IndicatedFacilities A → Bool
 is_in_range told =
     index_fits told.selection && sizes_fit 4 12 told.packet && sizes_fit 1 largest_window told.window
-    && counts_fit told.segments && nat_le (length told.dte) 80
+    && duration_fits told.duration && counts_fit told.segments && nat_le (length told.dte) 80
 
 -- the facilities between DTEs are items, and none of them is a marker
 pub record IsCarried (dte : List ℕ) (carried : List Item) : Type 0 where
@@ -148,11 +161,19 @@ Writes told (Err Param) = (carried : List Item) × IsCarried told.dte carried ×
 Writes told (Err Code) = ⊥
 Writes told (Err Memory) = (field : List ℕ) × Indicates told field
 
--- the most octets of a field: 2 each for options and throughput, 3 for a selection, 3 each for the sizes, and 80
--- between DTEs after their marker of 2; then those facilities that not every packet indicates
+-- the most octets of a field: 2 each for options and throughput, 3 for a selection, and 80 between DTEs after their
+-- marker of 2; then those facilities that not every packet indicates
 abbrev pub most_octets : {A : Type 0} → IndicatedFacilities A → ℕ
 most_octets told =
-    95 + (if is_some told.modified then 2 else 0) + (if is_some told.segments then 10 else 0) + (if is_some told.redirected then 12 else 0)
+    89 + (if is_some told.modified then 2 else 0) + (if is_some told.packet then 3 else 0) + (if is_some told.window then 3 else 0)
+    + (if is_some told.duration then 6 else 0) + (if is_some told.segments then 10 else 0) + (if is_some told.redirected then 12 else 0)
+
+-- Each packet of the exchange is of one of these kinds. An incoming call indicates no modified address and no charging
+-- information, a call connected packet no redirection and no duration, a clear packet no redirection and no sizes.
+pub data IsOfExchange {A : Type 0} (told : IndicatedFacilities A) : Type 0 where
+  incoming : told.modified ≡ None → told.duration ≡ None → told.segments ≡ None → IsOfExchange told
+  connected : told.redirected ≡ None → told.duration ≡ None → IsOfExchange told
+  cleared : told.redirected ≡ None → told.packet ≡ None → told.window ≡ None → IsOfExchange told
 
 -- the codes ascend, and none is below `lowest`
 abbrev pub AscendFrom : ℕ → List ℕ → Type 0

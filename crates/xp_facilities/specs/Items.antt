@@ -1,5 +1,5 @@
 -- Facility items and fields (X.25 clause 7.1).
-use Rattle.std.specs.Prelude.{ℕ, suc, zero, ◌+◌, ◌/◌, ◌<◌, ◌≡◌, nat_lt, nat_le, if◌then◌else◌, List, [], ◌∷◌, length, take, drop, Option, Some, None}
+use Rattle.std.specs.Prelude.{ℕ, ◌+◌, ◌/◌, ◌<◌, ◌≡◌, nat_lt, if◌then◌else◌, List, ◌∷◌, length}
 use Rattle.std.specs.List.{flat_map, AllByRecursion}
 
 -- A facility: its code and its parameters.

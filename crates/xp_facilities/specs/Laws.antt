@@ -29,9 +29,10 @@ same_request told =
       dte = told.dte;
     }
 
--- nothing that can only be indicated: a modified address, segment counts or a redirection
+-- nothing that can only be indicated: a modified address, a duration, segment counts or a redirection
 pub record CanBeRequested {A : Type 0} (told : IndicatedFacilities A) : Type 0 where
   pub modified : told.modified ≡ None
+  pub duration : told.duration ≡ None
   pub segments : told.segments ≡ None
   pub redirected : told.redirected ≡ None
 

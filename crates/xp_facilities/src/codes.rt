@@ -34,6 +34,9 @@ pub(crate) const PACKET_SIZE: u8 = 0x42;
 /// Window size negotiation (clause 7.2.2.1.2).
 pub(crate) const WINDOW_SIZE: u8 = 0x43;
 
+/// Charging information: call duration (clause 6.22).
+pub(crate) const CALL_DURATION: u8 = 0xc1;
+
 /// Charging information: segment count (clause 6.22).
 pub(crate) const SEGMENT_COUNT: u8 = 0xc2;
 

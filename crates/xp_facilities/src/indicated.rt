@@ -25,6 +25,8 @@ pub struct IndicatedFacilities<A: Allocator = Global> {
     pub window: Option<DirectionSizes>,
     /// The call redirection notification.
     pub redirected: Option<RedirectionNotification>,
+    /// The duration of the call in seconds, at most 8,639,999, if the packet carries charging information.
+    pub duration: Option<u32>,
     /// The segments of the call, if the packet carries charging information.
     pub segments: Option<SegmentCounts>,
     /// The items of the facilities between DTEs, without their marker; at most 80 octets.

@@ -13,8 +13,9 @@ pub fn every_field_has_one_reading<A: Allocator>()
     ensures { (field : List ℕ) → HasOneReading A field }
 {}
 
-/// A field that indicates facilities is read as their items. The codes of the items ascend. The field has at most 119
-/// octets: 95, and 2 for a modified address, 10 for segment counts and 12 for a redirection.
+/// A field that indicates facilities is read as their items. The codes of the items ascend. The field has at most 125
+/// octets: 89, 3 for each of the packet and the window sizes, 2 for a modified address, 6 for a duration, 10 for
+/// segment counts and 12 for a redirection.
 pub fn indicated_fields_are_their_items<A: Allocator>()
     ensures { (told : IndicatedFacilities A) (field : List ℕ) (tells : Indicates told field) → IsIndicatedField told field tells }
 {}
@@ -26,7 +27,7 @@ pub fn indicated_fields_indicate_one_value<A: Allocator>()
 {}
 
 /// `parse` reads indicated facilities back as they were written, unless they include one that is never requested: a
-/// modified address, segment counts or a redirection.
+/// modified address, a duration, segment counts or a redirection.
 pub fn indicated_fields_are_read_back<A: Allocator>()
     ensures { (told : IndicatedFacilities A) (field : List ℕ) → Indicates told field → IsReadBack told field }
 {}

@@ -1,6 +1,7 @@
 //! The facility field of call set-up and clearing packets (X.25 clauses 6 and 7).
 #![tactic(auto)]
 
+mod charging_information;
 mod codes;
 mod direction_sizes;
 mod fast_select;
@@ -9,6 +10,7 @@ mod indicated;
 mod item;
 pub mod laws;
 pub mod limits;
+mod parameters;
 mod parser;
 mod redirection;
 mod requested;
@@ -16,6 +18,7 @@ mod segment_counts;
 mod selection;
 mod writer;
 
+pub use charging_information::{ChargingInformation, charging_field};
 pub use direction_sizes::DirectionSizes;
 pub use fast_select::FastSelect;
 pub use fault::FacilityFault;
@@ -25,4 +28,4 @@ pub use redirection::{Reason, RedirectionNotification};
 pub use requested::RequestedFacilities;
 pub use segment_counts::SegmentCounts;
 pub use selection::Selection;
-pub use writer::{segments_field, write};
+pub use writer::write;

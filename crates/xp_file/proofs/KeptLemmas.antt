@@ -8,26 +8,29 @@ use Rattle.xp_file.specs.declared.fault.SubscriptionFault.{SubscriptionFault}
 use Rattle.xp_file.specs.declared.key.Key.TheVariants as keys
 use Rattle.xp_file.specs.Entries.{IsLineEntry, IsGroupEntry}
 use Rattle.xp_file.specs.SubscriptionFile.{line_of, group_of, lines_of, groups_of}
-use Rattle.xp_file.specs.Reading.{◌>>=◌, line_name_in, group_name_in, number_in, address_in, required, optional, flag, each, examined}
+use Rattle.xp_file.specs.Reading.{◌>>=◌, line_name_in, group_name_in, number_in, address_in, modulus_in, required, optional, defaulted, flag, each, examined}
+use Rattle.xp_packets.specs.declared.modulus.Modulus.{Modulus}
+use Rattle.xp_packets.specs.declared.modulus.Modulus.TheVariants.{Eight}
 use Rattle.xp_file.proofs.Choices.{err_is_ok}
 use Rattle.xp_file.proofs.EachLemmas.{All-each, length-each, line_name_form}
 use Rattle.xp_file.proofs.Ranges.{required_range}
 
-line_parts : (name : Result (List ℕ) SubscriptionFault) (port : Result ℕ SubscriptionFault) (address : Result (Option (List ℕ)) SubscriptionFault) (line : LineEntry)
-    → (name >>= λ n. port >>= λ p. address >>= λ a. Ok (record { name = n; port = p; address = a })) ≡ Ok line
+line_parts : (name : Result (List ℕ) SubscriptionFault) (port : Result ℕ SubscriptionFault) (address : Result (Option (List ℕ)) SubscriptionFault) (modulus : Result Modulus SubscriptionFault) (line : LineEntry)
+    → (name >>= λ n. port >>= λ p. address >>= λ a. modulus >>= λ m. Ok (record { name = n; port = p; address = a; modulus = m })) ≡ Ok line
     → (name ≡ Ok line.name) × (port ≡ Ok line.port)
-line_parts (Ok n) (Ok p) (Ok a) line e =
-    let is : record { name = n; port = p; address = a } ≡ line = cc in
+line_parts (Ok n) (Ok p) (Ok a) (Ok m) line e =
+    let is : record { name = n; port = p; address = a; modulus = m } ≡ line = cc in
     (ap (λ (l : LineEntry). let r : Result (List ℕ) SubscriptionFault = Ok l.name in r) is, ap (λ (l : LineEntry). let r : Result ℕ SubscriptionFault = Ok l.port in r) is)
-line_parts (Ok n) (Ok p) (Err fault) line e = absurd (err_is_ok e)
-line_parts (Ok n) (Err fault) address line e = absurd (err_is_ok e)
-line_parts (Err fault) port address line e = absurd (err_is_ok e)
+line_parts (Ok n) (Ok p) (Ok a) (Err fault) line e = absurd (err_is_ok e)
+line_parts (Ok n) (Ok p) (Err fault) modulus line e = absurd (err_is_ok e)
+line_parts (Ok n) (Err fault) address modulus line e = absurd (err_is_ok e)
+line_parts (Err fault) port address modulus line e = absurd (err_is_ok e)
 
 line_kept : (table : Members) (line : LineEntry) → line_of table ≡ Ok line → IsLineEntry line
 unfolding line_of
 line_kept table line e =
     let (named, ported) = line_parts (required line_name_in keys.Name table) (required (number_in 1 65535) keys.Port table)
-    (optional address_in keys.Address table) line e in
+    (optional address_in keys.Address table) (defaulted modulus_in Eight keys.Modulus table) line e in
     let range = required_range 1 65535 keys.Port table line.port ported in
     record { spelled = line_name_form table line.name named; least_port = range.0; most_port = range.1 }
 
@@ -57,8 +60,11 @@ after (Err fault) next y e = absurd (err_is_ok e)
 pub lines_kept : (tables : List Members) (lines : List LineEntry) → lines_of tables ≡ Ok lines → (length lines ≡ length tables) × All IsLineEntry lines
 unfolding lines_of
 lines_kept tables lines e =
-    let read = after (examined (required (number_in 1 65535) keys.Port) tables) (each line_of tables) lines
+    let ports = examined (required (number_in 1 65535) keys.Port) tables in
+    let addresses = examined (optional address_in keys.Address) tables in
+    let addressed = after ports (addresses >>= λ a. each line_of tables) lines
     (after (examined (required line_name_in keys.Name) tables) _ lines e) in
+    let read = after addresses (each line_of tables) lines addressed in
     (length-each line_of tables lines read, All-each IsLineEntry line_of line_kept tables lines read)
 
 pub groups_kept : (tables : List Members) (groups : List GroupEntry) → groups_of tables ≡ Ok groups → All IsGroupEntry groups

@@ -1,5 +1,5 @@
 -- How the values of the keys are read from the tables of a TOML document.
-use Rattle.std.specs.Prelude.{◌≡◌, ℕ, ℤ, pos, List, [], ◌∷◌, Bool, true, false, ◌&&◌, Option, None, Some, Result, Ok, Err, option_and_then, option_map, map, nat_le, if◌then◌else◌}
+use Rattle.std.specs.Prelude.{ℕ, ℤ, pos, List, [], ◌∷◌, Bool, true, false, ◌&&◌, Option, None, Some, Result, Ok, Err, option_and_then, option_map, map, nat_le, nat_eq, if◌then◌else◌}
 use Rattle.std.specs.List.{list_any}
 use Rattle.toml.specs.Data.{Data, Items, no_items, item, Members, no_members, member, get_member, as_str, as_integer, as_bool, as_array, as_table}
 use Rattle.xp_file.specs.declared.fault.SubscriptionFault.{SubscriptionFault}
@@ -9,6 +9,8 @@ use Rattle.xp_file.specs.Address.{is_address, digit_of}
 use Rattle.xp_file.specs.Keys.{key_text}
 use Rattle.xp_file.specs.Name.{is_line_name, is_group_name}
 use Rattle.xp_file.specs.Name.{same}
+use Rattle.xp_packets.specs.declared.modulus.Modulus.{Modulus}
+use Rattle.xp_packets.specs.declared.modulus.Modulus.TheVariants.{Eight, Long}
 
 infixl 10 ◌>>=◌
 -- if reading succeeded, continues with `next`; otherwise keeps the fault
@@ -23,6 +25,13 @@ within low high _ = None
 
 abbrev pub number_in : ℕ → ℕ → Data → Option ℕ
 number_in low high value = option_and_then (within low high) (as_integer value)
+
+-- the modulus with this many packet numbers: 8 or 128 (X.25 clause 4.4.1.1)
+abbrev pub modulus_of : ℕ → Option Modulus
+modulus_of count = if nat_eq count 8 then Some Eight else (if nat_eq count 128 then Some Long else None)
+
+abbrev pub modulus_in : Data → Option Modulus
+modulus_in value = option_and_then modulus_of (number_in 8 128 value)
 
 -- a text of this form
 abbrev pub text_of : (List ℕ → Bool) → Data → Option (List ℕ)

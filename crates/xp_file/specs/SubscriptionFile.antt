@@ -12,7 +12,8 @@ use Rattle.xp_file.specs.declared.key.Key.{Key}
 use Rattle.xp_file.specs.declared.key.Key.TheVariants as keys
 use Rattle.xp_file.specs.declared.entry.Redirection.{Redirection}
 use Rattle.xp_file.specs.Entries.{StationData}
-use Rattle.xp_file.specs.Reading.{◌>>=◌, number_in, line_name_in, group_name_in, address_in, tables_in, some_tables_in, required, defaulted, optional, flag, each, examined, has_only, checked}
+use Rattle.xp_packets.specs.declared.modulus.Modulus.TheVariants.{Eight}
+use Rattle.xp_file.specs.Reading.{◌>>=◌, number_in, line_name_in, group_name_in, address_in, modulus_in, tables_in, some_tables_in, required, defaulted, optional, flag, each, examined, has_only, checked}
 
 -- the keys that each table may have
 abbrev pub top_keys : List Key
@@ -24,7 +25,7 @@ station_keys =
     keys.OutgoingAccess ∷ keys.IncomingAccess ∷ keys.Preferential ∷ keys.Group ∷ keys.Redirect ∷ []
 
 abbrev pub line_keys : List Key
-line_keys = keys.Name ∷ keys.Port ∷ keys.Address ∷ []
+line_keys = keys.Name ∷ keys.Port ∷ keys.Address ∷ keys.Modulus ∷ []
 
 abbrev pub group_keys : List Key
 group_keys = keys.Name ∷ keys.Index ∷ keys.OutgoingBarred ∷ keys.IncomingBarred ∷ []
@@ -55,7 +56,8 @@ line_of table = do
   name ← required line_name_in keys.Name table
   port ← required (number_in 1 65535) keys.Port table
   address ← optional address_in keys.Address table
-  Ok (record { name = name; port = port; address = address })
+  modulus ← defaulted modulus_in Eight keys.Modulus table
+  Ok (record { name = name; port = port; address = address; modulus = modulus })
 
 unfoldable pub group_of : Members → Result GroupEntry SubscriptionFault
 group_of table = do
@@ -71,6 +73,7 @@ unfoldable pub lines_of : List Members → Result (List LineEntry) SubscriptionF
 lines_of tables = do
   names ← examined (required line_name_in keys.Name) tables
   ports ← examined (required (number_in 1 65535) keys.Port) tables
+  addresses ← examined (optional address_in keys.Address) tables
   each line_of tables
 
 -- all groups

@@ -3,7 +3,7 @@ ghost use Rattle.std.specs.Prelude.{◌≡◌};
 
 use crate::name::Name;
 use std::marker::Model;
-use xp_packets::Digits;
+use xp_packets::{Digits, Modulus};
 
 /// Where a station's calls are redirected, and for which reasons (X.25 clause 6.25.1).
 #[derive(Debug, Drop, PartialEq)]
@@ -57,6 +57,8 @@ pub struct LineEntry {
     pub port: u16,
     /// The line's own address, 1 to 15 digits, if it has one in addition to its station's.
     pub address: Option<Digits>,
+    /// The modulus of its packet numbers (X.25 clause 4.4.1.1).
+    pub modulus: Modulus,
 }
 
 /// A station's membership of a closed user group.

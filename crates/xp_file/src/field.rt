@@ -5,7 +5,7 @@ ghost use Rattle.std.specs.List.{list_any};
 ghost use Rattle.toml.specs.Data.{get_member, as_str, as_table};
 ghost use Rattle.toml.specs.View.{view, table_view};
 ghost use Rattle.xp_file.specs.Keys.{key_text};
-ghost use Rattle.xp_file.specs.Reading.{number_in, line_name_in, group_name_in, address_in, required, optional, defaulted, flag, has_only};
+ghost use Rattle.xp_file.specs.Reading.{number_in, line_name_in, group_name_in, address_in, modulus_in, required, optional, defaulted, flag, has_only};
 ghost use Rattle.xp_file.specs.steps.Reading.{Reads};
 ghost use Rattle.xp_file.specs.Name.{same};
 
@@ -14,7 +14,7 @@ use crate::fault::SubscriptionFault;
 use crate::key::Key;
 use crate::name::Name;
 use toml::{Table, Value};
-use xp_packets::Digits;
+use xp_packets::{Digits, Modulus};
 
 /// The value of a key, if the table has that key.
 pub(crate) fn value_at(table: &Table, key: Key) -> Option<&Value>
@@ -135,6 +135,17 @@ pub(crate) fn address(value: &Value) -> Option<Digits>
     ensures { result ≡ address_in (view value.now) }
 {
     read_digits(value.as_str()?)
+}
+
+/// A modulus of packet numbers, 8 or 128.
+pub(crate) fn modulus(value: &Value) -> Option<Modulus>
+    ensures { result ≡ modulus_in (view value.now) }
+{
+    match number(value, 8, 128)? {
+        8 => Some(Modulus::Eight),
+        128 => Some(Modulus::Long),
+        _ => None,
+    }
 }
 
 /// A line's name.

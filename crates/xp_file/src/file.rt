@@ -5,15 +5,16 @@ ghost use Rattle.toml.specs.Data.{as_str};
 ghost use Rattle.toml.specs.View.{table_view};
 ghost use Rattle.xp_file.specs.declared.fault.SubscriptionFault.TheVariants.{Memory as OutOfMemory};
 ghost use Rattle.xp_file.specs.declared.key.Key.TheVariants as keys;
+ghost use Rattle.xp_packets.specs.declared.modulus.Modulus.TheVariants.{Eight};
 ghost use Rattle.xp_file.specs.Entries.{AreLimits, IsStationEntry};
 ghost use Rattle.xp_file.specs.SubscriptionFile.{facilities_of, line_of, lines_of, group_of, groups_of, redirection_of, are_listed, entry_of, file_of, file_in};
-ghost use Rattle.xp_file.specs.Reading.{each, has_only, required, optional, defaulted, number_in, address_in, line_name_in, group_name_in};
+ghost use Rattle.xp_file.specs.Reading.{each, has_only, required, optional, defaulted, number_in, address_in, modulus_in, line_name_in, group_name_in};
 
 use crate::entry::{Facilities, GroupEntry, LineEntry, Redirection, StationEntry};
 use crate::fault::SubscriptionFault;
 use crate::field::{
-    address, defaulted, flag, group_name, has_only, line_name, number, optional, optional_table,
-    required, short, value_at,
+    address, defaulted, flag, group_name, has_only, line_name, modulus, number, optional,
+    optional_table, required, short, value_at,
 };
 use crate::key::Key;
 use crate::name::Name;
@@ -21,7 +22,7 @@ use crate::tables::{each, examine, some_tables_at, tables_at};
 use std::alloc::Global;
 use std::marker::Model;
 use toml::Table;
-use xp_packets::Digits;
+use xp_packets::{Digits, Modulus};
 
 /// The content of the subscription file, with default values for the keys that it omits.
 #[derive(Drop)]
@@ -84,7 +85,7 @@ const STATION_KEYS: [Key; 11] = [
     Key::Redirect,
 ];
 
-const LINE_KEYS: [Key; 3] = [Key::Name, Key::Port, Key::Address];
+const LINE_KEYS: [Key; 4] = [Key::Name, Key::Port, Key::Address, Key::Modulus];
 
 const GROUP_KEYS: [Key; 4] = [
     Key::Name,
@@ -145,6 +146,12 @@ fn own_address_of(table: &Table) -> Result<Option<Digits>, SubscriptionFault>
     optional(table, Key::Address, address)
 }
 
+fn modulus_of(table: &Table) -> Result<Modulus, SubscriptionFault>
+    ensures { result ≡ defaulted modulus_in Eight keys.Modulus (table_view table.now) }
+{
+    defaulted(table, Key::Modulus, Modulus::Eight, modulus)
+}
+
 #[tactic(auto, unfolding(crate::specs::SubscriptionFile::line_of))]
 fn line(table: &Table) -> Result<LineEntry, SubscriptionFault>
     ensures { result ≡ line_of (table_view table.now) }
@@ -153,6 +160,7 @@ fn line(table: &Table) -> Result<LineEntry, SubscriptionFault>
         name: line_name_of(table)?,
         port: port_of(table)?,
         address: own_address_of(table)?,
+        modulus: modulus_of(table)?,
     })
 }
 
@@ -163,6 +171,7 @@ fn lines(alloc: Global, tables: &[&Table]) -> Result<Vec<LineEntry>, Subscriptio
 {
     examine(tables, line_name_of)?;
     examine(tables, port_of)?;
+    examine(tables, own_address_of)?;
     each(alloc, tables, line)
 }
 

@@ -2,16 +2,18 @@
 use Rattle.std.proofs.Common.{◌≡◌, ℕ, List, [], ◌∷◌, ◌++◌, refl, sym, ap, ◌∙◌, append_assoc, append-nil, map, subst, Option, None, Some, Bool, true, false, ◌||◌, Result, Ok, Err}
 use Rattle.std.specs.Prelude.{option_to_list}
 use Rattle.std.proofs.lemmas.List.{map-append}
+use Rattle.xp_packets.specs.declared.modulus.Modulus.{Modulus}
 use Rattle.xp_frames.specs.Deframer.{DeframerState}
 use Rattle.xp_core.specs.declared.entry.Entry.{Entry}
+use Rattle.xp_core.specs.declared.event.Event.{Event}
 use Rattle.xp_core.specs.declared.event.What.{What}
 use Rattle.xp_core.specs.declared.event.What.TheVariants.{Up}
 use Rattle.xp_subs.specs.Tables.{Tables}
 use Rattle.xp_lock.specs.Passes.{GainsEvent, Pass, own_entries}
 use Rattle.xp_lines.specs.FrameEvents.{IsReadAs, AreReadAs}
 use Rattle.xp_lock.specs.declared.receipt.Receipt.{Receipt}
-use Rattle.xp_lines.specs.steps.Offering.{IsRefusal, NextIs, Tells}
-use Rattle.xp_lines.specs.Offers.{Gains, Offers, on_line}
+use Rattle.xp_lines.specs.steps.Offering.{IsRefusal, NextIs, Tells, event_on}
+use Rattle.xp_lines.specs.Offers.{Gains, Offers, happened, on_line}
 use Rattle.xp_lines.specs.steps.Sessions.{ComesUp}
 use Rattle.xp_lines.specs.AnswerTimer.{has_any}
 use Rattle.xp_lines.specs.declared.offering.Stop.{Stop}
@@ -27,37 +29,37 @@ module _ {A : Type 0} where
     entries = a.entries ++ b.entries;
     own_entries_are = b.own_entries_are ∙ ap (λ xs. xs ++ b.entries) a.own_entries_are ∙ append_assoc (own_entries first) a.entries b.entries;
     events =
-        map-append (λ (e : Entry A). e.event) a.entries b.entries
-        ∙ ap (λ xs. xs ++ map (λ (e : Entry A). e.event) b.entries) a.events
+        map-append happened a.entries b.entries
+        ∙ ap (λ xs. xs ++ map happened b.entries) a.events
         ∙ ap (λ xs. map (on_line first.line) whats ++ xs) (b.events ∙ ap (λ line. map (on_line line) others) a.line)
         ∙ sym (map-append (on_line first.line) whats others);
   }
 
-  read_one_more : (packets : List (List ℕ)) (read : List (What A)) (packet : List ℕ) (what : What A) → AreReadAs packets read → IsReadAs packet what → AreReadAs (packets ++ packet ∷ []) (read ++ what ∷ [])
-  read_one_more [] [] packet what so_far is = (is, tt)
-  read_one_more [] (one ∷ read) packet what so_far is = elim so_far [ ]
-  read_one_more (first ∷ packets) [] packet what so_far is = elim so_far [ ]
-  read_one_more (first ∷ packets) (one ∷ read) packet what so_far is = (so_far.0, read_one_more packets read packet what so_far.1 is)
+  read_one_more : (modulus : Modulus) (packets : List (List ℕ)) (read : List (What A)) (packet : List ℕ) (what : What A) → AreReadAs modulus packets read → IsReadAs modulus packet what → AreReadAs modulus (packets ++ packet ∷ []) (read ++ what ∷ [])
+  read_one_more modulus [] [] packet what so_far is = (is, tt)
+  read_one_more modulus [] (one ∷ read) packet what so_far is = elim so_far [ ]
+  read_one_more modulus (first ∷ packets) [] packet what so_far is = elim so_far [ ]
+  read_one_more modulus (first ∷ packets) (one ∷ read) packet what so_far is = (so_far.0, read_one_more modulus packets read packet what so_far.1 is)
 
   -- What waited and the packets that were asked for so far are what was offered and what is in hand.
-  pub record OfferedSoFar (held : Option (What A)) (frames : DeframerState) (whats : List (What A)) (hand : List (What A)) (now : DeframerState) : Type 0 where
+  pub record OfferedSoFar (modulus : Modulus) (held : Option (What A)) (frames : DeframerState) (whats : List (What A)) (hand : List (What A)) (now : DeframerState) : Type 0 where
     pub packets : List (List ℕ)
     pub frames_are : frames.waiting ≡ packets ++ now.waiting
     pub rest : now.rest ≡ frames.rest
     pub failed : now.failed ≡ frames.failed
     pub read : List (What A)
-    pub read_as : AreReadAs packets read
+    pub read_as : AreReadAs modulus packets read
     pub in_order : option_to_list held ++ read ≡ whats ++ hand
 
-  pub offered_nothing : (held : Option (What A)) (frames : DeframerState) → OfferedSoFar held frames [] (option_to_list held) frames
-  offered_nothing held frames = record { packets = []; frames_are = refl; rest = refl; failed = refl; read = []; read_as = tt; in_order = append-nil (option_to_list held) }
+  pub offered_nothing : (modulus : Modulus) (held : Option (What A)) (frames : DeframerState) → OfferedSoFar modulus held frames [] (option_to_list held) frames
+  offered_nothing modulus held frames = record { packets = []; frames_are = refl; rest = refl; failed = refl; read = []; read_as = tt; in_order = append-nil (option_to_list held) }
 
   -- something is taken in hand
-  pub taken_in_hand : (held : Option (What A)) (frames : DeframerState) (whats : List (What A)) (waiting : Option (What A)) (before : DeframerState) (what : What A) (left : Option (What A)) (now : DeframerState)
-      → OfferedSoFar held frames whats (option_to_list waiting) before → NextIs waiting before (Ok (Some what)) left now → (left ≡ None) × OfferedSoFar held frames whats (what ∷ []) now
-  taken_in_hand held frames whats (Some first) before what left now so_far next =
-      (next.1, subst (OfferedSoFar held frames whats (what ∷ [])) (sym next.2) (subst (λ w. OfferedSoFar held frames whats (w ∷ []) before) (sym next.0) so_far))
-  taken_in_hand held frames whats None before what left now so_far (packet, waits, is, none, rest, failed) = (
+  pub taken_in_hand : (modulus : Modulus) (held : Option (What A)) (frames : DeframerState) (whats : List (What A)) (waiting : Option (What A)) (before : DeframerState) (what : What A) (left : Option (What A)) (now : DeframerState)
+      → OfferedSoFar modulus held frames whats (option_to_list waiting) before → NextIs modulus waiting before (Ok (Some what)) left now → (left ≡ None) × OfferedSoFar modulus held frames whats (what ∷ []) now
+  taken_in_hand modulus held frames whats (Some first) before what left now so_far next =
+      (next.1, subst (OfferedSoFar modulus held frames whats (what ∷ [])) (sym next.2) (subst (λ w. OfferedSoFar modulus held frames whats (w ∷ []) before) (sym next.0) so_far))
+  taken_in_hand modulus held frames whats None before what left now so_far (packet, waits, is, none, rest, failed) = (
     none,
     record {
       packets = so_far.packets ++ packet ∷ [];
@@ -65,16 +67,16 @@ module _ {A : Type 0} where
       rest = rest ∙ so_far.rest;
       failed = failed ∙ so_far.failed;
       read = so_far.read ++ what ∷ [];
-      read_as = read_one_more so_far.packets so_far.read packet what so_far.read_as is;
+      read_as = read_one_more modulus so_far.packets so_far.read packet what so_far.read_as is;
       in_order =
           sym (append_assoc (option_to_list held) so_far.read (what ∷ [])) ∙ ap (λ xs. xs ++ what ∷ []) (so_far.in_order ∙ append-nil whats);
     },
   )
 
   -- what is in hand was taken
-  pub hand_offered : (held : Option (What A)) (frames : DeframerState) (whats : List (What A)) (what : What A) (waiting : Option (What A)) (now : DeframerState)
-      → OfferedSoFar held frames whats (what ∷ []) now → waiting ≡ None → OfferedSoFar held frames (whats ++ what ∷ []) (option_to_list waiting) now
-  hand_offered held frames whats what waiting now so_far none = record {
+  pub hand_offered : (modulus : Modulus) (held : Option (What A)) (frames : DeframerState) (whats : List (What A)) (what : What A) (waiting : Option (What A)) (now : DeframerState)
+      → OfferedSoFar modulus held frames whats (what ∷ []) now → waiting ≡ None → OfferedSoFar modulus held frames (whats ++ what ∷ []) (option_to_list waiting) now
+  hand_offered modulus held frames whats what waiting now so_far none = record {
     packets = so_far.packets;
     frames_are = so_far.frames_are;
     rest = so_far.rest;
@@ -85,9 +87,9 @@ module _ {A : Type 0} where
   }
 
   -- what is in hand is put back, or dropped
-  pub hand_kept : (held : Option (What A)) (frames : DeframerState) (whats : List (What A)) (hand : List (What A)) (on : Bool) (left : Option (What A)) (now : DeframerState)
-      → OfferedSoFar held frames whats hand now → (on ≡ true → hand ≡ option_to_list left) → Offers held frames.waiting whats on left now.waiting
-  hand_kept held frames whats hand on left now so_far kept = record {
+  pub hand_kept : (modulus : Modulus) (held : Option (What A)) (frames : DeframerState) (whats : List (What A)) (hand : List (What A)) (on : Bool) (left : Option (What A)) (now : DeframerState)
+      → OfferedSoFar modulus held frames whats hand now → (on ≡ true → hand ≡ option_to_list left) → Offers modulus held frames.waiting whats on left now.waiting
+  hand_kept modulus held frames whats hand on left now so_far kept = record {
     packets = so_far.packets;
     unread = now.waiting;
     frames_are = so_far.frames_are;
@@ -104,13 +106,24 @@ module _ {A : Type 0} where
   pub accepted : (old new : Pass A) (what : What A) (result : Result Receipt Stop) (done : Receipt) → Tells old what result new → result ≡ Ok done → Gains old (what ∷ []) new
   accepted old new what result done tells is = subst (λ r. Tells old what r new) is tells
 
+  -- one event of the line was taken
+  pub gains_one : (subs : Tables) (old new : Pass A) (line moment : ℕ) (what : What A) (receipt : Receipt) → GainsEvent subs old (event_on line moment what) receipt new → line ≡ old.line → Gains old (what ∷ []) new
+  gains_one subs old new line moment what receipt gains same = record {
+    line = gains.line;
+    taken = gains.taken;
+    entries = gains.entry ∷ [];
+    own_entries_are = gains.own_entries_are;
+    events = ap (λ (e : Event A). on_line e.line e.what ∷ []) gains.event_is ∙ ap (λ l. on_line l what ∷ []) same;
+  }
+
   -- that a link came was accepted
-  pub comes_up : (subs : Tables) (before pass : Pass A) (what : What A) (receipt : Receipt) (connection : ℕ) → GainsEvent subs before (on_line before.line what) receipt pass → what ≡ Up → connection ≡ receipt.connection → ComesUp subs connection pass
-  comes_up subs before pass what receipt connection gains is_up connection_is = record {
+  pub comes_up : (subs : Tables) (before pass : Pass A) (moment : ℕ) (what : What A) (receipt : Receipt) (connection : ℕ) → GainsEvent subs before (event_on before.line moment what) receipt pass → what ≡ Up → connection ≡ receipt.connection → ComesUp subs connection pass
+  comes_up subs before pass moment what receipt connection gains is_up connection_is = record {
     before = before;
+    moment = moment;
     receipt = receipt;
     gains =
-        subst (λ event. GainsEvent subs before event receipt pass) (ap (on_line before.line) is_up ∙ ap (λ line. on_line line Up) (sym gains.line)) gains;
+        subst (λ event. GainsEvent subs before event receipt pass) (ap (event_on before.line moment) is_up ∙ ap (λ line. event_on line moment Up) (sym gains.line)) gains;
     connection_is = connection_is;
   }
 

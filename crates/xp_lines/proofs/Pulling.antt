@@ -1,6 +1,7 @@
 -- What becomes of octets that are pulled, before and behind a pull.
 use Rattle.std.proofs.Common.{◌≡◌, ◌⊎◌, ℕ, List, [], ◌∷◌, ◌++◌, refl, sym, ap, ◌∙◌, append_assoc, append-nil, subst, Option, None, Some, Bool, true, false, inl, inr, Result, Ok, Err}
 use Rattle.std.specs.Prelude.{option_to_list}
+use Rattle.xp_packets.specs.declared.modulus.Modulus.{Modulus}
 use Rattle.xp_frames.specs.declared.fault.FrameFault.{FrameFault}
 use Rattle.xp_frames.specs.declared.fault.FrameFault.TheVariants as faults
 use Rattle.xp_frames.specs.Deframer.{Feeds, DeframerState, Takes}
@@ -111,16 +112,16 @@ sound_after : (old : DeframerState) (pulled : List ℕ) (pull : Pull) (new : Def
 sound_after old pulled pull new is kind none = elim kind [ inl came ↦ is.sound came | inr nothing ↦ subst HasNoBadHeader (sym (is.still nothing)) none ]
 
 module _ {A : Type 0} where
-  pub read_both : (packets others : List (List ℕ)) (read more : List (What A)) → AreReadAs packets read → AreReadAs others more → AreReadAs (packets ++ others) (read ++ more)
-  read_both [] others [] more a b = b
-  read_both [] others (one ∷ read) more a b = elim a [ ]
-  read_both (first ∷ packets) others [] more a b = elim a [ ]
-  read_both (first ∷ packets) others (one ∷ read) more a b = (a.0, read_both packets others read more a.1 b)
+  pub read_both : (modulus : Modulus) (packets others : List (List ℕ)) (read more : List (What A)) → AreReadAs modulus packets read → AreReadAs modulus others more → AreReadAs modulus (packets ++ others) (read ++ more)
+  read_both modulus [] others [] more a b = b
+  read_both modulus [] others (one ∷ read) more a b = elim a [ ]
+  read_both modulus (first ∷ packets) others [] more a b = elim a [ ]
+  read_both modulus (first ∷ packets) others (one ∷ read) more a b = (a.0, read_both modulus packets others read more a.1 b)
 
   -- the offering stopped before a pull
-  pub reads_stopped : (held : Option (What A)) (old : DeframerState) (whats : List (What A)) (stop : Stop) (left : Option (What A)) (new : DeframerState)
-      → Offers held old.waiting whats (goes_on (Some stop)) left new.waiting → new.rest ≡ old.rest → Reads held old [] whats (outcome_at stop) left new
-  reads_stopped held old whats stop left new offers rest = record {
+  pub reads_stopped : (modulus : Modulus) (held : Option (What A)) (old : DeframerState) (whats : List (What A)) (stop : Stop) (left : Option (What A)) (new : DeframerState)
+      → Offers modulus held old.waiting whats (goes_on (Some stop)) left new.waiting → new.rest ≡ old.rest → Reads modulus held old [] whats (outcome_at stop) left new
+  reads_stopped modulus held old whats stop left new offers rest = record {
     fed = [];
     lost = [];
     pulled_are = refl;
@@ -129,15 +130,17 @@ module _ {A : Type 0} where
     completes = subst (Completes old.rest [] []) (sym rest) (completes_nothing old.rest);
     sound = λ _ none. subst HasNoBadHeader (sym rest) none;
     offers =
-        subst (λ on. Offers held (old.waiting ++ []) whats on left new.waiting) (sym (stays_at stop))
-        (subst (λ frames. Offers held frames whats (goes_on (Some stop)) left new.waiting) (sym (append-nil old.waiting)) offers);
+        subst (λ on. Offers modulus held (old.waiting ++ []) whats on left new.waiting) (sym (stays_at stop))
+        (subst (λ frames. Offers modulus held frames whats (goes_on (Some stop)) left new.waiting) (sym (append-nil old.waiting)) offers);
   }
 
   -- all that waited was offered, a piece was pulled, and what it completed was offered
-  pub reads_both : (held : Option (What A)) (old : DeframerState) (whats : List (What A)) (left : Option (What A)) (before : DeframerState) (pulled : List ℕ) (pull : Pull) (after : DeframerState) (others : List (What A)) (stop : Option Stop) (last : Option (What A)) (new : DeframerState)
-      → Offers held old.waiting whats true left before.waiting → left ≡ None → before.waiting ≡ [] → before.rest ≡ old.rest → Pulls before pulled pull after
-      → Offers left after.waiting others (goes_on stop) last new.waiting → new.rest ≡ after.rest → Reads held old pulled (whats ++ others) (outcome_after pull stop) last new
-  reads_both held old whats left before pulled pull after others stop last new first none empty rest pulls second kept =
+  pub reads_both : (modulus other : Modulus) (held : Option (What A)) (old : DeframerState) (whats : List (What A)) (left : Option (What A)) (before : DeframerState) (pulled : List ℕ) (pull : Pull) (after : DeframerState) (others : List (What A)) (stop : Option Stop) (last : Option (What A)) (new : DeframerState)
+      → Offers modulus held old.waiting whats true left before.waiting → left ≡ None → before.waiting ≡ [] → before.rest ≡ old.rest → Pulls before pulled pull after
+      → other ≡ modulus → Offers other left after.waiting others (goes_on stop) last new.waiting → new.rest ≡ after.rest → Reads modulus held old pulled (whats ++ others) (outcome_after pull stop) last new
+  reads_both modulus other held old whats left before pulled pull after others stop last new first none empty rest pulls same second_by kept =
+      let second : Offers modulus left after.waiting others (goes_on stop) last new.waiting =
+      subst (λ m. Offers m left after.waiting others (goes_on stop) last new.waiting) same second_by in
       let waits : after.waiting ≡ pulls.packets = pulls.waiting ∙ ap (λ xs. xs ++ pulls.packets) empty in
       let unread : first.unread ≡ [] = (first.kept refl).0 ∙ empty in
       let unoffered : first.unoffered ≡ [] = (first.kept refl).1 ∙ ap option_to_list none in
@@ -163,7 +166,7 @@ module _ {A : Type 0} where
               ap (λ xs. old.waiting ++ xs) (sym waits ∙ second.frames_are) ∙ ap (λ xs. xs ++ (second.packets ++ second.unread)) front
               ∙ sym (append_assoc first.packets second.packets second.unread);
           read = first.read ++ second.read;
-          read_as = read_both first.packets second.packets first.read second.read first.read_as second.read_as;
+          read_as = read_both modulus first.packets second.packets first.read second.read first.read_as second.read_as;
           unoffered = second.unoffered;
           in_order =
               sym (append_assoc (option_to_list held) first.read second.read) ∙ ap (λ xs. xs ++ second.read) first_order

@@ -1,6 +1,7 @@
 -- Events that octets tell, and expiries, which none do.
 use Rattle.std.proofs.Common.{◌≡◌, ℕ, List, [], ◌∷◌, ◌++◌, refl, ap, ◌∙◌, Bool, true, false, cond, Option}
 use Rattle.std.specs.List.{AllByRecursion}
+use Rattle.xp_packets.specs.declared.modulus.Modulus.{Modulus}
 use Rattle.xp_core.specs.declared.event.What.{What}
 use Rattle.xp_core.specs.declared.event.What.TheVariants.{Up, Down, Frame, WrongFrame, Expire, Stall}
 use Rattle.xp_lines.specs.FrameEvents.{AreReadAs, IsReadAs}
@@ -11,19 +12,19 @@ module _ {A : Type 0} where
   abbrev pub HasNoExpiry : List (What A) → Type 0
   HasNoExpiry whats = AllByRecursion (λ (what : What A). is_no_expiry what ≡ true) whats
 
-  one_of_read : (packet : List ℕ) (what : What A) → IsReadAs packet what → is_no_expiry what ≡ true
-  one_of_read packet (Frame identifier read) is = refl
-  one_of_read packet (WrongFrame wrong) is = refl
-  one_of_read packet Up is = refl
-  one_of_read packet Down is = refl
-  one_of_read packet Expire is = absurd is
-  one_of_read packet Stall is = refl
+  one_of_read : (modulus : Modulus) (packet : List ℕ) (what : What A) → IsReadAs modulus packet what → is_no_expiry what ≡ true
+  one_of_read modulus packet (Frame identifier read) is = refl
+  one_of_read modulus packet (WrongFrame wrong) is = refl
+  one_of_read modulus packet Up is = refl
+  one_of_read modulus packet Down is = refl
+  one_of_read modulus packet Expire is = absurd is
+  one_of_read modulus packet Stall is = refl
 
-  pub none_of_read : (packets : List (List ℕ)) (read : List (What A)) → AreReadAs packets read → HasNoExpiry read
-  none_of_read [] [] are = tt
-  none_of_read [] (what ∷ read) are = elim are [ ]
-  none_of_read (packet ∷ packets) [] are = elim are [ ]
-  none_of_read (packet ∷ packets) (what ∷ read) are = (one_of_read packet what are.0, none_of_read packets read are.1)
+  pub none_of_read : (modulus : Modulus) (packets : List (List ℕ)) (read : List (What A)) → AreReadAs modulus packets read → HasNoExpiry read
+  none_of_read modulus [] [] are = tt
+  none_of_read modulus [] (what ∷ read) are = elim are [ ]
+  none_of_read modulus (packet ∷ packets) [] are = elim are [ ]
+  none_of_read modulus (packet ∷ packets) (what ∷ read) are = (one_of_read modulus packet what are.0, none_of_read modulus packets read are.1)
 
   pub none_both : (whats others : List (What A)) → HasNoExpiry whats → HasNoExpiry others → HasNoExpiry (whats ++ others)
   none_both [] others none all = all

@@ -4,6 +4,7 @@ use Rattle.std.specs.Prelude.{option_to_list}
 use Rattle.std.proofs.lemmas.Grind.{flat_map-append}
 use Rattle.std.proofs.lemmas.List.{map-append}
 use Rattle.std.proofs.lemmas.List.Elements.{filter-append}
+use Rattle.xp_packets.specs.declared.modulus.Modulus.{Modulus}
 use Rattle.xp_frames.specs.Frame.{HasNoBadHeader, frames}
 use Rattle.xp_frames.proofs.Frames.{frames-append, packets-append}
 use Rattle.xp_core.specs.declared.entry.Entry.{Entry}
@@ -12,7 +13,7 @@ use Rattle.xp_core.specs.declared.event.What.TheVariants.{Down}
 use Rattle.xp_core.specs.declared.output.Outgoing.{Outgoing}
 use Rattle.xp_lock.specs.Handed.{handed}
 use Rattle.xp_lock.specs.Passes.{Pass, own_entries}
-use Rattle.xp_lines.specs.Offers.{Gains, on_line}
+use Rattle.xp_lines.specs.Offers.{Gains, happened, on_line}
 use Rattle.xp_lines.specs.Reads.{Completes, stays}
 use Rattle.xp_lines.specs.AnswerTimer.{Expires, answered, has_any, since_after_all}
 use Rattle.xp_lines.specs.Together.{AreTurns, IsFresh, IsLeftSo, Left, MayFollow, Together, TurnsAddUp, but_expiries, calls, expiries, is_linked, is_no_expiry, last_of, waits}
@@ -44,8 +45,8 @@ module _ {A : Type 0} where
   took_mine : (old : Pass A) (items : List _) (new : Pass A) → Took old items new → own_entries new ≡ own_entries old
   took_mine old items new took = ap (λ line. handed line new.seen) took.line ∙ ap (λ seen. handed old.line seen) took.seen
 
-  together_fresh : (connection : ℕ) (pass : Pass A) (came : Seen A) → IsFresh came → Together connection pass came true pass came
-  together_fresh connection pass came fresh = record {
+  together_fresh : (modulus : Modulus) (connection : ℕ) (pass : Pass A) (came : Seen A) → IsFresh came → Together modulus connection pass came true pass came
+  together_fresh modulus connection pass came fresh = record {
     line = refl;
     items = [];
     taken = sym (append-nil pass.taken);
@@ -81,7 +82,7 @@ module _ {A : Type 0} where
     kept = λ _. (refl, refl, sym fresh.rest, sym fresh.waiting, sym (ap option_to_list fresh.held), refl);
   }
 
-  module _ (connection : ℕ) (old : Pass A) (came : Seen A) where
+  module _ (modulus : Modulus) (connection : ℕ) (old : Pass A) (came : Seen A) where
     -- no more calls expire than were written
     expire_few : (now : ℕ) (linked sent : Bool) (since : Option ℕ) (whats told expired : List (What A)) (unanswered_since after : Option ℕ) (items more : List (Outgoing A))
         → expiries told ≡ 0 → expiries whats + waits unanswered_since ≤ calls connection items → (linked ≡ true → since ≡ since_after_all now connection unanswered_since more)
@@ -105,8 +106,8 @@ module _ {A : Type 0} where
 
     -- the line worked, from where its link stayed
     worked_on : (now : ℕ) (pass : Pass A) (seen : Seen A) (outcome : ReadOutcome) (new_pass : Pass A) (new : Seen A)
-        → Together connection old came true pass seen → WritesAndReads now connection pass seen outcome new_pass new
-        → (next : Together connection old came (stays outcome) new_pass new) × (next.closing ≡ [])
+        → Together modulus connection old came true pass seen → WritesAndReads modulus now connection pass seen outcome new_pass new
+        → (next : Together modulus connection old came (stays outcome) new_pass new) × (next.closing ≡ [])
     worked_on now pass seen outcome new_pass new t works =
         let kept = t.kept refl in
         let w = works.writes in
@@ -116,9 +117,9 @@ module _ {A : Type 0} where
         let held : List (What A) = option_to_list seen.held in
         let gained : List (What A) = h.whats ++ h.expired in
         let front : t.read ≡ but_expiries t.whats ++ held = t.in_order ∙ ap (λ xs. but_expiries t.whats ++ xs) kept.4 in
-        let none : HasNoExpiry held = none_behind (but_expiries t.whats) held (subst HasNoExpiry front (none_of_read t.taken_up t.read t.read_as)) in
+        let none : HasNoExpiry held = none_behind (but_expiries t.whats) held (subst HasNoExpiry front (none_of_read modulus t.taken_up t.read t.read_as)) in
         let offered : HasNoExpiry h.whats =
-        none_front h.whats o.unoffered (subst HasNoExpiry o.in_order (none_both held o.read none (none_of_read o.packets o.read o.read_as))) in
+        none_front h.whats o.unoffered (subst HasNoExpiry o.in_order (none_both held o.read none (none_of_read modulus o.packets o.read o.read_as))) in
         let told : but_expiries gained ≡ h.whats =
         filter-append is_no_expiry h.whats h.expired ∙ ap (λ xs. xs ++ but_expiries h.expired) (all_without h.whats offered)
         ∙ ap (λ xs. h.whats ++ xs) (none_left (stays outcome) now (answered (has_any h.whats) works.since) h.expired new.unanswered_since h.lapses) ∙ append-nil h.whats in
@@ -134,9 +135,9 @@ module _ {A : Type 0} where
             pushes = appends_both came.pushed seen.pushed new.pushed t.pushed w.pushed t.pushes w.grows;
             unsent = works.unsent;
             written =
-                flat_map-append (carried connection) t.items w.items
-                ∙ ap (λ xs. xs ++ wire connection w.items) (t.written ∙ ap (λ xs. (t.pushed ++ seen.unwritten) ++ xs) kept.0 ∙ append-nil (t.pushed ++ seen.unwritten))
-                ∙ append_assoc t.pushed seen.unwritten (wire connection w.items) ∙ ap (λ xs. t.pushed ++ xs) w.whole
+                flat_map-append (carried modulus connection) t.items w.items
+                ∙ ap (λ xs. xs ++ wire modulus connection w.items) (t.written ∙ ap (λ xs. (t.pushed ++ seen.unwritten) ++ xs) kept.0 ∙ append-nil (t.pushed ++ seen.unwritten))
+                ∙ append_assoc t.pushed seen.unwritten (wire modulus connection w.items) ∙ ap (λ xs. t.pushed ++ xs) w.whole
                 ∙ sym (append_assoc t.pushed (w.pushed ++ new.unwritten) works.unsent)
                 ∙ ap (λ xs. xs ++ works.unsent) (sym (append_assoc t.pushed w.pushed new.unwritten));
             pulled = t.pulled ++ h.pulled;
@@ -157,7 +158,7 @@ module _ {A : Type 0} where
                 ap (λ xs. xs ++ r.packets) (t.packets_are ∙ ap (λ xs. t.taken_up ++ xs) kept.3) ∙ append_assoc t.taken_up seen.frames.waiting r.packets
                 ∙ ap (λ xs. t.taken_up ++ xs) o.frames_are ∙ sym (append_assoc t.taken_up o.packets o.unread);
             read = t.read ++ o.read;
-            read_as = read_both t.taken_up o.packets t.read o.read t.read_as o.read_as;
+            read_as = read_both modulus t.taken_up o.packets t.read o.read t.read_as o.read_as;
             whats = t.whats ++ gained;
             unoffered = o.unoffered;
             in_order =
@@ -172,8 +173,8 @@ module _ {A : Type 0} where
                 h.gains.own_entries_are ∙ ap (λ xs. xs ++ h.gains.entries) (took_mine pass w.items works.between w.took ∙ t.own_entries_are)
                 ∙ append_assoc (own_entries old) t.entries h.gains.entries;
             events =
-                map-append (λ (e : Entry A). e.event) t.entries h.gains.entries
-                ∙ ap (λ xs. xs ++ map (λ (e : Entry A). e.event) h.gains.entries)
+                map-append happened t.entries h.gains.entries
+                ∙ ap (λ xs. xs ++ map happened h.gains.entries)
                 (t.events ∙ ap (λ closing. map (on_line old.line) (t.whats ++ closing)) kept.5 ∙ ap (map (on_line old.line)) (append-nil t.whats))
                 ∙ ap (λ xs. map (on_line old.line) t.whats ++ xs) (h.gains.events ∙ ap (λ line. map (on_line line) gained) (w.took.line ∙ t.line))
                 ∙ sym (map-append (on_line old.line) t.whats gained) ∙ ap (map (on_line old.line)) (sym (append-nil (t.whats ++ gained)));
@@ -186,10 +187,10 @@ module _ {A : Type 0} where
 
     -- the link goes, and what waited to be offered on it
     link_goes : (linked : Bool) (pass : Pass A) (seen : Seen A) (new_pass : Pass A) (left : Option (What A)) (closing : List (What A)) (entries : List (Entry A))
-        → (t : Together connection old came linked pass seen) → new_pass.line ≡ pass.line → new_pass.taken ≡ pass.taken
+        → (t : Together modulus connection old came linked pass seen) → new_pass.line ≡ pass.line → new_pass.taken ≡ pass.taken
         → (closing ≡ []) ⊎ (closing ≡ Down ∷ []) → own_entries new_pass ≡ own_entries old ++ entries
-        → map (λ (e : Entry A). e.event) entries ≡ map (on_line old.line) (t.whats ++ closing)
-        → (next : Together connection old came false new_pass (record seen { held = left })) × (next.closing ≡ closing)
+        → map happened entries ≡ map (on_line old.line) (t.whats ++ closing)
+        → (next : Together modulus connection old came false new_pass (record seen { held = left })) × (next.closing ≡ closing)
     link_goes linked pass seen new_pass left closing entries t line taken is_closing own_entries_are events = (
       record {
         line = line ∙ t.line;
@@ -231,20 +232,20 @@ module _ {A : Type 0} where
 
     -- nothing was offered any more
     nothing_offered : (linked : Bool) (pass : Pass A) (seen : Seen A) (new_pass : Pass A) (left : Option (What A))
-        → (t : Together connection old came linked pass seen) → t.closing ≡ [] → new_pass ≡ pass
-        → (next : Together connection old came false new_pass (record seen { held = left })) × (next.closing ≡ [])
+        → (t : Together modulus connection old came linked pass seen) → t.closing ≡ [] → new_pass ≡ pass
+        → (next : Together modulus connection old came false new_pass (record seen { held = left })) × (next.closing ≡ [])
     nothing_offered linked pass seen new_pass left t opened same =
         link_goes linked pass seen new_pass left [] t.entries t (ap (λ p. p.line) same) (ap (λ p. p.taken) same) (inl refl)
         (ap own_entries same ∙ t.own_entries_are) (t.events ∙ ap (λ closing. map (on_line old.line) (t.whats ++ closing)) opened)
 
     -- the Down was taken
     down_taken : (linked : Bool) (pass : Pass A) (seen : Seen A) (new_pass : Pass A) (left : Option (What A))
-        → (t : Together connection old came linked pass seen) → t.closing ≡ [] → Gains pass (Down ∷ []) new_pass
-        → Together connection old came false new_pass (record seen { held = left })
+        → (t : Together modulus connection old came linked pass seen) → t.closing ≡ [] → Gains pass (Down ∷ []) new_pass
+        → Together modulus connection old came false new_pass (record seen { held = left })
     down_taken linked pass seen new_pass left t opened gains =
-        let events : map (λ (e : Entry A). e.event) (t.entries ++ gains.entries) ≡ map (on_line old.line) (t.whats ++ Down ∷ []) =
-        map-append (λ (e : Entry A). e.event) t.entries gains.entries
-        ∙ ap (λ xs. xs ++ map (λ (e : Entry A). e.event) gains.entries)
+        let events : map happened (t.entries ++ gains.entries) ≡ map (on_line old.line) (t.whats ++ Down ∷ []) =
+        map-append happened t.entries gains.entries
+        ∙ ap (λ xs. xs ++ map happened gains.entries)
         (t.events ∙ ap (λ closing. map (on_line old.line) (t.whats ++ closing)) opened ∙ ap (map (on_line old.line)) (append-nil t.whats))
         ∙ ap (λ xs. map (on_line old.line) t.whats ++ xs) (gains.events ∙ ap (λ line. map (on_line line) (Down ∷ [])) t.line)
         ∙ sym (map-append (on_line old.line) t.whats (Down ∷ [])) in
@@ -254,14 +255,14 @@ module _ {A : Type 0} where
 
     -- what a turn leaves to the next
     abbrev Next : TurnOutcome → Pass A → Seen A → Type 0
-    Next Linked pass seen = Together connection old came true pass seen
-    Next Dropped pass seen = Together connection old came false pass seen
-    Next DownOwed pass seen = (t : Together connection old came false pass seen) × (t.closing ≡ []) × (seen.held ≡ Some Down)
-    Next Halted pass seen = Together connection old came false pass seen
-    Next Journal pass seen = Together connection old came false pass seen
+    Next Linked pass seen = Together modulus connection old came true pass seen
+    Next Dropped pass seen = Together modulus connection old came false pass seen
+    Next DownOwed pass seen = (t : Together modulus connection old came false pass seen) × (t.closing ≡ []) × (seen.held ≡ Some Down)
+    Next Halted pass seen = Together modulus connection old came false pass seen
+    Next Journal pass seen = Together modulus connection old came false pass seen
 
     next_by_down : (linked : Bool) (pass : Pass A) (seen : Seen A) (after : TurnOutcome) (new_pass : Pass A) (left : Option (What A))
-        → (t : Together connection old came linked pass seen) → t.closing ≡ [] → Downs pass after new_pass left
+        → (t : Together modulus connection old came linked pass seen) → t.closing ≡ [] → Downs pass after new_pass left
         → Next after new_pass (record seen { held = left })
     next_by_down linked pass seen Linked new_pass left t opened downs = absurd downs
     next_by_down linked pass seen Dropped new_pass left t opened downs = down_taken linked pass seen new_pass left t opened downs
@@ -271,12 +272,12 @@ module _ {A : Type 0} where
     next_by_down linked pass seen Journal new_pass left t opened downs = (nothing_offered linked pass seen new_pass left t opened downs).0
 
     next_by_heard : (outcome : ReadOutcome) (pass : Pass A) (seen : Seen A) (after : TurnOutcome) (new_pass : Pass A) (left : Option (What A))
-        → (t : Together connection old came (stays outcome) pass seen) → t.closing ≡ [] → Follows outcome pass seen.held after new_pass left
+        → (t : Together modulus connection old came (stays outcome) pass seen) → t.closing ≡ [] → Follows outcome pass seen.held after new_pass left
         → Next after new_pass (record seen { held = left })
     next_by_heard outcomes.Open pass seen after new_pass left t opened follows =
         subst (λ a. Next a new_pass (record seen { held = left })) (sym follows.0)
-        (subst (λ p. Together connection old came true p (record seen { held = left })) (sym follows.1)
-        (subst (λ h. Together connection old came true pass (record seen { held = h })) (sym follows.2) t))
+        (subst (λ p. Together modulus connection old came true p (record seen { held = left })) (sym follows.1)
+        (subst (λ h. Together modulus connection old came true pass (record seen { held = h })) (sym follows.2) t))
     next_by_heard outcomes.Over pass seen after new_pass left t opened follows = next_by_down false pass seen after new_pass left t opened follows
     next_by_heard outcomes.Halted pass seen after new_pass left t opened follows =
         subst (λ a. Next a new_pass (record seen { held = left })) (sym follows.0) (nothing_offered false pass seen new_pass left t opened follows.1).0
@@ -284,34 +285,34 @@ module _ {A : Type 0} where
         subst (λ a. Next a new_pass (record seen { held = left })) (sym follows.0) (nothing_offered false pass seen new_pass left t opened follows.1).0
 
     next_by_work : (now : ℕ) (pass : Pass A) (seen : Seen A) (after : TurnOutcome) (new_pass : Pass A) (new : Seen A)
-        → Together connection old came true pass seen → Worked now connection pass seen after new_pass new → Next after new_pass new
+        → Together modulus connection old came true pass seen → Worked modulus now connection pass seen after new_pass new → Next after new_pass new
     next_by_work now pass seen after new_pass new t worked =
         let next = worked_on now pass seen worked.outcome worked.worked_pass worked.worked t worked.works in
         subst (Next after new_pass) (sym worked.rest)
         (next_by_heard worked.outcome worked.worked_pass worked.worked after new_pass new.held next.0 next.1 worked.follows)
 
     next_linked : (owed : Bool) (now : ℕ) (pass : Pass A) (seen : Seen A) (after : TurnOutcome) (new_pass : Pass A) (new : Seen A)
-        → Together connection old came true pass seen → IsTurnBy owed now connection pass seen after new_pass new → Next after new_pass new
+        → Together modulus connection old came true pass seen → IsTurnBy owed modulus now connection pass seen after new_pass new → Next after new_pass new
     next_linked true now pass seen after new_pass new t turn =
         subst (Next after new_pass) (sym turn.1) (next_by_down true pass seen after new_pass new.held t (t.kept refl).5 turn.0)
     next_linked false now pass seen after new_pass new t turn = next_by_work now pass seen after new_pass new t turn
 
     next_owed : (now : ℕ) (pass : Pass A) (seen : Seen A) (after : TurnOutcome) (new_pass : Pass A) (new : Seen A)
-        → Next DownOwed pass seen → IsTurnBy (is_owed seen.held) now connection pass seen after new_pass new → Next after new_pass new
+        → Next DownOwed pass seen → IsTurnBy (is_owed seen.held) modulus now connection pass seen after new_pass new → Next after new_pass new
     next_owed now pass seen after new_pass new (t, opened, held) turn =
-        let owed : IsTurnBy true now connection pass seen after new_pass new =
-        subst (λ o. IsTurnBy o now connection pass seen after new_pass new) (ap is_owed held) turn in
+        let owed : IsTurnBy true modulus now connection pass seen after new_pass new =
+        subst (λ o. IsTurnBy o modulus now connection pass seen after new_pass new) (ap is_owed held) turn in
         subst (Next after new_pass) (sym owed.1) (next_by_down false pass seen after new_pass new.held t opened owed.0)
 
-    together_of : (after : TurnOutcome) (pass : Pass A) (seen : Seen A) → Next after pass seen → Together connection old came (is_linked after) pass seen
+    together_of : (after : TurnOutcome) (pass : Pass A) (seen : Seen A) → Next after pass seen → Together modulus connection old came (is_linked after) pass seen
     together_of Linked pass seen next = next
     together_of Dropped pass seen next = next
     together_of DownOwed pass seen next = next.0
     together_of Halted pass seen next = next
     together_of Journal pass seen next = next
 
-    turns_from : (after : TurnOutcome) (pass : Pass A) (seen : Seen A) (turns : List (Left A)) → Next after pass seen → MayFollow after turns → AreTurns connection pass seen turns
-        → IsLeftSo connection old came (last_of (record { after = after; pass = pass; seen = seen }) turns)
+    turns_from : (after : TurnOutcome) (pass : Pass A) (seen : Seen A) (turns : List (Left A)) → Next after pass seen → MayFollow after turns → AreTurns modulus connection pass seen turns
+        → IsLeftSo modulus connection old came (last_of (record { after = after; pass = pass; seen = seen }) turns)
     turns_from after pass seen [] next may are = together_of after pass seen next
     turns_from Linked pass seen (left ∷ turns) next may are =
         turns_from left.after left.pass left.seen turns (next_linked (is_owed seen.held) are.0.0 pass seen left.after left.pass left.seen next are.0.1) are.1 are.2
@@ -322,4 +323,4 @@ module _ {A : Type 0} where
     turns_from Journal pass seen (left ∷ turns) next may are = absurd (let none : left ∷ turns ≡ [] = may in cc)
 
 pub add_up : (A : Type 0) → TurnsAddUp A
-add_up A connection pass came turns fresh are = turns_from connection pass came Linked pass came turns (together_fresh connection pass came fresh) tt are
+add_up A modulus connection pass came turns fresh are = turns_from modulus connection pass came Linked pass came turns (together_fresh modulus connection pass came fresh) tt are

@@ -2,6 +2,7 @@
 use Rattle.std.proofs.Common.{◌≡◌, ◌⊎◌, ℕ, List, [], ◌∷◌, refl, sym, ap, ◌∙◌, append-nil, subst, Option, None, Bool, true, false, inl, inr, Result, Ok, Err}
 use Rattle.std.specs.Prelude.{option_to_list}
 use Rattle.std.specs.Io.KnownBytes.{Appends}
+use Rattle.xp_packets.specs.declared.modulus.Modulus.{Modulus}
 use Rattle.xp_frames.specs.Deframer.{DeframerState}
 use Rattle.xp_core.specs.declared.event.What.{What}
 use Rattle.xp_core.specs.declared.event.What.TheVariants.{Expire}
@@ -39,8 +40,8 @@ pub refused_leaves : (ended : ReadOutcome) (stop : Stop) → IsRefusal stop → 
 refused_leaves ended stop refused is = ap stays is ∙ refusal_leaves stop refused
 
 module _ {A : Type 0} where
-  reads_nothing : (held : Option (What A)) (frames : DeframerState) (outcome : ReadOutcome) → Reads held frames [] [] outcome held frames
-  reads_nothing held frames outcome = record {
+  reads_nothing : (modulus : Modulus) (held : Option (What A)) (frames : DeframerState) (outcome : ReadOutcome) → Reads modulus held frames [] [] outcome held frames
+  reads_nothing modulus held frames outcome = record {
     fed = [];
     lost = [];
     pulled_are = refl;
@@ -60,22 +61,22 @@ module _ {A : Type 0} where
     };
   }
 
-  hears_nothing : (now : ℕ) (pass : Pass A) (held : Option (What A)) (frames : DeframerState) (pulled : Option (List ℕ)) (since : Option ℕ) (outcome : ReadOutcome) (left_since : Option ℕ) → stays outcome ≡ false
-      → ReadsAndExpires now pass held frames pulled since outcome pass held frames pulled left_since
-  hears_nothing now pass held frames pulled since outcome left_since leaves = record {
+  hears_nothing : (modulus : Modulus) (now : ℕ) (pass : Pass A) (held : Option (What A)) (frames : DeframerState) (pulled : Option (List ℕ)) (since : Option ℕ) (outcome : ReadOutcome) (left_since : Option ℕ) → stays outcome ≡ false
+      → ReadsAndExpires modulus now pass held frames pulled since outcome pass held frames pulled left_since
+  hears_nothing modulus now pass held frames pulled since outcome left_since leaves = record {
     pulled = [];
     pulls = appends_nothing pulled;
     whats = [];
     expired = [];
     gains = gains_nothing pass;
-    reads = reads_nothing held frames outcome;
+    reads = reads_nothing modulus held frames outcome;
     lapses = subst (λ s. Expires {A = A} s now (answered false since) [] left_since) (sym leaves) refl;
   }
 
   -- where the link stays no longer, less is said of what was read
-  reads_less : (held : Option (What A)) (old : DeframerState) (pulled : List ℕ) (whats : List (What A)) (outcome ended : ReadOutcome) (left : Option (What A)) (new : DeframerState)
-      → Reads held old pulled whats outcome left new → stays ended ≡ false → Reads held old pulled whats ended left new
-  reads_less held old pulled whats outcome ended left new reads leaves = record {
+  reads_less : (modulus : Modulus) (held : Option (What A)) (old : DeframerState) (pulled : List ℕ) (whats : List (What A)) (outcome ended : ReadOutcome) (left : Option (What A)) (new : DeframerState)
+      → Reads modulus held old pulled whats outcome left new → stays ended ≡ false → Reads modulus held old pulled whats ended left new
+  reads_less modulus held old pulled whats outcome ended left new reads leaves = record {
     fed = reads.fed;
     lost = reads.lost;
     pulled_are = reads.pulled_are;
@@ -95,27 +96,27 @@ module _ {A : Type 0} where
     };
   }
 
-  reads_ended : (held : Option (What A)) (old : DeframerState) (pulled : List ℕ) (whats : List (What A)) (outcome ended : ReadOutcome) (left : Option (What A)) (new : DeframerState)
-      → Reads held old pulled whats outcome left new → (ended ≡ outcome) ⊎ (stays ended ≡ false) → Reads held old pulled whats ended left new
-  reads_ended held old pulled whats outcome ended left new reads ends = elim ends [
-    | inl same ↦ subst (λ h. Reads held old pulled whats h left new) (sym same) reads
-    | inr leaves ↦ reads_less held old pulled whats outcome ended left new reads leaves
+  reads_ended : (modulus : Modulus) (held : Option (What A)) (old : DeframerState) (pulled : List ℕ) (whats : List (What A)) (outcome ended : ReadOutcome) (left : Option (What A)) (new : DeframerState)
+      → Reads modulus held old pulled whats outcome left new → (ended ≡ outcome) ⊎ (stays ended ≡ false) → Reads modulus held old pulled whats ended left new
+  reads_ended modulus held old pulled whats outcome ended left new reads ends = elim ends [
+    | inl same ↦ subst (λ h. Reads modulus held old pulled whats h left new) (sym same) reads
+    | inr leaves ↦ reads_less modulus held old pulled whats outcome ended left new reads leaves
   ]
 
   -- octets were read, and then an expiry told
-  pub hears_both : (old : Pass A) (held : Option (What A)) (frames : DeframerState) (before : Option (List ℕ)) (timer asked : AnswerTimer) (between : Pass A) (offered : Bool) (outcome ended : ReadOutcome) (new : Pass A) (left : Option (What A)) (left_frames : DeframerState) (after : Option (List ℕ)) (left_since : Option ℕ)
-      → (pulled : List ℕ) × Appends before after pulled × (whats : List (What A)) × Gains old whats between × Reads held frames pulled whats outcome left left_frames × (offered ≡ has_any whats)
+  pub hears_both : (modulus : Modulus) (old : Pass A) (held : Option (What A)) (frames : DeframerState) (before : Option (List ℕ)) (timer asked : AnswerTimer) (between : Pass A) (offered : Bool) (outcome ended : ReadOutcome) (new : Pass A) (left : Option (What A)) (left_frames : DeframerState) (after : Option (List ℕ)) (left_since : Option ℕ)
+      → (pulled : List ℕ) × Appends before after pulled × (whats : List (What A)) × Gains old whats between × Reads modulus held frames pulled whats outcome left left_frames × (offered ≡ has_any whats)
       → asked ≡ record timer { since = answered offered timer.since }
       → (expired : List (What A)) × Gains between expired new × Expires (stays ended) asked.now asked.since expired left_since
       → (ended ≡ outcome) ⊎ (stays ended ≡ false)
-      → ReadsAndExpires timer.now old held frames before timer.since ended new left left_frames after left_since
-  hears_both old held frames before timer asked between offered outcome ended new left left_frames after left_since (pulled, pulls, whats, gains, reads, sent) answer (expired, gained, lapses) ends = record {
+      → ReadsAndExpires modulus timer.now old held frames before timer.since ended new left left_frames after left_since
+  hears_both modulus old held frames before timer asked between offered outcome ended new left left_frames after left_since (pulled, pulls, whats, gains, reads, sent) answer (expired, gained, lapses) ends = record {
     pulled = pulled;
     pulls = pulls;
     whats = whats;
     expired = expired;
     gains = gains_both old between new whats expired gains gained;
-    reads = reads_ended held frames pulled whats outcome ended left left_frames reads ends;
+    reads = reads_ended modulus held frames pulled whats outcome ended left left_frames reads ends;
     lapses =
         subst (λ s. Expires (stays ended) timer.now (answered s timer.since) expired left_since) sent
         (subst (λ (b : AnswerTimer). Expires (stays ended) b.now b.since expired left_since) answer lapses);
@@ -156,10 +157,10 @@ module _ {A : Type 0} where
       (lapses_gone now old since ended after (refused_leaves ended stop refused is))
 
   -- the line was not read, since its link goes or nothing is taken any more
-  pub works_silent : (connection : ℕ) (old_pass : Pass A) (old : Seen A) (between : Pass A) (left : List ℕ) (pushed pulled : Option (List ℕ)) (timer later : AnswerTimer) (ended : Ended) (outcome : ReadOutcome)
-      → WrittenOut connection old_pass old.unwritten old.pushed timer ended between left pushed later → pulled ≡ old.pulled → stays outcome ≡ false
-      → WritesAndReads timer.now connection old_pass old outcome between (record old { unwritten = left; pushed = pushed; pulled = pulled; unanswered_since = later.since })
-  works_silent connection old_pass old between left pushed pulled timer later ended outcome (unsent, writes, _, _) same leaves = record {
+  pub works_silent : (modulus : Modulus) (connection : ℕ) (old_pass : Pass A) (old : Seen A) (between : Pass A) (left : List ℕ) (pushed pulled : Option (List ℕ)) (timer later : AnswerTimer) (ended : Ended) (outcome : ReadOutcome)
+      → WrittenOut modulus connection old_pass old.unwritten old.pushed timer ended between left pushed later → pulled ≡ old.pulled → stays outcome ≡ false
+      → WritesAndReads modulus timer.now connection old_pass old outcome between (record old { unwritten = left; pushed = pushed; pulled = pulled; unanswered_since = later.since })
+  works_silent modulus connection old_pass old between left pushed pulled timer later ended outcome (unsent, writes, _, _) same leaves = record {
     between = between;
     unsent = unsent;
     writes = writes;
@@ -168,19 +169,19 @@ module _ {A : Type 0} where
     since = None;
     since_is = λ is. absurd (let both : false ≡ true = sym leaves ∙ is in cc);
     hears =
-        subst (λ p. ReadsAndExpires timer.now between old.held old.frames old.pulled None outcome between old.held old.frames p later.since) (sym same)
-        (hears_nothing timer.now between old.held old.frames old.pulled None outcome later.since leaves);
+        subst (λ p. ReadsAndExpires modulus timer.now between old.held old.frames old.pulled None outcome between old.held old.frames p later.since) (sym same)
+        (hears_nothing modulus timer.now between old.held old.frames old.pulled None outcome later.since leaves);
   }
 
   -- outputs were written, none of them lost or a close, and then octets were read
-  pub works_heard : (connection : ℕ) (old_pass : Pass A) (old : Seen A) (between : Pass A) (left : List ℕ) (pushed pulled : Option (List ℕ)) (timer later : AnswerTimer) (ended : Ended) (outcome result : ReadOutcome) (new_pass : Pass A) (held : Option (What A)) (frames : DeframerState) (pushed_then pulled_then : Option (List ℕ)) (since : Option ℕ)
+  pub works_heard : (modulus other : Modulus) (connection : ℕ) (old_pass : Pass A) (old : Seen A) (between : Pass A) (left : List ℕ) (pushed pulled : Option (List ℕ)) (timer later : AnswerTimer) (ended : Ended) (outcome result : ReadOutcome) (new_pass : Pass A) (held : Option (What A)) (frames : DeframerState) (pushed_then pulled_then : Option (List ℕ)) (since : Option ℕ)
       → old.unanswered_since ≡ timer.since
-      → WrittenOut connection old_pass old.unwritten old.pushed timer ended between left pushed later → ended ≡ ends.Open → pulled ≡ old.pulled
-      → ReadsAndExpires later.now between old.held old.frames pulled later.since outcome new_pass held frames pulled_then since → pushed_then ≡ pushed → result ≡ outcome
-      → WritesAndReads timer.now connection old_pass old result new_pass (record { held = held; frames = frames; unwritten = left; pushed = pushed_then; pulled = pulled_then; unanswered_since = since })
-  works_heard connection old_pass old between left pushed pulled timer later ended outcome result new_pass held frames pushed_then pulled_then since rang (unsent, writes, none_lost, none_closes) is_open same hears pushed_same heard_same =
+      → WrittenOut modulus connection old_pass old.unwritten old.pushed timer ended between left pushed later → ended ≡ ends.Open → pulled ≡ old.pulled
+      → other ≡ modulus → ReadsAndExpires other later.now between old.held old.frames pulled later.since outcome new_pass held frames pulled_then since → pushed_then ≡ pushed → result ≡ outcome
+      → WritesAndReads modulus timer.now connection old_pass old result new_pass (record { held = held; frames = frames; unwritten = left; pushed = pushed_then; pulled = pulled_then; unanswered_since = since })
+  works_heard modulus other connection old_pass old between left pushed pulled timer later ended outcome result new_pass held frames pushed_then pulled_then since rang (unsent, writes, none_lost, none_closes) is_open same same_modulus hears pushed_same heard_same =
       let kept : is_lost ended ≡ false = ap is_lost is_open in
-      subst (λ p. WritesAndReads timer.now connection old_pass old result new_pass (record { held = held; frames = frames; unwritten = left; pushed = p; pulled = pulled_then; unanswered_since = since })) (sym pushed_same) (record {
+      subst (λ p. WritesAndReads modulus timer.now connection old_pass old result new_pass (record { held = held; frames = frames; unwritten = left; pushed = p; pulled = pulled_then; unanswered_since = since })) (sym pushed_same) (record {
         between = between;
         unsent = unsent;
         writes = writes;
@@ -189,9 +190,10 @@ module _ {A : Type 0} where
         since = later.since;
         since_is = λ _. ap (λ (b : AnswerTimer). b.since) (none_lost kept).1 ∙ ap (λ s. since_after_all timer.now connection s writes.items) (sym rang);
         hears =
-            subst (λ h. ReadsAndExpires timer.now between old.held old.frames old.pulled later.since h new_pass held frames pulled_then since) (sym heard_same)
-            (subst (λ n. ReadsAndExpires n between old.held old.frames old.pulled later.since outcome new_pass held frames pulled_then since) (ap (λ (b : AnswerTimer). b.now) (none_lost kept).1)
-            (subst (λ p. ReadsAndExpires later.now between old.held old.frames p later.since outcome new_pass held frames pulled_then since) same hears));
+            subst (λ h. ReadsAndExpires modulus timer.now between old.held old.frames old.pulled later.since h new_pass held frames pulled_then since) (sym heard_same)
+            (subst (λ n. ReadsAndExpires modulus n between old.held old.frames old.pulled later.since outcome new_pass held frames pulled_then since) (ap (λ (b : AnswerTimer). b.now) (none_lost kept).1)
+            (subst (λ p. ReadsAndExpires modulus later.now between old.held old.frames p later.since outcome new_pass held frames pulled_then since) same
+            (subst (λ m. ReadsAndExpires m later.now between old.held old.frames pulled later.since outcome new_pass held frames pulled_then since) same_modulus hears)));
       })
 
   pub downs_line : (old : Pass A) (after : TurnOutcome) (new : Pass A) (held : Option (What A)) → Downs old after new held → new.line ≡ old.line
@@ -211,21 +213,21 @@ module _ {A : Type 0} where
   tells_line old what (Ok done) new tells = tells.line
   tells_line old what (Err stop) new tells = ap (λ p. p.line) tells.1
 
-  pub worked_line : (now connection : ℕ) (old_pass : Pass A) (old : Seen A) (outcome : ReadOutcome) (worked_pass : Pass A) (worked : Seen A) (after : TurnOutcome) (new_pass : Pass A) (held : Option (What A))
-      → WritesAndReads now connection old_pass old outcome worked_pass worked → Follows outcome worked_pass worked.held after new_pass held → new_pass.line ≡ old_pass.line
-  worked_line now connection old_pass old outcome worked_pass worked after new_pass held works follows =
+  pub worked_line : (modulus : Modulus) (now connection : ℕ) (old_pass : Pass A) (old : Seen A) (outcome : ReadOutcome) (worked_pass : Pass A) (worked : Seen A) (after : TurnOutcome) (new_pass : Pass A) (held : Option (What A))
+      → WritesAndReads modulus now connection old_pass old outcome worked_pass worked → Follows outcome worked_pass worked.held after new_pass held → new_pass.line ≡ old_pass.line
+  worked_line modulus now connection old_pass old outcome worked_pass worked after new_pass held works follows =
       follows_line outcome worked_pass worked.held after new_pass held follows ∙ works.hears.gains.line ∙ works.writes.took.line
 
   -- where the Down is owed
-  pub turn_owed : (now connection : ℕ) (old_pass : Pass A) (old : Seen A) (after : TurnOutcome) (new_pass : Pass A) (held : Option (What A)) → is_owed old.held ≡ true
-      → Downs old_pass after new_pass held → IsTurn now connection old_pass old after new_pass (record old { held = held })
-  turn_owed now connection old_pass old after new_pass held owed downs =
-      subst (λ o. IsTurnBy o now connection old_pass old after new_pass (record old { held = held })) (sym owed) (downs, refl)
+  pub turn_owed : (modulus : Modulus) (now connection : ℕ) (old_pass : Pass A) (old : Seen A) (after : TurnOutcome) (new_pass : Pass A) (held : Option (What A)) → is_owed old.held ≡ true
+      → Downs old_pass after new_pass held → IsTurn modulus now connection old_pass old after new_pass (record old { held = held })
+  turn_owed modulus now connection old_pass old after new_pass held owed downs =
+      subst (λ o. IsTurnBy o modulus now connection old_pass old after new_pass (record old { held = held })) (sym owed) (downs, refl)
 
   -- where it is not
-  pub turn_worked : (now connection : ℕ) (old_pass : Pass A) (old : Seen A) (outcome : ReadOutcome) (worked_pass : Pass A) (worked : Seen A) (after : TurnOutcome) (new_pass : Pass A) (held : Option (What A)) → is_owed old.held ≡ false
-      → WritesAndReads now connection old_pass old outcome worked_pass worked → Follows outcome worked_pass worked.held after new_pass held
-      → IsTurn now connection old_pass old after new_pass (record worked { held = held })
-  turn_worked now connection old_pass old outcome worked_pass worked after new_pass held not_owed works follows =
-      subst (λ o. IsTurnBy o now connection old_pass old after new_pass (record worked { held = held })) (sym not_owed)
+  pub turn_worked : (modulus : Modulus) (now connection : ℕ) (old_pass : Pass A) (old : Seen A) (outcome : ReadOutcome) (worked_pass : Pass A) (worked : Seen A) (after : TurnOutcome) (new_pass : Pass A) (held : Option (What A)) → is_owed old.held ≡ false
+      → WritesAndReads modulus now connection old_pass old outcome worked_pass worked → Follows outcome worked_pass worked.held after new_pass held
+      → IsTurn modulus now connection old_pass old after new_pass (record worked { held = held })
+  turn_worked modulus now connection old_pass old outcome worked_pass worked after new_pass held not_owed works follows =
+      subst (λ o. IsTurnBy o modulus now connection old_pass old after new_pass (record worked { held = held })) (sym not_owed)
       (record { outcome = outcome; worked_pass = worked_pass; worked = worked; works = works; follows = follows; rest = refl })

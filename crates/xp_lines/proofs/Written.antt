@@ -1,6 +1,7 @@
 -- What a line takes and writes, one output at a time.
 use Rattle.std.proofs.Common.{◌≡◌, ℕ, ◌+◌, ◌<◌, ◌≤◌, ◌==◌, List, [], ◌∷◌, ◌++◌, length, length-append, arith, refl, sym, ap, ◌∙◌, append_assoc, append-nil, subst, Option, cond, true, false, inl, inr}
 use Rattle.std.proofs.lemmas.Grind.{flat_map-append}
+use Rattle.xp_packets.specs.declared.modulus.Modulus.{Modulus}
 use Rattle.xp_core.specs.declared.output.Outgoing.{Outgoing}
 use Rattle.xp_lock.specs.Passes.{Pass}
 use Rattle.xp_lines.specs.steps.Ended.{is_lost}
@@ -24,8 +25,8 @@ module _ {A : Type 0} where
     taken = ap (λ p. p.taken) same ∙ ap (λ xs. xs ++ item ∷ []) took.taken ∙ append_assoc old.taken items (item ∷ []);
   }
 
-  wire_more : (connection : ℕ) (items : List (Outgoing A)) (item : Outgoing A) → wire connection (items ++ item ∷ []) ≡ wire connection items ++ carried connection item
-  wire_more connection items item = flat_map-append (carried connection) items (item ∷ []) ∙ ap (λ xs. wire connection items ++ xs) (append-nil (carried connection item))
+  wire_more : (modulus : Modulus) (connection : ℕ) (items : List (Outgoing A)) (item : Outgoing A) → wire modulus connection (items ++ item ∷ []) ≡ wire modulus connection items ++ carried modulus connection item
+  wire_more modulus connection items item = flat_map-append (carried modulus connection) items (item ∷ []) ∙ ap (λ xs. wire modulus connection items ++ xs) (append-nil (carried modulus connection item))
 
   rung_more : (now connection : ℕ) (since : Option ℕ) (items : List (Outgoing A)) (item : Outgoing A)
       → since_after_all now connection since (items ++ item ∷ [])
@@ -33,8 +34,8 @@ module _ {A : Type 0} where
   rung_more now connection since [] item = refl
   rung_more now connection since (first ∷ items) item = rung_more now connection (cond (first.connection == connection) (since_after_put now since first.put) since) items item
 
-  fills_nothing : (connection : ℕ) (old : Pass A) (unwritten : List ℕ) → Fills connection old unwritten old unwritten []
-  fills_nothing connection old unwritten = record { items = []; took = took_nothing old; few = omega arith; whole = refl }
+  fills_nothing : (modulus : Modulus) (connection : ℕ) (old : Pass A) (unwritten : List ℕ) → Fills modulus connection old unwritten old unwritten []
+  fills_nothing modulus connection old unwritten = record { items = []; took = took_nothing old; few = omega arith; whole = refl }
 
   one_more : (items : List (Outgoing A)) (item : Outgoing A) (count : ℕ) → length items ≤ count → length (items ++ item ∷ []) ≤ count + 1
   one_more items item count few = let many : length (items ++ item ∷ []) ≡ length items + 1 = length-append items (item ∷ []) in omega (arith, many)
@@ -47,41 +48,41 @@ module _ {A : Type 0} where
   none_closes_both connection (item ∷ items) others none all = (none.0, none_closes_both connection items others none.1 all)
 
   -- one output more, whose octets stand behind the others or are lost
-  fills_with : (connection : ℕ) (old : Pass A) (unwritten : List ℕ) (now : Pass A) (left : List ℕ) (item : Outgoing A) (next : Pass A) (more lost : List ℕ) (count : ℕ)
-      → (so_far : Fills connection old unwritten now left []) → length so_far.items ≤ count → count < 64 → next ≡ record now { taken = now.taken ++ item ∷ [] } → left ++ carried connection item ≡ more ++ lost
-      → Fills connection old unwritten next more lost
-  fills_with connection old unwritten now left item next more lost count so_far few below taken placed = record {
+  fills_with : (modulus : Modulus) (connection : ℕ) (old : Pass A) (unwritten : List ℕ) (now : Pass A) (left : List ℕ) (item : Outgoing A) (next : Pass A) (more lost : List ℕ) (count : ℕ)
+      → (so_far : Fills modulus connection old unwritten now left []) → length so_far.items ≤ count → count < 64 → next ≡ record now { taken = now.taken ++ item ∷ [] } → left ++ carried modulus connection item ≡ more ++ lost
+      → Fills modulus connection old unwritten next more lost
+  fills_with modulus connection old unwritten now left item next more lost count so_far few below taken placed = record {
     items = so_far.items ++ item ∷ [];
     took = took_more old now next so_far.items item so_far.took taken;
     few = room_for_one so_far.items item count few below;
     whole =
-        ap (λ xs. unwritten ++ xs) (wire_more connection so_far.items item) ∙ sym (append_assoc unwritten (wire connection so_far.items) (carried connection item))
-        ∙ ap (λ xs. xs ++ carried connection item) (so_far.whole ∙ append-nil left) ∙ placed;
+        ap (λ xs. unwritten ++ xs) (wire_more modulus connection so_far.items item) ∙ sym (append_assoc unwritten (wire modulus connection so_far.items) (carried modulus connection item))
+        ∙ ap (λ xs. xs ++ carried modulus connection item) (so_far.whole ∙ append-nil left) ∙ placed;
   }
 
-  fills_more : (connection : ℕ) (old : Pass A) (unwritten : List ℕ) (now : Pass A) (left : List ℕ) (item : Outgoing A) (next : Pass A) (more : List ℕ) (count : ℕ)
-      → (so_far : Fills connection old unwritten now left []) → length so_far.items ≤ count → count < 64 → next ≡ record now { taken = now.taken ++ item ∷ [] } → more ≡ left ++ carried connection item
-      → Fills connection old unwritten next more []
-  fills_more connection old unwritten now left item next more count so_far few below taken appended =
-      fills_with connection old unwritten now left item next more [] count so_far few below taken (sym appended ∙ sym (append-nil more))
+  fills_more : (modulus : Modulus) (connection : ℕ) (old : Pass A) (unwritten : List ℕ) (now : Pass A) (left : List ℕ) (item : Outgoing A) (next : Pass A) (more : List ℕ) (count : ℕ)
+      → (so_far : Fills modulus connection old unwritten now left []) → length so_far.items ≤ count → count < 64 → next ≡ record now { taken = now.taken ++ item ∷ [] } → more ≡ left ++ carried modulus connection item
+      → Fills modulus connection old unwritten next more []
+  fills_more modulus connection old unwritten now left item next more count so_far few below taken appended =
+      fills_with modulus connection old unwritten now left item next more [] count so_far few below taken (sym appended ∙ sym (append-nil more))
 
-  fills_lost : (connection : ℕ) (old : Pass A) (unwritten : List ℕ) (now : Pass A) (left : List ℕ) (item : Outgoing A) (next : Pass A) (same : List ℕ) (count : ℕ)
-      → (so_far : Fills connection old unwritten now left []) → length so_far.items ≤ count → count < 64 → next ≡ record now { taken = now.taken ++ item ∷ [] } → same ≡ left
-      → Fills connection old unwritten next same (carried connection item)
-  fills_lost connection old unwritten now left item next same count so_far few below taken kept =
-      fills_with connection old unwritten now left item next same (carried connection item) count so_far few below taken (ap (λ xs. xs ++ carried connection item) (sym kept))
+  fills_lost : (modulus : Modulus) (connection : ℕ) (old : Pass A) (unwritten : List ℕ) (now : Pass A) (left : List ℕ) (item : Outgoing A) (next : Pass A) (same : List ℕ) (count : ℕ)
+      → (so_far : Fills modulus connection old unwritten now left []) → length so_far.items ≤ count → count < 64 → next ≡ record now { taken = now.taken ++ item ∷ [] } → same ≡ left
+      → Fills modulus connection old unwritten next same (carried modulus connection item)
+  fills_lost modulus connection old unwritten now left item next same count so_far few below taken kept =
+      fills_with modulus connection old unwritten now left item next same (carried modulus connection item) count so_far few below taken (ap (λ xs. xs ++ carried modulus connection item) (sym kept))
 
   -- what was taken so far, which is at most so many outputs of which none closes the connection, and since when an incoming call
   -- waits by it
-  pub record Filled (connection : ℕ) (old : Pass A) (unwritten : List ℕ) (before : AnswerTimer) (now : Pass A) (left : List ℕ) (timer : AnswerTimer) (count : ℕ) : Type 0 where
-    pub fills : Fills connection old unwritten now left []
+  pub record Filled (modulus : Modulus) (connection : ℕ) (old : Pass A) (unwritten : List ℕ) (before : AnswerTimer) (now : Pass A) (left : List ℕ) (timer : AnswerTimer) (count : ℕ) : Type 0 where
+    pub fills : Fills modulus connection old unwritten now left []
     pub rung_is : timer ≡ record before { since = since_after_all before.now connection before.since fills.items }
     pub counted : length fills.items ≤ count
     pub none_closes : NoneCloses connection fills.items
 
-  pub filled_nothing : (connection : ℕ) (old : Pass A) (unwritten : List ℕ) (timer : AnswerTimer) → Filled connection old unwritten timer old unwritten timer 0
+  pub filled_nothing : (modulus : Modulus) (connection : ℕ) (old : Pass A) (unwritten : List ℕ) (timer : AnswerTimer) → Filled modulus connection old unwritten timer old unwritten timer 0
   unfolding fills_nothing
-  filled_nothing connection old unwritten timer = record { fills = fills_nothing connection old unwritten; rung_is = refl; counted = omega arith; none_closes = tt }
+  filled_nothing modulus connection old unwritten timer = record { fills = fills_nothing modulus connection old unwritten; rung_is = refl; counted = omega arith; none_closes = tt }
 
   rung_then : (connection : ℕ) (before timer later : AnswerTimer) (items : List (Outgoing A)) (item : Outgoing A)
       → timer ≡ record before { since = since_after_all before.now connection before.since items }
@@ -92,70 +93,70 @@ module _ {A : Type 0} where
       ∙ ap (λ (b : AnswerTimer). record b { since = cond (item.connection == connection) (since_after_put b.now b.since item.put) b.since }) was
       ∙ ap (λ since. record before { since = since }) (sym (rung_more before.now connection before.since items item))
 
-  pub filled_more : (connection : ℕ) (old : Pass A) (unwritten : List ℕ) (before : AnswerTimer) (now : Pass A) (left : List ℕ) (timer : AnswerTimer) (count : ℕ) (item : Outgoing A) (next : Pass A) (more : List ℕ) (later : AnswerTimer)
-      → Filled connection old unwritten before now left timer count → count < 64 → next ≡ record now { taken = now.taken ++ item ∷ [] } → more ≡ left ++ carried connection item
+  pub filled_more : (modulus : Modulus) (connection : ℕ) (old : Pass A) (unwritten : List ℕ) (before : AnswerTimer) (now : Pass A) (left : List ℕ) (timer : AnswerTimer) (count : ℕ) (item : Outgoing A) (next : Pass A) (more : List ℕ) (later : AnswerTimer)
+      → Filled modulus connection old unwritten before now left timer count → count < 64 → next ≡ record now { taken = now.taken ++ item ∷ [] } → more ≡ left ++ carried modulus connection item
       → later ≡ record timer { since = cond (item.connection == connection) (since_after_put timer.now timer.since item.put) timer.since }
       → closes connection item ≡ false
-      → Filled connection old unwritten before next more later (count + 1)
+      → Filled modulus connection old unwritten before next more later (count + 1)
   unfolding fills_more fills_with
-  filled_more connection old unwritten before now left timer count item next more later so_far below taken appended rang stays_open = record {
-    fills = fills_more connection old unwritten now left item next more count so_far.fills so_far.counted below taken appended;
+  filled_more modulus connection old unwritten before now left timer count item next more later so_far below taken appended rang stays_open = record {
+    fills = fills_more modulus connection old unwritten now left item next more count so_far.fills so_far.counted below taken appended;
     rung_is = rung_then connection before timer later so_far.fills.items item so_far.rung_is rang;
     counted = one_more so_far.fills.items item count so_far.counted;
     none_closes = none_closes_both connection so_far.fills.items (item ∷ []) so_far.none_closes (stays_open, tt);
   }
 
   -- what the taking of outputs came to
-  abbrev pub TakenOut : ℕ → Pass A → List ℕ → AnswerTimer → Ended → Pass A → List ℕ → AnswerTimer → Type 0
-  TakenOut connection old unwritten before ended new left after =
-      (lost : List ℕ) × (fills : Fills connection old unwritten new left lost)
+  abbrev pub TakenOut : Modulus → ℕ → Pass A → List ℕ → AnswerTimer → Ended → Pass A → List ℕ → AnswerTimer → Type 0
+  TakenOut modulus connection old unwritten before ended new left after =
+      (lost : List ℕ) × (fills : Fills modulus connection old unwritten new left lost)
       × (is_lost ended ≡ false → (lost ≡ []) × (after ≡ record before { since = since_after_all before.now connection before.since fills.items }))
       × (ended ≡ ends.Open → NoneCloses connection fills.items)
 
   -- no output is there any more, or enough were taken
-  pub filled_out : (connection : ℕ) (old : Pass A) (unwritten : List ℕ) (before : AnswerTimer) (now : Pass A) (left : List ℕ) (timer : AnswerTimer) (count : ℕ) (next : Pass A) (ended : Ended)
-      → Filled connection old unwritten before now left timer count → next ≡ now → TakenOut connection old unwritten before ended next left timer
-  filled_out connection old unwritten before now left timer count next ended filled same = subst
-      (λ p. TakenOut connection old unwritten before ended p left timer) (sym same)
+  pub filled_out : (modulus : Modulus) (connection : ℕ) (old : Pass A) (unwritten : List ℕ) (before : AnswerTimer) (now : Pass A) (left : List ℕ) (timer : AnswerTimer) (count : ℕ) (next : Pass A) (ended : Ended)
+      → Filled modulus connection old unwritten before now left timer count → next ≡ now → TakenOut modulus connection old unwritten before ended next left timer
+  filled_out modulus connection old unwritten before now left timer count next ended filled same = subst
+      (λ p. TakenOut modulus connection old unwritten before ended p left timer) (sym same)
       ([], filled.fills, λ _. (refl, filled.rung_is), λ _. filled.none_closes)
 
   -- the last output closes the connection
-  pub filled_closed : (connection : ℕ) (old : Pass A) (unwritten : List ℕ) (before : AnswerTimer) (now : Pass A) (left : List ℕ) (timer : AnswerTimer) (count : ℕ) (item : Outgoing A) (next : Pass A) (more : List ℕ) (later : AnswerTimer) (ended : Ended)
-      → Filled connection old unwritten before now left timer count → count < 64 → next ≡ record now { taken = now.taken ++ item ∷ [] } → more ≡ left ++ carried connection item
+  pub filled_closed : (modulus : Modulus) (connection : ℕ) (old : Pass A) (unwritten : List ℕ) (before : AnswerTimer) (now : Pass A) (left : List ℕ) (timer : AnswerTimer) (count : ℕ) (item : Outgoing A) (next : Pass A) (more : List ℕ) (later : AnswerTimer) (ended : Ended)
+      → Filled modulus connection old unwritten before now left timer count → count < 64 → next ≡ record now { taken = now.taken ++ item ∷ [] } → more ≡ left ++ carried modulus connection item
       → later ≡ record timer { since = cond (item.connection == connection) (since_after_put timer.now timer.since item.put) timer.since }
       → ended ≡ ends.Over
-      → TakenOut connection old unwritten before ended next more later
+      → TakenOut modulus connection old unwritten before ended next more later
   unfolding fills_more fills_with
-  filled_closed connection old unwritten before now left timer count item next more later ended so_far below taken appended rang over = (
+  filled_closed modulus connection old unwritten before now left timer count item next more later ended so_far below taken appended rang over = (
     [],
-    fills_more connection old unwritten now left item next more count so_far.fills so_far.counted below taken appended,
+    fills_more modulus connection old unwritten now left item next more count so_far.fills so_far.counted below taken appended,
     λ _. (refl, rung_then connection before timer later so_far.fills.items item so_far.rung_is rang),
     λ is_open. absurd (let both : ends.Over ≡ ends.Open = sym over ∙ is_open in cc),
   )
 
   -- the last output is lost
-  pub filled_lost : (connection : ℕ) (old : Pass A) (unwritten : List ℕ) (before : AnswerTimer) (now : Pass A) (left : List ℕ) (timer : AnswerTimer) (count : ℕ) (item : Outgoing A) (next : Pass A) (same : List ℕ) (later : AnswerTimer) (ended : Ended)
-      → Filled connection old unwritten before now left timer count → count < 64 → next ≡ record now { taken = now.taken ++ item ∷ [] } → same ≡ left
+  pub filled_lost : (modulus : Modulus) (connection : ℕ) (old : Pass A) (unwritten : List ℕ) (before : AnswerTimer) (now : Pass A) (left : List ℕ) (timer : AnswerTimer) (count : ℕ) (item : Outgoing A) (next : Pass A) (same : List ℕ) (later : AnswerTimer) (ended : Ended)
+      → Filled modulus connection old unwritten before now left timer count → count < 64 → next ≡ record now { taken = now.taken ++ item ∷ [] } → same ≡ left
       → ended ≡ ends.Lost
-      → TakenOut connection old unwritten before ended next same later
-  filled_lost connection old unwritten before now left timer count item next same later ended so_far below taken kept lost = (
-    carried connection item,
-    fills_lost connection old unwritten now left item next same count so_far.fills so_far.counted below taken kept,
+      → TakenOut modulus connection old unwritten before ended next same later
+  filled_lost modulus connection old unwritten before now left timer count item next same later ended so_far below taken kept lost = (
+    carried modulus connection item,
+    fills_lost modulus connection old unwritten now left item next same count so_far.fills so_far.counted below taken kept,
     λ not_lost. absurd (let both : true ≡ false = sym (ap is_lost lost) ∙ not_lost in cc),
     λ is_open. absurd (let both : ends.Lost ≡ ends.Open = sym lost ∙ is_open in cc),
   )
 
   -- what the writing of a turn came to
-  abbrev pub WrittenOut : ℕ → Pass A → List ℕ → Option (List ℕ) → AnswerTimer → Ended → Pass A → List ℕ → Option (List ℕ) → AnswerTimer → Type 0
-  WrittenOut connection old unwritten before timer ended new left after later =
-      (lost : List ℕ) × (writes : Writes connection old unwritten before new left after lost)
+  abbrev pub WrittenOut : Modulus → ℕ → Pass A → List ℕ → Option (List ℕ) → AnswerTimer → Ended → Pass A → List ℕ → Option (List ℕ) → AnswerTimer → Type 0
+  WrittenOut modulus connection old unwritten before timer ended new left after later =
+      (lost : List ℕ) × (writes : Writes modulus connection old unwritten before new left after lost)
       × (is_lost ended ≡ false → (lost ≡ []) × (later ≡ record timer { since = since_after_all timer.now connection timer.since writes.items }))
       × (ended ≡ ends.Open → NoneCloses connection writes.items)
 
   -- the link does not take all that was unwritten
-  writes_first : (connection : ℕ) (old : Pass A) (unwritten : List ℕ) (before : Option (List ℕ)) (left : List ℕ) (after : Option (List ℕ))
-      → Leaves before after unwritten left → Writes connection old unwritten before old left after []
-  writes_first connection old unwritten before left after leaves = record {
+  writes_first : (modulus : Modulus) (connection : ℕ) (old : Pass A) (unwritten : List ℕ) (before : Option (List ℕ)) (left : List ℕ) (after : Option (List ℕ))
+      → Leaves before after unwritten left → Writes modulus connection old unwritten before old left after []
+  writes_first modulus connection old unwritten before left after leaves = record {
     items = [];
     took = took_nothing old;
     few = omega arith;
@@ -165,24 +166,24 @@ module _ {A : Type 0} where
     in_turn = inl refl;
   }
 
-  pub written_first : (connection : ℕ) (old : Pass A) (unwritten : List ℕ) (before : Option (List ℕ)) (left : List ℕ) (after : Option (List ℕ)) (timer : AnswerTimer) (ended : Ended)
-      → Leaves before after unwritten left → WrittenOut connection old unwritten before timer ended old left after timer
+  pub written_first : (modulus : Modulus) (connection : ℕ) (old : Pass A) (unwritten : List ℕ) (before : Option (List ℕ)) (left : List ℕ) (after : Option (List ℕ)) (timer : AnswerTimer) (ended : Ended)
+      → Leaves before after unwritten left → WrittenOut modulus connection old unwritten before timer ended old left after timer
   unfolding writes_first
-  written_first connection old unwritten before left after timer ended leaves =
-      ([], writes_first connection old unwritten before left after leaves, λ _. (refl, refl), λ _. tt)
+  written_first modulus connection old unwritten before left after timer ended leaves =
+      ([], writes_first modulus connection old unwritten before left after leaves, λ _. (refl, refl), λ _. tt)
 
   -- what was unwritten was pushed, outputs were taken, and pushed
-  writes_all : (connection : ℕ) (old : Pass A) (unwritten : List ℕ) (before : Option (List ℕ)) (rest : List ℕ) (between : Option (List ℕ)) (new : Pass A) (filled lost left : List ℕ) (after : Option (List ℕ))
-      → Leaves before between unwritten rest → rest ≡ [] → Fills connection old rest new filled lost → Leaves between after filled left
-      → Writes connection old unwritten before new left after lost
-  writes_all connection old unwritten before rest between new filled lost left after first none fills second = record {
+  writes_all : (modulus : Modulus) (connection : ℕ) (old : Pass A) (unwritten : List ℕ) (before : Option (List ℕ)) (rest : List ℕ) (between : Option (List ℕ)) (new : Pass A) (filled lost left : List ℕ) (after : Option (List ℕ))
+      → Leaves before between unwritten rest → rest ≡ [] → Fills modulus connection old rest new filled lost → Leaves between after filled left
+      → Writes modulus connection old unwritten before new left after lost
+  writes_all modulus connection old unwritten before rest between new filled lost left after first none fills second = record {
     items = fills.items;
     took = fills.took;
     few = fills.few;
     pushed = first.pushed ++ second.pushed;
     grows = appends_both before between after first.pushed second.pushed first.grows second.grows;
     whole =
-        ap (λ xs. xs ++ wire connection fills.items) (sym first.whole) ∙ append_assoc first.pushed rest (wire connection fills.items)
+        ap (λ xs. xs ++ wire modulus connection fills.items) (sym first.whole) ∙ append_assoc first.pushed rest (wire modulus connection fills.items)
         ∙ ap (λ xs. first.pushed ++ xs) (fills.whole ∙ ap (λ xs. xs ++ lost) (sym second.whole))
         ∙ sym (append_assoc first.pushed (second.pushed ++ left) lost)
         ∙ ap (λ xs. xs ++ lost) (sym (append_assoc first.pushed second.pushed left));
@@ -190,14 +191,14 @@ module _ {A : Type 0} where
         inr (second.pushed, ap (λ xs. xs ++ second.pushed) (sym (append-nil first.pushed) ∙ ap (λ xs. first.pushed ++ xs) (sym none) ∙ first.whole));
   }
 
-  pub written_all : (connection : ℕ) (old : Pass A) (unwritten : List ℕ) (before : Option (List ℕ)) (rest : List ℕ) (between : Option (List ℕ)) (new : Pass A) (filled left : List ℕ) (after : Option (List ℕ)) (timer later : AnswerTimer) (taking ended : Ended)
-      → Leaves before between unwritten rest → rest ≡ [] → TakenOut connection old rest timer taking new filled later
+  pub written_all : (modulus : Modulus) (connection : ℕ) (old : Pass A) (unwritten : List ℕ) (before : Option (List ℕ)) (rest : List ℕ) (between : Option (List ℕ)) (new : Pass A) (filled left : List ℕ) (after : Option (List ℕ)) (timer later : AnswerTimer) (taking ended : Ended)
+      → Leaves before between unwritten rest → rest ≡ [] → TakenOut modulus connection old rest timer taking new filled later
       → Leaves between after filled left → is_lost ended ≡ is_lost taking → (ended ≡ ends.Open → taking ≡ ends.Open)
-      → WrittenOut connection old unwritten before timer ended new left after later
+      → WrittenOut modulus connection old unwritten before timer ended new left after later
   unfolding writes_all
-  written_all connection old unwritten before rest between new filled left after timer later taking ended first none (lost, fills, rang, none_closes) second same still_open = (
+  written_all modulus connection old unwritten before rest between new filled left after timer later taking ended first none (lost, fills, rang, none_closes) second same still_open = (
     lost,
-    writes_all connection old unwritten before rest between new filled lost left after first none fills second,
+    writes_all modulus connection old unwritten before rest between new filled lost left after first none fills second,
     λ not_lost. rang (sym same ∙ not_lost),
     λ is_open. none_closes (still_open is_open),
   )

@@ -2,6 +2,7 @@
 use Rattle.std.specs.Prelude.{Bool, true, false, ℕ, List, [], ◌∷◌}
 use Rattle.xp_packets.specs.Examination.{IsMalformed}
 use Rattle.xp_packets.specs.Spelling.{Spells}
+use Rattle.xp_packets.specs.declared.modulus.Modulus.{Modulus}
 use Rattle.xp_core.specs.declared.event.What.{What}
 use Rattle.xp_core.specs.declared.event.What.TheVariants.{Up, Down, Frame, WrongFrame, Expire, Stall}
 
@@ -15,18 +16,18 @@ module _ {A : Type 0} where
   is_down Expire = false
   is_down Stall = false
 
-  -- The octets of a packet are this event: the packet that they spell, or what is wrong with them.
-  abbrev pub IsReadAs : List ℕ → What A → Type 0
-  IsReadAs packet (Frame identifier read) = Spells packet identifier read
-  IsReadAs packet (WrongFrame wrong) = IsMalformed packet wrong
-  IsReadAs packet Up = ⊥
-  IsReadAs packet Down = ⊥
-  IsReadAs packet Expire = ⊥
-  IsReadAs packet Stall = ⊥
+  -- By this modulus the octets of a packet are this event: the packet that they spell, or what is wrong with them.
+  abbrev pub IsReadAs : Modulus → List ℕ → What A → Type 0
+  IsReadAs modulus packet (Frame identifier read) = Spells modulus packet identifier read
+  IsReadAs modulus packet (WrongFrame wrong) = IsMalformed modulus packet wrong
+  IsReadAs modulus packet Up = ⊥
+  IsReadAs modulus packet Down = ⊥
+  IsReadAs modulus packet Expire = ⊥
+  IsReadAs modulus packet Stall = ⊥
 
   -- one event for each packet, in the same order
-  abbrev pub AreReadAs : List (List ℕ) → List (What A) → Type 0
-  AreReadAs [] [] = Unit {0}
-  AreReadAs (packet ∷ packets) (what ∷ whats) = IsReadAs packet what × AreReadAs packets whats
-  AreReadAs [] (what ∷ whats) = ⊥
-  AreReadAs (packet ∷ packets) [] = ⊥
+  abbrev pub AreReadAs : Modulus → List (List ℕ) → List (What A) → Type 0
+  AreReadAs modulus [] [] = Unit {0}
+  AreReadAs modulus (packet ∷ packets) (what ∷ whats) = IsReadAs modulus packet what × AreReadAs modulus packets whats
+  AreReadAs modulus [] (what ∷ whats) = ⊥
+  AreReadAs modulus (packet ∷ packets) [] = ⊥

@@ -1,6 +1,7 @@
 -- What becomes of the octets that a turn pulls from a link.
 use Rattle.std.specs.Prelude.{◌≡◌, ℕ, Bool, true, false, List, [], ◌++◌, Option, Some, None, Result, Ok, Err}
 use Rattle.std.specs.List.{AllByRecursion}
+use Rattle.xp_packets.specs.declared.modulus.Modulus.{Modulus}
 use Rattle.xp_frames.specs.Frame.{IsPacket, frames, HasNoFrame, HasNoBadHeader}
 use Rattle.xp_frames.specs.Deframer.{DeframerState}
 use Rattle.xp_core.specs.declared.event.What.{What}
@@ -25,7 +26,7 @@ stays outcomes.Journal = false
 module _ {A : Type 0} where
   -- The packets that waited, and then those that the octets completed, are events. These were offered in order. While the link
   -- stays, the others wait, no octet is lost, and no bad header stands in the octets that are left, unless one stood there before.
-  pub record Reads (held : Option (What A)) (old : DeframerState) (pulled : List ℕ) (whats : List (What A)) (outcome : ReadOutcome) (left_held : Option (What A)) (new : DeframerState) : Type 0 where
+  pub record Reads (modulus : Modulus) (held : Option (What A)) (old : DeframerState) (pulled : List ℕ) (whats : List (What A)) (outcome : ReadOutcome) (left_held : Option (What A)) (new : DeframerState) : Type 0 where
     pub fed : List ℕ
     pub lost : List ℕ
     pub pulled_are : pulled ≡ fed ++ lost
@@ -33,4 +34,4 @@ module _ {A : Type 0} where
     pub packets : List (List ℕ)
     pub completes : Completes old.rest fed packets new.rest
     pub sound : stays outcome ≡ true → HasNoBadHeader old.rest → HasNoBadHeader new.rest
-    pub offers : Offers held (old.waiting ++ packets) whats (stays outcome) left_held new.waiting
+    pub offers : Offers modulus held (old.waiting ++ packets) whats (stays outcome) left_held new.waiting

@@ -5,6 +5,7 @@ use Rattle.xp_frames.specs.Frame.{HasNoBadHeader}
 use Rattle.xp_core.specs.declared.entry.Entry.{Entry}
 use Rattle.xp_core.specs.declared.event.What.{What}
 use Rattle.xp_core.specs.declared.event.What.TheVariants.{Up, Down, Frame, WrongFrame, Expire, Stall}
+use Rattle.xp_packets.specs.declared.modulus.Modulus.{Modulus}
 use Rattle.xp_packets.specs.declared.packet.Packet.{Packet}
 use Rattle.xp_packets.specs.declared.packet.Packet.TheVariants as packets
 use Rattle.xp_core.specs.declared.output.Outgoing.{Outgoing}
@@ -12,7 +13,7 @@ use Rattle.xp_core.specs.declared.output.Put.{Put}
 use Rattle.xp_core.specs.declared.output.Put.TheVariants.{Send, Close}
 use Rattle.xp_lock.specs.Passes.{Pass, own_entries}
 use Rattle.xp_lines.specs.FrameEvents.{AreReadAs}
-use Rattle.xp_lines.specs.Offers.{on_line}
+use Rattle.xp_lines.specs.Offers.{happened, on_line}
 use Rattle.xp_lines.specs.Reads.{Completes}
 use Rattle.xp_lines.specs.Turns.{IsTurn, Seen}
 use Rattle.xp_lines.specs.Wire.{NoneCloses, wire}
@@ -47,10 +48,10 @@ module _ {A : Type 0} where
   MayFollow Journal turns = turns ≡ []
 
   -- each turn starts where the one before left the line
-  abbrev pub AreTurns : ℕ → Pass A → Seen A → List (Left A) → Type 0
-  AreTurns connection pass seen [] = Unit {0}
-  AreTurns connection pass seen (left ∷ turns) =
-      ((now : ℕ) × IsTurn now connection pass seen left.after left.pass left.seen) × MayFollow left.after turns × AreTurns connection left.pass left.seen turns
+  abbrev pub AreTurns : Modulus → ℕ → Pass A → Seen A → List (Left A) → Type 0
+  AreTurns modulus connection pass seen [] = Unit {0}
+  AreTurns modulus connection pass seen (left ∷ turns) =
+      ((now : ℕ) × IsTurn modulus now connection pass seen left.after left.pass left.seen) × MayFollow left.after turns × AreTurns modulus connection left.pass left.seen turns
 
   -- how the last turn left the line; without a turn, how the line was at first
   abbrev pub last_of : Left A → List (Left A) → Left A
@@ -104,14 +105,14 @@ module _ {A : Type 0} where
   -- frames of packets. Each packet in order is an event that the line's own entries have. Between them stand expiries, no more
   -- than incoming calls, and last the Down. While the link stays nothing is lost: what is not yet pushed, read or offered waits.
   -- And then no output closed the connection, and no bad header came.
-  pub record Together (connection : ℕ) (old : Pass A) (came : Seen A) (linked : Bool) (new : Pass A) (now : Seen A) : Type 0 where
+  pub record Together (modulus : Modulus) (connection : ℕ) (old : Pass A) (came : Seen A) (linked : Bool) (new : Pass A) (now : Seen A) : Type 0 where
     pub line : new.line ≡ old.line
     pub items : List (Outgoing A)
     pub taken : new.taken ≡ old.taken ++ items
     pub pushed : List ℕ
     pub pushes : Appends came.pushed now.pushed pushed
     pub unsent : List ℕ
-    pub written : wire connection items ≡ (pushed ++ now.unwritten) ++ unsent
+    pub written : wire modulus connection items ≡ (pushed ++ now.unwritten) ++ unsent
     pub pulled : List ℕ
     pub pulls : Appends came.pulled now.pulled pulled
     pub fed : List ℕ
@@ -124,7 +125,7 @@ module _ {A : Type 0} where
     pub unread : List (List ℕ)
     pub packets_are : packets ≡ taken_up ++ unread
     pub read : List (What A)
-    pub read_as : AreReadAs taken_up read
+    pub read_as : AreReadAs modulus taken_up read
     pub whats : List (What A)
     pub unoffered : List (What A)
     pub in_order : read ≡ but_expiries whats ++ unoffered
@@ -135,17 +136,17 @@ module _ {A : Type 0} where
     pub may_expire : linked ≡ true → expiries whats + waits now.unanswered_since ≤ calls connection items
     pub entries : List (Entry A)
     pub own_entries_are : own_entries new ≡ own_entries old ++ entries
-    pub events : map (λ entry. entry.event) entries ≡ map (on_line old.line) (whats ++ closing)
+    pub events : map happened entries ≡ map (on_line old.line) (whats ++ closing)
     pub none_closes : linked ≡ true → NoneCloses connection items
     pub sound : linked ≡ true → HasNoBadHeader now.frames.rest
     pub kept : linked ≡ true → (unsent ≡ []) × (lost ≡ []) × (rest ≡ now.frames.rest) × (unread ≡ now.frames.waiting) × (unoffered ≡ option_to_list now.held) × (closing ≡ [])
 
   -- the turns up to this one add up
-  abbrev pub IsLeftSo : ℕ → Pass A → Seen A → Left A → Type 0
-  IsLeftSo connection pass came last = Together connection pass came (is_linked last.after) last.pass last.seen
+  abbrev pub IsLeftSo : Modulus → ℕ → Pass A → Seen A → Left A → Type 0
+  IsLeftSo modulus connection pass came last = Together modulus connection pass came (is_linked last.after) last.pass last.seen
 
 -- The turns on a link add up, from when it came to how the last of them left it.
 abbrev pub TurnsAddUp : Type 0 → Type 0
 TurnsAddUp A =
-    (connection : ℕ) (pass : Pass A) (came : Seen A) (turns : List (Left A)) → IsFresh came → AreTurns connection pass came turns
-    → IsLeftSo connection pass came (last_of (record { after = Linked; pass = pass; seen = came }) turns)
+    (modulus : Modulus) (connection : ℕ) (pass : Pass A) (came : Seen A) (turns : List (Left A)) → IsFresh came → AreTurns modulus connection pass came turns
+    → IsLeftSo modulus connection pass came (last_of (record { after = Linked; pass = pass; seen = came }) turns)

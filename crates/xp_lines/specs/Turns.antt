@@ -2,6 +2,7 @@
 use Rattle.std.specs.Prelude.{◌≡◌, ℕ, Bool, true, false, List, [], ◌∷◌, ◌++◌, Option, Some, None}
 use Rattle.std.specs.Io.KnownBytes.{Appends}
 use Rattle.xp_frames.specs.Deframer.{DeframerState}
+use Rattle.xp_packets.specs.declared.modulus.Modulus.{Modulus}
 use Rattle.xp_core.specs.declared.event.What.{What}
 use Rattle.xp_core.specs.declared.event.What.TheVariants.{Down}
 use Rattle.xp_lock.specs.Passes.{Pass}
@@ -35,26 +36,26 @@ module _ {A : Type 0} where
 
   -- Octets were pulled and their packets offered, and then the expiry of an incoming call that was not answered in time. While
   -- the link stays nothing is lost.
-  pub record ReadsAndExpires (now : ℕ) (old : Pass A) (held : Option (What A)) (frames : DeframerState) (before : Option (List ℕ)) (since : Option ℕ) (outcome : ReadOutcome) (new : Pass A) (left_held : Option (What A)) (left_frames : DeframerState) (after : Option (List ℕ)) (left_since : Option ℕ) : Type 0 where
+  pub record ReadsAndExpires (modulus : Modulus) (now : ℕ) (old : Pass A) (held : Option (What A)) (frames : DeframerState) (before : Option (List ℕ)) (since : Option ℕ) (outcome : ReadOutcome) (new : Pass A) (left_held : Option (What A)) (left_frames : DeframerState) (after : Option (List ℕ)) (left_since : Option ℕ) : Type 0 where
     pub pulled : List ℕ
     pub pulls : Appends before after pulled
     pub whats : List (What A)
     pub expired : List (What A)
     pub gains : Gains old (whats ++ expired) new
-    pub reads : Reads held frames pulled whats outcome left_held left_frames
+    pub reads : Reads modulus held frames pulled whats outcome left_held left_frames
     pub lapses : Expires (stays outcome) now (answered (has_any whats) since) expired left_since
 
   -- Outputs were taken and written, and then octets were read. While the link stays nothing is lost, and no output that was taken
   -- closes the connection.
-  pub record WritesAndReads (now connection : ℕ) (old_pass : Pass A) (old : Seen A) (outcome : ReadOutcome) (new_pass : Pass A) (new : Seen A) : Type 0 where
+  pub record WritesAndReads (modulus : Modulus) (now connection : ℕ) (old_pass : Pass A) (old : Seen A) (outcome : ReadOutcome) (new_pass : Pass A) (new : Seen A) : Type 0 where
     pub between : Pass A
     pub unsent : List ℕ
-    pub writes : Writes connection old_pass old.unwritten old.pushed between new.unwritten new.pushed unsent
+    pub writes : Writes modulus connection old_pass old.unwritten old.pushed between new.unwritten new.pushed unsent
     pub none_unsent : stays outcome ≡ true → unsent ≡ []
     pub none_closes : stays outcome ≡ true → NoneCloses connection writes.items
     pub since : Option ℕ
     pub since_is : stays outcome ≡ true → since ≡ since_after_all now connection old.unanswered_since writes.items
-    pub hears : ReadsAndExpires now between old.held old.frames old.pulled since outcome new_pass new.held new.frames new.pulled new.unanswered_since
+    pub hears : ReadsAndExpires modulus now between old.held old.frames old.pulled since outcome new_pass new.held new.frames new.pulled new.unanswered_since
 
   -- The Down of a link was offered: the exchange accepted it, or it waits for memory, or the exchange accepts nothing any more.
   abbrev pub Downs : Pass A → TurnOutcome → Pass A → Option (What A) → Type 0
@@ -72,20 +73,20 @@ module _ {A : Type 0} where
   Follows outcomes.Journal old held after new left = (after ≡ Journal) × (new ≡ old) × (left ≡ held)
 
   -- The line wrote and read, and then its link stays or goes.
-  pub record Worked (now connection : ℕ) (old_pass : Pass A) (old : Seen A) (after : TurnOutcome) (new_pass : Pass A) (new : Seen A) : Type 0 where
+  pub record Worked (modulus : Modulus) (now connection : ℕ) (old_pass : Pass A) (old : Seen A) (after : TurnOutcome) (new_pass : Pass A) (new : Seen A) : Type 0 where
     pub outcome : ReadOutcome
     pub worked_pass : Pass A
     pub worked : Seen A
-    pub works : WritesAndReads now connection old_pass old outcome worked_pass worked
+    pub works : WritesAndReads modulus now connection old_pass old outcome worked_pass worked
     pub follows : Follows outcome worked_pass worked.held after new_pass new.held
     pub rest : new ≡ record worked { held = new.held }
 
   -- Where a Down waits, the turn offers the Down alone. Else it writes and reads.
-  abbrev pub IsTurnBy : Bool → ℕ → ℕ → Pass A → Seen A → TurnOutcome → Pass A → Seen A → Type 0
-  IsTurnBy true now connection old_pass old after new_pass new =
+  abbrev pub IsTurnBy : Bool → Modulus → ℕ → ℕ → Pass A → Seen A → TurnOutcome → Pass A → Seen A → Type 0
+  IsTurnBy true modulus now connection old_pass old after new_pass new =
       Downs old_pass after new_pass new.held × (new ≡ record old { held = new.held })
-  IsTurnBy false now connection old_pass old after new_pass new = Worked now connection old_pass old after new_pass new
+  IsTurnBy false modulus now connection old_pass old after new_pass new = Worked modulus now connection old_pass old after new_pass new
 
-  -- one turn, at the time that the clock gave, in seconds
-  abbrev pub IsTurn : ℕ → ℕ → Pass A → Seen A → TurnOutcome → Pass A → Seen A → Type 0
-  IsTurn now connection old_pass old after new_pass new = IsTurnBy (is_owed old.held) now connection old_pass old after new_pass new
+  -- one turn of a line of this modulus, at the time that the clock gave, in seconds
+  abbrev pub IsTurn : Modulus → ℕ → ℕ → Pass A → Seen A → TurnOutcome → Pass A → Seen A → Type 0
+  IsTurn modulus now connection old_pass old after new_pass new = IsTurnBy (is_owed old.held) modulus now connection old_pass old after new_pass new

@@ -4,24 +4,25 @@ use Rattle.std.specs.List.{AllByRecursion}
 use Rattle.std.specs.Io.KnownBytes.{Appends}
 use Rattle.xp_frames.specs.Frame.{frame}
 use Rattle.xp_packets.specs.Writing.{written}
+use Rattle.xp_packets.specs.declared.modulus.Modulus.{Modulus}
 use Rattle.xp_core.specs.declared.output.Outgoing.{Outgoing}
 use Rattle.xp_core.specs.declared.output.Put.{Put}
 use Rattle.xp_core.specs.declared.output.Put.TheVariants.{Send, Close}
 use Rattle.xp_lock.specs.Passes.{Pass}
 
 module _ {A : Type 0} where
-  -- a packet is written as its frame; a close writes no octets
-  abbrev pub octets_of : Put A → List ℕ
-  octets_of (Send identifier packet) = frame (written identifier packet)
-  octets_of Close = []
+  -- a packet is written by the modulus of the line, as its frame; a close writes no octets
+  abbrev pub octets_of : Modulus → Put A → List ℕ
+  octets_of modulus (Send identifier packet) = frame (written modulus identifier packet)
+  octets_of modulus Close = []
 
   -- an output for another connection of the line is not written
-  abbrev pub carried : ℕ → Outgoing A → List ℕ
-  carried connection item = cond (item.connection == connection) (octets_of item.put) []
+  abbrev pub carried : Modulus → ℕ → Outgoing A → List ℕ
+  carried modulus connection item = cond (item.connection == connection) (octets_of modulus item.put) []
 
   -- the octets of all outputs, in order
-  abbrev pub wire : ℕ → List (Outgoing A) → List ℕ
-  wire connection items = flat_map (carried connection) items
+  abbrev pub wire : Modulus → ℕ → List (Outgoing A) → List ℕ
+  wire modulus connection items = flat_map (carried modulus connection) items
 
   abbrev pub is_close : Put A → Bool
   is_close (Send identifier packet) = false
@@ -42,13 +43,13 @@ module _ {A : Type 0} where
 
   -- Outputs were taken and written. The octets that were unwritten, and then those of the outputs, are the octets that were
   -- pushed, then those that are still unwritten, and then those that were lost.
-  pub record Writes (connection : ℕ) (old : Pass A) (unwritten : List ℕ) (before : Option (List ℕ)) (new : Pass A) (left : List ℕ) (after : Option (List ℕ)) (lost : List ℕ) : Type 0 where
+  pub record Writes (modulus : Modulus) (connection : ℕ) (old : Pass A) (unwritten : List ℕ) (before : Option (List ℕ)) (new : Pass A) (left : List ℕ) (after : Option (List ℕ)) (lost : List ℕ) : Type 0 where
     pub items : List (Outgoing A)
     pub took : Took old items new
     -- as many as an outbox has places
     pub few : length items ≤ 64
     pub pushed : List ℕ
     pub grows : Appends before after pushed
-    pub whole : unwritten ++ wire connection items ≡ (pushed ++ left) ++ lost
+    pub whole : unwritten ++ wire modulus connection items ≡ (pushed ++ left) ++ lost
     -- nothing is taken before all octets that were unwritten are pushed
     pub in_turn : (items ≡ []) ⊎ ((sent : List ℕ) × (pushed ≡ unwritten ++ sent))

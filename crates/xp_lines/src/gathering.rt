@@ -11,6 +11,7 @@ use crate::offering::Stop;
 use crate::waiting::Waiting;
 use std::alloc::{AllocError, Allocator};
 use xp_frames::Deframer;
+use xp_packets::Modulus;
 use xp_subs::LineNo;
 
 /// The packets that may go to the exchange, in order.
@@ -22,22 +23,23 @@ pub struct Gathered<A: Allocator> {
 }
 
 /// Gathers the event that waits, and then the packets that wait, in order, as long as the gate lets them go. So the thread
-/// asks the gate and decodes the packets before it takes the exchange's lock.
+/// asks the gate and decodes the packets, by the modulus of the line, before it takes the exchange's lock.
 pub fn gather<G: Gate, A: Allocator + Copy>(
     alloc: A,
     line: LineNo,
+    modulus: Modulus,
     frames: &mut Deframer<A>,
     waiting: &mut Option<Waiting<A>>,
     gate: &mut G,
 ) -> Gathered<A>
-    ensures gathers { Offers waiting.old frames.old.waiting result.ready.items (goes_on result.stop) waiting.new frames.new.waiting }
+    ensures gathers { Offers modulus waiting.old frames.old.waiting result.ready.items (goes_on result.stop) waiting.new frames.new.waiting }
     ensures all { result.stop ≡ None → IsAllOffered waiting.new frames.new.waiting }
     ensures held { result.stop ≡ Some Stop.Held → Refused G.answers gate.new }
     ensures rest { (frames.new.rest ≡ frames.old.rest) × (frames.new.failed ≡ frames.old.failed) }
 {
     let mut ready = Vec::new(alloc);
     'packets: loop {
-        let next = match next_waiting(alloc, frames, waiting) {
+        let next = match next_waiting(alloc, modulus, frames, waiting) {
             Ok(Some(next)) => next,
             Ok(None) => return gathered_until(ready, None),
             Err(_) => return gathered_until(ready, Some(Stop::Memory)),
@@ -71,10 +73,11 @@ fn gathered_until<A: Allocator>(ready: Vec<Waiting<A>, A>, stop: Option<Stop>) -
 /// Returns the event to be offered next, if there is one.
 fn next_waiting<A: Allocator + Copy>(
     alloc: A,
+    modulus: Modulus,
     frames: &mut Deframer<A>,
     waiting: &mut Option<Waiting<A>>,
 ) -> Result<Option<Waiting<A>>, AllocError>
-    ensures { NextIs waiting.old frames.old result waiting.new frames.new }
+    ensures { NextIs modulus waiting.old frames.old result waiting.new frames.new }
 {
     if let Some(held) = waiting.take() {
         return Ok(Some(held));
@@ -82,7 +85,7 @@ fn next_waiting<A: Allocator + Copy>(
     let Some(packet) = frames.next() else {
         return Ok(None);
     };
-    let read = Waiting::read(alloc, &packet)?;
+    let read = Waiting::read(alloc, modulus, &packet)?;
     frames.reuse(packet);
     Ok(Some(read))
 }

@@ -202,7 +202,8 @@ fn come_up<N: Name, L: Link, C: Clock, A: Allocator + Copy, R: Wait>(
     ensures connection { IfSome result.session (λ session. ComesUp N.subs session.connection pass.new) }
     ensures fresh { IfSome result.session (λ session. IsFresh (record { held = session.waiting; frames = session.frames; unwritten = session.unwritten.items; pushed = L.pushed session.link; pulled = L.pulled session.link; unanswered_since = session.unanswered_since })) }
 {
-    match offer(rt, exchange, pass, clock, Waiting::up()) {
+    let moment = clock.now();
+    match offer(rt, exchange, pass, clock, moment, Waiting::up()) {
         Ok(done) => Step {
             session: Some(Session {
                 link,
@@ -233,5 +234,6 @@ fn close<N: Name, L: Link, C: Clock, A: Allocator + Copy, R: Wait>(
 {
     // The link goes even if the exchange refuses the event.
     let mut session = session;
-    let _ = go_down(rt, exchange, pass, clock, &mut session.waiting, 0);
+    let moment = clock.now();
+    let _ = go_down(rt, exchange, pass, clock, moment, &mut session.waiting, 0);
 }

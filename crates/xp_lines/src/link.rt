@@ -78,7 +78,7 @@ pub trait Clock: Drop {
     // What a call of `now` says of the clock before it, the time that it returns, and the clock after it, where anything is known.
     ghost tells: { Self → ℕ → Self → Type 0 } = { λ _ _ _. ⊤ };
 
-    /// The time in seconds since any fixed moment.
+    /// The time in seconds since any fixed moment. The line's events have it as their moment.
     fn now(&mut self) -> u64
         ensures { tells self.old result self.new };
 

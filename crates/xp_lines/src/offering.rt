@@ -2,11 +2,12 @@
 
 ghost use Rattle.std.specs.Prelude.{◌≡◌, IfOk, List, None, Some};
 ghost use Rattle.xp_core.specs.declared.event.What.{What as Happening};
+ghost use Rattle.xp_subs.specs.Tables.{modulus_of};
 ghost use Rattle.xp_lock.specs.Passes.{GainsEvent};
 ghost use Rattle.xp_lines.specs.Gates.{IsAllOffered, Refused};
-ghost use Rattle.xp_lines.specs.Offers.{Gains, Offers, on_line};
+ghost use Rattle.xp_lines.specs.Offers.{Gains, Offers};
 ghost use Rattle.xp_lines.specs.steps.Offers.{goes_on};
-ghost use Rattle.xp_lines.specs.steps.Offering.{IsRefusal, TakesFront, Tells};
+ghost use Rattle.xp_lines.specs.steps.Offering.{IsRefusal, TakesFront, Tells, event_on};
 ghost use Rattle.xp_lines.specs.AnswerTimer.{has_any};
 
 use crate::gathering::gather;
@@ -43,7 +44,7 @@ pub struct Offered {
     pub records: u64,
 }
 
-/// Offers one event of the pass's line. After releasing the lock, the thread wakes each other line that received outputs by it.
+/// Offers one event of the pass's line, at this moment, in seconds. After releasing the lock, the thread wakes each other line that received outputs by it.
 ///
 /// # Errors
 ///
@@ -53,12 +54,13 @@ pub fn offer<N: Name, C: Clock, A: Allocator + Copy, R: Wait>(
     exchange: &Exchange<N, A>,
     pass: &mut LinePass<N, A>,
     clock: &mut C,
+    moment: u64,
     waiting: Waiting<A>,
 ) -> Result<Receipt, Stop>
     ensures tells { Tells pass.old waiting result pass.new }
-    ensures gains { IfOk result (λ done. GainsEvent N.subs pass.old (on_line pass.old.line waiting) done pass.new) }
+    ensures gains { IfOk result (λ done. GainsEvent N.subs pass.old (event_on pass.old.line moment waiting) done pass.new) }
 {
-    let taken = offer_held(rt, &mut exchange.lock(rt), pass, waiting);
+    let taken = offer_held(rt, &mut exchange.lock(rt), pass, moment, waiting);
     if let Ok(done) = &taken {
         let last = wake_others(clock, None, done, pass.line());
         wake(clock, last);
@@ -66,7 +68,7 @@ pub fn offer<N: Name, C: Clock, A: Allocator + Copy, R: Wait>(
     taken
 }
 
-/// Offers one event of the pass's line while the thread holds the exchange's lock.
+/// Offers one event of the pass's line, at this moment, while the thread holds the exchange's lock.
 ///
 /// # Errors
 ///
@@ -75,13 +77,15 @@ fn offer_held<N: Name, A: Allocator + Copy, R: Wait>(
     rt: &R,
     guard: &mut ExchangeGuard<'_, N, A>,
     pass: &mut LinePass<N, A>,
+    moment: u64,
     waiting: Waiting<A>,
 ) -> Result<Receipt, Stop>
     ensures tells { Tells pass.old waiting result pass.new }
-    ensures gains { IfOk result (λ done. GainsEvent N.subs pass.old (on_line pass.old.line waiting) done pass.new) }
+    ensures gains { IfOk result (λ done. GainsEvent N.subs pass.old (event_on pass.old.line moment waiting) done pass.new) }
 {
     let event = Event {
         line: pass.line(),
+        moment,
         what: waiting.into_what(),
     };
     guard
@@ -125,7 +129,8 @@ fn stop_at<A: Allocator>(fault: &OfferFault<A>) -> Stop
     }
 }
 
-/// Offers the event that waits, and then the packets that wait, in order, as long as the gate lets them go.
+/// Offers the event that waits, and then the packets that wait, in order, as long as the gate lets them go. All have this
+/// moment.
 pub fn offer_waiting<N: Name, C: Clock, G: Gate, A: Allocator + Copy, R: Wait>(
     rt: &R,
     alloc: A,
@@ -134,15 +139,16 @@ pub fn offer_waiting<N: Name, C: Clock, G: Gate, A: Allocator + Copy, R: Wait>(
     frames: &mut Deframer<A>,
     waiting: &mut Option<Waiting<A>>,
     clock: &mut C,
+    moment: u64,
     gate: &mut G,
 ) -> Offered
-    ensures offers { (whats : List (Happening A)) × Gains pass.old whats pass.new × Offers waiting.old frames.old.waiting whats (goes_on result.stop) waiting.new frames.new.waiting × (result.moved ≡ has_any whats) }
+    ensures offers { (whats : List (Happening A)) × Gains pass.old whats pass.new × Offers (modulus_of N.subs pass.old.line) waiting.old frames.old.waiting whats (goes_on result.stop) waiting.new frames.new.waiting × (result.moved ≡ has_any whats) }
     ensures all { result.stop ≡ None → IsAllOffered waiting.new frames.new.waiting }
     ensures held { result.stop ≡ Some Stop.Held → Refused G.answers gate.new }
     ensures rest { (frames.new.rest ≡ frames.old.rest) × (frames.new.failed ≡ frames.old.failed) }
 {
-    let gathered = gather(alloc, pass.line(), frames, waiting, gate);
-    let offered = offer_all(rt, exchange, pass, clock, gathered.ready);
+    let gathered = gather(alloc, pass.line(), pass.modulus(), frames, waiting, gate);
+    let offered = offer_all(rt, exchange, pass, clock, moment, gathered.ready);
     let stop = offered.stop.or(gathered.stop);
     done_with(stop, offered.moved, offered.records)
 }
@@ -154,6 +160,7 @@ fn offer_all<N: Name, C: Clock, A: Allocator + Copy, R: Wait>(
     exchange: &Exchange<N, A>,
     pass: &mut LinePass<N, A>,
     clock: &mut C,
+    moment: u64,
     ready: Vec<Waiting<A>, A>,
 ) -> Offered
     ensures { TakesFront pass.old ready.items result.stop result.moved pass.new }
@@ -162,7 +169,15 @@ fn offer_all<N: Name, C: Clock, A: Allocator + Copy, R: Wait>(
         return done_with(None, false, 0);
     }
     let mut last = None;
-    let offered = offer_each(rt, &mut exchange.lock(rt), pass, clock, ready, &mut last);
+    let offered = offer_each(
+        rt,
+        &mut exchange.lock(rt),
+        pass,
+        clock,
+        moment,
+        ready,
+        &mut last,
+    );
     wake(clock, last);
     offered
 }
@@ -173,6 +188,7 @@ fn offer_each<N: Name, C: Clock, A: Allocator + Copy, R: Wait>(
     guard: &mut ExchangeGuard<'_, N, A>,
     pass: &mut LinePass<N, A>,
     clock: &mut C,
+    moment: u64,
     ready: Vec<Waiting<A>, A>,
     last: &mut Option<LineNo>,
 ) -> Offered
@@ -181,7 +197,7 @@ fn offer_each<N: Name, C: Clock, A: Allocator + Copy, R: Wait>(
     let mut moved = false;
     let mut records = 0;
     for next in ready {
-        match offer_held(rt, guard, pass, next) {
+        match offer_held(rt, guard, pass, moment, next) {
             Ok(done) => {
                 records = done.records() as u64;
                 *last = wake_others(clock, *last, &done, pass.line());

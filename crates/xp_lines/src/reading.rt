@@ -3,6 +3,7 @@
 ghost use Rattle.std.specs.Prelude.{◌≡◌, ◌||◌, ℕ, List};
 ghost use Rattle.std.specs.Io.KnownBytes.{Appends};
 ghost use Rattle.xp_core.specs.declared.event.What.{What as Happening};
+ghost use Rattle.xp_subs.specs.Tables.{modulus_of};
 ghost use Rattle.xp_lines.specs.Gates.{WaitsForGate};
 ghost use Rattle.xp_lines.specs.Offers.{Gains};
 ghost use Rattle.xp_lines.specs.AnswerTimer.{has_any};
@@ -101,7 +102,7 @@ fn pull_by(answer: Result<(), FrameFault>) -> Pull
     }
 }
 
-/// Offers the event and the packets that wait. Where none waits any more, it pulls once, and offers the packets of the octets
+/// Offers the event and the packets that wait, at this moment. Where none waits any more, it pulls once, and offers the packets of the octets
 /// that came.
 pub fn read_in<N: Name, L: Link, C: Clock, G: Gate, A: Allocator + Copy, R: Wait>(
     rt: &R,
@@ -112,18 +113,23 @@ pub fn read_in<N: Name, L: Link, C: Clock, G: Gate, A: Allocator + Copy, R: Wait
     frames: &mut Deframer<A>,
     waiting: &mut Option<Waiting<A>>,
     clock: &mut C,
+    moment: u64,
     gate: &mut G,
 ) -> Taken
-    ensures reads { (pulled : List ℕ) × Appends (L.pulled link.old) (L.pulled link.new) pulled × (whats : List (Happening A)) × Gains pass.old whats pass.new × Reads waiting.old frames.old pulled whats result.outcome waiting.new frames.new × (result.offered ≡ has_any whats) }
+    ensures reads { (pulled : List ℕ) × Appends (L.pulled link.old) (L.pulled link.new) pulled × (whats : List (Happening A)) × Gains pass.old whats pass.new × Reads (modulus_of N.subs pass.old.line) waiting.old frames.old pulled whats result.outcome waiting.new frames.new × (result.offered ≡ has_any whats) }
     ensures pushed { L.pushed link.new ≡ L.pushed link.old }
     ensures left { result.outcome ≡ ReadOutcome.Open → WaitsForGate G.answers waiting.new frames.new.waiting gate.new }
 {
-    let first = offer_waiting(rt, alloc, exchange, pass, frames, waiting, clock, gate);
+    let first = offer_waiting(
+        rt, alloc, exchange, pass, frames, waiting, clock, moment, gate,
+    );
     if let Some(stop) = first.stop {
         return stopped(first, stop);
     }
     let pull = pull_in(link, frames);
-    let second = offer_waiting(rt, alloc, exchange, pass, frames, waiting, clock, gate);
+    let second = offer_waiting(
+        rt, alloc, exchange, pass, frames, waiting, clock, moment, gate,
+    );
     both(first, pull, second)
 }
 

@@ -3,6 +3,7 @@
 ghost use Rattle.std.specs.Prelude.{◌≡◌, ◌⊎◌, ℕ, List, Some, false};
 ghost use Rattle.xp_core.specs.declared.event.What.{What as Happening};
 ghost use Rattle.xp_core.specs.declared.event.What.TheVariants.{Down as WentDown};
+ghost use Rattle.xp_subs.specs.Tables.{modulus_of};
 ghost use Rattle.xp_lines.specs.Gates.{WaitsForGate};
 ghost use Rattle.xp_lines.specs.Offers.{Gains};
 ghost use Rattle.xp_lines.specs.Reads.{stays};
@@ -62,7 +63,7 @@ pub fn turn<N: Name, L: Link, C: Clock, G: Gate, A: Allocator + Copy, R: Wait>(
     clock: &mut C,
     gate: &mut G,
 ) -> Turned
-    ensures turn { (now : ℕ) × (is_owed session.old.waiting ≡ false → (told : C) × C.tells clock.old now told) × IsTurn now session.old.connection pass.old (record { held = session.old.waiting; frames = session.old.frames; unwritten = session.old.unwritten.items; pushed = L.pushed session.old.link; pulled = L.pulled session.old.link; unanswered_since = session.old.unanswered_since }) result.after pass.new (record { held = session.new.waiting; frames = session.new.frames; unwritten = session.new.unwritten.items; pushed = L.pushed session.new.link; pulled = L.pulled session.new.link; unanswered_since = session.new.unanswered_since }) }
+    ensures turn { (now : ℕ) × ((told : C) × C.tells clock.old now told) × IsTurn (modulus_of N.subs pass.old.line) now session.old.connection pass.old (record { held = session.old.waiting; frames = session.old.frames; unwritten = session.old.unwritten.items; pushed = L.pushed session.old.link; pulled = L.pulled session.old.link; unanswered_since = session.old.unanswered_since }) result.after pass.new (record { held = session.new.waiting; frames = session.new.frames; unwritten = session.new.unwritten.items; pushed = L.pushed session.new.link; pulled = L.pulled session.new.link; unanswered_since = session.new.unanswered_since }) }
     ensures connection { session.new.connection ≡ session.old.connection }
     ensures left { result.after ≡ TurnOutcome.Linked → WaitsForGate G.answers session.new.waiting session.new.frames.waiting gate.new }
     ensures line { pass.new.line ≡ pass.old.line }
@@ -75,12 +76,13 @@ pub fn turn<N: Name, L: Link, C: Clock, G: Gate, A: Allocator + Copy, R: Wait>(
         unwritten,
         unanswered_since,
     } = session;
+    let now = clock.now();
     if owes_down(waiting) {
-        return go_down(rt, exchange, pass, clock, waiting, 0);
+        return go_down(rt, exchange, pass, clock, now, waiting, 0);
     }
     let mut timer = AnswerTimer {
         since: *unanswered_since,
-        now: clock.now(),
+        now,
     };
     let taken = write_and_read(
         rt,
@@ -96,7 +98,7 @@ pub fn turn<N: Name, L: Link, C: Clock, G: Gate, A: Allocator + Copy, R: Wait>(
         gate,
     );
     *unanswered_since = timer.since;
-    finish(rt, exchange, pass, clock, waiting, taken)
+    finish(rt, exchange, pass, clock, now, waiting, taken)
 }
 
 /// Ends a turn by how its reading ended: the link stays, or its Down is offered, or it is the line's last turn.
@@ -105,6 +107,7 @@ fn finish<N: Name, C: Clock, A: Allocator + Copy, R: Wait>(
     exchange: &Exchange<N, A>,
     pass: &mut LinePass<N, A>,
     clock: &mut C,
+    moment: u64,
     waiting: &mut Option<Waiting<A>>,
     taken: Taken,
 ) -> Turned
@@ -117,7 +120,7 @@ fn finish<N: Name, C: Clock, A: Allocator + Copy, R: Wait>(
             }
             ended(TurnOutcome::Linked, taken.records)
         }
-        ReadOutcome::Over => go_down(rt, exchange, pass, clock, waiting, taken.records),
+        ReadOutcome::Over => go_down(rt, exchange, pass, clock, moment, waiting, taken.records),
         ReadOutcome::Halted => ended(TurnOutcome::Halted, taken.records),
         ReadOutcome::Journal => ended(TurnOutcome::Journal, taken.records),
     }
@@ -140,18 +143,19 @@ pub fn owes_down<A: Allocator>(waiting: &Option<Waiting<A>>) -> bool
     }
 }
 
-/// Offers that the link went. If an allocation fails, that event waits.
+/// Offers that the link went, at this moment. If an allocation fails, that event waits.
 pub fn go_down<N: Name, C: Clock, A: Allocator + Copy, R: Wait>(
     rt: &R,
     exchange: &Exchange<N, A>,
     pass: &mut LinePass<N, A>,
     clock: &mut C,
+    moment: u64,
     waiting: &mut Option<Waiting<A>>,
     records: u64,
 ) -> Turned
     ensures { Downs pass.old result.after pass.new waiting.new }
 {
-    match offer(rt, exchange, pass, clock, Waiting::down()) {
+    match offer(rt, exchange, pass, clock, moment, Waiting::down()) {
         Ok(done) => ended(TurnOutcome::Dropped, done.records() as u64),
         Err(Stop::Halted) => ended(TurnOutcome::Halted, records),
         Err(Stop::Journal) => ended(TurnOutcome::Journal, records),
@@ -183,7 +187,7 @@ fn write_and_read<N: Name, L: Link, C: Clock, G: Gate, A: Allocator + Copy, R: W
     clock: &mut C,
     gate: &mut G,
 ) -> Taken
-    ensures works { WritesAndReads timer.old.now connection pass.old (record { held = waiting.old; frames = frames.old; unwritten = unwritten.old.items; pushed = L.pushed link.old; pulled = L.pulled link.old; unanswered_since = timer.old.since }) result.outcome pass.new (record { held = waiting.new; frames = frames.new; unwritten = unwritten.new.items; pushed = L.pushed link.new; pulled = L.pulled link.new; unanswered_since = timer.new.since }) }
+    ensures works { WritesAndReads (modulus_of N.subs pass.old.line) timer.old.now connection pass.old (record { held = waiting.old; frames = frames.old; unwritten = unwritten.old.items; pushed = L.pushed link.old; pulled = L.pulled link.old; unanswered_since = timer.old.since }) result.outcome pass.new (record { held = waiting.new; frames = frames.new; unwritten = unwritten.new.items; pushed = L.pushed link.new; pulled = L.pulled link.new; unanswered_since = timer.new.since }) }
     ensures left { result.outcome ≡ ReadOutcome.Open → WaitsForGate G.answers waiting.new frames.new.waiting gate.new }
 {
     let halted = exchange.halted();
@@ -216,12 +220,12 @@ fn read_and_expire<N: Name, L: Link, C: Clock, G: Gate, A: Allocator + Copy, R: 
     clock: &mut C,
     gate: &mut G,
 ) -> Taken
-    ensures hears { ReadsAndExpires timer.old.now pass.old waiting.old frames.old (L.pulled link.old) timer.old.since result.outcome pass.new waiting.new frames.new (L.pulled link.new) timer.new.since }
+    ensures hears { ReadsAndExpires (modulus_of N.subs pass.old.line) timer.old.now pass.old waiting.old frames.old (L.pulled link.old) timer.old.since result.outcome pass.new waiting.new frames.new (L.pulled link.new) timer.new.since }
     ensures pushed { L.pushed link.new ≡ L.pushed link.old }
     ensures left { result.outcome ≡ ReadOutcome.Open → WaitsForGate G.answers waiting.new frames.new.waiting gate.new }
 {
     let taken = read_in(
-        rt, alloc, exchange, pass, link, frames, waiting, clock, gate,
+        rt, alloc, exchange, pass, link, frames, waiting, clock, timer.now, gate,
     );
     timer.answer(taken.offered);
     expire_late(rt, exchange, pass, clock, timer, taken)
@@ -269,7 +273,7 @@ fn expire_late<N: Name, C: Clock, A: Allocator + Copy, R: Wait>(
     if !timer.expires() {
         return taken;
     }
-    match offer(rt, exchange, pass, clock, Waiting::expire()) {
+    match offer(rt, exchange, pass, clock, timer.now, Waiting::expire()) {
         Ok(done) => Taken {
             outcome: taken.outcome,
             moved: true,

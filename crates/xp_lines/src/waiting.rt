@@ -7,7 +7,7 @@ ghost use Rattle.xp_lines.specs.FrameEvents.{IsReadAs, is_down};
 use std::alloc::{AllocError, Allocator, Global};
 use std::marker::Model;
 use xp_core::What;
-use xp_packets::{PacketFault, decode};
+use xp_packets::{Modulus, PacketFault, decode};
 
 /// An event of a line that is to be offered to the exchange. It is never a stall, which only the exchange makes.
 #[derive(Drop)]
@@ -67,15 +67,15 @@ impl<A: Allocator> Waiting<A> {
 }
 
 impl<A: Allocator + Copy> Waiting<A> {
-    /// Decodes the octets of a frame's packet: the event is the packet, or what is wrong with it.
+    /// Decodes the octets of a frame's packet by the modulus of its line: the event is the packet, or what is wrong with it.
     ///
     /// # Errors
     ///
     /// `AllocError` if an allocation fails.
-    pub(crate) fn read(alloc: A, octets: &[u8]) -> Result<Waiting<A>, AllocError>
-        ensures { IfOk result (λ waiting. IsReadAs octets.now waiting) }
+    pub(crate) fn read(alloc: A, modulus: Modulus, octets: &[u8]) -> Result<Waiting<A>, AllocError>
+        ensures { IfOk result (λ waiting. IsReadAs modulus octets.now waiting) }
     {
-        let what = match decode(alloc, octets) {
+        let what = match decode(alloc, modulus, octets) {
             Ok((identifier, packet)) => What::frame(identifier, packet),
             Err(PacketFault::Malformed(wrong)) => What::WrongFrame(wrong),
             Err(PacketFault::Memory) => return Err(AllocError),

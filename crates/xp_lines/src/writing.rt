@@ -1,6 +1,7 @@
 //! The writing of a turn: the thread takes the line's outputs from its outbox and pushes them into its link.
 
 ghost use Rattle.std.specs.Prelude.{◌≡◌, ◌==◌, ℕ, List, [], ◌++◌, false, cond, IfOk, OnErr, OnOk};
+ghost use Rattle.xp_subs.specs.Tables.{modulus_of};
 ghost use Rattle.xp_lines.specs.Wire.{NoneCloses, Writes, carried, closes};
 ghost use Rattle.xp_lines.specs.steps.Wire.{Fills};
 ghost use Rattle.xp_frames.specs.Frame.{frame};
@@ -16,7 +17,7 @@ use std::sync::Wait;
 use xp_core::{Outgoing, Put};
 use xp_frames::write_frame;
 use xp_lock::{Exchange, LinePass, Name};
-use xp_packets::{Packet, encode};
+use xp_packets::{Modulus, Packet, encode};
 
 /// The most outputs that a turn takes: as many as an outbox has places.
 const MOST_OUTPUTS: usize = 64;
@@ -52,7 +53,7 @@ pub fn write_out<N: Name, L: Link, A: Allocator + Copy, R: Wait>(
     unwritten: &mut Vec<u8, A>,
     timer: &mut AnswerTimer,
 ) -> Written
-    ensures writes { (lost : List ℕ) × (writes : Writes connection pass.old unwritten.old.items (L.pushed link.old) pass.new unwritten.new.items (L.pushed link.new) lost) × (is_lost result.ended ≡ false → (lost ≡ []) × (timer.new ≡ record timer.old { since = since_after_all timer.old.now connection timer.old.since writes.items })) × (result.ended ≡ Ended.Open → NoneCloses connection writes.items) }
+    ensures writes { (lost : List ℕ) × (writes : Writes (modulus_of N.subs pass.old.line) connection pass.old unwritten.old.items (L.pushed link.old) pass.new unwritten.new.items (L.pushed link.new) lost) × (is_lost result.ended ≡ false → (lost ≡ []) × (timer.new ≡ record timer.old { since = since_after_all timer.old.now connection timer.old.since writes.items })) × (result.ended ≡ Ended.Open → NoneCloses connection writes.items) }
     ensures pulled { L.pulled link.new ≡ L.pulled link.old }
 {
     match push_rest(link, unwritten) {
@@ -60,7 +61,8 @@ pub fn write_out<N: Name, L: Link, A: Allocator + Copy, R: Wait>(
         Flow::Waits => return none_taken(Ended::Open),
         Flow::Broken => return none_taken(Ended::Over),
     }
-    let taken = take_out(rt, exchange, pass, connection, unwritten, timer);
+    let modulus = pass.modulus();
+    let taken = take_out(rt, exchange, pass, modulus, connection, unwritten, timer);
     let flow = push_rest(link, unwritten);
     Written {
         ended: ended_at(taken.ended, flow),
@@ -87,22 +89,23 @@ fn ended_at(taking: Ended, flow: Flow) -> Ended
     }
 }
 
-/// Takes at most 64 outputs, and appends the octets of those for this connection to the unwritten ones.
+/// Takes at most 64 outputs, and appends the octets of those for this connection, by this modulus, to the unwritten ones.
 fn take_out<N: Name, A: Allocator + Copy, R: Wait>(
     rt: &R,
     exchange: &Exchange<N, A>,
     pass: &mut LinePass<N, A>,
+    modulus: Modulus,
     connection: u64,
     unwritten: &mut Vec<u8, A>,
     timer: &mut AnswerTimer,
 ) -> Written
-    ensures { (lost : List ℕ) × (fills : Fills connection pass.old unwritten.old.items pass.new unwritten.new.items lost) × (is_lost result.ended ≡ false → (lost ≡ []) × (timer.new ≡ record timer.old { since = since_after_all timer.old.now connection timer.old.since fills.items })) × (result.ended ≡ Ended.Open → NoneCloses connection fills.items) }
+    ensures { (lost : List ℕ) × (fills : Fills modulus connection pass.old unwritten.old.items pass.new unwritten.new.items lost) × (is_lost result.ended ≡ false → (lost ≡ []) × (timer.new ≡ record timer.old { since = since_after_all timer.old.now connection timer.old.since fills.items })) × (result.ended ≡ Ended.Open → NoneCloses connection fills.items) }
 {
     for _output in 0..MOST_OUTPUTS {
         let Some(item) = exchange.next_out(rt, pass) else {
             return none_taken(Ended::Open);
         };
-        match put_item(connection, &item, unwritten, timer) {
+        match put_item(modulus, connection, &item, unwritten, timer) {
             Ok(false) => {}
             Ok(true) => return none_taken(Ended::Over),
             Err(_) => return none_taken(Ended::Lost),
@@ -114,18 +117,19 @@ fn take_out<N: Name, A: Allocator + Copy, R: Wait>(
     }
 }
 
-/// Appends the octets of an output, if it is for this connection. Returns whether the output closes this connection.
+/// Appends the octets of an output by this modulus, if it is for this connection. Returns whether the output closes this connection.
 ///
 /// # Errors
 ///
 /// `AllocError` if an allocation fails. Then nothing is appended.
 fn put_item<A: Allocator + Copy>(
+    modulus: Modulus,
     connection: u64,
     item: &Outgoing<A>,
     unwritten: &mut Vec<u8, A>,
     timer: &mut AnswerTimer,
 ) -> Result<bool, AllocError>
-    ensures ok { OnOk result (unwritten.new.items ≡ unwritten.old.items ++ carried connection item.now) }
+    ensures ok { OnOk result (unwritten.new.items ≡ unwritten.old.items ++ carried modulus connection item.now) }
     ensures since_after_all { OnOk result (timer.new ≡ record timer.old { since = cond (item.now.connection == connection) (since_after_put timer.old.now timer.old.since item.now.put) timer.old.since }) }
     ensures closes { IfOk result (λ over. over ≡ closes connection item.now) }
     ensures err { OnErr result (unwritten.new.items ≡ unwritten.old.items) }
@@ -135,7 +139,7 @@ fn put_item<A: Allocator + Copy>(
     }
     match &item.put {
         Put::Send { identifier, packet } => {
-            put_packet(*identifier, packet, unwritten)?;
+            put_packet(modulus, *identifier, packet, unwritten)?;
             timer.packet_written(packet);
             Ok(false)
         }
@@ -143,20 +147,21 @@ fn put_item<A: Allocator + Copy>(
     }
 }
 
-/// Appends the frame of a packet.
+/// Appends the frame of a packet by this modulus.
 ///
 /// # Errors
 ///
 /// `AllocError` if an allocation fails. Then nothing is appended.
 fn put_packet<A: Allocator + Copy>(
+    modulus: Modulus,
     identifier: u16,
     packet: &Packet<A>,
     unwritten: &mut Vec<u8, A>,
 ) -> Result<(), AllocError>
-    ensures ok { OnOk result (unwritten.new.items ≡ unwritten.old.items ++ frame (written identifier packet.now)) }
+    ensures ok { OnOk result (unwritten.new.items ≡ unwritten.old.items ++ frame (written modulus identifier packet.now)) }
     ensures err { OnErr result (unwritten.new.items ≡ unwritten.old.items) }
 {
     let alloc = *unwritten.allocator();
-    let octets = encode(alloc, identifier, packet).map_err(|_| AllocError)?;
+    let octets = encode(alloc, modulus, identifier, packet).map_err(|_| AllocError)?;
     write_frame(&octets, unwritten).map_err(|_| AllocError)
 }

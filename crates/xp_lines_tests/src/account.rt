@@ -1,5 +1,6 @@
 //! What a closed book tells, as a short text.
 
+use crate::plan::Scenario;
 use std::alloc::{AllocError, Global};
 use std::test::Fail;
 use xp_core::{Entry, What};
@@ -7,13 +8,12 @@ use xp_lines::EndReason;
 use xp_lock::Book;
 use xp_packets::Packet;
 use xp_subs::{LineNo, Subs};
-use xp_testing::THREE_STATIONS;
 
-/// The three stations, behind these lines of the file.
-pub fn subs(alloc: Global, head: &str) -> Result<Subs, Fail> {
+/// The subscriptions of a scenario.
+pub fn subs(alloc: Global, scenario: Scenario) -> Result<Subs, Fail> {
     let mut text = String::new(alloc);
-    text.push_str(head)?;
-    text.push_str(THREE_STATIONS)?;
+    text.push_str(scenario.head())?;
+    text.push_str(scenario.stations())?;
     Ok(Subs::read(alloc, text.as_str())?)
 }
 

@@ -15,6 +15,7 @@ fn turns_with_nothing_to_read_let_time_pass(rt: HostRuntime) -> Result<(), Fail>
         scenario: Scenario::Faults,
         flaws: [FLAWLESS, FLAWLESS],
         turns: 6,
+        step: 0,
     };
     let played = play(&rt, rt.alloc(), &playing, &board)?;
     assert_eq!(rt; played.events.as_str(), "UUCAXY\n");
@@ -63,7 +64,7 @@ fn wanted_records_halt_the_exchange(rt: HostRuntime) -> Result<(), Fail> {
         let rest = text.strip_prefix(*told);
         assert_eq!(rt;
             rest,
-            Some("\n\n\n\n\nrecord 1 a1 - 2080099 caller 0 0 0d 67\n"),
+            Some("\n\n\n\n\nrecord 1 a1 - 2080099 caller 0 0 0d 67 0\n"),
             "{records}"
         );
         assert_eq!(rt; board.of(0).counts(), *counts, "{records}");

@@ -56,8 +56,8 @@ fn wanted_record(events: &str) -> &'static str {
     for event in events.as_bytes() {
         match *event {
             b'C' => called = true,
-            b'X' if called => return "record 1 a1 b1 2080020 caller 0 0 00 0\n",
-            b'D' if called => return "record 1 a1 b1 2080020 caller 0 0 09 0\n",
+            b'X' if called => return "record 1 a1 b1 2080020 caller 0 0 00 0 0\n",
+            b'D' if called => return "record 1 a1 b1 2080020 caller 0 0 09 0 0\n",
             _ => {}
         }
     }
@@ -107,6 +107,7 @@ fn faults(
                 [other, failing]
             },
             turns: 8,
+            step: 0,
         };
         let played = play(rt, alloc, &playing, &board)?;
         assert_eq!(rt;

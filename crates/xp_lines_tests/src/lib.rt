@@ -24,4 +24,6 @@ mod slow;
 #[cfg(test)]
 mod turning;
 #[cfg(test)]
+mod unlike;
+#[cfg(test)]
 mod wire;

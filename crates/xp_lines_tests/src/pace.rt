@@ -12,33 +12,42 @@ use xp_subs::LineNo;
 /// How often a gate looks whether another one was asked.
 const MOST_LOOKS: u32 = 5_000_000;
 
-/// A clock that begins at 0, and goes on by so many seconds where its line has nothing to do.
+/// A clock that begins at 0, and goes on by so many seconds each time that it is read, and where its line has nothing to do.
 #[derive(Drop)]
 pub struct Ticking {
     board: Arc<Board>,
     line: LineNo,
     now: u64,
-    step: u64,
+    when_read: u64,
+    when_idle: u64,
 }
 
 impl Ticking {
-    pub fn new(board: &Arc<Board>, line: LineNo, step: u64) -> Result<Ticking, AllocError> {
+    pub fn new(
+        board: &Arc<Board>,
+        line: LineNo,
+        when_read: u64,
+        when_idle: u64,
+    ) -> Result<Ticking, AllocError> {
         Ok(Ticking {
             board: Arc::try_clone(board)?,
             line,
             now: 0,
-            step,
+            when_read,
+            when_idle,
         })
     }
 }
 
 impl Clock for Ticking {
     fn now(&mut self) -> u64 {
-        self.now
+        let now = self.now;
+        self.now = now.saturating_add(self.when_read);
+        now
     }
 
     fn idle(&mut self) {
-        self.now = self.now.saturating_add(self.step);
+        self.now = self.now.saturating_add(self.when_idle);
         self.board
             .of(self.line)
             .idles

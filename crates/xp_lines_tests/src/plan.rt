@@ -6,7 +6,9 @@ use crate::served::{
     BROKEN_PORT, FIVE_AT_ONCE, FULL_JOURNAL, HALTED, LOST_LINK, NO_ANSWER, TWO_CALLS,
 };
 use crate::slow::SLOW;
+use crate::unlike::{UNLIKE, UNLIKE_STATIONS};
 use xp_subs::LineNo;
+use xp_testing::THREE_STATIONS;
 
 /// Octets that a link gives once it took so many; no octets are its end.
 #[derive(Clone, Copy)]
@@ -88,6 +90,7 @@ pub enum Scenario {
     Refused,
     Faults,
     Slow,
+    Unlike,
 }
 
 impl Scenario {
@@ -104,6 +107,7 @@ impl Scenario {
             Scenario::Refused => &REFUSED,
             Scenario::Faults => &FAULTS,
             Scenario::Slow => &SLOW,
+            Scenario::Unlike => &UNLIKE,
         }
     }
 
@@ -111,11 +115,19 @@ impl Scenario {
         &self.plans()[usize::from(line).min(4)]
     }
 
-    /// The first lines of the subscriptions' file.
+    /// The first lines of the subscription file.
     pub fn head(self) -> &'static str {
         match self {
             Scenario::FullJournal => "journal = 9\n",
             _ => "",
+        }
+    }
+
+    /// The stations of the subscription file.
+    pub fn stations(self) -> &'static str {
+        match self {
+            Scenario::Unlike => UNLIKE_STATIONS,
+            _ => THREE_STATIONS,
         }
     }
 }

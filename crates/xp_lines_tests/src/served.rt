@@ -202,7 +202,7 @@ static SERVED: [(Serving, &str); 7] = [
             scenario: Scenario::TwoCalls,
             ..USUALLY
         },
-        "HHHHH\nUC\nUA\nUC\nUD\n\nrecord 2 a1 h2 2080030 caller 0 0 09 0\n",
+        "HHHHH\nUC\nUA\nUC\nUD\n\nrecord 2 a1 h2 2080030 caller 0 0 09 0 0\n",
     ),
     (
         Serving {
@@ -218,14 +218,14 @@ static SERVED: [(Serving, &str); 7] = [
             step: 1,
             ..USUALLY
         },
-        "HHHHH\nUC\nUE\nU\nU\nU\nrecord 1 a1 b1 2080020 caller 0 0 11 49\n",
+        "HHHHH\nUC\nUE\nU\nU\nU\nrecord 1 a1 b1 2080020 caller 0 0 11 49 0\n",
     ),
     (
         Serving {
             scenario: Scenario::LostLink,
             ..USUALLY
         },
-        "HHHHH\nUC\nUD\nU\nU\nU\nrecord 1 a1 b1 2080020 caller 0 0 09 0\n",
+        "HHHHH\nUC\nUD\nU\nU\nU\nrecord 1 a1 b1 2080020 caller 0 0 09 0 0\n",
     ),
     (
         Serving {
@@ -240,7 +240,7 @@ static SERVED: [(Serving, &str); 7] = [
             scenario: Scenario::BrokenPort,
             ..USUALLY
         },
-        "HHHHP\nUCX\nUA\nU\nU\n\nrecord 1 a1 b1 2080020 caller 0 0 00 0\n",
+        "HHHHP\nUCX\nUA\nU\nU\n\nrecord 1 a1 b1 2080020 caller 0 0 00 0 0\n",
     ),
     (
         Serving {

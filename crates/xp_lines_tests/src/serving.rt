@@ -46,7 +46,7 @@ fn part<N: Name>(
     Ok(ThreadInputs {
         pass,
         port: PlannedPort::new(serving.scenario, line, board)?,
-        clock: Ticking::new(board, line, serving.step)?,
+        clock: Ticking::new(board, line, 0, serving.step)?,
         gate: PlannedGate::new(board, serving.scenario)?,
     })
 }
@@ -115,7 +115,7 @@ pub fn serve<R: Threads + Wait + Sync>(
     serving: &Serving,
     board: &Arc<Board>,
 ) -> Result<String, Fail> {
-    let prepared = prepare(alloc, subs(alloc, serving.scenario.head())?)?;
+    let prepared = prepare(alloc, subs(alloc, serving.scenario)?)?;
     let text = serves::<Brand, R>(rt, alloc, prepared, serving, board)?;
     Ok(String::from_utf8(text)?)
 }

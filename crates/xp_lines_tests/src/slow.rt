@@ -118,13 +118,14 @@ fn link_that_takes_nothing(rt: HostRuntime) -> Result<(), Fail> {
             },
         ],
         turns: 50,
+        step: 0,
     };
     let played = play(&rt, rt.alloc(), &playing, &board)?;
     // b1's thread took the incoming call alone: the data packets and what closes the connection are kept
     assert_eq!(rt; (played.kept, played.closes), (42, true));
     assert_eq!(rt;
         played.records.as_str(),
-        "record 1 a1 b1 2080020 caller 41 0 09 0\n"
+        "record 1 a1 b1 2080020 caller 41 0 09 0 0\n"
     );
     assert_eq!(rt;
         played.events.as_str(),

@@ -23,6 +23,8 @@ pub struct Playing {
     pub flaws: [Flaws; 2],
     /// How many turns each has.
     pub turns: u64,
+    /// By how many seconds its clock goes on in each turn.
+    pub step: u64,
 }
 
 /// What came of it.
@@ -54,7 +56,15 @@ fn offer_up<N: Name>(
 ) -> Result<Receipt, OfferFault> {
     let line = pass.line();
     let what = What::Up;
-    exchange.offer(rt, pass, Event { line, what })
+    exchange.offer(
+        rt,
+        pass,
+        Event {
+            line,
+            moment: 0,
+            what,
+        },
+    )
 }
 
 /// The number of the line's connection as it comes up, or 0 where that was refused.
@@ -69,11 +79,12 @@ fn make_seat<N: Name>(
     alloc: Global,
     pass: LinePass<N>,
     connection: u64,
-    scenario: Scenario,
+    playing: &Playing,
     flaws: Flaws,
     board: &Arc<Board>,
 ) -> Result<Seat<N>, AllocError> {
     let line = pass.line();
+    let scenario = playing.scenario;
     Ok(Seat {
         pass,
         session: Session {
@@ -84,7 +95,7 @@ fn make_seat<N: Name>(
             unwritten: Vec::new(alloc),
             unanswered_since: None,
         },
-        clock: Ticking::new(board, line, 0)?,
+        clock: Ticking::new(board, line, playing.step, 0)?,
         gate: PlannedGate::new(board, scenario)?,
         after: TurnOutcome::Linked,
     })
@@ -157,8 +168,8 @@ fn plays<N: Name>(
     let [a1_flaws, b1_flaws] = playing.flaws;
     let first = come_up(rt, &exchange, &mut a1);
     let second = come_up(rt, &exchange, &mut b1);
-    let mut a1 = make_seat(alloc, a1, first, playing.scenario, a1_flaws, board)?;
-    let mut b1 = make_seat(alloc, b1, second, playing.scenario, b1_flaws, board)?;
+    let mut a1 = make_seat(alloc, a1, first, playing, a1_flaws, board)?;
+    let mut b1 = make_seat(alloc, b1, second, playing, b1_flaws, board)?;
     go_on(rt, &exchange, &mut a1, &mut b1, playing.turns);
     let kept = kept(rt, &exchange, &mut b1.pass);
     let mut all = Vec::new(alloc);
@@ -181,7 +192,7 @@ pub fn play(
     playing: &Playing,
     board: &Arc<Board>,
 ) -> Result<Played, Fail> {
-    let prepared = prepare(alloc, subs(alloc, playing.scenario.head())?)?;
+    let prepared = prepare(alloc, subs(alloc, playing.scenario)?)?;
     let mut events = Vec::new(alloc);
     let mut records = Vec::new(alloc);
     let (kept, closes) = plays::<Brand>(

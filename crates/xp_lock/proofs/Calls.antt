@@ -47,7 +47,7 @@ module _ {A : Type 0} (tables : Tables) (before : List (Entry A)) (world : World
   AllCome w = (number : ℕ) (call : Call) → call_numbered w number ≡ Some call → ComesFrom number call
 
   abbrev Comes : Change → Type 0
-  Comes change = ComesOf (step_context tables before world line) entry.event.what (action_at world entry.event) entry.outcome step.told change
+  Comes change = ComesOf (step_context tables before world line entry.event.moment) entry.event.what (action_at world entry.event) entry.outcome step.told change
 
   ends_come : (w : World) (n : ℕ) (c : Call) (l : ℕ) (cause diagnostic : ℕ) → AllCome w → (way : NoCallState) → AllCome (changed (Ends n c l way cause diagnostic) w)
   ends_come w n c l cause diagnostic all way number call live = all number call (was_there w.calls n number call live).1
@@ -56,10 +56,10 @@ module _ {A : Type 0} (tables : Tables) (before : List (Entry A)) (world : World
   change_comes (Rises l) w from all = all
   change_comes (Leaves l way) w from all = all
   change_comes (IsRefused l identifier dialled why) w from all = all
-  change_comes (Begins l identifier called dialled setup) w from all = λ number call live.
+  change_comes (Begins l identifier called dialled setup requested) w from all = λ number call live.
       elim (new_or_old w.calls w.next _ number call live) [
         | inl new ↦
-            let begun : Call = record { caller = l; called = called; dialled = dialled; setup = setup; agreed = None } in
+            let begun : Call = record { caller = l; called = called; dialled = dialled; setup = setup; requested = requested; agreed = None } in
             let is : begun ≡ call = new.1 in
             inr (ap (λ k. k.caller) (sym is) ∙ from.asked.line_is, ap taken_by from.took ∙ ap (λ k. Some k.called) is)
         | inr old ↦ all number call old.1

@@ -23,7 +23,7 @@ use Rattle.xp_machine.specs.World.{line_at, state_at}
 use Rattle.xp_lock.specs.declared.receipt.Receipt.{Receipt}
 use Rattle.xp_lock.specs.Outboxes.{PLACES_KEPT, outbox_at}
 use Rattle.xp_lock.specs.steps.Outboxes.{OutboxesMatch, HasRoomFor, IsPut}
-use Rattle.xp_lock.specs.Forced.{IsQuiet, Stalls}
+use Rattle.xp_lock.specs.Forced.{AreAt, IsQuiet, Stalls}
 use Rattle.xp_lock.specs.Given.{AreGiven}
 use Rattle.xp_lock.specs.steps.Given.{IsGivenToFew}
 use Rattle.xp_lock.specs.Handed.{is_stall}
@@ -105,7 +105,7 @@ module _ {A : Type 0} (old mid : Exchange A) (event : Event A) (told : Stepped A
       lines = put.count ∙ can.kept.count ∙ ap line_count (sym step.subs);
     }
 
-    module _ (new : Exchange A) (after : List (Putting (Outgoing A))) (stalled : HasStalled mid from between new after) where
+    module _ (new : Exchange A) (after : List (Putting (Outgoing A))) (stalled : HasStalled mid from event.moment between new after) where
       since_new : drop from new.history ≡ step.entry ∷ stalled.stalls
       since_new =
           let new_is : new.history ≡ old.history ++ (step.entry ∷ stalled.stalls) =
@@ -127,7 +127,7 @@ module _ {A : Type 0} (old mid : Exchange A) (event : Event A) (told : Stepped A
       pub line_there : event.line < line_count old.subs → event.line < line_count new.subs
       line_there within = subst (λ t. event.line < line_count t) (sym (stalled.subs ∙ step.subs)) within
 
-    module _ (new : Exchange A) (after : List (Putting (Outgoing A))) (stalled : HasStalled mid from between new after) (done : Receipt)
+    module _ (new : Exchange A) (after : List (Putting (Outgoing A))) (stalled : HasStalled mid from event.moment between new after) (done : Receipt)
         (number : done.entry ≡ told.entry) (records : done.records ≡ length (records_of new.history))
         (connection : done.connection ≡ (line_at (world_of new) event.line).connection) (given : AreGiven (drop from new.history) done.given.items) where
       before_is : take from mid.history ≡ old.history
@@ -177,6 +177,7 @@ module _ {A : Type 0} (old mid : Exchange A) (event : Event A) (told : Stepped A
               let given_subs = subst (λ t. Stalls t (take from mid.history) (world_of mid) stalled.known (drop from mid.history) stalled.stalls (world_of new)) step.subs stalled.forced in
               subst (Q old.history) since_is (subst (λ before. Q before (drop from mid.history)) before_is given_subs);
           quiet = subst (λ xs. IsQuiet (world_of new) stalled.known (xs ++ stalled.stalls)) since_is stalled.quiet;
+          moments = subst (λ m. AreAt m stalled.stalls) (sym (ap (λ e. e.moment) step.event_is)) stalled.moments;
         };
         few = stalled.few;
         count = stalled.count ∙ put.count;

@@ -2,6 +2,7 @@
 use Rattle.std.proofs.Common.{◌≡◌, ℕ, ◌+◌, ◌*◌, ◌-◌, ◌<◌, ◌≤◌, true, false, List, [], ◌∷◌, ◌++◌, take, drop, length, sym, refl, ap, ◌∙◌, subst, inl, inr, arith, append_assoc, append-nil, length-append}
 use Rattle.std.proofs.lemmas.Bool.{cases_lt}
 use Rattle.std.proofs.lemmas.Grind.{flat_map-append}
+use Rattle.std.proofs.lemmas.List.Elements.{All-append, All-cons, All-nil}
 use Rattle.xp_outbox.specs.Ends.{Putting}
 use Rattle.xp_subs.specs.Tables.{line_count}
 use Rattle.xp_core.specs.declared.entry.Entry.{Entry}
@@ -17,7 +18,7 @@ use Rattle.xp_machine.specs.World.{World, state_at}
 use Rattle.xp_core.proofs.Sounds.{IsRight, run_right, step_right}
 use Rattle.xp_lock.specs.Outboxes.{outbox_at}
 use Rattle.xp_lock.specs.steps.Outboxes.{HasRoomFor, IsPut}
-use Rattle.xp_lock.specs.Forced.{IsDue, IsLowestDue, Stalls}
+use Rattle.xp_lock.specs.Forced.{AreAt, IsDue, IsLowestDue, Stalls}
 use Rattle.xp_lock.specs.Outgoing.{put_out_to, to_line}
 use Rattle.xp_lock.specs.steps.Stalling.{HasEntered, HasStalled, IsLowestShort, IsSearched, IsShort}
 use Rattle.xp_lock.proofs.Calls.{AreClosed, closed}
@@ -27,9 +28,12 @@ use Rattle.xp_lock.proofs.Putting.{box_there}
 use Rattle.xp_lock.proofs.Stalled.{EachLine, closed_next, each_push, each_weaker, few, goes_among, off_after, one_less, one_up, rises, served, stalls_grow, stalls_push, stays_off, up, up_most}
 use Rattle.xp_lock.proofs.Trio.{Among, goes_to, trio, trio_few}
 
-module _ {A : Type 0} (core : Exchange A) (from : ℕ) (outboxes : List (Putting (Outgoing A))) where
+module _ {A : Type 0} (core : Exchange A) (from moment : ℕ) (outboxes : List (Putting (Outgoing A))) where
   abbrev since : List (Entry A)
   since = drop from core.history
+
+  abbrev is_at : Entry A → Type 0
+  is_at entry = entry.event.moment ≡ moment
 
   -- so far these stalls were entered, and of each line so many places were free as the take began, as far as is known now
   pub record Looping (now : Exchange A) (after : List (Putting (Outgoing A))) : Type 0 where
@@ -39,6 +43,7 @@ module _ {A : Type 0} (core : Exchange A) (from : ℕ) (outboxes : List (Putting
     pub lines : List ℕ
     pub few_lines : length lines ≤ 3
     pub forced : Stalls core.subs (take from core.history) (world_of core) known since stalls (world_of now)
+    pub moments : AreAt moment stalls
     pub history : now.history ≡ core.history ++ stalls
     pub subs : now.subs ≡ core.subs
     pub prepared : 3 ≤ now.stalls + length stalls
@@ -93,6 +98,7 @@ module _ {A : Type 0} (core : Exchange A) (from : ℕ) (outboxes : List (Putting
           lines = three;
           few_lines = trio_few old_world entered.entry.event.line entered.entry.outcome;
           forced = refl;
+          moments = All-nil is_at;
           history = sym (append-nil core.history);
           subs = refl;
           prepared = omega (arith, prepared);
@@ -131,6 +137,7 @@ module _ {A : Type 0} (core : Exchange A) (from : ℕ) (outboxes : List (Putting
               (each_weaker (λ line. is_off (state_at (world_of now) line) ≡ true) (λ line. loop.known line ≡ known line)
               (λ line off. sym (loop.free line) ∙ ap (λ b. b.free + length (put_out_to line (since ++ loop.stalls))) (sym (search.still line off))) loop.stalls loop.gone)
               loop.forced;
+          moments = loop.moments;
           history = loop.history;
           subs = loop.subs;
           prepared = loop.prepared;
@@ -171,7 +178,7 @@ module _ {A : Type 0} (core : Exchange A) (from : ℕ) (outboxes : List (Putting
 
       -- ---- none is due any more
 
-      pub ends : ((line : ℕ) → line < length after → IsShort now from after line → ⊥) → HasStalled core from outboxes now after
+      pub ends : ((line : ℕ) → line < length after → IsShort now from after line → ⊥) → HasStalled core from moment outboxes now after
       ends none = record {
         stalls = loop.stalls;
         known = loop.known;
@@ -183,6 +190,7 @@ module _ {A : Type 0} (core : Exchange A) (from : ℕ) (outboxes : List (Putting
             none line (box_there after line some) (short_is line due);
         few = let most = loop.left in omega (arith, most);
         given = record { lines = loop.lines; few = loop.few_lines; goes = λ line some. is_from loop.lines line (loop.goes line some) };
+        moments = loop.moments;
         history = loop.history;
         subs = loop.subs;
         stays = loop.stays;
@@ -230,7 +238,7 @@ module _ {A : Type 0} (core : Exchange A) (from : ℕ) (outboxes : List (Putting
             let same : line_count now.subs ≡ line_count core.subs = ap line_count loop.subs in
             omega (arith, there, many, lines, same)
 
-        module _ (next : Exchange A) (told : Stepped A) (advances : Advances now (stall_of line) next told) where
+        module _ (next : Exchange A) (told : Stepped A) (advances : Advances now (stall_of line moment) next told) where
           here : advances.entry.event.line ≡ line
           here = ap (λ e. e.line) advances.event_is
 
@@ -299,6 +307,8 @@ module _ {A : Type 0} (core : Exchange A) (from : ℕ) (outboxes : List (Putting
               few_lines = loop.few_lines;
               forced = stalls_push core.subs (take from core.history) (world_of core) loop.known since loop.stalls (world_of now) advances.entry (world_of next) loop.forced what
                   (subst (IsLowestDue (world_of now) loop.known (since ++ loop.stalls)) (sym here) due_here) step_core;
+              moments = All-append is_at loop.stalls (advances.entry ∷ []) loop.moments
+                  (All-cons is_at advances.entry [] (ap (λ e. e.moment) advances.event_is) (All-nil is_at));
               history = advances.history ∙ ap (λ xs. xs ++ advances.entry ∷ []) loop.history ∙ append_assoc core.history loop.stalls (advances.entry ∷ []);
               subs = advances.subs ∙ loop.subs;
               prepared = let all = loop.prepared in omega (arith, all, used, one_more);

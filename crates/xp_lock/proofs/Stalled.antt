@@ -86,7 +86,7 @@ module _ {A : Type 0} (tables : Tables) (before : List (Entry A)) (world : World
   line = stall.event.line
 
   abbrev at : StepContext A
-  at = step_context tables before world line
+  at = step_context tables before world line stall.event.moment
 
   action_is : action_at world stall.event ≡ Fall
   action_is = ap (λ w. cell (channel_of (state_at world line)) (kind_of w)) is ∙ falls (state_at world line) on

@@ -63,7 +63,7 @@ set_on P lines was at becomes here line on = elim (cases_eq line at) [
 abbrev Moves : (ℕ → Type 0) → Change → Type 0
 Moves P (Rises line) = P line
 Moves P (Leaves line way) = P line
-Moves P (Begins line identifier called dialled setup) = P line × P called
+Moves P (Begins line identifier called dialled setup requested) = P line × P called
 Moves P (IsRefused line identifier dialled why) = P line
 Moves P (Connects number call agreement) = P call.caller × P call.called
 Moves P (Ends number call line way cause diagnostic) = P line × P (far_end call line)
@@ -71,7 +71,7 @@ Moves P (Ends number call line way cause diagnostic) = P line × P (far_end call
 change_brings : (P : ℕ → Type 0) (change : Change) (world : World) → Moves P change → Brought P world.lines → Brought P (changed change world).lines
 change_brings P (Rises line) world moves was = set_on P world.lines was line _ moves
 change_brings P (Leaves line way) world moves was = set_on P world.lines was line _ moves
-change_brings P (Begins line identifier called dialled setup) world moves was =
+change_brings P (Begins line identifier called dialled setup requested) world moves was =
     set_on P (set world.lines line _) (set_on P world.lines was line _ moves.0) called _ moves.1
 change_brings P (IsRefused line identifier dialled why) world moves was = set_on P world.lines was line _ moves
 change_brings P (Connects number call agreement) world moves was =
@@ -176,7 +176,7 @@ module _ {A : Type 0} (at : StepContext A) (what : What A) where
     moves_on : (change : Change) → ComesOf at what change → Moves P change
     moves_on (Rises line) from = subst P (sym from) own
     moves_on (Leaves line way) from = subst P (sym from) own
-    moves_on (Begins line identifier called dialled setup) from = (
+    moves_on (Begins line identifier called dialled setup requested) from = (
       subst P (sym from.asked.line_is) own,
       subst P (sym from.called_is) (ready_on from.ring.line (taken_ready at.tables at.world at.line from.asked.request.block from.ring from.decided)),
     )
@@ -192,7 +192,7 @@ module _ {A : Type 0} (at : StepContext A) (what : What A) where
 
 module _ {A : Type 0} (tables : Tables) (before : List (Entry A)) (world : World) (entry : Entry A) (next : World) (coupled : AreCoupled tables world) (step : Step tables before world entry next) where
   abbrev here : StepContext A
-  here = step_context tables before world entry.event.line
+  here = step_context tables before world entry.event.line entry.event.moment
 
   abbrev action : Action
   action = action_at world entry.event

@@ -266,7 +266,7 @@ module _ {A : Type 0} (at : StepContext A) where
 module _ {A : Type 0} (tables : Tables) (before : List (Entry A)) (world : World) (entry : Entry A) (next : World) (coupled : AreCoupled tables world)
     (step : Step tables before world entry next) where
   abbrev here : StepContext A
-  here = step_context tables before world entry.event.line
+  here = step_context tables before world entry.event.line entry.event.moment
 
   pub goes_here : Goes here entry.outcome step.told
   goes_here = goes here entry.event.what coupled (action_at world entry.event) entry.outcome step.told step.acts

@@ -1,5 +1,5 @@
 -- The stalls that an event forces (`Forces`). A line in service that takes its packets too slowly goes out of service.
-use Rattle.std.specs.Prelude.{◌≡◌, ℕ, ◌+◌, ◌<◌, false, List, [], ◌∷◌, ◌++◌, length}
+use Rattle.std.specs.Prelude.{◌≡◌, ℕ, ◌+◌, ◌<◌, false, List, [], ◌∷◌, ◌++◌, All, length}
 use Rattle.xp_subs.specs.Tables.{Tables}
 use Rattle.xp_core.specs.declared.entry.Entry.{Entry}
 use Rattle.xp_core.specs.declared.event.What.TheVariants.{Stall}
@@ -34,9 +34,14 @@ module _ {A : Type 0} where
       (next : World) × (stall.event.what ≡ Stall) × IsLowestDue world places entries stall.event.line
       × Step subs (before ++ entries) world stall next × Stalls subs before next places (entries ++ stall ∷ []) stalls last
 
-  -- an event has this entry, forces these stalls, and leads to this last state, in which no line is due
+  -- all these entries have this moment
+  abbrev pub AreAt : ℕ → List (Entry A) → Type 0
+  AreAt moment entries = All (λ entry. entry.event.moment ≡ moment) entries
+
+  -- an event has this entry, forces these stalls, which have its moment, and leads to this last state, in which no line is due
   pub record Forces (subs : Tables) (before : List (Entry A)) (world : World) (places : ℕ → ℕ) (entry : Entry A) (stalls : List (Entry A)) (last : World) : Type 0 where
     pub next : World
     pub step : Step subs before world entry next
     pub forced : Stalls subs before next places (entry ∷ []) stalls last
     pub quiet : IsQuiet last places (entry ∷ stalls)
+    pub moments : AreAt entry.event.moment stalls

@@ -55,16 +55,16 @@ impl<A: Allocator> Book<A> {
     }
 
     /// Returns all entries of the history, a run of the exchange machine that leads to the last state. Each packet that an
-    /// entry puts out can be encoded, and each line that an entry names is one of the subscriptions. Closed user groups let
-    /// the stations of each live call, and of each line that a call was ever put to, be joined. The sizes of each live call
-    /// are in their ranges, and what a connected call accepts arrives.
+    /// entry puts out can be encoded by the modulus of its line, and each line that an entry names is one of the
+    /// subscriptions. Closed user groups let the stations of each live call, and of each line that a call was ever put to,
+    /// be joined. The sizes of each live call are in their ranges, and what a connected call accepts arrives.
     pub fn history(&self) -> &[Entry<A>]
         ensures entries { result.now ≡ self.now.history }
         ensures run { Run self.now.subs self.now.history (world_after self.now.subs self.now.history) }
-        ensures writable { All (λ entry. AreWritable entry.outputs) self.now.history }
+        ensures writable { All (λ entry. AreWritable self.now.subs entry.outputs) self.now.history }
         ensures lines { All (HasLines (line_count self.now.subs)) self.now.history }
         ensures joined { AreJoined self.now.subs self.now.history (world_after self.now.subs self.now.history) }
-        ensures terms { AllHaveTerms (world_after self.now.subs self.now.history) }
+        ensures terms { AllHaveTerms self.now.subs (world_after self.now.subs self.now.history) }
         ensures delivered { AreDelivered self.now.subs self.now.history (world_after self.now.subs self.now.history) }
     {
         self.core.history()

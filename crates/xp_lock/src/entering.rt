@@ -15,7 +15,7 @@ use std::alloc::Allocator;
 use std::sync::Wait;
 use xp_core::{Core, Event, StepFault};
 
-/// Enters an event, puts its outputs into the outboxes, and enters the stalls that it forces. The stalls are prepared
+/// Enters an event, puts its outputs into the outboxes, and enters the stalls that it forces, at its moment. The stalls are prepared
 /// first, so that nothing can fail once the event is entered.
 pub fn enter<A: Allocator + Copy, R: Wait>(
     rt: &R,
@@ -36,6 +36,7 @@ pub fn enter<A: Allocator + Copy, R: Wait>(
         return Err(OfferFault::Memory(event));
     }
     let line = event.line;
+    let moment = event.moment;
     let from = core.history().len();
     let _coupled = core.line(line);
     let told = match core.step(event) {
@@ -45,6 +46,6 @@ pub fn enter<A: Allocator + Copy, R: Wait>(
         ),
     };
     put_all(rt, outboxes, told.outputs);
-    stall_all(rt, core, outboxes, from);
+    stall_all(rt, core, outboxes, from, moment);
     Ok(Receipt::new(told.entry, core, line, from))
 }

@@ -181,6 +181,7 @@ fn compare_pass<N: Name, A: Allocator, R: Wait>(
 {
     let LinePass {
         line,
+        modulus: _,
         history_seat,
         outbox,
         count,

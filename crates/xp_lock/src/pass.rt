@@ -1,7 +1,7 @@
 //! The pass of a line: the thread that has it acts for the line.
 
 ghost use Rattle.std.specs.Prelude.{◌≡◌, ◌<◌, ◌++◌, ◌∷◌, [], IfNone, IfSome};
-ghost use Rattle.xp_subs.specs.Tables.{line_count};
+ghost use Rattle.xp_subs.specs.Tables.{line_count, modulus_of};
 
 use crate::history_length::HistorySeat;
 use crate::name::Name;
@@ -10,12 +10,14 @@ use std::marker::{Model, PhantomData};
 use std::sync::Wait;
 use xp_core::Outgoing;
 use xp_outbox::TakeEnd;
+use xp_packets::Modulus;
 use xp_subs::LineNo;
 
 /// The pass of a line. It has what the line saw of the history, and the end of the outbox from which the line takes outputs.
 #[derive(Drop)]
 pub struct LinePass<N: Name, A: Allocator = Global> {
     pub(crate) line: LineNo,
+    pub(crate) modulus: Modulus,
     pub(crate) history_seat: HistorySeat<A>,
     pub(crate) outbox: TakeEnd<Outgoing<A>, A>,
     /// How many outputs it took. The number stays at its greatest value once there, which no journal reaches.
@@ -25,7 +27,7 @@ pub struct LinePass<N: Name, A: Allocator = Global> {
 
 impl<N: Name, A: Allocator> Model for LinePass<N, A> {
     ghost use Rattle.std.specs.Prelude.{◌≡◌, ◌-◌, ◌<◌, ◌^◌, Some, length, min, slice_get};
-    ghost use Rattle.xp_subs.specs.Tables.{line_count};
+    ghost use Rattle.xp_subs.specs.Tables.{line_count, modulus_of};
     ghost use Rattle.xp_lock.specs.Passes.{Pass};
 
     ghost Value = { Pass A };
@@ -34,7 +36,7 @@ impl<N: Name, A: Allocator> Model for LinePass<N, A> {
 
     ghost view = { λ p. record { line = p.line; seen = p.history_seat.knows.seen; taken = p.outbox.taken } };
 
-    ghost invariant = { λ p. (p.history_seat.history_length ≡ N.history_length) × (p.history_seat.knows ≡ claiming p.line p.history_seat.knows.seen) × (p.line < line_count N.subs) × (slice_get N.queues p.line ≡ Some p.outbox.queue) × (p.count ≡ min (length p.outbox.taken) (2 ^ 64 - 1)) };
+    ghost invariant = { λ p. (p.history_seat.history_length ≡ N.history_length) × (p.history_seat.knows ≡ claiming p.line p.history_seat.knows.seen) × (p.line < line_count N.subs) × (p.modulus ≡ modulus_of N.subs p.line) × (slice_get N.queues p.line ≡ Some p.outbox.queue) × (p.count ≡ min (length p.outbox.taken) (2 ^ 64 - 1)) };
 }
 
 impl<N: Name, A: Allocator> LinePass<N, A> {
@@ -44,6 +46,13 @@ impl<N: Name, A: Allocator> LinePass<N, A> {
         ensures within { result < line_count N.subs }
     {
         self.line
+    }
+
+    /// Returns the modulus by which the line numbers its packets.
+    pub fn modulus(&self) -> Modulus
+        ensures { result ≡ modulus_of N.subs self.now.line }
+    {
+        self.modulus
     }
 
     /// Takes the oldest output from the line's outbox, or returns `None` where it finds none.

@@ -18,19 +18,21 @@ use xp_channel::Channel;
 use xp_core::{Core, Entry, Event, Output, Stepped, What};
 use xp_subs::LineNo;
 
-/// Stalls the lines that are due, the lowest first, until none is due. The stalls are prepared, so they allocate nothing.
+/// Stalls the lines that are due at this moment, the lowest first, until none is due. The stalls are prepared, so they
+/// allocate nothing.
 pub fn stall_all<A: Allocator + Copy, R: Wait>(
     rt: &R,
     core: &mut Core<A>,
     outboxes: &mut Vec<OutboxPutEnd<A>, A>,
     from: usize,
+    moment: u64,
 )
     requires entered { HasEntered core.old from outboxes.old.items }
     requires prepared { 3 ≤ core.old.stalls }
-    ensures { HasStalled core.old from outboxes.old.items core.new outboxes.new.items }
+    ensures { HasStalled core.old from moment outboxes.old.items core.new outboxes.new.items }
 {
     while let Some(line) = due_line(rt, core, outboxes, from) {
-        let told = stall(core, line);
+        let told = stall(core, line, moment);
         put_all(rt, outboxes, told.outputs);
     }
 }
@@ -141,16 +143,17 @@ fn is_off<A: Allocator>(core: &Core<A>, line: LineNo) -> bool
     matches!(core.line(line).channel, Channel::Off)
 }
 
-/// Stalls a line. The stall was prepared, and has its place in the history.
-fn stall<A: Allocator + Copy>(core: &mut Core<A>, line: LineNo) -> Stepped<A>
+/// Stalls a line at this moment. The stall was prepared, and has its place in the history.
+fn stall<A: Allocator + Copy>(core: &mut Core<A>, line: LineNo, moment: u64) -> Stepped<A>
     requires line { line < line_count core.old.subs }
     requires prepared { 0 < core.old.stalls }
     requires place { length core.old.history < core.old.subs.journal }
-    ensures advances { Advances core.old (stall_of line) core.new result }
+    ensures advances { Advances core.old (stall_of line moment) core.new result }
     ensures stalls { core.new.stalls + 1 ≡ core.old.stalls }
 {
     match core.step(Event {
         line,
+        moment,
         what: What::Stall,
     }) {
         Ok(told) => told,

@@ -16,7 +16,7 @@ use std::alloc::{AllocError, Allocator};
 use std::marker::PhantomData;
 use xp_core::Outgoing;
 use xp_outbox::TakeEnd;
-use xp_subs::LineNo;
+use xp_subs::{LineNo, Subs};
 
 impl<N: Name, A: Allocator + Copy> Exchange<N, A> {
     /// Starts the exchange that `N` names, with an empty history, and returns it with the passes of its lines, in order.
@@ -43,7 +43,7 @@ impl<N: Name, A: Allocator + Copy> Exchange<N, A> {
             lines,
         } = prepared;
         let mut history_seat = history_seat;
-        let passes = first_passes(alloc, &history_length, &mut history_seat, ends)?;
+        let passes = first_passes(alloc, core.subs(), &history_length, &mut history_seat, ends)?;
         let keeper = Keeper::new(CoreWithOutboxes::new(core, outboxes), history_seat);
         Ok((
             Exchange::new(keeper, history_length, lines as LineNo, taken),
@@ -52,13 +52,15 @@ impl<N: Name, A: Allocator + Copy> Exchange<N, A> {
     }
 }
 
-/// Makes the passes of the lines, in order. Each has the claim of its line and the take end of its outbox.
+/// Makes the passes of the lines, in order. Each has the modulus and the claim of its line, and the take end of its outbox.
 fn first_passes<N: Name, A: Allocator>(
     alloc: A,
+    subs: &Subs,
     history_length: &HistoryLength<A>,
     keeper: &mut HistorySeat<A>,
     ends: Vec<TakeEnd<Outgoing<A>, A>, A>,
 ) -> Result<Vec<LinePass<N, A>, A>, AllocError>
+    requires subs { subs.now ≡ N.subs }
     requires history_length { history_length.now ≡ N.history_length }
     requires keeper { keeper.old ≡ record { history_length = N.history_length; knows = keeping 0 [] } }
     requires queues { map (λ end. end.queue) ends.items ≡ N.queues }
@@ -74,6 +76,7 @@ fn first_passes<N: Name, A: Allocator>(
         let history_seat = history_length.next_claim(keeper);
         passes.push(LinePass {
             line,
+            modulus: subs.modulus_of(line),
             history_seat,
             outbox,
             count: 0,

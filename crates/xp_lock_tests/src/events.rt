@@ -8,7 +8,7 @@ use std::alloc::{Allocator, Global};
 use std::sync::Wait;
 use xp_core::{Event, Outgoing, Put, What};
 use xp_lock::{Exchange, LinePass, Name, OfferFault, Receipt};
-use xp_packets::{Packet, PacketFault, decode};
+use xp_packets::{Modulus, Packet, PacketFault, decode};
 
 /// A call request for 2080020, which is b1's.
 pub const CALL: [u8; 13] = [
@@ -35,57 +35,60 @@ pub fn ready(pr: u8) -> [u8; 3]
     [0x10, 0x01, pr << 5 | 0x01]
 }
 
-/// The packet of these octets comes on a line.
+/// The packet of these octets comes on a line, which numbers modulo 8.
 pub fn packet<A: Allocator + Copy>(alloc: A, octets: &[u8]) -> Result<What<A>, PacketFault>
     ensures readable { IfOk result (λ what. IsReadable what) }
     ensures kind { IfOk result (λ what. is_stall what ≡ false) }
 {
-    let (identifier, packet) = decode(alloc, octets)?;
+    let (identifier, packet) = decode(alloc, Modulus::Eight, octets)?;
     Ok(What::frame(identifier, packet))
 }
 
-/// Offers what comes on the pass's line.
+/// Offers what comes on the pass's line at this moment.
 pub fn offer<N: Name>(
     rt: &impl Wait,
     exchange: &Exchange<N, Global>,
     pass: &mut LinePass<N, Global>,
+    moment: u64,
     what: What,
 ) -> Result<Receipt, OfferFault>
     requires readable { IsReadable what }
     requires kind { is_stall what ≡ false }
 {
     let line = pass.line();
-    exchange.offer(rt, pass, Event { line, what })
+    exchange.offer(rt, pass, Event { line, moment, what })
 }
 
-/// Offers what comes on the pass's line: the number of its entry, where it was taken.
+/// Offers what comes on the pass's line at this moment: the number of its entry, where it was taken.
 pub fn entered<N: Name>(
     rt: &impl Wait,
     exchange: &Exchange<N, Global>,
     pass: &mut LinePass<N, Global>,
+    moment: u64,
     what: What,
 ) -> Option<u64>
     requires readable { IsReadable what }
     requires kind { is_stall what ≡ false }
 {
-    if let Ok(done) = offer(rt, exchange, pass, what) {
+    if let Ok(done) = offer(rt, exchange, pass, moment, what) {
         return Some(done.entry());
     }
     None
 }
 
-/// Whether an offer of what comes on the pass's line is refused, for a reason that is so.
+/// Whether an offer of what comes on the pass's line at this moment is refused, for a reason that is so.
 pub fn is_refused<N: Name>(
     rt: &impl Wait,
     exchange: &Exchange<N, Global>,
     pass: &mut LinePass<N, Global>,
+    moment: u64,
     what: What,
     reason: Reason,
 ) -> bool
     requires readable { IsReadable what }
     requires kind { is_stall what ≡ false }
 {
-    if let Err(fault) = offer(rt, exchange, pass, what) {
+    if let Err(fault) = offer(rt, exchange, pass, moment, what) {
         return reason.is_of(&fault);
     }
     false
@@ -94,7 +97,7 @@ pub fn is_refused<N: Name>(
 /// Why an offer is refused.
 #[derive(Clone, Copy)]
 pub enum Reason {
-    /// The exchange is halted, and the call accepted packet that was offered comes back.
+    /// The exchange is halted, and the call accepted packet that was offered at moment 2 comes back.
     Halted,
     NoRoom,
 }
@@ -107,6 +110,7 @@ impl Reason {
                 fault,
                 OfferFault::Halted(Event {
                     line: 1,
+                    moment: 2,
                     what: What::Frame {
                         identifier: 1,
                         packet: Packet::Accepted {

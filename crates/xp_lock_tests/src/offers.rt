@@ -46,14 +46,14 @@ fn halts_between<N: Name>(
     b1: &mut LinePass<N>,
 ) -> Result<Seen, Fail> {
     let mut seen = Seen::default();
-    let _up = entered(rt, exchange, a1, What::Up);
-    let _up = entered(rt, exchange, b1, What::Up);
+    let _up = entered(rt, exchange, a1, 0, What::Up);
+    let _up = entered(rt, exchange, b1, 0, What::Up);
     seen.halted_before = exchange.halted();
-    seen.called = entered(rt, exchange, a1, packet(alloc, &CALL)?);
+    seen.called = entered(rt, exchange, a1, 1, packet(alloc, &CALL)?);
     exchange.halt(rt);
     seen.halted = exchange.halted();
     let answer = packet(alloc, &ACCEPTED)?;
-    seen.refused = is_refused(rt, exchange, b1, answer, Reason::Halted);
+    seen.refused = is_refused(rt, exchange, b1, 2, answer, Reason::Halted);
     seen.rung = is_call(&exchange.next_out(rt, b1));
     Ok(seen)
 }

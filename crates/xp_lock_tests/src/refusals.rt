@@ -28,7 +28,8 @@ fn offer<N: Name, A: Allocator + Copy>(
     requires kind { is_stall what ≡ false }
 {
     let line = pass.line();
-    match exchange.offer(rt, pass, Event { line, what }) {
+    let moment = 0;
+    match exchange.offer(rt, pass, Event { line, moment, what }) {
         Ok(done) => Some((done.entry(), false)),
         Err(OfferFault::Memory(event)) => {
             let done = exchange.offer(rt, pass, event).ok()?;

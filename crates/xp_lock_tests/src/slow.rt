@@ -29,13 +29,13 @@ struct Seen {
     /// Whether an Up of b1 was refused for want of room then, and whether it was taken once its outputs were.
     without_room: bool,
     came_up: bool,
-    /// The number of the last entry that is a stall, and how many there are.
-    stall: Option<u64>,
+    /// The number and the moment of the last entry that is a stall, and how many there are.
+    stall: Option<(u64, u64)>,
     stalls: usize,
     /// How many outputs the closed book counts as taken by a1 and by b1.
     taken: (u64, u64),
-    /// The segments of the first record, from the caller and from the called line.
-    segments: Option<(u32, u32)>,
+    /// The segments of the first record, from the caller and from the called line, and its seconds.
+    segments: Option<(u32, u32, u64)>,
 }
 
 /// Takes all outputs of the pass's line: how many there were, and the last.
@@ -100,14 +100,15 @@ fn connect<N: Name>(
     let [a1, b1, ..] = passes else {
         return Ok(None);
     };
-    let _up = offer(rt, exchange, a1, What::Up);
-    let _up = offer(rt, exchange, b1, What::Up);
-    let first = rung(offer(rt, exchange, a1, packet(alloc, &CALL)?));
-    let _accepted = offer(rt, exchange, b1, packet(alloc, &ACCEPTED)?);
+    let _up = offer(rt, exchange, a1, 0, What::Up);
+    let _up = offer(rt, exchange, b1, 0, What::Up);
+    let first = rung(offer(rt, exchange, a1, 0, packet(alloc, &CALL)?));
+    let _accepted = offer(rt, exchange, b1, 10, packet(alloc, &ACCEPTED)?);
     Ok(first)
 }
 
-/// a1 sends b1 packets that b1 acknowledges; a1 takes its outputs at once, b1 does where that is asked. The last output to a1.
+/// a1 sends b1 packets that b1 acknowledges, one in each second from the 100th on; a1 takes its outputs at once, b1 does where
+/// that is asked. The last output to a1.
 fn send_all<N: Name>(
     rt: &impl Wait,
     alloc: Global,
@@ -120,8 +121,15 @@ fn send_all<N: Name>(
     };
     let mut last = None;
     for number in 0..PACKETS {
-        let _data = offer(rt, exchange, a1, packet(alloc, &data(number % 8))?);
-        let _ready = offer(rt, exchange, b1, packet(alloc, &ready((number + 1) % 8))?);
+        let moment = 100 + u64::from(number);
+        let _data = offer(rt, exchange, a1, moment, packet(alloc, &data(number % 8))?);
+        let _ready = offer(
+            rt,
+            exchange,
+            b1,
+            moment,
+            packet(alloc, &ready((number + 1) % 8))?,
+        );
         if at_once {
             take_all(rt, exchange, b1);
         }
@@ -137,11 +145,11 @@ fn come_back<N: Name>(
     b1: &mut LinePass<N, Global>,
     seen: &mut Seen,
 ) {
-    seen.without_room = is_refused(rt, exchange, b1, What::Up, Reason::NoRoom);
+    seen.without_room = is_refused(rt, exchange, b1, 200, What::Up, Reason::NoRoom);
     let (kept, last) = take_all(rt, exchange, b1);
     seen.kept = kept;
     seen.closes = closes(&last);
-    seen.came_up = offer(rt, exchange, b1, What::Up).is_ok();
+    seen.came_up = offer(rt, exchange, b1, 200, What::Up).is_ok();
 }
 
 /// a1 calls b1, and sends it the packets; b1 comes back.
@@ -162,13 +170,13 @@ fn talk<N: Name>(
     Ok(seen)
 }
 
-/// The number of the last entry that is a stall, and how many there are.
-fn stalls(book: &Book) -> (Option<u64>, usize) {
+/// The number and the moment of the last entry that is a stall, and how many there are.
+fn stalls(book: &Book) -> (Option<(u64, u64)>, usize) {
     let mut last = None;
     let mut count = 0usize;
     for entry in book.history() {
         if matches!(entry.event.what, What::Stall) {
-            last = Some(entry.number);
+            last = Some((entry.number, entry.event.moment));
             count = count.saturating_add(1);
         }
     }
@@ -182,7 +190,7 @@ fn note_book(seen: &mut Seen, book: &Book) {
     seen.stalls = count;
     seen.taken = (book.taken(0), book.taken(1));
     if let Some(ended) = book.records().first() {
-        seen.segments = Some((ended.from_caller, ended.from_called));
+        seen.segments = Some((ended.from_caller, ended.from_called, ended.seconds()));
     }
 }
 
@@ -211,6 +219,7 @@ fn slow_line_is_stalled(rt: HostRuntime) -> Result<(), Fail> {
     let prepared = prepare(rt.alloc(), Subs::read(rt.alloc(), THREE_STATIONS)?)?;
     // two connections, the call and its answer, forty packets with thirty-nine acknowledgements between them; a1 takes the
     // answer, these acknowledgements and the clear indication, b1 the call, the packets and what closes its connection
+    // the call is connected at 10, and the stall has the moment of the fortieth packet
     assert_eq!(rt;
         plays::<Brand>(&rt, rt.alloc(), prepared, false)?,
         Seen {
@@ -220,10 +229,10 @@ fn slow_line_is_stalled(rt: HostRuntime) -> Result<(), Fail> {
             cleared: Some((0x09, Some(0))),
             without_room: true,
             came_up: true,
-            stall: Some(84),
+            stall: Some((84, 139)),
             stalls: 1,
             taken: (41, 42),
-            segments: Some((40, 0)),
+            segments: Some((40, 0, 129)),
         }
     );
     Ok(())

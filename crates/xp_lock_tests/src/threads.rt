@@ -19,7 +19,8 @@ use xp_testing::THREE_STATIONS;
 /// How many clear confirmations each line offers: an error in p1, and then what confirms its clear indication.
 const CONFIRMATIONS: usize = 100;
 
-/// Offers what comes on the line, and takes all that is put out to it: the number of the entry, where it is greater.
+/// Offers what comes on the line, at the moment that is the last number, and takes all that is put out to it: the number of
+/// the entry, where it is greater.
 fn offer_next<N: Name>(
     rt: &impl Wait,
     exchange: &Exchange<N, Global>,
@@ -30,7 +31,7 @@ fn offer_next<N: Name>(
     requires readable { IsReadable what }
     requires kind { is_stall what ≡ false }
 {
-    let entry = entered(rt, exchange, pass, what)?;
+    let entry = entered(rt, exchange, pass, number, what)?;
     take_all(rt, exchange, pass);
     if entry > number { Some(entry) } else { None }
 }

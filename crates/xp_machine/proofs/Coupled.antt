@@ -34,7 +34,7 @@ pub record IsIn (world : World) (number : ℕ) (call : Call) (line : ℕ) : Type
 abbrev pub CanBe : World → Change → Type 0
 CanBe world (Rises line) = IsOut world line
 CanBe world (Leaves line way) = IsOut world line
-CanBe world (Begins line identifier called dialled setup) = AreTwo world line called
+CanBe world (Begins line identifier called dialled setup requested) = AreTwo world line called
 CanBe world (IsRefused line identifier dialled why) = IsOut world line
 CanBe world (Connects number call agreement) = call_numbered world number ≡ Some call
 CanBe world (Ends number call line way cause diagnostic) = IsIn world number call line
@@ -123,9 +123,9 @@ module _ (tables : Tables) (world : World) (coupled : AreCoupled tables world) (
         })
 
   -- a call between two lines in no call begins
-  module _ (caller called identifier : ℕ) (dialled : List ℕ) (setup : Setup) (two : AreTwo world caller called) (fresh : call_numbered world world.next ≡ None) where
+  module _ (caller called identifier : ℕ) (dialled : List ℕ) (setup : Setup) (requested : ℕ) (two : AreTwo world caller called) (fresh : call_numbered world world.next ≡ None) where
     abbrev call : Call
-    call = record { caller = caller; called = called; dialled = dialled; setup = setup; agreed = None }
+    call = record { caller = caller; called = called; dialled = dialled; setup = setup; requested = requested; agreed = None }
 
     abbrev waits : Line
     waits = record (line_at world caller) { state = Waiting world.next; identifier = identifier }
@@ -277,8 +277,8 @@ pub changed_coupled : (tables : Tables) (world : World) (change : Change) → Ar
 changed_coupled tables world (Rises line) coupled lines fresh can = quiet_coupled tables world coupled lines line _ world.next can refl
 changed_coupled tables world (Leaves line way) coupled lines fresh can =
     quiet_coupled tables world coupled lines line _ world.next can (left_out tables world coupled lines way)
-changed_coupled tables world (Begins line identifier called dialled setup) coupled lines fresh can =
-    put_coupled tables world coupled lines line called identifier dialled setup can fresh
+changed_coupled tables world (Begins line identifier called dialled setup requested) coupled lines fresh can =
+    put_coupled tables world coupled lines line called identifier dialled setup requested can fresh
 changed_coupled tables world (IsRefused line identifier dialled why) coupled lines fresh can =
     quiet_coupled tables world coupled lines line _ (world.next + 1) can refl
 changed_coupled tables world (Connects number call agreement) coupled lines fresh can =

@@ -32,9 +32,9 @@ applied (kept.Rise line) world = record world {
 }
 applied (kept.Free line) world = record world { lines = moved world line Ready world.lines }
 applied (kept.Leave line way) world = left line (no_call_state_of way) (call_on world line) world
-applied (kept.Begin caller identifier called dialled setup) world = record {
+applied (kept.Begin caller identifier called dialled setup requested) world = record {
   lines = moved_as world called INITIAL_IDENTIFIER (Ringing world.next) (moved_as world caller identifier (Waiting world.next) world.lines);
-  calls = map.insert world.calls world.next (record { caller = caller; called = called; dialled = dialled; setup = setup; agreed = None });
+  calls = map.insert world.calls world.next (record { caller = caller; called = called; dialled = dialled; setup = setup; requested = requested; agreed = None });
   next = world.next + 1;
 }
 applied (kept.Refuse line identifier) world =

@@ -29,8 +29,9 @@ pub data Change : Type 0 where
   Rises : (line : ℕ) → Change
   -- a line in no call comes to another state of no call
   Leaves : (line : ℕ) (way : NoCallState) → Change
-  -- a call begins, and is put to the called line: the line that asked for it takes over the identifier of its request
-  Begins : (line identifier called : ℕ) (dialled : List ℕ) (setup : Setup) → Change
+  -- a call begins that was requested at a moment, and is put to the called line: the line that asked for it takes over
+  -- the identifier of its request
+  Begins : (line identifier called : ℕ) (dialled : List ℕ) (setup : Setup) (requested : ℕ) → Change
   -- a call request is refused: it gets the next number, and its line a clear indication
   IsRefused : (line identifier : ℕ) (dialled : List ℕ) (why : Refusal) → Change
   -- a call is accepted
@@ -43,9 +44,9 @@ changed (Rises line) world = record world {
   lines = slice_set world.lines line (record { state = Ready; identifier = INITIAL_IDENTIFIER; connection = (line_at world line).connection + 1 });
 }
 changed (Leaves line way) world = record world { lines = moved world line (state_after way) world.lines }
-changed (Begins line identifier called dialled setup) world = record {
+changed (Begins line identifier called dialled setup requested) world = record {
   lines = moved_as world called INITIAL_IDENTIFIER (Ringing world.next) (moved_as world line identifier (Waiting world.next) world.lines);
-  calls = map.insert world.calls world.next (record { caller = line; called = called; dialled = dialled; setup = setup; agreed = None });
+  calls = map.insert world.calls world.next (record { caller = line; called = called; dialled = dialled; setup = setup; requested = requested; agreed = None });
   next = world.next + 1;
 }
 changed (IsRefused line identifier dialled why) world =
@@ -64,12 +65,14 @@ abbrev pub all_changed : List Change → World → World
 all_changed [] world = world
 all_changed (change ∷ changes) world = all_changed changes (changed change world)
 
--- what is recorded with a change, where each end of each call sent this many segments so far
-abbrev pub recorded : (ℕ → Call → End → ℕ) → World → Change → List Record
-recorded counted world (IsRefused line identifier dialled why) = refused_record world.next line dialled why ∷ []
-recorded counted world (Ends number call line way cause diagnostic) = record_of number call (counted number call) cause diagnostic ∷ []
-recorded counted world change = []
+-- what is recorded with a change at a moment, where each end of each call sent this many segments so far
+abbrev pub recorded : (ℕ → Call → End → ℕ) → ℕ → World → Change → List Record
+recorded counted moment world (IsRefused line identifier dialled why) = refused_record world.next moment line dialled why ∷ []
+recorded counted moment world (Ends number call line way cause diagnostic) =
+    record_of number call (counted number call) moment cause diagnostic ∷ []
+recorded counted moment world change = []
 
-abbrev pub recorded_by : (ℕ → Call → End → ℕ) → World → List Change → List Record
-recorded_by counted world [] = []
-recorded_by counted world (change ∷ changes) = recorded counted world change ++ recorded_by counted (changed change world) changes
+abbrev pub recorded_by : (ℕ → Call → End → ℕ) → ℕ → World → List Change → List Record
+recorded_by counted moment world [] = []
+recorded_by counted moment world (change ∷ changes) =
+    recorded counted moment world change ++ recorded_by counted moment (changed change world) changes

@@ -1,7 +1,9 @@
--- What the line that pays for a call is told of its segments as it ends (X.25 clause 6.22).
-use Rattle.std.specs.Prelude.{ℕ, Bool, ◌&&◌, if◌then◌else◌, Option, None, Some}
+-- What the line that pays for a call is told of its duration and its segments as it ends (X.25 clause 6.22).
+use Rattle.std.specs.Prelude.{ℕ, min, Bool, ◌&&◌, if◌then◌else◌, Option, None, Some}
+use Rattle.xp_charge.specs.Duration.{duration}
 use Rattle.xp_charge.specs.Meter.{far_end as other_end}
-use Rattle.xp_facilities.specs.declared.segment_counts.SegmentCounts.{SegmentCounts}
+use Rattle.xp_facilities.specs.Limits.{largest_duration}
+use Rattle.xp_facilities.specs.declared.charging_information.ChargingInformation.{ChargingInformation}
 use Rattle.xp_packets.specs.declared.end.End.{End}
 use Rattle.xp_packets.specs.declared.end.End.TheVariants.{Caller, Called}
 use Rattle.xp_relay.specs.Runs.{same_end}
@@ -14,14 +16,18 @@ abbrev pub asks_for_information : Call → Agreement → End → Bool
 asks_for_information call agreement Caller = call.setup.charging
 asks_for_information call agreement Called = agreement.charging
 
--- what the line at an end of a call is told, if each end sent this many segments: nothing unless the call was
--- connected, and the line pays for it and asked
-abbrev pub information_as : Call → (End → ℕ) → End → Option Agreement → Option SegmentCounts
-information_as call counted end None = None
-information_as call counted end (Some agreement) =
+-- what the line at an end of a call is told, if each end sent this many segments and the call ends at this moment:
+-- nothing unless the call was connected, and the line pays for it and asked; the duration is the one in the record, or
+-- the longest that a field indicates
+abbrev pub information_as : Call → (End → ℕ) → ℕ → End → Option Agreement → Option ChargingInformation
+information_as call counted ended end None = None
+information_as call counted ended end (Some agreement) =
     if same_end end call.setup.payer && asks_for_information call agreement end
-    then Some (record { sent = counted (other_end end); received = counted end })
+    then Some (record {
+      duration = min largest_duration (duration (Some agreement.connected) ended);
+      segments = record { sent = counted (other_end end); received = counted end };
+    })
     else None
 
-abbrev pub information_for : Call → (End → ℕ) → End → Option SegmentCounts
-information_for call counted end = information_as call counted end call.agreed
+abbrev pub information_for : Call → (End → ℕ) → ℕ → End → Option ChargingInformation
+information_for call counted ended end = information_as call counted ended end call.agreed

@@ -36,7 +36,7 @@ abbrev pub line_of : LogicalChannel → Line
 line_of kept = record { state = state_of kept.state; identifier = kept.identifier; connection = kept.connection }
 
 abbrev pub call_of_stored : LiveCall → Call
-call_of_stored call = record { caller = call.caller; called = call.called; dialled = call.dialled; setup = call.setup; agreed = call.agreed }
+call_of_stored call = record { caller = call.caller; called = call.called; dialled = call.dialled; setup = call.setup; requested = call.requested; agreed = call.agreed }
 
 abbrev pub entry_of : LiveCall → ℕ × Call
 entry_of call = (call.number, call_of_stored call)

@@ -1,6 +1,5 @@
 -- The state of the exchange.
 use Rattle.std.specs.Prelude.{ℕ, ◌==◌, if◌then◌else◌, Option, None, Some, List, option_map, replicate, slice_index_or, slice_set}
-use Rattle.std.specs.Coded.{Coded, coded_ℕ}
 use Rattle.std.specs.FinMap as map
 use Rattle.std.specs.Ordering.{nat_cmp}
 use Rattle.xp_answer.specs.declared.setup.Setup.{Setup}
@@ -25,6 +24,8 @@ pub record Call : Type 0 where
   pub dialled : List ℕ
   -- what the caller asked for, and what was indicated to the called line
   pub setup : Setup
+  -- the moment of its call request, in seconds
+  pub requested : ℕ
   -- what its answer settled: None until the call is accepted
   pub agreed : Option Agreement
 

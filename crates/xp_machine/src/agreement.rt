@@ -1,8 +1,12 @@
-ghost use Rattle.std.specs.Prelude.{◌≡◌};
+ghost use Rattle.std.specs.Prelude.{◌≡◌, ◌≤◌, min, Some};
+ghost use Rattle.xp_charge.specs.Duration.{duration};
+ghost use Rattle.xp_facilities.specs.Limits.{largest_duration};
 ghost use Rattle.xp_machine.specs.RelayTerms.{terms_of};
 
 use xp_answer::Terms;
-use xp_relay::{Agreed, Modulus};
+use xp_facilities::limits::LARGEST_DURATION;
+use xp_packets::Modulus;
+use xp_relay::Agreed;
 
 /// What the answer to an incoming call settles.
 #[derive(Clone, Copy, Debug, Default, PartialEq, Eq)]
@@ -11,12 +15,24 @@ pub struct Agreement {
     pub terms: Terms,
     /// Whether the called line asks for charging information.
     pub charging: bool,
+    /// The moment of the answer, at which the call was connected, in seconds.
+    pub connected: u64,
 }
 
 impl Agreement {
-    /// Returns what was agreed for the data of each end. The packets of all lines are numbered modulo 8.
-    pub fn relay_terms(self) -> xp_relay::Terms
-        ensures { result ≡ terms_of self }
+    /// Returns the duration that is told of a call that ends at this moment, in seconds: the time since it was connected,
+    /// at most the longest that a field indicates (X.25 clause 6.22), and 0 if the clock went back.
+    pub(crate) fn told_duration(self, ended: u64) -> u32
+        ensures duration { result ≡ min largest_duration (duration (Some self.connected) ended) }
+        ensures most { result ≤ 8_639_999 }
+    {
+        let seconds = ended.saturating_sub(self.connected);
+        seconds.min(u64::from(LARGEST_DURATION)) as u32
+    }
+
+    /// Returns what was agreed for the data of each end, where the caller's line and the called line have these moduli.
+    pub fn relay_terms(self, caller: Modulus, called: Modulus) -> xp_relay::Terms
+        ensures { result ≡ terms_of self caller called }
     {
         let Terms { packet, window } = self.terms;
         xp_relay::Terms {
@@ -28,8 +44,8 @@ impl Agreement {
                 size: packet.from_called,
                 window: window.from_called,
             },
-            caller: Modulus::Eight,
-            called: Modulus::Eight,
+            caller,
+            called,
         }
     }
 }

@@ -1,5 +1,5 @@
 ghost use Rattle.std.specs.Prelude.{◌≡◌, ◌≤◌};
-ghost use Rattle.xp_answer.specs.ForwardedClear.{AreCounts};
+ghost use Rattle.xp_answer.specs.ForwardedClear.{IsInRange};
 ghost use Rattle.xp_charge.specs.Meter.{counted_from, far_end as other_end};
 ghost use Rattle.xp_machine.specs.Clearing.{record_of};
 ghost use Rattle.xp_machine.specs.StoredState.{call_of_stored};
@@ -10,7 +10,7 @@ ghost use Rattle.xp_machine.specs.World.{far_end as other_line};
 use crate::agreement::Agreement;
 use xp_answer::Setup;
 use xp_charge::{Meter, Record};
-use xp_facilities::SegmentCounts;
+use xp_facilities::{ChargingInformation, SegmentCounts};
 use xp_packets::{Digits, End};
 use xp_subs::LineNo;
 
@@ -27,6 +27,8 @@ pub struct LiveCall {
     pub dialled: Digits,
     /// What the caller asked for, and what was indicated to the called line.
     pub setup: Setup,
+    /// The moment of its call request, in seconds.
+    pub requested: u64,
     /// What its answer settled. It is None until the call is accepted.
     pub agreed: Option<Agreement>,
 }
@@ -63,18 +65,22 @@ impl LiveCall {
         }
     }
 
-    /// Returns the counts of this meter that the line at an end is told as the call ends. A line is told nothing unless
-    /// the call was connected, and the line pays for it and asked (X.25 clause 6.22).
-    pub fn information(&self, meter: Meter, end: End) -> Option<SegmentCounts>
-        ensures told { result ≡ information_for (call_of_stored self.now) (λ e. counted_from e meter) end }
-        ensures counts { meter.limit ≤ 99_999_999 → AreCounts result }
+    /// Returns what the line at an end is told as the call ends at this moment: how long it was connected, and the counts
+    /// of this meter. A line is told nothing unless the call was connected, and the line pays for it and asked (X.25
+    /// clause 6.22).
+    pub fn information(&self, meter: Meter, ended: u64, end: End) -> Option<ChargingInformation>
+        ensures told { result ≡ information_for (call_of_stored self.now) (λ e. counted_from e meter) ended end }
+        ensures range { meter.limit ≤ 99_999_999 → IsInRange result }
     {
         let agreement = self.agreed?;
         if end != self.setup.payer || !self.asks_for_information(agreement, end) {
             return None;
         }
         let (sent, received) = meter.counts_for(end);
-        Some(SegmentCounts { sent, received })
+        Some(ChargingInformation {
+            duration: agreement.told_duration(ended),
+            segments: SegmentCounts { sent, received },
+        })
     }
 
     /// Returns whether the line at an end asked for charging information. The caller asks in its call request, the
@@ -109,10 +115,10 @@ impl LiveCall {
         }
     }
 
-    /// Returns the record of the call, with the counts of this meter, and with the cause and diagnostic with which it
-    /// ended.
-    pub fn record(&self, meter: Meter, cause: u8, diagnostic: u8) -> Record
-        ensures { result ≡ record_of self.now.number (call_of_stored self.now) (λ end. counted_from end meter) cause diagnostic }
+    /// Returns the record of the call, which ended at this moment, with the counts of this meter, and with the cause and
+    /// diagnostic with which it ended.
+    pub fn record(&self, meter: Meter, ended: u64, cause: u8, diagnostic: u8) -> Record
+        ensures { result ≡ record_of self.now.number (call_of_stored self.now) (λ end. counted_from end meter) ended cause diagnostic }
     {
         let (from_caller, from_called) = meter.counts_for(End::Called);
         Record {
@@ -125,6 +131,9 @@ impl LiveCall {
             from_called,
             cause,
             diagnostic,
+            requested: self.requested,
+            connected: self.agreed.map(|agreement| agreement.connected),
+            ended,
         }
     }
 }

@@ -38,6 +38,8 @@ pub enum Change {
         called: LineNo,
         dialled: Digits,
         setup: Setup,
+        /// The moment of the call request, in seconds.
+        requested: u64,
     },
     /// A call request is refused. It uses up a call number, and its line is cleared.
     Refuse {

@@ -5,7 +5,9 @@ use Rattle.std.proofs.lemmas.Bool.{eqb-true, eqb-false, eq-eqb, ne_eqb, cases_Bo
 use Rattle.std.proofs.lemmas.Nat.{or_shifted}
 use Rattle.std.proofs.lemmas.Nat.Bits.{and_pow, bit_at-lt}
 use Rattle.std.specs.Int.{bit_at}
-use Rattle.xp_packets.specs.Heading.{bit}
+use Rattle.xp_packets.specs.declared.modulus.Modulus.{Modulus}
+use Rattle.xp_packets.specs.declared.modulus.Modulus.TheVariants.{Eight, Long}
+use Rattle.xp_packets.specs.Heading.{bit, modulus_bits}
 
 weight_is_zero : (b weight : ℕ) → b < 2 → 0 < weight → not (eqb (b * weight) 0) ≡ eqb b 1
 weight_is_zero b weight small some =
@@ -34,6 +36,22 @@ data_bits ps pr false small little =
     let sent : ps * 2 % 256 ≡ ps * 2 = omega arith in
     let both : pr * 32 + 0 ≡ (2 * pr) * 16 = omega arith in
     rw (received, sent, or_shifted pr 5 0 (omega arith), both, or_shifted (2 * pr) 4 (ps * 2) (omega arith)) (omega arith)
+
+-- the M bit below P(R) in bits 8 to 2
+pub last_bit : (pr : ℕ) (more : Bool) → pr < 128 → bit_or (pr * 2 % 256) (bit 1 more) ≡ 2 * pr + bit 1 more
+last_bit pr true little = let received : pr * 2 % 256 ≡ pr * 2 = omega arith in rw (received, or_shifted pr 1 1 (omega arith)) (omega arith)
+last_bit pr false little = let received : pr * 2 % 256 ≡ pr * 2 = omega arith in rw (received, or_shifted pr 1 0 (omega arith)) (omega arith)
+
+-- Q, D, the modulus and the channel group share no bit
+pub heading_bits : (modulus : Modulus) (q d : Bool) (group : ℕ) → group < 16 → bit_or (bit_or (bit_or (bit 128 q) (bit 64 d)) (modulus_bits modulus * 16 % 256)) group ≡ bit 128 q + bit 64 d + 16 * modulus_bits modulus + group
+heading_bits Eight true true group below = or_shifted 13 4 group below
+heading_bits Eight true false group below = or_shifted 9 4 group below
+heading_bits Eight false true group below = or_shifted 5 4 group below
+heading_bits Eight false false group below = or_shifted 1 4 group below
+heading_bits Long true true group below = or_shifted 14 4 group below
+heading_bits Long true false group below = or_shifted 10 4 group below
+heading_bits Long false true group below = or_shifted 6 4 group below
+heading_bits Long false false group below = or_shifted 2 4 group below
 
 -- two digits in the half-octets of an octet
 pub half_bits : (high low : ℕ) → high < 10 → low < 10 → bit_or (high * 16 % 256) low ≡ 16 * high + low

@@ -3,6 +3,7 @@ use Rattle.std.specs.Prelude.{◌≡◌, ℕ, ◌==◌, nat_lt, Bool, true, fals
 use Rattle.xp_packets.specs.declared.fault.Malformed.{Malformed}
 use Rattle.xp_packets.specs.declared.fault.Malformed.TheVariants.{Short, Format, Facilities, Long}
 use Rattle.xp_packets.specs.declared.block.Block.{Block}
+use Rattle.xp_packets.specs.declared.modulus.Modulus.{Modulus}
 use Rattle.xp_packets.specs.declared.packet.Packet.{Packet}
 use Rattle.xp_packets.specs.declared.packet.Packet.TheVariants.{Call, Accepted, Clear, ClearConfirm, DataPacket, Ready, NotReady, Reject, Interrupt}
 use Rattle.xp_packets.specs.Examination.{first_of}
@@ -14,13 +15,13 @@ lacks_octet (Clear cause None (Some block)) = true
 lacks_octet (Interrupt octets) = length octets == 0
 lacks_octet _ = false
 
--- P(S) or P(R) is over 7
-abbrev pub has_wrong_number : {A : Type 0} → Packet A → Bool
-has_wrong_number (DataPacket q d more ps pr octets) = is_over ps || is_over pr
-has_wrong_number (Ready pr) = is_over pr
-has_wrong_number (NotReady pr) = is_over pr
-has_wrong_number (Reject pr) = is_over pr
-has_wrong_number _ = false
+-- P(S) or P(R) is over 7, or modulo 128 over 127
+abbrev pub has_wrong_number : {A : Type 0} → Modulus → Packet A → Bool
+has_wrong_number modulus (DataPacket q d more ps pr octets) = is_over modulus ps || is_over modulus pr
+has_wrong_number modulus (Ready pr) = is_over modulus pr
+has_wrong_number modulus (NotReady pr) = is_over modulus pr
+has_wrong_number modulus (Reject pr) = is_over modulus pr
+has_wrong_number modulus _ = false
 
 -- the block of a packet, if it has one
 abbrev pub block_of : {A : Type 0} → Packet A → Option (Block A)
@@ -51,14 +52,14 @@ is_too_long (Interrupt octets) = nat_lt 32 (length octets)
 is_too_long _ = false
 
 -- the first reason why no octets spell the identifier and the packet
-abbrev pub encoding_fault : {A : Type 0} → ℕ → Packet A → Option Malformed
-encoding_fault identifier packet =
+abbrev pub encoding_fault : {A : Type 0} → Modulus → ℕ → Packet A → Option Malformed
+encoding_fault modulus identifier packet =
     first_of ((lacks_octet packet, Short)
-    ∷ (has_wrong_number packet || nat_lt 4095 identifier, Format)
+    ∷ (has_wrong_number modulus packet || nat_lt 4095 identifier, Format)
     ∷ (has_long_facilities (block_of packet), Facilities)
     ∷ (is_too_long packet, Long)
     ∷ [])
 
 -- `encode` can fail for these only because it is out of memory
-abbrev pub CanBeEncoded : {A : Type 0} → ℕ → Packet A → Type 0
-CanBeEncoded identifier packet = encoding_fault identifier packet ≡ None
+abbrev pub CanBeEncoded : {A : Type 0} → Modulus → ℕ → Packet A → Type 0
+CanBeEncoded modulus identifier packet = encoding_fault modulus identifier packet ≡ None

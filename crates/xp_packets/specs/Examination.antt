@@ -1,10 +1,12 @@
 -- Why octets are not a packet: the first that holds of a list of conditions over all the octets.
-use Rattle.std.specs.Prelude.{◌≡◌, ℕ, ◌+◌, ◌/◌, ◌%◌, ◌==◌, nat_lt, Bool, true, false, not, ◌&&◌, ◌||◌, if◌then◌else◌, List, [], ◌∷◌, length, take, drop, slice_index, Option, Some, None, is_none}
+use Rattle.std.specs.Prelude.{◌≡◌, ℕ, ◌+◌, ◌/◌, ◌%◌, ◌==◌, nat_lt, Bool, false, not, ◌||◌, if◌then◌else◌, List, [], ◌∷◌, length, take, drop, slice_index, Option, Some, None, is_none}
 use Rattle.std.specs.List.{list_all}
 use Rattle.xp_packets.specs.declared.fault.Malformed.{Malformed}
 use Rattle.xp_packets.specs.declared.fault.Malformed.TheVariants.{Short, Format, Unknown, Address, Facilities, Long}
 use Rattle.xp_packets.specs.declared.kind.Kind.{Kind}
-use Rattle.xp_packets.specs.declared.kind.Kind.TheVariants.{Call, Accepted, Clear, ClearConfirm, Interrupt, Reset, Data}
+use Rattle.xp_packets.specs.declared.kind.Kind.TheVariants.{Call, Accepted, Clear, ClearConfirm, Interrupt, Reset, Data, Ready, NotReady, Reject}
+use Rattle.xp_packets.specs.declared.modulus.Modulus.{Modulus}
+use Rattle.xp_packets.specs.declared.modulus.Modulus.TheVariants as moduli
 use Rattle.xp_packets.specs.Digits.{half_octets, octets_for}
 use Rattle.xp_packets.specs.Heading.{wrong_format}
 use Rattle.xp_packets.specs.Kinds.{kind_of}
@@ -58,15 +60,28 @@ block_octets (Some Clear) rest = drop 2 rest
 block_octets (Some ClearConfirm) rest = rest
 block_octets _ rest = []
 
--- whether a cause, a block or an interrupt octet must follow the type
-abbrev pub needs_octet : Option Kind → Bool
-needs_octet (Some Call) = true
-needs_octet (Some Clear) = true
-needs_octet (Some Interrupt) = true
-needs_octet (Some Reset) = true
-needs_octet _ = false
+-- how many octets P(R) takes after the type octet
+abbrev pub received_octets : Modulus → ℕ
+received_octets moduli.Eight = 0
+received_octets moduli.Long = 1
 
--- how many octets may follow the type, or the facilities where there is a block
+-- the same of a packet of this kind, which may have no P(R)
+abbrev pub number_octets : Modulus → Option Kind → ℕ
+number_octets modulus (Some Data) = received_octets modulus
+number_octets modulus (Some Ready) = received_octets modulus
+number_octets modulus (Some NotReady) = received_octets modulus
+number_octets modulus (Some Reject) = received_octets modulus
+number_octets modulus _ = 0
+
+-- how many octets must follow the type octet: a cause, P(R), or the first of a block or of interrupt data
+abbrev pub least_octets : Modulus → Option Kind → ℕ
+least_octets modulus (Some Call) = 1
+least_octets modulus (Some Clear) = 1
+least_octets modulus (Some Interrupt) = 1
+least_octets modulus (Some Reset) = 1
+least_octets modulus kind = number_octets modulus kind
+
+-- how many octets may follow the type and P(R), or the facilities where there is a block
 abbrev pub most_octets : Option Kind → ℕ
 most_octets (Some Call) = 128
 most_octets (Some Accepted) = 128
@@ -77,31 +92,31 @@ most_octets (Some Data) = 1024
 most_octets _ = 0
 
 -- the octets to which that limit applies
-abbrev pub bounded_octets : Option Kind → List ℕ → List ℕ
-bounded_octets (Some Call) rest = after_facilities (after_digits rest)
-bounded_octets (Some Accepted) rest = after_facilities (after_digits rest)
-bounded_octets (Some Clear) rest = after_facilities (after_digits (drop 2 rest))
-bounded_octets (Some ClearConfirm) rest = after_facilities (after_digits rest)
-bounded_octets _ rest = rest
+abbrev pub bounded_octets : Modulus → Option Kind → List ℕ → List ℕ
+bounded_octets modulus (Some Call) rest = after_facilities (after_digits rest)
+bounded_octets modulus (Some Accepted) rest = after_facilities (after_digits rest)
+bounded_octets modulus (Some Clear) rest = after_facilities (after_digits (drop 2 rest))
+bounded_octets modulus (Some ClearConfirm) rest = after_facilities (after_digits rest)
+bounded_octets modulus kind rest = drop (number_octets modulus kind) rest
 
-abbrev pub kind_in : List ℕ → Option Kind
-kind_in octets = kind_of (slice_index octets 2)
+abbrev pub kind_in : Modulus → List ℕ → Option Kind
+kind_in modulus octets = kind_of modulus (slice_index octets 2)
 
-abbrev pub block_in : List ℕ → List ℕ
-block_in octets = block_octets (kind_in octets) (drop 3 octets)
+abbrev pub block_in : Modulus → List ℕ → List ℕ
+block_in modulus octets = block_octets (kind_in modulus octets) (drop 3 octets)
 
 -- the conditions, in the order in which they are checked
-abbrev pub conditions : List ℕ → List (Bool × Malformed)
-conditions octets =
+abbrev pub conditions : Modulus → List ℕ → List (Bool × Malformed)
+conditions modulus octets =
     (nat_lt (length octets) 3, Short)
-    ∷ (wrong_format (slice_index octets 0) (slice_index octets 2), Format)
-    ∷ (is_none (kind_in octets), Unknown)
-    ∷ (needs_octet (kind_in octets) && length (drop 3 octets) == 0, Short)
-    ∷ (has_wrong_address (block_in octets), Address)
-    ∷ (has_wrong_size (after_digits (block_in octets)), Facilities)
-    ∷ (nat_lt (most_octets (kind_in octets)) (length (bounded_octets (kind_in octets) (drop 3 octets))), Long)
+    ∷ (wrong_format modulus (slice_index octets 0) (slice_index octets 2), Format)
+    ∷ (is_none (kind_in modulus octets), Unknown)
+    ∷ (nat_lt (length (drop 3 octets)) (least_octets modulus (kind_in modulus octets)), Short)
+    ∷ (has_wrong_address (block_in modulus octets), Address)
+    ∷ (has_wrong_size (after_digits (block_in modulus octets)), Facilities)
+    ∷ (nat_lt (most_octets (kind_in modulus octets)) (length (bounded_octets modulus (kind_in modulus octets) (drop 3 octets))), Long)
     ∷ []
 
 -- this is the fault of the first condition that holds
-abbrev pub IsMalformed : List ℕ → Malformed → Type 0
-IsMalformed octets wrong = first_of (conditions octets) ≡ Some wrong
+abbrev pub IsMalformed : Modulus → List ℕ → Malformed → Type 0
+IsMalformed modulus octets wrong = first_of (conditions modulus octets) ≡ Some wrong

@@ -1,7 +1,9 @@
--- The packet type identifier (X.25 clause 5.1, table 5-2), modulo 8.
+-- The packet type identifier (X.25 clause 5.1, table 5-2).
 use Rattle.std.specs.Prelude.{ℕ, ◌%◌, ◌==◌, if◌then◌else◌, Option, Some, None}
 use Rattle.xp_packets.specs.declared.kind.Kind.{Kind}
 use Rattle.xp_packets.specs.declared.kind.Kind.TheVariants.{Call, Accepted, Clear, ClearConfirm, Interrupt, InterruptConfirm, Reset, ResetConfirm, Data, Ready, NotReady, Reject}
+use Rattle.xp_packets.specs.declared.modulus.Modulus.{Modulus}
+use Rattle.xp_packets.specs.declared.modulus.Modulus.TheVariants.{Eight, Long}
 
 -- the type octet of a kind, with zero where it carries numbers
 abbrev pub octet_of : Kind → ℕ
@@ -30,10 +32,15 @@ whole_kind_of octet =
     (if octet == 27 then Some Reset else
     (if octet == 31 then Some ResetConfirm else None)))))))
 
--- the kind of a type octet: data where bit 1 is zero; flow control packets are known by the last five bits
-unfoldable pub kind_of : ℕ → Option Kind
-kind_of octet =
+-- the type octet of a flow control packet without the P(R) that it carries modulo 8
+abbrev pub without_number : Modulus → ℕ → ℕ
+without_number Eight octet = octet % 32
+without_number Long octet = octet
+
+-- the kind of a type octet: data where bit 1 is zero
+unfoldable pub kind_of : Modulus → ℕ → Option Kind
+kind_of modulus octet =
     if octet % 2 == 0 then Some Data else
-    (if octet % 32 == 1 then Some Ready else
-    (if octet % 32 == 5 then Some NotReady else
-    (if octet % 32 == 9 then Some Reject else whole_kind_of octet)))
+    (if without_number modulus octet == octet_of Ready then Some Ready else
+    (if without_number modulus octet == octet_of NotReady then Some NotReady else
+    (if without_number modulus octet == octet_of Reject then Some Reject else whole_kind_of octet)))

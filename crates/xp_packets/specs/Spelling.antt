@@ -1,14 +1,15 @@
 -- Which octets spell which packet, that is, are an encoding of it (X.25 clause 5), as a relation on whole octet
 -- strings.
-use Rattle.std.specs.Prelude.{◌≡◌, ℕ, ◌+◌, ◌*◌, ◌<◌, ◌≤◌, false, List, [], ◌∷◌, ◌++◌, length, Some, None}
+use Rattle.std.specs.Prelude.{◌≡◌, ℕ, ◌+◌, ◌*◌, ◌<◌, ◌≤◌, Bool, false, List, [], ◌∷◌, ◌++◌, length, Some, None}
 use Rattle.xp_packets.specs.declared.block.Block.{Block}
+use Rattle.xp_packets.specs.declared.modulus.Modulus.{Modulus}
 use Rattle.xp_packets.specs.declared.packet.Packet.{Packet}
 use Rattle.xp_packets.specs.declared.packet.Packet.TheVariants.{Call, Accepted, Clear, ClearConfirm, DataPacket, Ready, NotReady, Reject, Interrupt, InterruptConfirm, Reset, ResetConfirm}
 use Rattle.xp_packets.specs.declared.kind.Kind.TheVariants as kinds
 use Rattle.xp_packets.specs.Digits.{SpellsAddresses}
 use Rattle.xp_packets.specs.Heading.{Begins}
 use Rattle.xp_packets.specs.Kinds.{octet_of}
-use Rattle.xp_packets.specs.Numbers.{modulus, data_octet, flow_octet}
+use Rattle.xp_packets.specs.Numbers.{numbers, data_octets, flow_octets}
 
 -- The facility length octet, the facilities, and user data up to the packet's end (clause 5.2.2).
 abbrev pub WritesFields : List ℕ → List ℕ → List ℕ → Type 0
@@ -30,48 +31,56 @@ pub record BlockBy (Fields : List ℕ → List ℕ → List ℕ → Type 0) (A :
   pub addresses : SpellsAddresses digits block.called block.calling
   pub fields : Fields rest block.facilities block.user
 
--- The octets spell the identifier and the packet, where `Fields` says what follows the digits of a block.
-abbrev pub SpellsBy : {A : Type 0} → (List ℕ → List ℕ → List ℕ → Type 0) → List ℕ → ℕ → Packet A → Type 0
-SpellsBy {A} Fields octets identifier (Call d block) =
-    (rest : List ℕ) × Begins octets false d identifier (octet_of kinds.Call) rest × BlockBy Fields A rest block
-SpellsBy {A} Fields octets identifier (Accepted d None) =
-    Begins octets false d identifier (octet_of kinds.Accepted) []
-SpellsBy {A} Fields octets identifier (Accepted d (Some block)) =
-    (rest : List ℕ) × Begins octets false d identifier (octet_of kinds.Accepted) rest × BlockBy Fields A rest block
-SpellsBy {A} Fields octets identifier (Clear cause None None) =
-    Begins octets false false identifier (octet_of kinds.Clear) (cause ∷ [])
-SpellsBy {A} Fields octets identifier (Clear cause None (Some block)) = ⊥
-SpellsBy {A} Fields octets identifier (Clear cause (Some diagnostic) None) =
-    Begins octets false false identifier (octet_of kinds.Clear) (cause ∷ diagnostic ∷ [])
-SpellsBy {A} Fields octets identifier (Clear cause (Some diagnostic) (Some block)) =
-    (rest : List ℕ) × Begins octets false false identifier (octet_of kinds.Clear) (cause ∷ diagnostic ∷ rest) × BlockBy Fields A rest block
-SpellsBy {A} Fields octets identifier (ClearConfirm None) =
-    Begins octets false false identifier (octet_of kinds.ClearConfirm) []
-SpellsBy {A} Fields octets identifier (ClearConfirm (Some block)) =
-    (rest : List ℕ) × Begins octets false false identifier (octet_of kinds.ClearConfirm) rest × BlockBy Fields A rest block × (block.user ≡ [])
-SpellsBy {A} Fields octets identifier (DataPacket q d more ps pr carried) =
-    Begins octets q d identifier (data_octet ps pr more) carried × (ps < modulus) × (pr < modulus) × (length carried ≤ 1024)
-SpellsBy {A} Fields octets identifier (Ready pr) =
-    Begins octets false false identifier (flow_octet pr kinds.Ready) [] × (pr < modulus)
-SpellsBy {A} Fields octets identifier (NotReady pr) =
-    Begins octets false false identifier (flow_octet pr kinds.NotReady) [] × (pr < modulus)
-SpellsBy {A} Fields octets identifier (Reject pr) =
-    Begins octets false false identifier (flow_octet pr kinds.Reject) [] × (pr < modulus)
-SpellsBy {A} Fields octets identifier (Interrupt carried) =
-    Begins octets false false identifier (octet_of kinds.Interrupt) carried × (0 < length carried) × (length carried ≤ 32)
-SpellsBy {A} Fields octets identifier InterruptConfirm =
-    Begins octets false false identifier (octet_of kinds.InterruptConfirm) []
-SpellsBy {A} Fields octets identifier (Reset cause None) =
-    Begins octets false false identifier (octet_of kinds.Reset) (cause ∷ [])
-SpellsBy {A} Fields octets identifier (Reset cause (Some diagnostic)) =
-    Begins octets false false identifier (octet_of kinds.Reset) (cause ∷ diagnostic ∷ [])
-SpellsBy {A} Fields octets identifier ResetConfirm =
-    Begins octets false false identifier (octet_of kinds.ResetConfirm) []
+-- what bit 1 of octet 4 of a flow control packet modulo 128 may be: anything where it is read, zero where it is written
+abbrev pub AnySpare : Bool → Type 0
+AnySpare spare = Unit {0}
 
--- The octets spell the identifier and the packet.
-abbrev pub Spells : {A : Type 0} → List ℕ → ℕ → Packet A → Type 0
-Spells octets identifier packet = SpellsBy SpellsFields octets identifier packet
+abbrev pub ZeroSpare : Bool → Type 0
+ZeroSpare spare = spare ≡ false
 
--- They do, and every block has both its address length octet and its facility length octet.
-abbrev pub WrittenAs : {A : Type 0} → List ℕ → ℕ → Packet A → Type 0
-WrittenAs octets identifier packet = SpellsBy WritesFields octets identifier packet
+-- The octets spell the identifier and the packet, where `Fields` says what follows the digits of a block, and `Spare`
+-- what a spare bit may be.
+abbrev pub SpellsBy : {A : Type 0} → (List ℕ → List ℕ → List ℕ → Type 0) → (Bool → Type 0) → Modulus → List ℕ → ℕ → Packet A → Type 0
+SpellsBy {A} Fields Spare modulus octets identifier (Call d block) =
+    (rest : List ℕ) × Begins modulus octets false d identifier (octet_of kinds.Call ∷ rest) × BlockBy Fields A rest block
+SpellsBy {A} Fields Spare modulus octets identifier (Accepted d None) =
+    Begins modulus octets false d identifier (octet_of kinds.Accepted ∷ [])
+SpellsBy {A} Fields Spare modulus octets identifier (Accepted d (Some block)) =
+    (rest : List ℕ) × Begins modulus octets false d identifier (octet_of kinds.Accepted ∷ rest) × BlockBy Fields A rest block
+SpellsBy {A} Fields Spare modulus octets identifier (Clear cause None None) =
+    Begins modulus octets false false identifier (octet_of kinds.Clear ∷ cause ∷ [])
+SpellsBy {A} Fields Spare modulus octets identifier (Clear cause None (Some block)) = ⊥
+SpellsBy {A} Fields Spare modulus octets identifier (Clear cause (Some diagnostic) None) =
+    Begins modulus octets false false identifier (octet_of kinds.Clear ∷ cause ∷ diagnostic ∷ [])
+SpellsBy {A} Fields Spare modulus octets identifier (Clear cause (Some diagnostic) (Some block)) =
+    (rest : List ℕ) × Begins modulus octets false false identifier (octet_of kinds.Clear ∷ cause ∷ diagnostic ∷ rest) × BlockBy Fields A rest block
+SpellsBy {A} Fields Spare modulus octets identifier (ClearConfirm None) =
+    Begins modulus octets false false identifier (octet_of kinds.ClearConfirm ∷ [])
+SpellsBy {A} Fields Spare modulus octets identifier (ClearConfirm (Some block)) =
+    (rest : List ℕ) × Begins modulus octets false false identifier (octet_of kinds.ClearConfirm ∷ rest) × BlockBy Fields A rest block × (block.user ≡ [])
+SpellsBy {A} Fields Spare modulus octets identifier (DataPacket q d more ps pr carried) =
+    Begins modulus octets q d identifier (data_octets modulus ps pr more ++ carried) × (ps < numbers modulus) × (pr < numbers modulus) × (length carried ≤ 1024)
+SpellsBy {A} Fields Spare modulus octets identifier (Ready pr) =
+    (spare : Bool) × Spare spare × Begins modulus octets false false identifier (flow_octets modulus pr kinds.Ready spare) × (pr < numbers modulus)
+SpellsBy {A} Fields Spare modulus octets identifier (NotReady pr) =
+    (spare : Bool) × Spare spare × Begins modulus octets false false identifier (flow_octets modulus pr kinds.NotReady spare) × (pr < numbers modulus)
+SpellsBy {A} Fields Spare modulus octets identifier (Reject pr) =
+    (spare : Bool) × Spare spare × Begins modulus octets false false identifier (flow_octets modulus pr kinds.Reject spare) × (pr < numbers modulus)
+SpellsBy {A} Fields Spare modulus octets identifier (Interrupt carried) =
+    Begins modulus octets false false identifier (octet_of kinds.Interrupt ∷ carried) × (0 < length carried) × (length carried ≤ 32)
+SpellsBy {A} Fields Spare modulus octets identifier InterruptConfirm =
+    Begins modulus octets false false identifier (octet_of kinds.InterruptConfirm ∷ [])
+SpellsBy {A} Fields Spare modulus octets identifier (Reset cause None) =
+    Begins modulus octets false false identifier (octet_of kinds.Reset ∷ cause ∷ [])
+SpellsBy {A} Fields Spare modulus octets identifier (Reset cause (Some diagnostic)) =
+    Begins modulus octets false false identifier (octet_of kinds.Reset ∷ cause ∷ diagnostic ∷ [])
+SpellsBy {A} Fields Spare modulus octets identifier ResetConfirm =
+    Begins modulus octets false false identifier (octet_of kinds.ResetConfirm ∷ [])
+
+-- The octets spell the identifier and the packet on a line of this modulus.
+abbrev pub Spells : {A : Type 0} → Modulus → List ℕ → ℕ → Packet A → Type 0
+Spells modulus octets identifier packet = SpellsBy SpellsFields AnySpare modulus octets identifier packet
+
+-- They do, every block has both its address length octet and its facility length octet, and every spare bit is zero.
+abbrev pub WrittenAs : {A : Type 0} → Modulus → List ℕ → ℕ → Packet A → Type 0
+WrittenAs modulus octets identifier packet = SpellsBy WritesFields ZeroSpare modulus octets identifier packet

@@ -1,12 +1,13 @@
 -- The octets that `encode` writes for a packet.
 use Rattle.std.specs.Prelude.{ℕ, ◌+◌, ◌*◌, Bool, false, List, [], ◌∷◌, ◌++◌, length, Option, Some, None}
 use Rattle.xp_packets.specs.declared.block.Block.{Block}
+use Rattle.xp_packets.specs.declared.modulus.Modulus.{Modulus}
 use Rattle.xp_packets.specs.declared.packet.Packet.{Packet}
 use Rattle.xp_packets.specs.declared.packet.Packet.TheVariants.{Call, Accepted, Clear, ClearConfirm, DataPacket, Ready, NotReady, Reject, Interrupt, InterruptConfirm, Reset, ResetConfirm}
 use Rattle.xp_packets.specs.declared.kind.Kind.TheVariants as kinds
 use Rattle.xp_packets.specs.Heading.{heading}
 use Rattle.xp_packets.specs.Kinds.{octet_of}
-use Rattle.xp_packets.specs.Numbers.{data_octet, flow_octet}
+use Rattle.xp_packets.specs.Numbers.{data_octets, flow_octets}
 
 -- half-octets in pairs, one pair an octet; a zero follows the last where it has no partner
 abbrev pub packed : List ℕ → List ℕ
@@ -32,26 +33,26 @@ has_d (Accepted d block) = d
 has_d (DataPacket q d more ps pr octets) = d
 has_d _ = false
 
--- the type octet, with the numbers that it carries
-abbrev pub type_of : {A : Type 0} → Packet A → ℕ
-type_of (Call d block) = octet_of kinds.Call
-type_of (Accepted d block) = octet_of kinds.Accepted
-type_of (Clear cause diagnostic block) = octet_of kinds.Clear
-type_of (ClearConfirm block) = octet_of kinds.ClearConfirm
-type_of (DataPacket q d more ps pr octets) = data_octet ps pr more
-type_of (Ready pr) = flow_octet pr kinds.Ready
-type_of (NotReady pr) = flow_octet pr kinds.NotReady
-type_of (Reject pr) = flow_octet pr kinds.Reject
-type_of (Interrupt octets) = octet_of kinds.Interrupt
-type_of InterruptConfirm = octet_of kinds.InterruptConfirm
-type_of (Reset cause diagnostic) = octet_of kinds.Reset
-type_of ResetConfirm = octet_of kinds.ResetConfirm
+-- the type, with the numbers that it carries; a spare bit is zero
+abbrev pub written_type : {A : Type 0} → Modulus → Packet A → List ℕ
+written_type modulus (Call d block) = octet_of kinds.Call ∷ []
+written_type modulus (Accepted d block) = octet_of kinds.Accepted ∷ []
+written_type modulus (Clear cause diagnostic block) = octet_of kinds.Clear ∷ []
+written_type modulus (ClearConfirm block) = octet_of kinds.ClearConfirm ∷ []
+written_type modulus (DataPacket q d more ps pr octets) = data_octets modulus ps pr more
+written_type modulus (Ready pr) = flow_octets modulus pr kinds.Ready false
+written_type modulus (NotReady pr) = flow_octets modulus pr kinds.NotReady false
+written_type modulus (Reject pr) = flow_octets modulus pr kinds.Reject false
+written_type modulus (Interrupt octets) = octet_of kinds.Interrupt ∷ []
+written_type modulus InterruptConfirm = octet_of kinds.InterruptConfirm ∷ []
+written_type modulus (Reset cause diagnostic) = octet_of kinds.Reset ∷ []
+written_type modulus ResetConfirm = octet_of kinds.ResetConfirm ∷ []
 
 abbrev pub written_cause : ℕ → Option ℕ → List ℕ
 written_cause cause None = cause ∷ []
 written_cause cause (Some diagnostic) = cause ∷ diagnostic ∷ []
 
--- the octets after the type
+-- the octets after the type and the numbers
 abbrev pub written_body : {A : Type 0} → Packet A → List ℕ
 written_body (Call d block) = written_block block
 written_body (Accepted d block) = written_optional_block block
@@ -66,5 +67,6 @@ written_body (Reject pr) = []
 written_body InterruptConfirm = []
 written_body ResetConfirm = []
 
-abbrev pub written : {A : Type 0} → ℕ → Packet A → List ℕ
-written identifier packet = heading (has_q packet) (has_d packet) identifier (type_of packet) ++ written_body packet
+abbrev pub written : {A : Type 0} → Modulus → ℕ → Packet A → List ℕ
+written modulus identifier packet =
+    heading modulus (has_q packet) (has_d packet) identifier ++ (written_type modulus packet ++ written_body packet)

@@ -7,6 +7,7 @@ use crate::block::{Block, MOST_FACILITIES, MOST_USER, NO_USER};
 use crate::data::MOST_DATA;
 use crate::fault::Malformed;
 use crate::interrupt::MOST_INTERRUPT;
+use crate::modulus::Modulus;
 use crate::numbers::is_over;
 use crate::packet::Packet;
 use std::alloc::Allocator;
@@ -16,15 +17,16 @@ const MOST_IDENTIFIER: u16 = 4095;
 
 /// The first reason, in the order of the checks, why the packet cannot be encoded.
 pub(crate) fn first_encoding_fault<A: Allocator>(
+    modulus: Modulus,
     identifier: u16,
     packet: &Packet<A>,
 ) -> Option<Malformed>
-    ensures { result ≡ encoding_fault identifier packet.now }
+    ensures { result ≡ encoding_fault modulus identifier packet.now }
 {
     if lacks_octet(packet) {
         return Some(Malformed::Short);
     }
-    if has_wrong_number(packet) || identifier > MOST_IDENTIFIER {
+    if has_wrong_number(modulus, packet) || identifier > MOST_IDENTIFIER {
         return Some(Malformed::Format);
     }
     if carries_long_facilities(packet) {
@@ -51,13 +53,15 @@ fn lacks_octet<A: Allocator>(packet: &Packet<A>) -> bool
     }
 }
 
-/// Whether P(S) or P(R) is over 7.
-fn has_wrong_number<A: Allocator>(packet: &Packet<A>) -> bool
-    ensures { result ≡ has_wrong_number packet.now }
+/// Whether P(S) or P(R) is over 7, or modulo 128 over 127.
+fn has_wrong_number<A: Allocator>(modulus: Modulus, packet: &Packet<A>) -> bool
+    ensures { result ≡ has_wrong_number modulus packet.now }
 {
     match packet {
-        Packet::DataPacket { ps, pr, .. } => is_over(*ps) || is_over(*pr),
-        Packet::Ready { pr } | Packet::NotReady { pr } | Packet::Reject { pr } => is_over(*pr),
+        Packet::DataPacket { ps, pr, .. } => is_over(modulus, *ps) || is_over(modulus, *pr),
+        Packet::Ready { pr } | Packet::NotReady { pr } | Packet::Reject { pr } => is_over(
+            modulus, *pr,
+        ),
         _ => false,
     }
 }

@@ -6,15 +6,15 @@ use std::alloc::AllocError;
 use thiserror::Error;
 
 /// Why octets are not a packet, or why a packet cannot be encoded. The variants are in the order of the checks,
-/// except that a missing cause, block or interrupt data is checked after the type.
+/// except that a missing cause, block, interrupt data or P(R) is checked after the type.
 #[derive(Clone, Copy, Debug, PartialEq, Eq, Error)]
 pub enum Malformed {
-    /// There are fewer than three octets, or the cause, the block or the interrupt data that the packet must have is
-    /// missing; diagnostic 38.
+    /// There are fewer than three octets, or the cause, the block, the interrupt data or the P(R) that the packet must
+    /// have is missing; diagnostic 38.
     #[error("packet too short")]
     Short,
-    /// The modulus is not 8, or the Q or D bit is set in a packet that cannot have it; diagnostic 40. To `encode`:
-    /// the identifier is over 4,095, or P(S) or P(R) is over 7.
+    /// The modulus is another than the line's, or the Q or D bit is set in a packet that cannot have it; diagnostic 40.
+    /// To `encode`: the identifier is over 4,095, or P(S) or P(R) is over 7, or modulo 128 over 127.
     #[error("invalid general format identifier")]
     Format,
     /// No packet has this type; diagnostic 33.

@@ -1,11 +1,12 @@
-//! The first three octets of every packet (X.25 clause 5.1).
+//! The general format identifier, the logical channel identifier and the type octet of a packet (X.25 clause 5.1).
 
 ghost use Rattle.std.specs.Prelude.{◌≡◌, ◌<◌, ◌/◌, ◌%◌, ◌==◌, nat_le, ◌++◌, OnOk};
-ghost use Rattle.xp_packets.specs.Heading.{bit, heading, wrong_flags, wrong_format};
+ghost use Rattle.xp_packets.specs.Heading.{bit, heading, modulus_bits, wrong_flags, wrong_format};
 ghost use Rattle.xp_packets.specs.steps.Reading.{MatchesReading, header_at};
 
 use crate::fault::Malformed;
 use crate::kind::Kind;
+use crate::modulus::Modulus;
 use std::alloc::{AllocError, Allocator};
 
 /// The qualifier bit (Q): bit 8 of octet 1 (clause 5.1.1).
@@ -13,9 +14,6 @@ const Q_BIT: u8 = 0x80;
 
 /// The delivery confirmation bit (D): bit 7 of octet 1.
 const D_BIT: u8 = 0x40;
-
-/// The value of bits 6 and 5 of octet 1 for modulo 8.
-const MODULO_8: u8 = 1;
 
 /// The logical channel group number: bits 4 to 1 of octet 1 (clause 5.1.2).
 const GROUP_BITS: u8 = 0x0f;
@@ -27,21 +25,21 @@ pub(crate) struct Header {
     pub(crate) q: bool,
     pub(crate) d: bool,
     pub(crate) kind: Kind,
-    /// The type octet, with the numbers that it may carry.
+    /// The type octet, with the numbers that it may have.
     pub(crate) octet: u8,
 }
 
 /// Reads the header. Also returns the octets after it.
 #[tactic(auto, unfolding(crate::specs::steps::Reading::header_at))]
-pub(crate) fn header_of(octets: &[u8]) -> Result<(Header, &[u8]), Malformed>
-    ensures { MatchesReading (λ x. (x.0, x.1.now)) result (header_at octets.now) }
+pub(crate) fn header_of(modulus: Modulus, octets: &[u8]) -> Result<(Header, &[u8]), Malformed>
+    ensures { MatchesReading (λ x. (x.0, x.1.now)) result (header_at modulus octets.now) }
 {
     match octets {
         [first, number, octet, rest @ ..] => {
-            if has_wrong_format(*first, *octet) {
+            if has_wrong_format(modulus, *first, *octet) {
                 return Err(Malformed::Format);
             }
-            match Kind::of(*octet) {
+            match Kind::of(modulus, *octet) {
                 Some(kind) => {
                     let header = Header {
                         identifier: u16::from_be_bytes([*first & GROUP_BITS, *number]),
@@ -59,12 +57,22 @@ pub(crate) fn header_of(octets: &[u8]) -> Result<(Header, &[u8]), Malformed>
     }
 }
 
-/// Whether the general format identifier has a modulus other than 8, or a Q or D bit that the packet cannot have
+/// Whether the general format identifier has another modulus, or a Q or D bit that the packet cannot have
 /// (clause 5.1.1).
-fn has_wrong_format(first: u8, octet: u8) -> bool
-    ensures { result ≡ wrong_format first octet }
+fn has_wrong_format(modulus: Modulus, first: u8, octet: u8) -> bool
+    ensures { result ≡ wrong_format modulus first octet }
 {
-    (first >> 4) & 3 != MODULO_8 || has_wrong_flags(has_q(first), has_d(first), octet)
+    (first >> 4) & 3 != modulus_bits(modulus) || has_wrong_flags(has_q(first), has_d(first), octet)
+}
+
+/// The value of bits 6 and 5 of octet 1.
+fn modulus_bits(modulus: Modulus) -> u8
+    ensures { result ≡ modulus_bits modulus }
+{
+    match modulus {
+        Modulus::Eight => 1,
+        Modulus::Long => 2,
+    }
 }
 
 fn has_q(first: u8) -> bool
@@ -87,21 +95,20 @@ fn has_wrong_flags(q: bool, d: bool, octet: u8) -> bool
         && (q || (!(octet == Kind::Call.octet() || octet == Kind::Accepted.octet()) && d))
 }
 
-/// Writes a header.
+/// Writes the octets before the type octet.
 pub(crate) fn push_heading<A: Allocator>(
     out: &mut Vec<u8, A>,
+    modulus: Modulus,
     q: bool,
     d: bool,
     identifier: u16,
-    octet: u8,
 ) -> Result<(), AllocError>
     requires { identifier < 4096 }
-    ensures { OnOk result (out.new.items ≡ out.old.items ++ heading q d identifier octet) }
+    ensures { OnOk result (out.new.items ≡ out.old.items ++ heading modulus q d identifier) }
 {
     let [group, number] = identifier.to_be_bytes();
-    out.push(flagged(Q_BIT, q) | flagged(D_BIT, d) | (MODULO_8 << 4) | group)?;
+    out.push(flagged(Q_BIT, q) | flagged(D_BIT, d) | (modulus_bits(modulus) << 4) | group)?;
     out.push(number)?;
-    out.push(octet)?;
     Ok(())
 }
 

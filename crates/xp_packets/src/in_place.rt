@@ -3,7 +3,7 @@ ghost use Rattle.std.specs.Prelude.{◌≡◌, ◌≤◌, length};
 use std::marker::Model;
 
 /// The most octets that are stored in place: as many as use no more room than the reference to a shared block.
-pub(crate) const MOST_IN_PLACE: usize = 14;
+pub(crate) const MOST_IN_PLACE: usize = 22;
 
 /// A few octets, stored in place.
 #[derive(Debug, Drop)]
@@ -19,13 +19,13 @@ impl Model for InPlaceOctets {
 
     ghost view = { λ f. take f.count f.octets };
 
-    ghost invariant = { λ f. f.count ≤ 14 };
+    ghost invariant = { λ f. f.count ≤ 22 };
 }
 
 impl InPlaceOctets {
-    /// Copies these octets, at most 14.
+    /// Copies these octets, at most 22.
     pub(crate) fn of(octets: &[u8]) -> InPlaceOctets
-        requires { length octets.now ≤ 14 }
+        requires { length octets.now ≤ 22 }
         ensures { result ≡ octets.now }
     {
         let count = octets.len();

@@ -1,10 +1,12 @@
 //! The packet type identifier (X.25 clause 5.1, table 5-2).
 
 ghost use Rattle.std.specs.Prelude.{◌≡◌};
-ghost use Rattle.xp_packets.specs.Kinds.{kind_of, whole_kind_of, octet_of};
+ghost use Rattle.xp_packets.specs.Kinds.{kind_of, octet_of, whole_kind_of, without_number};
 
-/// The kinds of packets. The type octet of the last four kinds also carries P(R); that of a data packet also carries
-/// P(S) and the M bit.
+use crate::modulus::Modulus;
+
+/// The kinds of packets. The type octet of a data packet has P(S). Modulo 8 the type octets of the last four kinds have
+/// P(R), and that of a data packet has the M bit.
 #[derive(Clone, Copy, Debug, PartialEq, Eq)]
 pub(crate) enum Kind {
     Call,
@@ -24,13 +26,13 @@ pub(crate) enum Kind {
 impl Kind {
     /// The kind that the type octet gives, if there is one.
     #[tactic(auto, unfolding(crate::specs::Kinds::kind_of))]
-    pub(crate) fn of(octet: u8) -> Option<Kind>
-        ensures { result ≡ kind_of octet }
+    pub(crate) fn of(modulus: Modulus, octet: u8) -> Option<Kind>
+        ensures { result ≡ kind_of modulus octet }
     {
         if octet & 1 == 0 {
             return Some(Kind::Data);
         }
-        match octet & 0x1f {
+        match without_number(modulus, octet) {
             0x01 => Some(Kind::Ready),
             0x05 => Some(Kind::NotReady),
             0x09 => Some(Kind::Reject),
@@ -74,5 +76,15 @@ impl Kind {
             Kind::NotReady => 0x05,
             Kind::Reject => 0x09,
         }
+    }
+}
+
+/// The type octet of a flow control packet without the P(R) that it carries modulo 8.
+fn without_number(modulus: Modulus, octet: u8) -> u8
+    ensures { result ≡ without_number modulus octet }
+{
+    match modulus {
+        Modulus::Eight => octet & 0x1f,
+        Modulus::Long => octet,
     }
 }

@@ -1,6 +1,6 @@
-//! Laws of the encoding of packets. Each law is the contract of a function with an empty body.
+//! Laws of the encoding of packets, for both moduli. Each law is the contract of a function with an empty body.
 
-ghost use Rattle.xp_packets.specs.Laws.{EitherSpelledOrMalformed, EncodableIsWritten, OneWrittenSpelling, SpelledIsEncodable, WrittenIsReadBack};
+ghost use Rattle.xp_packets.specs.Laws.{EitherSpelledOrMalformed, EncodableByBoth, EncodableIsWritten, OneWrittenSpelling, SpelledIsEncodable, WrittenIsReadBack};
 
 use std::alloc::Allocator;
 
@@ -9,7 +9,8 @@ pub fn either_spelled_or_malformed<A: Allocator>()
     ensures { EitherSpelledOrMalformed A }
 {}
 
-/// An identifier and a packet have at most one encoding in which every block has both length octets.
+/// An identifier and a packet have at most one encoding in which every block has both length octets and spare bits are
+/// zero.
 pub fn one_written_spelling<A: Allocator>()
     ensures { OneWrittenSpelling A }
 {}
@@ -25,7 +26,13 @@ pub fn spelled_is_encodable<A: Allocator>()
     ensures { SpelledIsEncodable A }
 {}
 
-/// If `encode` finds no fault in a packet, then it has an encoding in which every block has both length octets.
+/// If `encode` finds no fault in a packet, then it has an encoding in which every block has both length octets and spare
+/// bits are zero.
 pub fn encodable_is_written<A: Allocator>()
     ensures { EncodableIsWritten A }
+{}
+
+/// A packet that can be encoded modulo 8 can be encoded modulo 128.
+pub fn encodable_by_both<A: Allocator>()
+    ensures { EncodableByBoth A }
 {}

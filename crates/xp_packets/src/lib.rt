@@ -16,6 +16,7 @@ mod in_place;
 mod interrupt;
 mod kind;
 mod laws;
+mod modulus;
 mod numbers;
 mod octets;
 mod packet;
@@ -28,9 +29,10 @@ pub use digits::Digits;
 pub use end::End;
 pub use fault::{Malformed, PacketFault};
 pub use laws::{
-    either_spelled_or_malformed, encodable_is_written, one_written_spelling, spelled_is_encodable,
-    written_is_read_back,
+    either_spelled_or_malformed, encodable_by_both, encodable_is_written, one_written_spelling,
+    spelled_is_encodable, written_is_read_back,
 };
+pub use modulus::Modulus;
 pub use octets::Octets;
 pub use packet::Packet;
 pub use reading::decode;

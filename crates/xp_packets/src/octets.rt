@@ -38,8 +38,8 @@ impl<A: Allocator> Octets<A> {
         }
     }
 
-    /// Ten octets, as many as charging information has (X.25 clause 7.2). This allocates nothing.
-    pub fn of_ten(octets: [u8; 10]) -> Octets<A>
+    /// Sixteen octets, as many as charging information has (X.25 clause 7.2). This allocates nothing.
+    pub fn of_sixteen(octets: [u8; 16]) -> Octets<A>
         ensures { result ≡ octets }
     {
         Octets {
@@ -88,7 +88,7 @@ impl<A: Allocator> Octets<A> {
 }
 
 impl<A: Allocator + Copy> Octets<A> {
-    /// The octets of a vector. This allocates only for more than 14 octets.
+    /// The octets of a vector. This allocates only for more than 22 octets.
     ///
     /// # Errors
     ///
@@ -107,7 +107,7 @@ impl<A: Allocator + Copy> Octets<A> {
         })
     }
 
-    /// A copy of a slice. This allocates only for more than 14 octets.
+    /// A copy of a slice. This allocates only for more than 22 octets.
     ///
     /// # Errors
     ///

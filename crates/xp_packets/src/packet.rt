@@ -39,26 +39,26 @@ pub enum Packet<A: Allocator = Global> {
         d: bool,
         /// The M bit.
         more: bool,
-        /// P(S), 0 to 7.
+        /// P(S), 0 to 127.
         ps: u8,
-        /// P(R), 0 to 7.
+        /// P(R), 0 to 127.
         pr: u8,
         /// 0 to 1,024 octets of user data.
         octets: Octets<A>,
     },
     /// Receive ready (clause 5.4.1).
     Ready {
-        /// P(R), 0 to 7.
+        /// P(R), 0 to 127.
         pr: u8,
     },
     /// Receive not ready (clause 5.4.2).
     NotReady {
-        /// P(R), 0 to 7.
+        /// P(R), 0 to 127.
         pr: u8,
     },
     /// Reject (clause 5.7.1).
     Reject {
-        /// P(R), 0 to 7.
+        /// P(R), 0 to 127.
         pr: u8,
     },
     /// Interrupt (clause 5.3.2).

@@ -1,11 +1,11 @@
 -- What a received P(R) stands for.
 use Rattle.std.proofs.Common.{◌≡◌, ℕ, suc, zero, ◌+◌, ◌-◌, ◌%◌, ◌<◌, ◌≤◌, ◌==◌, MatchOption, Option, Some, None, refl, sym, ap, ◌∙◌, inl, inr, arith}
 use Rattle.std.proofs.lemmas.Bool.{cases_Bool, cond-true, cond-false, eqb-true}
-use Rattle.xp_relay.specs.declared.terms.Modulus.{Modulus}
-use Rattle.xp_relay.specs.declared.terms.Modulus.TheVariants.{Eight, Long}
+use Rattle.xp_packets.specs.Numbers.{numbers}
+use Rattle.xp_packets.specs.declared.modulus.Modulus.TheVariants.{Eight, Long}
+use Rattle.xp_packets.specs.declared.modulus.Modulus.{Modulus}
 use Rattle.xp_relay.specs.Bounds.{IsCount, IsTheCount}
 use Rattle.xp_relay.specs.Direction.{Direction, IsSound, first_count, acknowledged_count}
-use Rattle.xp_relay.specs.Terms.{numbers}
 use Rattle.xp_relay.proofs.Residues.{found}
 use Rattle.xp_relay.proofs.Takes.{first_count-range}
 

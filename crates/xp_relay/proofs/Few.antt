@@ -5,6 +5,7 @@ use Rattle.std.proofs.lemmas.List.{length-append, length-drop}
 use Rattle.xp_causes.specs.declared.diagnostic.TheConstants.{INVALID_SEND_NUMBER, INVALID_RECEIVE_NUMBER, PACKET_TOO_LONG, INVALID_IN_D1, REJECT_NOT_SUBSCRIBED, UNAUTHORIZED_INTERRUPT_CONFIRMATION, UNAUTHORIZED_INTERRUPT}
 use Rattle.xp_causes.specs.Indicated.{indicated_cause, indicated_diagnostic}
 use Rattle.xp_causes.specs.declared.resetting_cause.TheConstants.{REMOTE_PROCEDURE_ERROR}
+use Rattle.xp_packets.specs.Numbers.{numbers}
 use Rattle.xp_packets.specs.declared.end.End.{End}
 use Rattle.xp_packets.specs.declared.end.End.TheVariants.{Caller, Called}
 use Rattle.xp_packets.specs.declared.packet.Packet.{Packet}
@@ -16,7 +17,7 @@ use Rattle.xp_relay.specs.Coupled.{coupled}
 use Rattle.xp_relay.specs.Direction.{Direction, IsSound, far, is_open, numbered, received_number, released, acknowledged_count}
 use Rattle.xp_relay.specs.Judgement.{is_awaited, most_octets}
 use Rattle.xp_relay.specs.Runs.{Arrival, run, turn_on}
-use Rattle.xp_relay.specs.Terms.{IsWithinTerms, numbers}
+use Rattle.xp_relay.specs.Terms.{IsWithinTerms}
 use Rattle.xp_relay.specs.Turns.{Turn, accepting, acknowledged_to, acknowledging, data_as, failing, flow, flow_as, held_interrupt, indicating, interrupts, interrupting, is_idle, is_news, is_put_out, resetting, settled, settling, flow_notice, not_ready_notice, turn_of, unchanged, with_data}
 use Rattle.xp_relay.proofs.Deliveries.{everything_is_delivered, judged_by, room_of, sound_run}
 

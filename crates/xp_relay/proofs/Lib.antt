@@ -6,6 +6,7 @@ pub mod Runs
 pub mod Steps
 pub mod Takes
 pub mod Readiness
+pub mod Owing
 pub mod Deliveries
 pub mod Bounds
 pub mod Few

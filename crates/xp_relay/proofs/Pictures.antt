@@ -4,11 +4,11 @@ use Rattle.std.specs.Bool.{then_some}
 use Rattle.std.specs.Option.{option_map}
 use Rattle.std.proofs.lemmas.List.{drop_all, length-drop}
 use Rattle.std.proofs.lemmas.Bool.{cases_Bool, cond-true, cond-false, leb-true, leb-false}
+use Rattle.xp_packets.specs.Numbers.{numbers}
 use Rattle.xp_packets.specs.declared.end.End.{End}
 use Rattle.xp_relay.specs.declared.data.Data.{Data}
 use Rattle.xp_relay.specs.Direction.{Direction, IsSound, is_open, numbered, put_all, release, released, acknowledged_count}
 use Rattle.xp_relay.specs.StoredDirection.{StoredDirection, stored, Represents}
-use Rattle.xp_relay.specs.Terms.{numbers}
 use Rattle.xp_relay.proofs.Residues.{numbered_same, put_number, told_found, told_beyond, told_over}
 
 -- how far a number is ahead of the oldest unacknowledged one

@@ -1,14 +1,14 @@
 -- Packet numbers: counts modulo the numbers of a line.
 use Rattle.std.proofs.Common.{◌≡◌, ℕ, suc, zero, ◌+◌, ◌-◌, ◌%◌, ◌<◌, ◌≤◌, List, [], ◌∷◌, ◌++◌, append_assoc, Some, None, refl, sym, ap, ◌∙◌, inl, inr, arith}
 use Rattle.std.proofs.lemmas.Bool.{cases_eq, cond-true, cond-false, eq-eqb, ne_eqb}
+use Rattle.xp_packets.specs.Numbers.{numbers}
 use Rattle.xp_packets.specs.declared.end.End.{End}
 use Rattle.xp_packets.specs.declared.packet.Packet.TheVariants.{DataPacket}
 use Rattle.xp_relay.specs.declared.data.Data.{Data}
 use Rattle.xp_relay.specs.declared.moves.Move.{Move}
-use Rattle.xp_relay.specs.declared.terms.Modulus.{Modulus}
-use Rattle.xp_relay.specs.declared.terms.Modulus.TheVariants.{Eight, Long}
+use Rattle.xp_packets.specs.declared.modulus.Modulus.TheVariants.{Eight, Long}
+use Rattle.xp_packets.specs.declared.modulus.Modulus.{Modulus}
 use Rattle.xp_relay.specs.Direction.{first_count, numbered, to}
-use Rattle.xp_relay.specs.Terms.{numbers}
 
 -- after two equal numbers come two equal numbers
 pub next_same : (m : Modulus) (a b : ℕ) → a % numbers m ≡ b % numbers m → suc a % numbers m ≡ suc b % numbers m

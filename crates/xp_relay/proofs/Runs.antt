@@ -1,13 +1,13 @@
 -- The data in the moves of a turn.
 use Rattle.std.proofs.Common.{◌≡◌, ℕ, suc, ◌+◌, ◌%◌, Bool, true, false, not, ◌&&◌, List, [], ◌∷◌, ◌++◌, append_assoc, length, drop, refl, sym, ap, ◌∙◌, arith}
 use Rattle.std.proofs.lemmas.Bool.{cond_both, or_parts, or_from}
+use Rattle.xp_packets.specs.Numbers.{numbers}
 use Rattle.xp_packets.specs.declared.end.End.{End}
 use Rattle.xp_packets.specs.declared.end.End.TheVariants.{Caller, Called}
 use Rattle.xp_relay.specs.declared.data.Data.{Data}
 use Rattle.xp_relay.specs.declared.moves.Move.{Move}
 use Rattle.xp_relay.specs.Direction.{Direction, far, is_open, numbered, released, to}
 use Rattle.xp_relay.specs.Runs.{data_in, data_to, is_of_reset, resets, same_end, with_numbers}
-use Rattle.xp_relay.specs.Terms.{numbers}
 use Rattle.xp_relay.specs.Turns.{flow_packet, flow_notice, not_ready_notice}
 
 pub same_self : (e : End) → same_end e e ≡ true

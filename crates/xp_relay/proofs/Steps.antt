@@ -2,12 +2,12 @@
 use Rattle.std.proofs.Common.{◌≡◌, ℕ, ◌+◌, Bool, true, false, cond, List, [], ◌++◌, length, take, drop, refl, sym, ap, ◌∙◌, inl, inr, arith}
 use Rattle.std.proofs.lemmas.Bool.{cases_Bool, cond_both, cond-true, cond-false}
 use Rattle.std.proofs.lemmas.List.{append-nil, length-take, take_all, take-append-drop}
+use Rattle.xp_packets.specs.Numbers.{numbers}
 use Rattle.xp_packets.specs.declared.end.End.{End}
 use Rattle.xp_relay.specs.declared.data.Data.{Data}
 use Rattle.xp_relay.specs.declared.moves.Move.{Move}
 use Rattle.xp_relay.specs.Direction.{Direction, IsSound, emptied, far, is_open, numbered, put_all, release, released}
 use Rattle.xp_relay.specs.Runs.{data_to, resets, with_numbers}
-use Rattle.xp_relay.specs.Terms.{numbers}
 use Rattle.xp_relay.specs.Turns.{Turn}
 use Rattle.xp_relay.proofs.Runs.{data_to-numbered, with_numbers-append}
 

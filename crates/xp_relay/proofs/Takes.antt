@@ -2,13 +2,13 @@
 use Rattle.std.proofs.Common.{◌≡◌, ℕ, suc, zero, ◌+◌, ◌-◌, ◌%◌, ◌<◌, ◌≤◌, Bool, true, false, not, ◌&&◌, ◌==◌, List, [], ◌∷◌, ◌++◌, length, take, Option, Some, None, refl, sym, ap, ◌∙◌, inl, inr, arith}
 use Rattle.std.proofs.lemmas.Bool.{cases_Bool, cond-true, cond-false}
 use Rattle.std.proofs.lemmas.List.{append-nil, length-append, take-append-le}
+use Rattle.xp_packets.specs.Numbers.{numbers}
 use Rattle.xp_packets.specs.declared.end.End.{End}
 use Rattle.xp_relay.specs.declared.data.Data.{Data}
 use Rattle.xp_relay.specs.declared.data.Interruption.{Interruption}
 use Rattle.xp_relay.specs.declared.moves.Move.{Move}
 use Rattle.xp_relay.specs.Direction.{Direction, IsSound, far, first_count, is_open, received_number, released, acknowledged_count}
 use Rattle.xp_relay.specs.Runs.{data_to, resets, with_numbers}
-use Rattle.xp_relay.specs.Terms.{numbers}
 use Rattle.xp_relay.specs.Turns.{accepting, acknowledged_to, acknowledging, failing, is_news, held_interrupt, interrupts, resetting, settled, settling, flow_notice, not_ready_notice, unchanged, with_data}
 use Rattle.xp_relay.proofs.Runs.{IsQuiet, data_to-append, far_is_other, other_is_far, others-released, quiet-append, quiet_none, quiet_not_ready, quiet_telling, resets-append, resets-released}
 use Rattle.xp_relay.proofs.Steps.{TakesOn, goes_empty, goes_release, goes_still}

@@ -1,10 +1,11 @@
 -- What a received P(R) stands for, and how many moves one packet leads to.
 use Rattle.std.specs.Prelude.{◌≡◌, ℕ, ◌+◌, ◌%◌, ◌≤◌, List, length, max, MatchOption}
+use Rattle.xp_packets.specs.Numbers.{numbers}
 use Rattle.xp_relay.specs.declared.terms.Terms.{Terms}
 use Rattle.xp_relay.specs.Coupled.{coupled}
 use Rattle.xp_relay.specs.Direction.{Direction, IsSound, acknowledged_count}
 use Rattle.xp_relay.specs.Runs.{Arrival, run, turn_on}
-use Rattle.xp_relay.specs.Terms.{IsWithinTerms, numbers}
+use Rattle.xp_relay.specs.Terms.{IsWithinTerms}
 
 -- A count with this number. It is no less than what the receiver acknowledged before, and no more than what it was sent
 -- (X.25 clause 4.4.1.3).

@@ -1,5 +1,6 @@
 -- One direction of a call: the packets that were accepted from its sender, and what happened to them.
 use Rattle.std.specs.Prelude.{ℕ, suc, zero, ◌+◌, ◌-◌, ◌≤◌, ◌%◌, ◌==◌, nat_lt, Bool, true, false, not, ◌&&◌, if◌then◌else◌, List, [], ◌∷◌, length, drop, Option, Some, None}
+use Rattle.xp_packets.specs.Numbers.{numbers}
 use Rattle.xp_packets.specs.declared.end.End.{End}
 use Rattle.xp_packets.specs.declared.end.End.TheVariants.{Caller, Called}
 use Rattle.xp_packets.specs.declared.packet.Packet.{Packet}
@@ -9,7 +10,7 @@ use Rattle.xp_relay.specs.declared.data.Interruption.{Interruption}
 use Rattle.xp_relay.specs.declared.data.Interruption.TheVariants.{Idle}
 use Rattle.xp_relay.specs.declared.moves.Move.{Move}
 use Rattle.xp_relay.specs.declared.terms.DirectionTerms.{DirectionTerms}
-use Rattle.xp_relay.specs.Terms.{AreDirectionTerms, numbers}
+use Rattle.xp_relay.specs.Terms.{AreDirectionTerms}
 
 -- a list of moves, with room for more
 pub record Made (A : Type 0) : Type 0 where

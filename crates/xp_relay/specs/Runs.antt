@@ -1,5 +1,6 @@
 -- Whole runs of a call: what its ends send, and what they receive.
 use Rattle.std.specs.Prelude.{◌≡◌, ℕ, suc, ◌+◌, ◌%◌, ◌≤◌, Bool, true, false, not, ◌&&◌, ◌||◌, if◌then◌else◌, List, [], ◌∷◌, ◌++◌, length, take}
+use Rattle.xp_packets.specs.Numbers.{numbers}
 use Rattle.xp_packets.specs.declared.end.End.{End}
 use Rattle.xp_packets.specs.declared.end.End.TheVariants.{Caller, Called}
 use Rattle.xp_packets.specs.declared.packet.Packet.{Packet}
@@ -7,9 +8,9 @@ use Rattle.xp_packets.specs.declared.packet.Packet.TheVariants.{DataPacket, Read
 use Rattle.xp_relay.specs.declared.data.Data.{Data}
 use Rattle.xp_relay.specs.declared.moves.Move.{Move}
 use Rattle.xp_relay.specs.declared.terms.Terms.{Terms}
-use Rattle.xp_relay.specs.Coupled.{Coupled, after, coupled, received_by, sent_by, turn_at}
+use Rattle.xp_relay.specs.Coupled.{Coupled, after, coupled, sent_by, turn_at}
 use Rattle.xp_relay.specs.Direction.{far}
-use Rattle.xp_relay.specs.Terms.{IsWithinTerms, numbers, terms_from}
+use Rattle.xp_relay.specs.Terms.{IsWithinTerms, terms_from}
 use Rattle.xp_relay.specs.Turns.{Turn, turn_of}
 
 -- a packet that comes from an end
@@ -57,12 +58,29 @@ abbrev pub resets : {A : Type 0} → List (Move A) → Bool
 resets [] = false
 resets (m ∷ rest) = is_of_reset m.packet || resets rest
 
+-- a reset indication or a reset request
+abbrev pub is_reset : {A : Type 0} → Packet A → Bool
+is_reset (Reset cause diagnostic) = true
+is_reset _ = false
+
+-- the moves bring a reset indication to an end
+abbrev pub is_indicated : {A : Type 0} → End → List (Move A) → Bool
+is_indicated end [] = false
+is_indicated end (m ∷ rest) = (same_end end m.side && is_reset m.packet) || is_indicated end rest
+
+-- Whether an end owes a reset confirmation, after a packet and the moves that it led to. The end owes it from a reset
+-- indication on, until it sends a reset confirmation or, in its place, a reset request (X.25 clauses 4.4.3.2 to
+-- 4.4.3.4).
+abbrev pub owes_after : {A : Type 0} → End → Arrival A → List (Move A) → Bool → Bool
+owes_after end arrival moves owes =
+    is_indicated end moves || (owes && not (same_end end arrival.here && is_of_reset arrival.packet))
+
 -- the data that moves bring to an end, in order
 abbrev pub data_to : {A : Type 0} → End → List (Move A) → List (ℕ × Data A)
 data_to side [] = []
 data_to side (m ∷ rest) = data_in (same_end side m.side) m.packet ++ data_to side rest
 
--- what the two ends see of one direction since the call was last reset
+-- what the two ends see of one direction, by the packets alone: the first three since the call was last reset
 pub record Observed (A : Type 0) : Type 0 where
   -- the data that its sender sent, without packets that were dropped
   pub accepted : List (Data A)
@@ -70,6 +88,10 @@ pub record Observed (A : Type 0) : Type 0 where
   pub put : List (ℕ × Data A)
   -- its receiver is ready for data: the last RR or RNR of the receiver said so, or there was none
   pub ready : Bool
+  -- its sender owes a reset confirmation
+  pub sender_owes : Bool
+  -- its receiver owes a reset confirmation
+  pub receiver_owes : Bool
 
 module _ {A : Type 0} where
   -- what a packet leads to
@@ -82,37 +104,40 @@ module _ {A : Type 0} where
   run call (arrival ∷ rest) = run (after arrival.here (turn_on call arrival)) rest
 
   abbrev pub nothing_observed : Observed A
-  nothing_observed = record { accepted = []; put = []; ready = true }
+  nothing_observed = record { accepted = []; put = []; ready = true; sender_owes = false; receiver_owes = false }
 
-  -- What is seen after one more packet. An end that owes a reset confirmation may send neither data nor RR nor RNR.
-  abbrev pub observe : End → Coupled A → Observed A → Arrival A → Observed A
-  observe sender call seen arrival =
-      let moves = (turn_on call arrival).moves in
-      let may = same_end sender arrival.here && not (received_by sender call).owes in
-      let tells = same_end (far sender) arrival.here && not (sent_by sender call).owes in
-      if resets moves then nothing_observed
-      else record {
-        accepted = seen.accepted ++ offered may arrival.packet;
-        put = seen.put ++ data_to (far sender) moves;
-        ready = ready_after tells arrival.packet seen.ready;
+  -- What is seen after one more packet and the moves that it led to. An end that owes a reset confirmation may send
+  -- neither data nor RR nor RNR.
+  abbrev pub observe : End → Observed A → Arrival A → List (Move A) → Observed A
+  observe sender seen arrival moves =
+      let may = same_end sender arrival.here && not seen.sender_owes in
+      let tells = same_end (far sender) arrival.here && not seen.receiver_owes in
+      record {
+        accepted = if resets moves then [] else seen.accepted ++ offered may arrival.packet;
+        put = if resets moves then [] else seen.put ++ data_to (far sender) moves;
+        ready = if resets moves then true else ready_after tells arrival.packet seen.ready;
+        sender_owes = owes_after sender arrival moves seen.sender_owes;
+        receiver_owes = owes_after (far sender) arrival moves seen.receiver_owes;
       }
 
   -- what is seen of the direction that an end sends, over a run
   abbrev pub observed_over : End → Coupled A → Observed A → List (Arrival A) → Observed A
   observed_over sender call seen [] = seen
   observed_over sender call seen (arrival ∷ rest) =
-      observed_over sender (after arrival.here (turn_on call arrival)) (observe sender call seen arrival) rest
+      observed_over sender (after arrival.here (turn_on call arrival)) (observe sender seen arrival (turn_on call arrival).moves) rest
 
   -- The receiver received a front of what was accepted from the sender since the last reset: each packet once, in
-  -- order, unchanged, numbered from 0. If the receiver is ready, by its own RR and RNR, and owes no reset confirmation,
-  -- it received all of it. No more than a window is unacknowledged.
+  -- order, unchanged, numbered from 0 as its line numbers. If the receiver is ready, by its own RR and RNR, and owes no
+  -- reset confirmation, by the packets that it received and sent, it received all of it. No more than a window is
+  -- unacknowledged.
   pub record IsDelivered (terms : Terms) (sender : End) (call : Coupled A) (seen : Observed A) : Type 0 where
     pub agreed : (sent_by sender call).terms ≡ terms_from sender terms
     pub kept : (sent_by sender call).accepted ≡ seen.accepted
     pub counted : (sent_by sender call).put ≡ length seen.put
     pub readiness : (sent_by sender call).ready ≡ seen.ready
+    pub owing : (sent_by sender call).owes ≡ seen.receiver_owes
     pub front : seen.put ≡ with_numbers (numbers (terms_from sender terms).receiver) 0 (take (length seen.put) seen.accepted)
-    pub whole : seen.ready ≡ true → (sent_by sender call).owes ≡ false → seen.put ≡ with_numbers (numbers (terms_from sender terms).receiver) 0 seen.accepted
+    pub whole : seen.ready ≡ true → seen.receiver_owes ≡ false → seen.put ≡ with_numbers (numbers (terms_from sender terms).receiver) 0 seen.accepted
     pub acknowledged : (sent_by sender call).acknowledged ≤ length seen.put
     pub window : length seen.accepted ≤ (sent_by sender call).acknowledged + (terms_from sender terms).window
 

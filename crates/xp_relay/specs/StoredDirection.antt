@@ -1,10 +1,10 @@
 -- How a direction is stored: numbers in place of counts, and only those packets that the receiver was not sent yet.
 use Rattle.std.specs.Prelude.{◌≡◌, ℕ, ◌-◌, ◌%◌, Bool, List, drop}
+use Rattle.xp_packets.specs.Numbers.{numbers}
 use Rattle.xp_relay.specs.declared.data.Data.{Data}
 use Rattle.xp_relay.specs.declared.data.Interruption.{Interruption}
 use Rattle.xp_relay.specs.declared.terms.DirectionTerms.{DirectionTerms}
 use Rattle.xp_relay.specs.Direction.{Direction, IsSound}
-use Rattle.xp_relay.specs.Terms.{numbers}
 
 pub record StoredDirection (A : Type 0) : Type 0 where
   pub terms : DirectionTerms

@@ -1,16 +1,11 @@
 -- What was agreed for a call, and which values are allowed.
-use Rattle.std.specs.Prelude.{ℕ, ◌<◌, ◌≤◌}
+use Rattle.std.specs.Prelude.{◌<◌, ◌≤◌}
 use Rattle.xp_packets.specs.declared.end.End.{End}
 use Rattle.xp_packets.specs.declared.end.End.TheVariants.{Caller, Called}
-use Rattle.xp_relay.specs.declared.terms.Modulus.{Modulus}
-use Rattle.xp_relay.specs.declared.terms.Modulus.TheVariants.{Eight, Long}
+use Rattle.xp_packets.specs.declared.modulus.Modulus.{Modulus}
+use Rattle.xp_packets.specs.Numbers.{numbers}
 use Rattle.xp_relay.specs.declared.terms.Terms.{Terms}
 use Rattle.xp_relay.specs.declared.terms.DirectionTerms.{DirectionTerms}
-
--- how many packet numbers a line has; the first is 0 (X.25 clause 4.4.1.1)
-abbrev pub numbers : Modulus → ℕ
-numbers Eight = 8
-numbers Long = 128
 
 -- Packet sizes are 16 to 1,024 octets (X.25 clause 7.2.2.1). Windows are at least 1, at most 15, and below the modulus
 -- of both lines (clause 7.2.2.2). So they are 1 to 7, unless both lines number modulo 128.
@@ -21,6 +16,11 @@ pub record AreDirectionTerms (way : DirectionTerms) : Type 0 where
   pub most_window : way.window ≤ 15
   pub sender : way.window < numbers way.sender
   pub receiver : way.window < numbers way.receiver
+
+-- how the line at an end numbers its packets (clause 4.4.1.1)
+abbrev pub modulus_at : End → Terms → Modulus
+modulus_at Caller terms = terms.caller
+modulus_at Called terms = terms.called
 
 -- the terms of the direction that one end sends
 abbrev pub terms_from : End → Terms → DirectionTerms

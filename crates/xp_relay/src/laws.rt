@@ -7,9 +7,9 @@ ghost use Rattle.xp_relay.specs.Runs.{EverythingIsDelivered};
 use std::alloc::Allocator;
 
 /// In each direction the receiver gets what was accepted from the sender since the last reset: each packet once, in
-/// order, unchanged, numbered from 0. If the receiver is ready and owes no reset confirmation, it has got every packet;
-/// else the last packets may wait. The receiver is ready if its last RR or RNR since the reset said so, or if it sent
-/// none. No more than a window is unacknowledged.
+/// order, unchanged, numbered from 0 as the receiver's line numbers. If the receiver is ready and owes no reset
+/// confirmation, it has got every packet; else the last packets may wait. The receiver is ready if its last RR or RNR
+/// since the reset said so, or if it sent none. No more than a window is unacknowledged.
 pub fn everything_is_delivered<A: Allocator>()
     ensures { EverythingIsDelivered A }
 {}
@@ -26,8 +26,8 @@ pub fn a_turn_puts_out_few<A: Allocator>()
     ensures { PutsOutFew A }
 {}
 
-/// Where both lines number modulo 8 and each packet that comes in can be encoded, each packet that goes to an end can
-/// be encoded too, under each logical channel identifier of at most 4,095.
+/// Where each packet that comes in can be encoded by some modulus, each packet that goes to an end can be encoded by
+/// the modulus of that end's line, under each logical channel identifier of at most 4,095.
 pub fn every_packet_put_out_can_be_encoded<A: Allocator>()
     ensures { PutsOutEncodable A }
 {}

@@ -20,4 +20,4 @@ pub use laws::{
 pub use moves::{Move, Moves};
 pub use relay::Relay;
 pub use state::FlowState;
-pub use terms::{Agreed, DirectionTerms, Modulus, Terms};
+pub use terms::{Agreed, DirectionTerms, Terms};

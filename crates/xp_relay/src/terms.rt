@@ -1,16 +1,7 @@
 ghost use Rattle.std.specs.Prelude.{◌≡◌, ◌≤◌, ◌↔◌, IsTrue};
-ghost use Rattle.xp_relay.specs.Terms.{AreDirectionTerms, IsWithinTerms, numbers, terms_from};
+ghost use Rattle.xp_relay.specs.Terms.{AreDirectionTerms, IsWithinTerms, terms_from};
 
-use xp_packets::End;
-
-/// The modulus of the packet numbers of a line (X.25 clause 4.4.1.1).
-#[derive(Clone, Copy, Debug, PartialEq, Eq)]
-pub enum Modulus {
-    /// Modulo 8.
-    Eight,
-    /// Modulo 128. The general format identifier of such a line says so.
-    Long,
-}
+use xp_packets::{End, Modulus};
 
 /// What was agreed for the data that one end sends.
 #[derive(Clone, Copy, Debug, PartialEq, Eq)]
@@ -45,19 +36,6 @@ pub struct DirectionTerms {
     pub sender: Modulus,
     /// The numbering of the line that receives.
     pub receiver: Modulus,
-}
-
-impl Modulus {
-    /// Returns how many numbers there are. The first is 0.
-    pub fn numbers(self) -> u8
-        ensures numbers { result ≡ numbers self }
-        ensures most { result ≤ 128 }
-    {
-        match self {
-            Modulus::Eight => 8,
-            Modulus::Long => 128,
-        }
-    }
 }
 
 impl DirectionTerms {

@@ -1,7 +1,7 @@
 //! Texts of subscription files, and what is told of them: `ok`, or the first refusal.
 
 /// What stands before a station.
-pub const TOP: [(&str, &str); 22] = [
+pub const TOP: [(&str, &str); 23] = [
     ("journal", "toml"),
     ("journal = 8\njournal = 8", "toml"),
     ("journal = 99999999999999999999", "toml"),
@@ -18,6 +18,7 @@ pub const TOP: [(&str, &str); 22] = [
     ("host = 1", "field host"),
     ("host = 'exchange.example'", "ok"),
     ("hosts = '127.0.0.1'", "field other"),
+    ("modulus = 8", "field other"),
     ("journal = 3", "field journal"),
     ("journal = 4", "ok"),
     ("journal = 10000000", "ok"),
@@ -27,7 +28,7 @@ pub const TOP: [(&str, &str); 22] = [
 ];
 
 /// What stands behind the address and the line of a station, in its table and behind it.
-pub const STATION: [(&str, &str); 82] = [
+pub const STATION: [(&str, &str); 83] = [
     ("outgoing_barred = 1", "field outgoing_barred"),
     ("incoming_barred = 'true'", "field incoming_barred"),
     ("reverse_charging = 0", "field reverse_charging"),
@@ -36,6 +37,7 @@ pub const STATION: [(&str, &str); 82] = [
     ("incoming_access = 1.5", "field incoming_access"),
     ("incoming_access = false", "ok"),
     ("fast_selects = true", "field other"),
+    ("modulus = 8", "field other"),
     ("preferential = 10000", "field preferential"),
     ("preferential = -1", "field preferential"),
     ("preferential = '1'", "field preferential"),
@@ -236,7 +238,7 @@ pub const STATION: [(&str, &str); 82] = [
 ];
 
 /// The lines of a station.
-pub const LINES: [(&str, &str); 33] = [
+pub const LINES: [(&str, &str); 51] = [
     ("[]", "field line"),
     ("1", "field line"),
     ("[1]", "field line"),
@@ -270,6 +272,31 @@ pub const LINES: [(&str, &str); 33] = [
         "[{ name = 'a', port = 1, address = '1234567890123456' }]",
         "field address",
     ),
+    ("[{ name = 'a', port = 1, modulus = 8 }]", "ok"),
+    ("[{ name = 'a', port = 1, modulus = 128 }]", "ok"),
+    ("[{ name = 'a', port = 1, modulus = 0 }]", "field modulus"),
+    ("[{ name = 'a', port = 1, modulus = 7 }]", "field modulus"),
+    ("[{ name = 'a', port = 1, modulus = 16 }]", "field modulus"),
+    ("[{ name = 'a', port = 1, modulus = 129 }]", "field modulus"),
+    ("[{ name = 'a', port = 1, modulus = 264 }]", "field modulus"),
+    ("[{ name = 'a', port = 1, modulus = -8 }]", "field modulus"),
+    (
+        "[{ name = 'a', port = 1, modulus = 4294967304 }]",
+        "field modulus",
+    ),
+    (
+        "[{ name = 'a', port = 1, modulus = 128.0 }]",
+        "field modulus",
+    ),
+    (
+        "[{ name = 'a', port = 1, modulus = '128' }]",
+        "field modulus",
+    ),
+    (
+        "[{ name = 'a', port = 1, modulus = 1979-05-27 }]",
+        "field modulus",
+    ),
+    ("[{ name = 'a', port = 1, modulus = [8] }]", "field modulus"),
     (
         "[{ name = 'a', port = 0 }, { name = 'B', port = 2 }]",
         "field name",
@@ -281,6 +308,26 @@ pub const LINES: [(&str, &str); 33] = [
     (
         "[{ name = 'a', port = 1, other = 1 }, { name = 'b', port = 2, address = '' }]",
         "field address",
+    ),
+    (
+        "[{ name = 'a', port = 1, modulus = 7 }, { name = 'b', port = 0 }]",
+        "field port",
+    ),
+    (
+        "[{ name = 'a', port = 1, modulus = 7 }, { name = 'b', port = 2, address = '' }]",
+        "field address",
+    ),
+    (
+        "[{ modulus = 7, address = 2, name = 'a', port = 1 }]",
+        "field address",
+    ),
+    (
+        "[{ name = 'a', port = 1, other = 1 }, { name = 'b', port = 2, modulus = 7 }]",
+        "field modulus",
+    ),
+    (
+        "[{ name = 'a', port = 1 }, { name = 'a', port = 2, modulus = 7 }]",
+        "field modulus",
     ),
     (
         "[{ name = 'a', port = 1 }, { name = 'a', port = 2 }]",
@@ -306,7 +353,7 @@ pub const LINES: [(&str, &str); 33] = [
 ];
 
 /// Whole files.
-pub const WHOLE: [(&str, &str); 31] = [
+pub const WHOLE: [(&str, &str); 32] = [
     ("", "field station"),
     ("journal = 8", "field station"),
     ("station = []", "field station"),
@@ -358,6 +405,10 @@ pub const WHOLE: [(&str, &str); 31] = [
     (
         "[[station]]\naddress = '1'\nline = [{ name = 'a', port = 1, address = 1 }]\ngroup = [{}]",
         "field address",
+    ),
+    (
+        "[[station]]\naddress = '1'\nline = [{ name = 'a', port = 1, modulus = 7 }]\ngroup = [{}]",
+        "field modulus",
     ),
     ("journal = 3\nsegment_limit = 0", "field segment_limit"),
     ("host = 1\njournal = 3", "field journal"),

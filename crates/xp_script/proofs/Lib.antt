@@ -2,6 +2,7 @@ mod DigitLemmas
 mod FrameLemmas
 mod HexLemmas
 mod ListLemmas
+mod MomentLemmas
 mod NameLemmas
 mod SaidLemmas
 mod WordLemmas

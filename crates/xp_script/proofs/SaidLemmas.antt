@@ -31,15 +31,15 @@ module _ {A : Type 0} where
       → said_by {A = A} tables (verb ∷ name ∷ words text) ≡ said_with verb (line_named_of tables name) (octets_of text)
   said_longer tables verb name text longer none = rw (longer.are, none) (sym (said_with-none verb (line_named_of tables name)))
 
-  said_at : (tables : Tables) (verb name text : List ℕ) (place : Option ℕ) → position is_space text ≡ place
+  said_from : (tables : Tables) (verb name text : List ℕ) (place : Option ℕ) → position is_space text ≡ place
       → said_by {A = A} tables (verb ∷ name ∷ words text) ≡ said_with verb (line_named_of tables name) (octets_of text)
-  said_at tables verb name text None none = rw (words-uncut text none) refl
-  said_at tables verb name text (Some place) space = said_longer tables verb name text (spaced_longer text place space) (octets_of-spaced text place space)
+  said_from tables verb name text None none = rw (words-uncut text none) refl
+  said_from tables verb name text (Some place) space = said_longer tables verb name text (spaced_longer text place space) (octets_of-spaced text place space)
 
   -- by octets, where what is left is digits alone
   pub said-cut : (tables : Tables) (verb name text : List ℕ)
       → said_by {A = A} tables (verb ∷ name ∷ words text) ≡ said_with verb (line_named_of tables name) (octets_of text)
-  said-cut tables verb name text = said_at tables verb name text (position is_space text) refl
+  said-cut tables verb name text = said_from tables verb name text (position is_space text) refl
 
 brings_at : (tables : Tables) (verb name text : List ℕ) (place : Option ℕ) → position is_space text ≡ place → IsSome (octets_of text)
     → brings_octets_by tables (verb ∷ name ∷ words text) ≡ same verb (codes "in") && is_some (line_named_of tables name)

@@ -1,11 +1,13 @@
 -- What the lines of a script say.
-use Rattle.std.specs.Prelude.{ℕ, ◌≡◌, ◌<◌, ◌==◌, codes, nat_lt, Bool, true, false, ◌&&◌, is_some, if◌then◌else◌, List, [], ◌∷◌, length, Option, None, Some, Result, Ok, Err}
-use Rattle.std.specs.List.{slice_split}
+use Rattle.std.specs.Prelude.{ℕ, ◌≡◌, ◌<◌, ◌^◌, ◌==◌, codes, nat_lt, Bool, true, false, ◌&&◌, is_some, if◌then◌else◌, List, [], ◌∷◌, length, Option, None, Some, Result, Ok, Err}
+use Rattle.std.specs.Char.{is_ascii_digit}
+use Rattle.std.specs.List.{list_all, slice_split}
+use Rattle.std.specs.Str.Parse.{digits_value}
 use Rattle.hex.specs.Hex.{decode_of}
 use Rattle.hex.specs.declared.error.FromHexError.{FromHexError}
 use Rattle.xp_subs.specs.Tables.{Tables, same, line_named_of}
 use Rattle.xp_script.specs.declared.command.Command.{Command}
-use Rattle.xp_script.specs.declared.command.Command.TheVariants.{Nothing, Up, Down, Expire, In}
+use Rattle.xp_script.specs.declared.command.Command.TheVariants.{Nothing, Up, Down, Expire, In, At}
 use Rattle.xp_script.specs.declared.fault.LineFault.{LineFault}
 use Rattle.xp_script.specs.declared.fault.LineFault.TheVariants.{Faulty, Memory}
 
@@ -33,6 +35,22 @@ some_octets (Err fault) = None
 
 abbrev pub octets_of : List ℕ → Option (List ℕ)
 octets_of digits = some_octets (decode_of digits)
+
+-- the most digits of a moment
+abbrev pub most_digits : ℕ
+most_digits = 20
+
+-- what comes of a number if it has 64 bits
+abbrev pub within_64_bits : ℕ → Option ℕ
+within_64_bits number = if nat_lt number (2 ^ 64) then Some number else None
+
+-- the moment that decimal digits stand for, in seconds; zeros may stand in front
+abbrev pub moment_of : List ℕ → Option ℕ
+moment_of [] = None
+moment_of (digit ∷ digits) =
+    if nat_lt most_digits (length (digit ∷ digits)) then None
+    else if list_all is_ascii_digit (digit ∷ digits) then within_64_bits (digits_value 10 (digit ∷ digits))
+    else None
 
 -- a text that says something is answered by what it says, and any other by `Faulty`; memory may be wanting for both
 abbrev pub Answers : {X : Type 0} → Option X → Result X LineFault → Type 0
@@ -72,8 +90,14 @@ module _ {A : Type 0} where
   said_with verb (Some line) (Some octets) = if same verb (codes "in") then Some (In line octets) else None
   said_with verb _ _ = None
 
+  -- `at`: the moment of the events that follow
+  abbrev pub said_at : Option ℕ → Option (Command A)
+  said_at None = None
+  said_at (Some moment) = Some (At moment)
+
   abbrev pub said_by : Tables → List (List ℕ) → Option (Command A)
-  said_by tables (verb ∷ name ∷ []) = said_of verb (line_named_of tables name)
+  said_by tables (verb ∷ name ∷ []) =
+      if same verb (codes "at") then said_at (moment_of name) else said_of verb (line_named_of tables name)
   said_by tables (verb ∷ name ∷ digits ∷ []) = said_with verb (line_named_of tables name) (octets_of digits)
   said_by tables _ = None
 
@@ -95,3 +119,4 @@ module _ {A : Type 0} where
   HasLine count (Down line) = line < count
   HasLine count (Expire line) = line < count
   HasLine count (In line octets) = line < count
+  HasLine count (At moment) = Unit {0}

@@ -3,22 +3,24 @@ use Rattle.std.specs.Prelude.{ℕ, codes, List, [], ◌∷◌, ◌++◌, flat_ma
 use Rattle.hex.specs.Hex.{encode_lower}
 use Rattle.xp_frames.specs.Frame.{frame}
 use Rattle.xp_packets.specs.Writing.{written}
+use Rattle.xp_packets.specs.declared.modulus.Modulus.{Modulus}
 use Rattle.xp_charge.specs.Text.{field, name_of, record_text}
-use Rattle.xp_subs.specs.Tables.{Tables}
+use Rattle.xp_subs.specs.Tables.{Tables, modulus_of}
 use Rattle.xp_core.specs.declared.entry.Entry.{Entry}
 use Rattle.xp_core.specs.declared.output.Output.{Output}
 use Rattle.xp_core.specs.declared.output.Put.{Put}
 use Rattle.xp_core.specs.declared.output.Put.TheVariants.{Send, Close}
 
 module _ {A : Type 0} where
-  -- a packet that is put out, as a frame; a close is no text
-  abbrev pub put_text : List ℕ → Put A → List ℕ
-  put_text name (Send identifier packet) =
-      codes "out" ++ field name ++ field (encode_lower (frame (written identifier packet))) ++ 10 ∷ []
-  put_text name Close = []
+  -- a packet that is put out, as a frame of its line; a close is no text
+  abbrev pub put_text : List ℕ → Modulus → Put A → List ℕ
+  put_text name modulus (Send identifier packet) =
+      codes "out" ++ field name ++ field (encode_lower (frame (written modulus identifier packet))) ++ 10 ∷ []
+  put_text name modulus Close = []
 
   abbrev pub output_text : Tables → Output A → List ℕ
-  output_text tables output = put_text (name_of tables output.line) output.outgoing.put
+  output_text tables output =
+      put_text (name_of tables output.line) (modulus_of tables output.line) output.outgoing.put
 
   -- the packets that an entry puts out, then its records
   abbrev pub entry_text : Tables → Entry A → List ℕ

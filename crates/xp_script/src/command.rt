@@ -1,19 +1,23 @@
 //! What a line of a script says.
 
 ghost use Rattle.std.specs.Prelude.{◌≡◌, ◌&&◌, IfOk, IsSome, IsTrue, codes, is_some};
-ghost use Rattle.xp_script.specs.Command.{octets_of, Answers, brings_octets, brings_octets_by, HasLine, is_skipped, LacksMemory, Reads, said_by, said_of, said_with, words};
+ghost use Rattle.xp_script.specs.Command.{octets_of, Answers, brings_octets, brings_octets_by, HasLine, is_skipped, LacksMemory, Reads, moment_of, said_at, said_by, said_of, said_with, words};
 ghost use Rattle.xp_subs.specs.Tables.{line_count, same};
 
 use crate::digits::{are_digits, read_digits};
 use crate::fault::LineFault;
 use crate::input_octets::InputOctets;
 use crate::line::line_named;
+use crate::moment::moment_of;
 use crate::words::cut_word;
 use std::alloc::{Allocator, Global};
 use xp_subs::{LineNo, Subs};
 
 /// The most octets of a line, without its line feed.
 pub const MAX_LINE_OCTETS: usize = 8192;
+
+/// What a line begins with that tells a moment.
+const AT: &[u8] = b"at";
 
 /// What a line of a script asks for.
 #[derive(Debug, Drop, PartialEq)]
@@ -28,6 +32,8 @@ pub enum Command<A: Allocator = Global> {
     Expire(LineNo),
     /// Octets come in on a line; at least one.
     In(LineNo, InputOctets<A>),
+    /// The events that follow have this moment, in seconds. It may be less than the one before.
+    At(u64),
 }
 
 impl<A: Allocator> Command<A> {
@@ -74,6 +80,7 @@ fn read_words<A: Allocator>(
     match cut_word(rest) {
         // A further space is no digit.
         Some((name, digits)) => about_octets(verb, line_named(subs, name), digits, memory),
+        None if verb == AT => about_moment(rest).ok_or(LineFault::Faulty),
         None => about_line(verb, line_named(subs, rest)).ok_or(LineFault::Faulty),
     }
 }
@@ -89,6 +96,13 @@ fn about_line<A: Allocator>(verb: &[u8], line: Option<LineNo>) -> Option<Command
         b"expire" => Some(Command::Expire(line)),
         _ => None,
     }
+}
+
+/// `at`, with the digits of a moment.
+fn about_moment<A: Allocator>(digits: &[u8]) -> Option<Command<A>>
+    ensures { result ≡ said_at (moment_of digits.now) }
+{
+    Some(Command::At(moment_of(digits)?))
 }
 
 /// `in` of a line, with the octets that come in.

@@ -28,7 +28,7 @@ pub fn write_entry<A: Allocator>(
     memory: &mut Vec<u8, A>,
     text: &mut Vec<u8, A>,
 ) -> Result<(), AllocError>
-    requires writable { AreWritable entry.now.outputs }
+    requires writable { AreWritable subs.now entry.now.outputs }
     requires lines { HasLines (line_count subs.now) entry.now }
     ensures ok { OnOk result (text.new.items ≡ text.old.items ++ entry_text subs.now entry.now) }
     ensures err { OnErr result (text.new.items ≡ text.old.items) }
@@ -50,7 +50,7 @@ fn push_entry<A: Allocator>(
     memory: &mut Vec<u8, A>,
     text: &mut Vec<u8, A>,
 ) -> Result<(), AllocError>
-    requires writable { AreWritable entry.now.outputs }
+    requires writable { AreWritable subs.now entry.now.outputs }
     requires lines { HasLines (line_count subs.now) entry.now }
     ensures ok { OnOk result (text.new.items ≡ text.old.items ++ entry_text subs.now entry.now) }
     ensures kept { Keeps text.old.items text.new.items }
@@ -65,7 +65,7 @@ fn push_outputs<A: Allocator>(
     memory: &mut Vec<u8, A>,
     text: &mut Vec<u8, A>,
 ) -> Result<(), AllocError>
-    requires writable { AreWritable outputs.now }
+    requires writable { AreWritable subs.now outputs.now }
     requires lines { All (λ output. output.line < line_count subs.now) outputs.now }
     ensures ok { OnOk result (text.new.items ≡ text.old.items ++ flat_map (output_text subs.now) outputs.now) }
     ensures kept { Keeps text.old.items text.new.items }

@@ -7,6 +7,7 @@ mod entry;
 mod fault;
 mod input_octets;
 mod line;
+mod moment;
 mod output;
 mod text;
 mod words;

@@ -7,13 +7,13 @@ ghost use Rattle.xp_packets.specs.Encodability.{encoding_fault};
 ghost use Rattle.xp_packets.specs.Writing.{written};
 ghost use Rattle.xp_charge.specs.steps.Text.{Keeps};
 ghost use Rattle.xp_script.specs.Text.{output_text};
-ghost use Rattle.xp_subs.specs.Tables.{line_count};
+ghost use Rattle.xp_subs.specs.Tables.{line_count, modulus_of};
 
 use crate::text::{push_front, push_octets};
 use std::alloc::{AllocError, Allocator};
 use xp_core::{Output, Put};
 use xp_frames::frame_header;
-use xp_packets::{Packet, write_packet};
+use xp_packets::{Modulus, Packet, write_packet};
 use xp_subs::Subs;
 
 /// How many octets of a frame stand before its packet.
@@ -26,7 +26,7 @@ pub fn push_output<A: Allocator>(
     memory: &mut Vec<u8, A>,
     text: &mut Vec<u8, A>,
 ) -> Result<(), AllocError>
-    requires writable { IsWritable output.now.outgoing.put }
+    requires writable { IsWritable (modulus_of subs.now output.now.line) output.now.outgoing.put }
     requires line { output.now.line < line_count subs.now }
     ensures ok { OnOk result (text.new.items ≡ text.old.items ++ output_text subs.now output.now) }
     ensures kept { Keeps text.old.items text.new.items }
@@ -34,7 +34,8 @@ pub fn push_output<A: Allocator>(
     match &output.outgoing.put {
         Put::Close => Ok(()),
         Put::Send { identifier, packet } => {
-            put_frame(*identifier, packet, memory)?;
+            let modulus = subs.modulus_of(output.line);
+            put_frame(modulus, *identifier, packet, memory)?;
             push_front(text, subs.name_of(output.line).as_bytes())?;
             push_octets(text, memory)?;
             text.push(b'\n')?;
@@ -43,21 +44,22 @@ pub fn push_output<A: Allocator>(
     }
 }
 
-/// Puts the frame of a packet into a vector, whatever it holds. One that has a spelling has 3 to 1,028 octets, so that
-/// only memory can be wanting.
+/// Puts the frame of a packet of a line of this modulus into a vector, whatever it holds. One that has a spelling has 3
+/// to 1,028 octets, so that only memory can be wanting.
 fn put_frame<A: Allocator>(
+    modulus: Modulus,
     identifier: u16,
     packet: &Packet<A>,
     octets: &mut Vec<u8, A>,
 ) -> Result<(), AllocError>
-    requires { encoding_fault identifier packet.now ≡ None }
-    ensures frame { OnOk result (octets.new.items ≡ frame (written identifier packet.now)) }
+    requires { encoding_fault modulus identifier packet.now ≡ None }
+    ensures frame { OnOk result (octets.new.items ≡ frame (written modulus identifier packet.now)) }
     ensures most { OnOk result (length octets.new.items ≤ 1032) }
 {
     octets.clear();
     // The head comes into its place when the packet's length is known.
     octets.resize(HEAD, 0)?;
-    write_packet(identifier, packet, octets).map_err(|_| AllocError)?;
+    write_packet(modulus, identifier, packet, octets).map_err(|_| AllocError)?;
     let head = frame_header(&octets[HEAD..]).map_err(|_| AllocError)?;
     put_head(octets, &head);
     Ok(())

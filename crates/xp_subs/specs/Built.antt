@@ -22,7 +22,7 @@ numbers first (suc count) = first ∷ numbers (first + 1) count
 
 -- a line of the station with this number
 abbrev pub line_from : ℕ → LineEntry → Line
-line_from station line = record { name = line.name; port = line.port; address = line.address; station = station }
+line_from station line = record { name = line.name; port = line.port; address = line.address; modulus = line.modulus; station = station }
 
 abbrev pub lines_of : ℕ → List LineEntry → List Line
 lines_of station lines = map (line_from station) lines

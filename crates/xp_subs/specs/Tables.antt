@@ -1,6 +1,8 @@
 -- The subscription tables, and the functions that read them.
 pub use Rattle.xp_file.specs.Name.{same}
 use Rattle.std.specs.Prelude.{ℕ, List, [], Bool, false, Option, None, Some, unwrap_or, length, position, slice_index_or}
+use Rattle.xp_packets.specs.declared.modulus.Modulus.{Modulus}
+use Rattle.xp_packets.specs.declared.modulus.Modulus.TheVariants.{Eight}
 use Rattle.xp_subs.specs.declared.line.Line.{Line}
 use Rattle.xp_subs.specs.declared.station.Station.{Station}
 use Rattle.xp_subs.specs.declared.target.Target.{Target}
@@ -39,7 +41,7 @@ no_station = record {
 }
 
 abbrev pub no_line : Line
-no_line = record { name = []; port = 0; address = None; station = 0 }
+no_line = record { name = []; port = 0; address = None; modulus = Eight; station = 0 }
 
 abbrev pub station_at : Tables → ℕ → Station
 station_at tables number = slice_index_or tables.stations number no_station
@@ -55,6 +57,10 @@ station_of tables number = (line_at tables number).station
 abbrev pub address_of : Tables → ℕ → List ℕ
 address_of tables number =
     unwrap_or (line_at tables number).address (station_at tables (station_of tables number)).address
+
+-- the modulus of a line's packet numbers
+abbrev pub modulus_of : Tables → ℕ → Modulus
+modulus_of tables number = (line_at tables number).modulus
 
 abbrev pub holds : List ℕ → Option (List ℕ) → Bool
 holds address None = false

@@ -168,6 +168,7 @@ fn line(station: StationNo, entry: &LineEntry) -> Line
         name: entry.name.copy(),
         port: entry.port,
         address: entry.address.as_ref().map(|address| address.copy()),
+        modulus: entry.modulus,
         station,
     }
 }

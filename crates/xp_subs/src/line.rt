@@ -1,6 +1,6 @@
 use crate::StationNo;
 use xp_file::Name;
-use xp_packets::Digits;
+use xp_packets::{Digits, Modulus};
 
 /// One access line of a station.
 #[derive(Debug, Drop, PartialEq)]
@@ -10,5 +10,7 @@ pub struct Line {
     pub port: u16,
     /// The line's own address, if it has one in addition to its station's.
     pub address: Option<Digits>,
+    /// The modulus of its packet numbers (X.25 clause 4.4.1.1).
+    pub modulus: Modulus,
     pub station: StationNo,
 }

@@ -1,6 +1,6 @@
 ghost use Rattle.std.specs.Prelude.{◌≡◌, ◌<◌, IfSome};
 ghost use Rattle.xp_subs.specs.Sound.{IsSound, IsTarget};
-ghost use Rattle.xp_subs.specs.Tables.{line_count, station_count, group_count, station_at, line_at, station_of, address_of, target_of, line_named_of};
+ghost use Rattle.xp_subs.specs.Tables.{line_count, station_count, group_count, station_at, line_at, station_of, address_of, modulus_of, target_of, line_named_of};
 
 use crate::line::Line;
 use crate::station::Station;
@@ -9,7 +9,7 @@ use crate::{LineNo, StationNo};
 use indexmap::{IndexMap, IndexSet};
 use std::marker::Model;
 use xp_file::Name;
-use xp_packets::Digits;
+use xp_packets::{Digits, Modulus};
 
 /// The subscriptions of an exchange: its stations, with their lines, facilities and groups.
 #[derive(Drop)]
@@ -105,6 +105,14 @@ impl Subs {
         ensures { result ≡ (line_at self.now line).port }
     {
         self.line(line).port
+    }
+
+    /// The modulus of a line's packet numbers.
+    pub fn modulus_of(&self, line: LineNo) -> Modulus
+        requires { line < line_count self.now }
+        ensures { result ≡ modulus_of self.now line }
+    {
+        self.line(line).modulus
     }
 
     /// The number of stations, lines and groups. The contract also says what holds of all subscriptions.

@@ -1,7 +1,9 @@
 //! The clock of a line's thread.
 
-ghost use Rattle.std.specs.Prelude.{◌≡◌, ◌≤◌};
+ghost use Rattle.std.specs.Prelude.{◌≡◌, ◌≤◌, ◌/◌};
+ghost use Rattle.std.specs.Duration.{as_nanos};
 
+use crate::start::Start;
 use crate::wakers::{LineWaker, wake_if_asleep};
 use mio::{Events, Poll};
 use std::marker::Model;
@@ -18,11 +20,8 @@ const LONGEST_SLEEP: u64 = 500;
 /// for it must not sleep before a read found nothing.
 const MOST_LOOKS: u32 = 1;
 
-/// The system's time since it began, as of its last tick, which costs no look at a counter (`CLOCK_MONOTONIC_COARSE` of Linux).
-const CLOCK_OF_TICKS: i32 = 6;
-
-/// The clock of a line's thread. It lets time pass until something comes to the line's sockets or another line wakes it.
-/// Contracts see it as the second that it told last.
+/// The clock of a line's thread. It tells the seconds since 1970, and never goes back. It lets time pass until something comes
+/// to the line's sockets or another line wakes it. Contracts see it as the second that it told last, at first the start's.
 pub struct TcpClock {
     poll: Poll,
     /// Room for what the thread was woken by. What it was is not looked at: each turn tries all sockets of the line.
@@ -30,6 +29,7 @@ pub struct TcpClock {
     wakers: Arc<Vec<LineWaker>>,
     /// The line's own place among the wakers.
     line: usize,
+    start: Start,
     told: u64,
     /// The line that was marked last, and whose thread may still be asleep. A turn marks work for each of its packets, and
     /// wakes once.
@@ -57,6 +57,7 @@ impl Drop for TcpClock {
             events: _,
             wakers,
             line: _,
+            start: _,
             told: _,
             to_wake,
             looks: _,
@@ -73,15 +74,17 @@ impl TcpClock {
         events: Events,
         wakers: Arc<Vec<LineWaker>>,
         line: usize,
+        start: Start,
     ) -> TcpClock
-        ensures { result ≡ 0 }
+        ensures { result ≡ as_nanos start.time_of_day / 1_000_000_000 }
     {
         TcpClock {
             poll,
             events,
             wakers,
             line,
-            told: 0,
+            start,
+            told: start.seconds(),
             to_wake: None,
             looks: 0,
             idle: false,
@@ -111,11 +114,13 @@ fn sleep(poll: &mut Poll, events: &mut Events, waker: &LineWaker) -> bool {
 }
 
 impl Clock for TcpClock {
-    ghost use Rattle.std.specs.Prelude.{◌≡◌, ◌≤◌};
+    ghost use Rattle.std.specs.Prelude.{◌≡◌, ◌≤◌, ◌/◌};
+    ghost use Rattle.std.specs.Duration.{as_nanos};
 
     ghost tells = { λ before now after. (after ≡ now) × (before ≤ now) };
 
-    /// The seconds since the system began. It never goes back: where the system fails to tell, it is what it was.
+    /// The seconds since 1970: the time of day as the clocks were made, and the time that has passed since. It never goes
+    /// back: where the system fails to tell, it is what it was.
     fn now(&mut self) -> u64
         ensures told { self.new ≡ result }
         ensures forward { self.old ≤ result }
@@ -125,12 +130,8 @@ impl Clock for TcpClock {
             self.looks = 0;
         }
         self.idle = false;
-        let mut time = libc::types::timespec {
-            tv_sec: 0,
-            tv_nsec: 0,
-        };
-        if libc::clock_gettime(CLOCK_OF_TICKS, &mut time) == 0 {
-            self.told = self.told.max(time.tv_sec.max(0).unsigned_abs());
+        if let Some(seconds) = self.start.seconds_now() {
+            self.told = self.told.max(seconds);
         }
         self.told
     }

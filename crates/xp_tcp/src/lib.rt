@@ -6,6 +6,7 @@ mod gate;
 mod link;
 mod port;
 mod sockets;
+mod start;
 mod wakers;
 
 pub use clock::TcpClock;

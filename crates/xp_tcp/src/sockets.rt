@@ -5,6 +5,7 @@ ghost use Rattle.xp_tcp.specs.declared.sockets.ListenFault.TheVariants.{Memory a
 
 use crate::clock::TcpClock;
 use crate::port::TcpPort;
+use crate::start::Start;
 use crate::wakers::LineWaker;
 use mio::net::TcpListener;
 use mio::{Events, Interest, Poll, Registry, Token, Waker};
@@ -113,17 +114,24 @@ impl Sockets {
         self.lines.get(line as usize).map(|line| line.port)
     }
 
-    /// What the threads of the lines are given, in line order.
+    /// What the threads of the lines are given, in line order. The time of day is read once, for all clocks.
     pub fn into_ends(self, alloc: Global) -> Result<Vec<(TcpPort, TcpClock)>, AllocError>
         ensures { IfOk result (λ ends. vec_len ends ≡ self) }
     {
         let Sockets { lines, wakers } = self;
         let wakers = Arc::new(alloc, wakers)?;
         let mut ends = Vec::with_capacity(alloc, lines.len())?;
+        let start = Start::read();
         for line in lines {
             let place = ends.len();
             let port = TcpPort::new(line.listener, line.waits, Arc::try_clone(&wakers)?, place);
-            let clock = TcpClock::new(line.poll, line.events, Arc::try_clone(&wakers)?, place);
+            let clock = TcpClock::new(
+                line.poll,
+                line.events,
+                Arc::try_clone(&wakers)?,
+                place,
+                start,
+            );
             ends.push((port, clock))?;
         }
         Ok(ends)

@@ -1,5 +1,5 @@
 -- Which facilities a field can indicate.
-use Rattle.std.specs.Prelude.{◌≡◌, ℕ, ◌≤◌, List, length, None, IfSome}
+use Rattle.std.specs.Prelude.{ℕ, List}
 use Rattle.xp_facilities.specs.Indicated.{Indicates}
 use Rattle.xp_facilities.specs.declared.indicated.IndicatedFacilities.{IndicatedFacilities}
 

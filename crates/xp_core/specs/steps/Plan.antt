@@ -25,12 +25,12 @@ use Rattle.xp_machine.specs.AppliedChange.{applied, applied_if_any, freed_if_any
 module _ {A : Type 0} where
   -- the records of changes, with the segments of the calls so far
   abbrev pub recorded_at : StepContext A → List Change → List Record
-  recorded_at at changes = recorded_by (segments_of at.tables at.before) at.world changes
+  recorded_at at changes = recorded_by (segments_of at.tables at.before) at.moment at.world changes
 
   -- a line leaves its call, if it is in one, and this is the record of the call
   pub record IsWithdrawal (withdrawal : Withdrawal) (at : StepContext A) (change : Change) : Type 0 where
     pub does : applied withdrawal.change at.world ≡ changed change at.world
-    pub records : option_to_list withdrawal.charged ≡ recorded (segments_of at.tables at.before) at.world change
+    pub records : option_to_list withdrawal.charged ≡ recorded (segments_of at.tables at.before) at.moment at.world change
 
   -- a collision cancels this call, if there is one, and its caller is told this
   pub record IsCancelled (cancelled : Cancelled A) (at : StepContext A) (ended : List Change) (far : List (Output A)) : Type 0 where
@@ -81,7 +81,7 @@ module _ {A : Type 0} where
     pub told : EventOutputs A
     pub acts : IsRequested at.tables at.world at.line far request plan.outcome told
     pub quiet : plan.relay_update ≡ None
-    pub planned : IsPlan plan at told (ended ++ requests at.line (Some request) plan.outcome)
+    pub planned : IsPlan plan at told (ended ++ requests at.line at.moment (Some request) plan.outcome)
 
   -- what is planned for a packet that may be for a connected call
   pub record PlansRelayed (at : StepContext A) (what : What A) (plan : Plan A) : Type 0 where

@@ -27,17 +27,17 @@ module _ {A : Type 0} where
   pub record RelaysAdvance (tables : Tables) (before : List (Entry A)) (world : World) (event : Event A) (outcome : Outcome) (relays later : List (Option (MeteredRelay A))) : Type 0 where
     pub relay_update : Option (RelayUpdate A)
     pub is : Relays tables before (relayed_in world event)
-        (effects_of (step_context tables before world event.line) event.what (action_at world event) outcome) relay_update
+        (effects_of (step_context tables before world event.line event.moment) event.what (action_at world event) outcome) relay_update
     pub become : later ≡ relays_with relay_update relays
 
   pub record IsPreparedEntry (tables : Tables) (before : List (Entry A)) (old : World) (relays : List (Option (MeteredRelay A))) (event : Event A) (work : PreparedEntry A)
       (new : World) (later : List (Option (MeteredRelay A))) : Type 0 where
     pub told : EventOutputs A
-    pub acts : Acts (step_context tables before old event.line) event.what (action_at old event) work.outcome told
+    pub acts : Acts (step_context tables before old event.line event.moment) event.what (action_at old event) work.outcome told
     pub outputs : work.outputs ≡ outputs_of told
-    pub records : work.records.items ≡ recorded_by (segments_of tables before) old (effects_of (step_context tables before old event.line) event.what (action_at old event) work.outcome)
+    pub records : work.records.items ≡ recorded_by (segments_of tables before) event.moment old (effects_of (step_context tables before old event.line event.moment) event.what (action_at old event) work.outcome)
     pub relays_on : RelaysAdvance tables before old event work.outcome relays later
-    pub leads : new ≡ all_changed (effects_of (step_context tables before old event.line) event.what (action_at old event) work.outcome) old
+    pub leads : new ≡ all_changed (effects_of (step_context tables before old event.line event.moment) event.what (action_at old event) work.outcome) old
 
   -- what is kept of an exchange before and after an event is entered, and whether what it puts out is returned
   pub record Enters (tables : Tables) (old : World) (relays : List (Option (MeteredRelay A))) (history : List (Entry A)) (records : List Record) (event : Event A)

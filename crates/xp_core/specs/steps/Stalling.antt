@@ -24,7 +24,7 @@ module _ {A : Type 0} where
   -- a stall of the line leads to this, and every relay stays as it is
   abbrev pub MakesStall : StepContext A → PreparedEntry A → World → Type 0
   MakesStall at work next = (relays : List (Option (MeteredRelay A)))
-      → IsPreparedEntry at.tables at.before at.world relays (stall_of at.line) work next relays
+      → IsPreparedEntry at.tables at.before at.world relays (stall_of at.line at.moment) work next relays
 
   -- this is put out and recorded as the line goes out of service
   pub record IsFallen (at : StepContext A) (work : PreparedEntry A) : Type 0 where

@@ -1,5 +1,5 @@
 -- For private steps. Every packet that came in can be read.
-use Rattle.std.specs.Prelude.{◌≡◌, None, List, All}
+use Rattle.std.specs.Prelude.{List, All}
 use Rattle.xp_core.specs.declared.entry.Entry.{Entry}
 use Rattle.xp_core.specs.Exchange.{IsReadable}
 

@@ -8,7 +8,9 @@ ghost use Rattle.xp_core.specs.declared.entry.Entry.{Entry as Entered};
 ghost use Rattle.xp_core.specs.steps.EventLine.{IsEventLine, IsShort, event_line_context};
 ghost use Rattle.xp_machine.specs.StoredState.{call_of_stored, entry_of};
 ghost use Rattle.xp_machine.specs.Changes.{Connects};
+ghost use Rattle.xp_machine.specs.Coupling.{AreCoupled};
 ghost use Rattle.xp_core.specs.steps.Plan.{IsPlan, PlansAnswer};
+ghost use Rattle.xp_core.specs.RelayedPackets.{relay_terms};
 ghost use Rattle.xp_machine.specs.World.{call_on};
 ghost use Rattle.xp_subs.specs.Tables.{line_count};
 
@@ -24,6 +26,8 @@ use std::alloc::{AllocError, Allocator};
 use xp_answer::{Answer, Connection, examine};
 use xp_charge::Meter;
 use xp_machine::{Agreement, Change, LiveCall, RelayUpdate, Workspace};
+use xp_relay::Terms;
+use xp_subs::Subs;
 
 /// Plans an answer. It connects the call, and the caller is told so (X.25 clause 4.1.5). A fault in it is a procedure
 /// error.
@@ -35,7 +39,8 @@ pub fn answer<A: Allocator + Copy>(
     workspace: &mut Workspace<A>,
 ) -> Result<Plan<A>, AllocError>
     requires line { found.now.line < line_count found.now.subs.now }
-    requires terms { AllHaveTerms found.now.machine.now }
+    requires terms { AllHaveTerms found.now.subs.now found.now.machine.now }
+    requires coupled { AreCoupled found.now.subs.now found.now.machine.now }
     requires short { IsShort found.now.charged }
     ensures { (before : List (Entered A)) → IsEventLine found.now before → IfOk result (PlansAnswer (event_line_context found.now before) (answer_of answer.now)) }
 {
@@ -53,9 +58,9 @@ pub fn answer<A: Allocator + Copy>(
     )? {
         Answer::Connected(connection) => {
             let outputs = Buffer::with_room(alloc, 1)?;
-            let agreement = agreement_of(&connection);
+            let agreement = agreement_of(found.moment, &connection);
             let meter = Meter::new(found.subs.segment_limit());
-            let metered = workspace.opened(alloc, agreement.relay_terms(), meter)?;
+            let metered = workspace.opened(alloc, terms_on(found.subs, call, agreement), meter)?;
             let plan = connect(alloc, found, call, connection, outputs);
             let caller = call.caller;
             Ok(plan.carrying(RelayUpdate { caller, metered }))
@@ -67,13 +72,24 @@ pub fn answer<A: Allocator + Copy>(
     }
 }
 
-fn agreement_of<A: Allocator>(connection: &Connection<A>) -> Agreement
-    ensures { result ≡ agreed_by connection.now }
+/// Returns what the call is connected on, at this moment.
+fn agreement_of<A: Allocator>(moment: u64, connection: &Connection<A>) -> Agreement
+    ensures { result ≡ agreed_by moment connection.now }
 {
     Agreement {
         terms: connection.terms,
         charging: connection.charging,
+        connected: moment,
     }
+}
+
+/// Returns what was agreed for the data of a call, with the numbering of both its lines.
+fn terms_on(subs: &Subs, call: &LiveCall, agreement: Agreement) -> Terms
+    requires caller { call.now.caller < line_count subs.now }
+    requires called { call.now.called < line_count subs.now }
+    ensures { result ≡ relay_terms subs.now (call_of_stored call.now) agreement }
+{
+    agreement.relay_terms(subs.modulus_of(call.caller), subs.modulus_of(call.called))
 }
 
 /// Plans that the call is connected: both its lines come to data transfer.
@@ -86,12 +102,12 @@ fn connect<A: Allocator>(
 ) -> Plan<A>
     requires empty { outputs.outputs ≡ [] }
     requires room { 0 < outputs.room }
-    ensures outcome { result.outcome ≡ Outcome.Connected (agreed_by connection) }
+    ensures outcome { result.outcome ≡ Outcome.Connected (agreed_by found.now.moment connection) }
     ensures quiet { result.relay_update ≡ None }
     ensures planned { (before : List (Entered A)) → call_on found.now.machine.now found.now.line ≡ Some (entry_of call.now)
-        → IsPlan result (event_line_context found.now before) (outputs_of_answer found.now.machine.now call.now.caller connection.packet) (Connects call.now.number (call_of_stored call.now) (agreed_by connection) ∷ []) }
+        → IsPlan result (event_line_context found.now before) (outputs_of_answer found.now.machine.now call.now.caller connection.packet) (Connects call.now.number (call_of_stored call.now) (agreed_by found.now.moment connection) ∷ []) }
 {
-    let agreement = agreement_of(&connection);
+    let agreement = agreement_of(found.moment, &connection);
     let change = Change::Connect {
         line: found.line,
         agreement,

@@ -4,6 +4,7 @@ ghost use Rattle.std.specs.Prelude.{◌≡◌, ◌<◌, [], IfOk, List};
 ghost use Rattle.xp_channel.specs.Table.{cell};
 ghost use Rattle.xp_core.specs.Agreed.{AllHaveTerms};
 ghost use Rattle.xp_machine.specs.Channel.{channel_of};
+ghost use Rattle.xp_machine.specs.Coupling.{AreCoupled};
 ghost use Rattle.xp_core.specs.declared.entry.Entry.{Entry as Entered};
 ghost use Rattle.xp_core.specs.steps.EventLine.{event_line_context};
 ghost use Rattle.xp_core.specs.steps.Plan.{IsPlainPlan, Plans};
@@ -43,15 +44,18 @@ pub fn plan_of<A: Allocator + Copy>(
 ) -> Result<Plan<A>, AllocError>
     requires sound { IsSound subs.now }
     requires line { event.now.line < line_count subs.now }
-    requires terms { AllHaveTerms machine.now }
+    requires terms { AllHaveTerms subs.now machine.now }
+    requires coupled { AreCoupled subs.now machine.now }
     requires carried { RelaysRepresentCalls subs.now before.now machine.now relays.now }
-    ensures { IfOk result (λ plan. Plans (step_context subs.now before.now machine.now event.now.line) event.now.what (cell (channel_of (state_at machine.now event.now.line)) (kind_of event.now.what)) plan) }
+    ensures { IfOk result (λ plan. Plans (step_context subs.now before.now machine.now event.now.line event.now.moment) event.now.what (cell (channel_of (state_at machine.now event.now.line)) (kind_of event.now.what)) plan) }
 {
     let line = event.line;
+    let moment = event.moment;
     let found = EventLine {
         subs,
         machine,
         line,
+        moment,
         charged: charged_on(subs, machine, relays, before, line),
     };
     let what = &event.what;

@@ -1,7 +1,7 @@
 //! The line of an event, with the call that it is in and what was counted of it.
 
-ghost use Rattle.std.specs.Prelude.{◌≡◌, List, Some, option_to_list};
-ghost use Rattle.xp_answer.specs.ForwardedClear.{AreCounts};
+ghost use Rattle.std.specs.Prelude.{◌≡◌, ℕ, List, Some, option_to_list};
+ghost use Rattle.xp_answer.specs.ForwardedClear.{IsInRange};
 ghost use Rattle.xp_core.specs.Effects.{leaves};
 ghost use Rattle.xp_core.specs.declared.entry.Entry.{Entry as Entered};
 ghost use Rattle.xp_core.specs.steps.EventLine.{IsMeteredCall, IsEventLine, IsShort, event_line_context};
@@ -19,7 +19,7 @@ use crate::output::Output;
 use std::alloc::Allocator;
 use xp_answer::{clear_confirmation, clear_indication};
 use xp_charge::{Meter, Record};
-use xp_facilities::SegmentCounts;
+use xp_facilities::ChargingInformation;
 use xp_machine::{Change, LiveCall, Machine, NoCallState, Relays};
 use xp_subs::{LineNo, Subs};
 
@@ -30,12 +30,14 @@ pub struct MeteredCall<'a> {
     pub meter: Meter,
 }
 
-/// The line of an event, and the call that it is in, if it is in one.
+/// The line of an event, its moment, and the call that the line is in, if it is in one.
 #[derive(Drop)]
 pub struct EventLine<'a, A: Allocator> {
     pub subs: &'a Subs,
     pub machine: &'a Machine<A>,
     pub line: LineNo,
+    /// The moment of the event, in seconds.
+    pub moment: u64,
     pub charged: Option<MeteredCall<'a>>,
 }
 
@@ -56,7 +58,7 @@ pub fn charged_on<'a, A: Allocator>(
 ) -> Option<MeteredCall<'a>>
     requires sound { IsSound subs.now }
     requires carried { RelaysRepresentCalls subs.now _before.now machine.now relays.now }
-    ensures charged { IsMeteredCall (step_context subs.now _before.now machine.now line) result }
+    ensures charged { (moment : ℕ) → IsMeteredCall (step_context subs.now _before.now machine.now line moment) result }
     ensures short { IsShort result }
 {
     let call = machine.call_on(line)?;
@@ -74,7 +76,7 @@ fn meter_of<A: Allocator>(
 ) -> Meter
     requires { RelaysRepresentCalls subs.now _before.now _machine.now relays.now }
     ensures { call_numbered _machine.now call.now.number ≡ Some (call_of_stored call.now)
-        → result ≡ counted_by subs.now _before.now call.now.number call.now.agreed }
+        → result ≡ counted_by subs.now _before.now call.now.number (call_of_stored call.now) call.now.agreed }
 {
     let limit = subs.segment_limit();
     if call.agreed.is_none() {
@@ -87,28 +89,33 @@ fn meter_of<A: Allocator>(
 }
 
 impl<A: Allocator> EventLine<'_, A> {
-    /// Returns what the line is told of the segments of its call as the call ends.
-    fn own_information(&self) -> Option<SegmentCounts>
+    /// Returns what the line is told of the duration and the segments of its call as the call ends.
+    fn own_information(&self) -> Option<ChargingInformation>
         requires { IsShort self.now.charged }
         ensures told { (before : List (Entered A)) → IsEventLine self.now before → result ≡ own_information (event_line_context self.now before) (call_on self.now.machine.now self.now.line) }
-        ensures counts { AreCounts result }
-    {
-        match self.charged {
-            None => None,
-            Some(MeteredCall { call, meter }) => call.information(meter, call.end_of(self.line)),
-        }
-    }
-
-    /// Returns what the far end of its call is told of them.
-    pub fn far_information(&self) -> Option<SegmentCounts>
-        requires { IsShort self.now.charged }
-        ensures told { (before : List (Entered A)) → IsEventLine self.now before → result ≡ far_information (event_line_context self.now before) (call_on self.now.machine.now self.now.line) }
-        ensures counts { AreCounts result }
+        ensures range { IsInRange result }
     {
         match self.charged {
             None => None,
             Some(MeteredCall { call, meter }) => call.information(
                 meter,
+                self.moment,
+                call.end_of(self.line),
+            ),
+        }
+    }
+
+    /// Returns what the far end of its call is told of them.
+    pub fn far_information(&self) -> Option<ChargingInformation>
+        requires { IsShort self.now.charged }
+        ensures told { (before : List (Entered A)) → IsEventLine self.now before → result ≡ far_information (event_line_context self.now before) (call_on self.now.machine.now self.now.line) }
+        ensures range { IsInRange result }
+    {
+        match self.charged {
+            None => None,
+            Some(MeteredCall { call, meter }) => call.information(
+                meter,
+                self.moment,
                 call.end_beyond(self.line),
             ),
         }
@@ -122,7 +129,12 @@ impl<A: Allocator> EventLine<'_, A> {
         let line = self.line;
         let charged = match self.charged {
             None => None,
-            Some(MeteredCall { call, meter }) => Some(call.record(meter, cause, diagnostic)),
+            Some(MeteredCall { call, meter }) => Some(call.record(
+                meter,
+                self.moment,
+                cause,
+                diagnostic,
+            )),
         };
         Withdrawal {
             change: Change::Leave { line, way },

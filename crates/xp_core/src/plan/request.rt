@@ -64,7 +64,7 @@ impl<A: Allocator> Cancelled<A> {
             None => Cancelled::none(),
             Some(MeteredCall { call, meter }) => Cancelled {
                 line: Some(found.line),
-                charged: Some(call.record(meter, cause, diagnostic)),
+                charged: Some(call.record(meter, found.moment, cause, diagnostic)),
                 told: send_far(
                     found.machine,
                     found.line,
@@ -135,7 +135,7 @@ fn put<A: Allocator>(
     ensures quiet { result.relay_update ≡ None }
     ensures planned { (before : List (Entered A)) (ended : List Changing) (far : List (Sent A)) → IsCancelled cancelled (event_line_context found.now before) ended far
         → IsPlan result (event_line_context found.now before) (outputs_of_incoming_call found.now.machine.now far called packet)
-        (ended ++ Begins found.now.line request.now.identifier called request.now.block.now.called setup ∷ []) }
+        (ended ++ Begins found.now.line request.now.identifier called request.now.block.now.called setup found.now.moment ∷ []) }
 {
     let begins = Change::Begin {
         caller: found.line,
@@ -143,6 +143,7 @@ fn put<A: Allocator>(
         called,
         dialled: request.block.called.copy(),
         setup,
+        requested: found.moment,
     };
     let identifier = LogicalChannel::INITIAL_IDENTIFIER;
     let ring = send_as(found.machine, called, identifier, packet);
@@ -195,6 +196,9 @@ fn refused<A: Allocator>(
         from_called: 0,
         cause: why.cause,
         diagnostic: why.diagnostic,
+        requested: found.moment,
+        connected: None,
+        ended: found.moment,
     };
     let Cancelled {
         line,

@@ -1,5 +1,5 @@
 -- The outcome of a call at one of the addresses through which it goes (X.25 clauses 6.24 and 6.25).
-use Rattle.std.specs.Prelude.{◌≡◌, ℕ, option_map, ◌≤◌, List, [], ◌∷◌, length, Bool, false, Option, None, Some, Result, Ok, Err, if◌then◌else◌}
+use Rattle.std.specs.Prelude.{◌≡◌, ℕ, List, Option, None, Some, Result, Ok, Err}
 use Rattle.xp_facilities.specs.declared.redirection.Reason.{Reason}
 use Rattle.xp_causes.specs.declared.refusal.Refusal.{Refusal}
 use Rattle.xp_hunt.specs.declared.lines.LineState.{LineState}

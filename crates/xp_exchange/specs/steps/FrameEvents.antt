@@ -1,5 +1,5 @@
 -- Which events the exchange takes.
-use Rattle.std.specs.Prelude.{◌≡◌, ℕ, false, List, [], ◌∷◌, ◌++◌}
+use Rattle.std.specs.Prelude.{◌≡◌, false}
 use Rattle.xp_core.specs.declared.event.What.{What}
 use Rattle.xp_core.specs.Exchange.{IsReadable}
 use Rattle.xp_core.specs.Stalls.{is_stall}

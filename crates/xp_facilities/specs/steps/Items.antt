@@ -1,6 +1,5 @@
 -- Reading the items of a facility field one after the other, as private functions do it (X.25 clause 7.1).
-use Rattle.std.specs.Prelude.{ℕ, suc, zero, ◌+◌, ◌/◌, ◌<◌, ◌≡◌, nat_lt, nat_le, if◌then◌else◌, List, [], ◌∷◌, length, take, drop, Option, Some, None}
-use Rattle.std.specs.List.{flat_map, AllByRecursion}
+use Rattle.std.specs.Prelude.{ℕ, suc, zero, ◌+◌, ◌/◌, nat_lt, nat_le, if◌then◌else◌, List, [], ◌∷◌, length, take, drop, Option, Some, None}
 use Rattle.xp_facilities.specs.Items.{Item}
 
 -- an item whose parameters are the first `count` octets, and the octets after it

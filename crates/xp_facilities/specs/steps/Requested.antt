@@ -1,6 +1,5 @@
 -- How the private functions of the parser report a parameter that is not allowed (X.25 clauses 6 and 7.2).
-use Rattle.std.specs.Prelude.{ℕ, ◌+◌, ◌*◌, ◌/◌, ◌%◌, ◌≡◌, Bool, true, false, nat_lt, nat_le, ◌==◌, ◌&&◌, ◌||◌, if◌then◌else◌, List, [], ◌∷◌, length, Option, Some, None, Result, Ok, Err, ◌⊎◌, option_map, option_and_then}
-use Rattle.std.specs.List.{list_any, list_all}
+use Rattle.std.specs.Prelude.{◌≡◌, Option, Some, None, Result, Ok, Err}
 use Rattle.xp_facilities.specs.declared.fault.FacilityFault.{FacilityFault}
 use Rattle.xp_facilities.specs.declared.fault.FacilityFault.TheVariants.{Param}
 

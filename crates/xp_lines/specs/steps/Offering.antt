@@ -2,6 +2,8 @@
 use Rattle.std.specs.Prelude.{◌≡◌, ℕ, Bool, List, [], ◌∷◌, ◌++◌, Option, Some, None, Result, Ok, Err}
 use Rattle.std.specs.declared.alloc.AllocError.{AllocError}
 use Rattle.xp_frames.specs.Deframer.{DeframerState}
+use Rattle.xp_packets.specs.declared.modulus.Modulus.{Modulus}
+use Rattle.xp_core.specs.declared.event.Event.{Event}
 use Rattle.xp_core.specs.declared.event.What.{What}
 use Rattle.xp_lock.specs.declared.receipt.Receipt.{Receipt}
 use Rattle.xp_lock.specs.Passes.{Pass}
@@ -24,21 +26,25 @@ IsRefusalIf None = Unit {0}
 IsRefusalIf (Some stop) = IsRefusal stop
 
 module _ {A : Type 0} where
+  -- an event of this line at this moment
+  abbrev pub event_on : ℕ → ℕ → What A → Event A
+  event_on line moment what = record { line = line; moment = moment; what = what }
+
   -- The exchange accepted the event, or refused it, which changes nothing. The gate is not asked.
   abbrev pub Tells : Pass A → What A → Result Receipt Stop → Pass A → Type 0
   Tells old what (Ok done) new = Gains old (what ∷ []) new
   Tells old what (Err stop) new = IsRefusal stop × (new ≡ old)
 
   -- the event to be offered next: the one that waits, else the first of the packets that wait, if any
-  abbrev pub NextIs : Option (What A) → DeframerState → Result (Option (What A)) AllocError → Option (What A) → DeframerState → Type 0
-  NextIs (Some held) frames (Ok (Some what)) left frames_left = (what ≡ held) × (left ≡ None) × (frames_left ≡ frames)
-  NextIs (Some held) frames (Ok None) left frames_left = ⊥
-  NextIs (Some held) frames (Err wanting) left frames_left = ⊥
-  NextIs None frames (Ok None) left frames_left = (frames.waiting ≡ []) × (left ≡ None) × (frames_left ≡ frames)
-  NextIs None frames (Ok (Some what)) left frames_left =
-      (packet : List ℕ) × (frames.waiting ≡ packet ∷ frames_left.waiting) × IsReadAs packet what × (left ≡ None)
+  abbrev pub NextIs : Modulus → Option (What A) → DeframerState → Result (Option (What A)) AllocError → Option (What A) → DeframerState → Type 0
+  NextIs modulus (Some held) frames (Ok (Some what)) left frames_left = (what ≡ held) × (left ≡ None) × (frames_left ≡ frames)
+  NextIs modulus (Some held) frames (Ok None) left frames_left = ⊥
+  NextIs modulus (Some held) frames (Err wanting) left frames_left = ⊥
+  NextIs modulus None frames (Ok None) left frames_left = (frames.waiting ≡ []) × (left ≡ None) × (frames_left ≡ frames)
+  NextIs modulus None frames (Ok (Some what)) left frames_left =
+      (packet : List ℕ) × (frames.waiting ≡ packet ∷ frames_left.waiting) × IsReadAs modulus packet what × (left ≡ None)
       × (frames_left.rest ≡ frames.rest) × (frames_left.failed ≡ frames.failed)
-  NextIs None frames (Err wanting) left frames_left =
+  NextIs modulus None frames (Err wanting) left frames_left =
       (packet : List ℕ) × (frames.waiting ≡ packet ∷ frames_left.waiting) × (left ≡ None)
       × (frames_left.rest ≡ frames.rest) × (frames_left.failed ≡ frames.failed)
 

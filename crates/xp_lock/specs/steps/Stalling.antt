@@ -14,7 +14,7 @@ use Rattle.xp_core.specs.Step.{Step}
 use Rattle.xp_machine.specs.World.{state_at}
 use Rattle.xp_lock.specs.Outboxes.{PLACES_KEPT, outbox_at}
 use Rattle.xp_lock.specs.steps.Outboxes.{AreAlike, OutboxesMatch}
-use Rattle.xp_lock.specs.Forced.{IsQuiet, Stalls}
+use Rattle.xp_lock.specs.Forced.{AreAt, IsQuiet, Stalls}
 use Rattle.xp_lock.specs.steps.Given.{IsGivenToFew}
 use Rattle.xp_lock.specs.Handed.{is_stall}
 use Rattle.xp_lock.specs.Outgoing.{put_out_to}
@@ -72,12 +72,13 @@ module _ {A : Type 0} where
     pub alike : AreAlike outboxes after
     pub still : (line : ℕ) → is_off (state_at (world_of core) line) ≡ true → outbox_at after line ≡ outbox_at outboxes line
 
-  -- the stalls that the event forces are entered too
-  pub record HasStalled (core : Exchange A) (from : ℕ) (outboxes : List (Putting (Outgoing A))) (new : Exchange A) (after : List (Putting (Outgoing A))) : Type 0 where
+  -- the stalls that the event forces are entered too, at this moment
+  pub record HasStalled (core : Exchange A) (from moment : ℕ) (outboxes : List (Putting (Outgoing A))) (new : Exchange A) (after : List (Putting (Outgoing A))) : Type 0 where
     pub stalls : List (Entry A)
     pub known : ℕ → ℕ
     pub forced : Stalls core.subs (take from core.history) (world_of core) known (drop from core.history) stalls (world_of new)
     pub quiet : IsQuiet (world_of new) known (drop from core.history ++ stalls)
+    pub moments : AreAt moment stalls
     pub few : length stalls ≤ 3
     pub given : IsGivenToFew (drop from core.history ++ stalls)
     pub history : new.history ≡ core.history ++ stalls

@@ -87,5 +87,5 @@ pub record AreKeyed (lines : List LogicalChannel) (calls : Slab LiveCall) : Type
 
 -- how many places among the live calls a change needs
 abbrev pub places_for : Option Change → ℕ
-places_for (Some (changes.Begin caller identifier called dialled setup)) = 1
+places_for (Some (changes.Begin caller identifier called dialled setup requested)) = 1
 places_for change = 0

@@ -1,5 +1,4 @@
 -- For private steps. How the state of the exchange is encoded.
-use Rattle.std.specs.Prelude.{ℕ, ◌==◌, if◌then◌else◌, Option, None, Some, List, option_map, replicate, slice_index_or, slice_set}
 use Rattle.std.specs.Coded.{Coded, coded_ℕ}
 use Rattle.std.specs.FinMap as map
 use Rattle.std.specs.Ordering.{nat_cmp}

@@ -97,6 +97,7 @@ fn make<A: Allocator>(
             called,
             dialled,
             setup,
+            requested,
         } => {
             let call = LiveCall {
                 number: *next,
@@ -104,6 +105,7 @@ fn make<A: Allocator>(
                 called,
                 dialled,
                 setup,
+                requested,
                 agreed: None,
             };
             put_call(lines, calls, identifier, call);

@@ -8,13 +8,14 @@ use Rattle.xp_packets.specs.declared.fault.PacketFault.TheVariants as faults
 use Rattle.xp_packets.specs.declared.header.Header.{Header}
 use Rattle.xp_packets.specs.declared.kind.Kind.{Kind}
 use Rattle.xp_packets.specs.declared.kind.Kind.TheVariants as kinds
+use Rattle.xp_packets.specs.declared.modulus.Modulus.{Modulus}
 use Rattle.xp_packets.specs.declared.block.Block.{Block}
 use Rattle.xp_packets.specs.declared.packet.Packet.{Packet}
 use Rattle.xp_packets.specs.declared.packet.Packet.TheVariants.{Call, Accepted, Clear, ClearConfirm, DataPacket, Ready, NotReady, Reject, Interrupt, InterruptConfirm, Reset, ResetConfirm}
 use Rattle.xp_packets.specs.Digits.{half_octets, octets_for}
 use Rattle.xp_packets.specs.Heading.{wrong_format}
 use Rattle.xp_packets.specs.Kinds.{kind_of}
-use Rattle.xp_packets.specs.steps.Numbers.{has_more, sent_number, received_number}
+use Rattle.xp_packets.specs.steps.Numbers.{data_numbers_at, flow_number_at}
 
 infixl 10 ◌>>=◌
 abbrev pub ◌>>=◌ : {X Y : Type 0} → Result X Malformed → (X → Result Y Malformed) → Result Y Malformed
@@ -47,11 +48,11 @@ abbrev pub known_header : ℕ → ℕ → ℕ → List ℕ → Option Kind → R
 known_header first number octet rest None = Err Unknown
 known_header first number octet rest (Some kind) = Ok (made_header first number octet kind, rest)
 
-unfoldable pub header_at : List ℕ → Result (Header × List ℕ) Malformed
-header_at (first ∷ number ∷ octet ∷ rest) =
-    if wrong_format first octet then Err Format else
-    known_header first number octet rest (kind_of octet)
-header_at _ = Err Short
+unfoldable pub header_at : Modulus → List ℕ → Result (Header × List ℕ) Malformed
+header_at modulus (first ∷ number ∷ octet ∷ rest) =
+    if wrong_format modulus first octet then Err Format else
+    known_header first number octet rest (kind_of modulus octet)
+header_at modulus _ = Err Short
 
 -- ---- blocks
 
@@ -114,10 +115,16 @@ clear_confirm_at rest = do
   block ← optional_block_at 0 rest
   Ok (ClearConfirm block)
 
-unfoldable pub data_at : {A : Type 0} → Bool → Bool → ℕ → List ℕ → Result (Packet A) Malformed
-data_at q d octet rest =
-    if nat_lt 1024 (length rest) then Err Long else
-    Ok (DataPacket q d (has_more octet) (sent_number octet) (received_number octet) rest)
+unfoldable pub data_at : {A : Type 0} → Modulus → Bool → Bool → ℕ → List ℕ → Result (Packet A) Malformed
+data_at modulus q d octet rest = do
+  read ← data_numbers_at modulus octet rest
+  if nat_lt 1024 (length read.1) then Err Long else Ok (DataPacket q d read.0.more read.0.ps read.0.pr read.1)
+
+-- a flow control packet, of which `packet` says what it is by its P(R)
+unfoldable pub flow_at : {A : Type 0} → (ℕ → Packet A) → Modulus → ℕ → List ℕ → Result (Packet A) Malformed
+flow_at packet modulus octet rest = do
+  pr ← flow_number_at modulus octet rest
+  Ok (packet pr)
 
 unfoldable pub interrupt_at : {A : Type 0} → List ℕ → Result (Packet A) Malformed
 interrupt_at [] = Err Short
@@ -136,22 +143,22 @@ header_only_at packet (_ ∷ _) = Err Long
 
 -- ---- the whole
 
-abbrev pub body_by : {A : Type 0} → Kind → Header → List ℕ → Result (Packet A) Malformed
-body_by kinds.Call header rest = call_at header.d rest
-body_by kinds.Accepted header rest = accepted_at header.d rest
-body_by kinds.Clear header rest = clear_at rest
-body_by kinds.ClearConfirm header rest = clear_confirm_at rest
-body_by kinds.Interrupt header rest = interrupt_at rest
-body_by kinds.InterruptConfirm header rest = header_only_at InterruptConfirm rest
-body_by kinds.Reset header rest = reset_at rest
-body_by kinds.ResetConfirm header rest = header_only_at ResetConfirm rest
-body_by kinds.Data header rest = data_at header.q header.d header.octet rest
-body_by kinds.Ready header rest = header_only_at (Ready (received_number header.octet)) rest
-body_by kinds.NotReady header rest = header_only_at (NotReady (received_number header.octet)) rest
-body_by kinds.Reject header rest = header_only_at (Reject (received_number header.octet)) rest
+abbrev pub body_by : {A : Type 0} → Modulus → Kind → Header → List ℕ → Result (Packet A) Malformed
+body_by modulus kinds.Call header rest = call_at header.d rest
+body_by modulus kinds.Accepted header rest = accepted_at header.d rest
+body_by modulus kinds.Clear header rest = clear_at rest
+body_by modulus kinds.ClearConfirm header rest = clear_confirm_at rest
+body_by modulus kinds.Interrupt header rest = interrupt_at rest
+body_by modulus kinds.InterruptConfirm header rest = header_only_at InterruptConfirm rest
+body_by modulus kinds.Reset header rest = reset_at rest
+body_by modulus kinds.ResetConfirm header rest = header_only_at ResetConfirm rest
+body_by modulus kinds.Data header rest = data_at modulus header.q header.d header.octet rest
+body_by modulus kinds.Ready header rest = flow_at (λ pr. Ready pr) modulus header.octet rest
+body_by modulus kinds.NotReady header rest = flow_at (λ pr. NotReady pr) modulus header.octet rest
+body_by modulus kinds.Reject header rest = flow_at (λ pr. Reject pr) modulus header.octet rest
 
-unfoldable pub packet_at : {A : Type 0} → List ℕ → Result (ℕ × Packet A) Malformed
-packet_at octets = do
-  header ← header_at octets
-  packet ← body_by header.0.kind header.0 header.1
+unfoldable pub packet_at : {A : Type 0} → Modulus → List ℕ → Result (ℕ × Packet A) Malformed
+packet_at modulus octets = do
+  header ← header_at modulus octets
+  packet ← body_by modulus header.0.kind header.0 header.1
   Ok (header.0.identifier, packet)

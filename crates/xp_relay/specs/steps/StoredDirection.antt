@@ -1,9 +1,10 @@
 -- What the crate's own functions promise one another about stored directions: the invariant of a stored direction, and
 -- that the two stored directions of a call represent a turn.
 use Rattle.std.specs.Prelude.{◌≡◌, ℕ, ◌+◌, ◌<◌, ◌≤◌, List}
+use Rattle.xp_packets.specs.Numbers.{numbers}
 use Rattle.xp_relay.specs.declared.moves.Move.{Move}
 use Rattle.xp_relay.specs.declared.terms.DirectionTerms.{DirectionTerms}
-use Rattle.xp_relay.specs.Terms.{AreDirectionTerms, numbers}
+use Rattle.xp_relay.specs.Terms.{AreDirectionTerms}
 use Rattle.xp_relay.specs.Turns.{Turn}
 use Rattle.xp_relay.specs.StoredDirection.{StoredDirection, Represents}
 

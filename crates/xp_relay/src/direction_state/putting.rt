@@ -2,18 +2,17 @@
 
 ghost use Rattle.std.specs.Prelude.{◌≡◌, ◌+◌, ◌-◌, ◌<◌, ◌≤◌, ◌++◌, ◌%◌, [], drop, length};
 ghost use Rattle.std.specs.VecDeque.{deque_capacity};
+ghost use Rattle.xp_packets.specs.Numbers.{numbers};
 ghost use Rattle.xp_packets.specs.declared.packet.Packet.TheVariants.{DataPacket};
 ghost use Rattle.xp_relay.specs.Direction.{Direction, put_all, numbered, release, released, to};
 ghost use Rattle.xp_relay.specs.StoredDirection.{Represents};
-ghost use Rattle.xp_relay.specs.Terms.{numbers};
 
 use crate::data::Data;
 use crate::direction_state::DirectionState;
 use crate::moves::{Move, Moves};
-use crate::terms::Modulus;
 use std::alloc::Allocator;
 use std::collections::VecDeque;
-use xp_packets::{End, Packet};
+use xp_packets::{End, Modulus, Packet};
 
 /// Returns a data packet with these numbers, for an end.
 fn numbered_move<A: Allocator>(side: End, ps: u8, pr: u8, carried: Data<A>) -> Move<A>

@@ -13,8 +13,8 @@ returns-in-Err-Refused-clause-answered g c =
     subst (λ diagnostic. Declines c.args.setup.now c.args.block.now diagnostic) (sym c.in-Err-Refused.diagnostic-is) declines
 
 pub returns-in_ok-connection-in-Ok-clause-settled : goal.returns-in_ok-connection-in-Ok-clause-settled
-returns-in_ok-connection-in-Ok-clause-settled g c =
-    connection_settled c.args.setup.now _ _ _ c.args.block.now c.in-Ok.asked _ c.requires c.in-Ok.ensures c.in_ok-connection-in-Ok.ensures
+returns-in_ok-connection-in-Ok-clause-settled g c modulus terms =
+    connection_settled modulus c.args.setup.now _ _ _ c.args.block.now c.in-Ok.asked _ terms c.in-Ok.ensures c.in_ok-connection-in-Ok.ensures
 
 pub returns-in_ok-connection-in-Ok-clause-sent : goal.returns-in_ok-connection-in-Ok-clause-sent
 returns-in_ok-connection-in-Ok-clause-sent g c few =

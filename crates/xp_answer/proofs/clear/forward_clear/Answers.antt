@@ -7,7 +7,7 @@ use Rattle.xp_answer.proofs.clear.forward_clear.Goals as goal
 
 pub field_of-requires : goal.field_of-requires
 field_of-requires g c =
-    subst CanBeTold (sym c.tell.ensures) (cleared_told c.args.fast c.args.block.now c.args.segments c.in_ok-user.user c.in_ok-user.dte c.requires c.in_ok-user.ensures)
+    subst CanBeTold (sym c.tell.ensures) (cleared_told c.args.fast c.args.block.now c.args.charging c.in_ok-user.user c.in_ok-user.dte c.requires c.in_ok-user.ensures)
 
 pub returns-clause-carried : goal.returns-clause-carried
 returns-clause-carried g c = record {
@@ -20,4 +20,4 @@ returns-clause-carried g c = record {
 }
 
 pub returns-clause-sent : goal.returns-clause-sent
-returns-clause-sent g c few = carried_on_sent c.args.fast c.args.cause c.args.diagnostic c.args.block.now c.args.segments _ few (returns-clause-carried g c)
+returns-clause-sent g c few = carried_on_sent c.args.fast c.args.cause c.args.diagnostic c.args.block.now c.args.charging _ few (returns-clause-carried g c)

@@ -6,4 +6,4 @@ use Rattle.xp_answer.proofs.information.clear_confirmation.Goals as goal
 
 pub returns-clause-sent : goal.returns-clause-sent
 returns-clause-sent g c =
-    subst (λ block. CanBeSent (ClearConfirm block)) (sym c.information.ensures) (confirmed_information _ c.args.segments)
+    subst (λ block. CanBeSent (ClearConfirm block)) (sym c.information.ensures) (confirmed_information _ c.args.charging)

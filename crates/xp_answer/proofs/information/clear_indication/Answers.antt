@@ -7,4 +7,4 @@ use Rattle.xp_answer.proofs.information.clear_indication.Goals as goal
 pub returns-clause-sent : goal.returns-clause-sent
 returns-clause-sent g c =
     subst (λ block. CanBeSent (Clear c.args.cause (Some c.args.diagnostic) block)) (sym c.information.ensures)
-    (cleared_information _ c.args.cause c.args.diagnostic c.args.segments)
+    (cleared_information _ c.args.cause c.args.diagnostic c.args.charging)

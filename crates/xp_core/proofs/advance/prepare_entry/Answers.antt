@@ -22,7 +22,7 @@ apply-requires-clause-connection g c = λ line. omega (arith, c.requires.sound.c
 pub returns-clause-ok : goal.returns-clause-ok
 returns-clause-ok g c =
     let P : List _ → Type 0 = λ before.
-    Plans (step_context c.args.subs.now before c.args.machine.now c.args.event.now.line) c.args.event.now.what (action_at c.args.machine.now c.args.event.now) c.in_ok-outcome.field-0 in
+    Plans (step_context c.args.subs.now before c.args.machine.now c.args.event.now.line c.args.event.now.moment) c.args.event.now.what (action_at c.args.machine.now c.args.event.now) c.in_ok-outcome.field-0 in
     works_out c.args.subs.now c.args.journal.now.history c.args.machine.now c.args.event.now c.in_ok-outcome.field-0 _ c.apply.new.self
     c.args.relays.now c.put_if_any.new.self
     (subst P (c.history.ensures ∙ ap (λ j. j.history) c.in_default.ensures.none.0) c.in_ok-outcome.ensures) refl c.into_outputs-outputs.ensures refl c.in_ok-apply.ensures.ok c.put_if_any.ensures

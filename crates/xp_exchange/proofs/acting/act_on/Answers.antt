@@ -14,10 +14,11 @@ bounds-entries-entries g c = omega (arith, pushed_length _ _ _ (c.history-entrie
 
 pub tell-requires-clause-writable : goal.tell-requires-clause-writable
 tell-requires-clause-writable g c =
-    let writable = subst (All (λ entry. AreWritable entry.outputs)) (sym c.history-entries.ensures.entries) c.history-entries.ensures.writable in
+    let writable = subst (All (λ entry. AreWritable c.enter.new.self.subs entry.outputs)) (sym c.history-entries.ensures.entries) c.history-entries.ensures.writable in
     let pushed = pushed_length _ _ _ (c.history-entries.ensures.entries ∙ c.in-Ok.ensures.ok.1.history) in
-    subst (λ entry. AreWritable entry.outputs) (sym c.index-entries-entries.is)
-    (writable (length c.history-entries.result.now - 1) c.index-entries-entries.result (omega (arith, pushed)))
+    subst (λ tables. AreWritable tables c.index-entries-entries.result.outputs) (sym c.subs.ensures)
+    (subst (λ entry. AreWritable c.enter.new.self.subs entry.outputs) (sym c.index-entries-entries.is)
+    (writable (length c.history-entries.result.now - 1) c.index-entries-entries.result (omega (arith, pushed))))
 
 pub tell-requires-clause-lines : goal.tell-requires-clause-lines
 tell-requires-clause-lines g c =

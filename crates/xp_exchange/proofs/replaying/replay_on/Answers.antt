@@ -6,7 +6,7 @@ use Rattle.xp_exchange.proofs.replaying.replay_on.Goals as goal
 pub returns-in-Ok : goal.returns-in-Ok
 returns-in-Ok g c =
     let run = c.read_all-ended in
-    let same : c.into_core-core.result ≡ run.new.self.moment.exchange = c.into_core-core.ensures ∙ ap (λ progress. progress.moment.exchange) c.script.view_is in
+    let same : c.into_core-core.result ≡ run.new.self.state.exchange = c.into_core-core.ensures ∙ ap (λ progress. progress.state.exchange) c.script.view_is in
     subst (λ after. IfSome (g.R.Read.remaining c.args.reader.now) (Wrote c.args.core (g.W.Write.contents c.args.writer.now) (g.W.Write.contents run.new.writer) run.result (g.R.Read.remaining run.new.reader) after))
     (sym same)
     (told_from_start c.args.core (g.R.Read.remaining c.args.reader.now) _ _ _ c.in-Ok.script run.result _ c.in-Ok.ensures.ok run.ensures)

@@ -18,9 +18,10 @@ returns-clause-value g c =
     let s7 = rows-more (take 6 t) 0x43 _ _ _ _ (c.pair-2.ensures) s6 c.in_ok-push-7.ensures in
     let s8 = rows-more (take 7 t) 0x47 _ _ _ _ (c.four_digit_index.ensures ∙ ap four_digit_index c.closed_index-2.ensures) s7 c.in_ok-push-8.ensures in
     let s9 = rows-more (take 8 t) 0x48 _ _ _ _ (c.four_digit_index-2.ensures ∙ ap four_digit_index c.open_index-2.ensures) s8 c.in_ok-push-9.ensures in
-    let s10 = rows-more (take 9 t) 0xc2 _ _ _ _ (c.counts.ensures) s9 c.in_ok-push-10.ensures in
-    let s11 : c.push_redirection.new.field.items ≡ octets_of_all (rows t) =
-    rows-more (take 10 t) 0xc3 _ _ _ _ refl s10 c.in_ok-push_redirection.ensures.value in
+    let s10 = rows-more (take 9 t) 0xc1 _ _ _ _ (c.duration.ensures) s9 c.in_ok-push-10.ensures in
+    let s11 = rows-more (take 10 t) 0xc2 _ _ _ _ (c.counts.ensures) s10 c.in_ok-push-11.ensures in
+    let s12 : c.push_redirection.new.field.items ≡ octets_of_all (rows t) =
+    rows-more (take 11 t) 0xc3 _ _ _ _ refl s11 c.in_ok-push_redirection.ensures.value in
     c.in_ok-push_dte.ensures
     ∙ ap (λ x. c.push_redirection.new.field.items ++ marked_octets x) c.as_slice.ensures
-    ∙ ap (λ x. x ++ marked_octets c.args.told.now.dte) s11
+    ∙ ap (λ x. x ++ marked_octets c.args.told.now.dte) s12

@@ -4,7 +4,7 @@ use Rattle.xp_lines.proofs.Offered.{OfferedSoFar}
 use Rattle.xp_lines.proofs.gathering.gather.Given as goal
 
 abbrev pub invariant-packets : goal.invariant-packets
-invariant-packets g l = OfferedSoFar l.fn.waiting l.fn.frames l.ready.items (option_to_list l.waiting) l.frames
+invariant-packets g l = OfferedSoFar l.modulus l.fn.waiting l.fn.frames l.ready.items (option_to_list l.waiting) l.frames
 
 abbrev pub decreases-packets : goal.decreases-packets
 decreases-packets g l = length l.frames.waiting + length (option_to_list l.waiting)

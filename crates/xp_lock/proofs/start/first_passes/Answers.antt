@@ -3,6 +3,7 @@ use Rattle.std.proofs.lemmas.List.Elements.{All-head, All-tail}
 use Rattle.std.specs.Prelude.{All, Some, min, slice_get}
 use Rattle.std.specs.Vec.Iter.{into_iter_items}
 use Rattle.xp_outbox.specs.Ends.{Taking}
+use Rattle.xp_subs.specs.Tables.{line_count, modulus_of}
 use Rattle.xp_core.specs.declared.output.Outgoing.{Outgoing}
 use Rattle.xp_lock.specs.Opening.{AreFirst}
 use Rattle.xp_lock.specs.Passes.{Pass}
@@ -27,6 +28,7 @@ invariant_of-push g c =
       ap (λ s. s.history_length) claim ∙ c.requires.history_length,
       knows ∙ ap (claiming line) (sym (ap (λ v. v.seen) knows)),
       omega (arith, left, all, same),
+      c.modulus_of.ensures ∙ ap (λ t. modulus_of t line) c.requires.subs,
       subst (λ m. slice_get queues m ≡ Some c.in-Some.outbox.queue) (sym same) (at_front queues n c.in-Some.outbox.queue _ (sym was.queues ∙ ap (map (λ end. end.queue)) items)),
       sym (ap (λ (taken : List (Outgoing _)). min (length taken) (2 ^ 64 - 1)) (All-head Empty c.in-Some.outbox _ (subst (All Empty) items was.taken))),
     )
@@ -66,3 +68,12 @@ loop-outbox-preserved g c =
       taken = All-tail Empty c.in-Some.outbox rest ends;
       count = omega (arith, left, all, long);
     }
+
+pub modulus_of-requires : goal.modulus_of-requires
+modulus_of-requires g c =
+    let was = c.loop-outbox.invariant in
+    let left = ap length c.in-Some.ensures.steps.0 in
+    let all = was.count in
+    let same : c.len-line.result ≡ length c.loop-outbox.passes.items = c.len-line.ensures ∙ c.loop-outbox.passes.ok.0 in
+    let lines = ap line_count c.requires.subs in
+    omega (arith, left, all, same, lines)

@@ -16,7 +16,7 @@ use Rattle.xp_core.proofs.exchange.Core.history.Goals as goal
 
 pub returns-clause-writable : goal.returns-clause-writable
 returns-clause-writable g c =
-    let P : Exchange _ → Type 0 = λ core. All (λ entry. AreWritable entry.outputs) core.history in
+    let P : Exchange _ → Type 0 = λ core. All (λ entry. AreWritable core.subs entry.outputs) core.history in
     subst P c.self.view_is (run_fits c.self.inside.subs c.self.inside.journal.history (world_after c.self.inside.subs c.self.inside.journal.history)
     c.self.invariant.sound c.self.invariant.run c.self.invariant.readable)
 
@@ -34,7 +34,7 @@ returns-clause-joined g c =
 
 pub returns-clause-terms : goal.returns-clause-terms
 returns-clause-terms g c =
-    let P : Exchange _ → Type 0 = λ core. AllHaveTerms (world_of core) in
+    let P : Exchange _ → Type 0 = λ core. AllHaveTerms core.subs (world_of core) in
     subst P c.self.view_is (run_agreed c.self.inside.subs c.self.inside.journal.history _ c.self.invariant.run)
 
 pub returns-clause-delivered : goal.returns-clause-delivered

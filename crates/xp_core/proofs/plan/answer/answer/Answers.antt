@@ -1,12 +1,19 @@
 use Rattle.std.proofs.Common.{rules, ap, sym, subst, ◌∙◌}
+use Rattle.xp_answer.specs.Answered.{IfConnected}
+use Rattle.xp_answer.specs.Terms.{AreSettled, AreTerms}
+use Rattle.xp_answer.specs.declared.answer.Answer.{Answer}
 use Rattle.xp_charge.specs.Meter.{opening}
 use Rattle.xp_relay.specs.Coupled.{RepresentsCall, coupled}
+use Rattle.xp_packets.specs.declared.modulus.Modulus.{Modulus}
+use Rattle.xp_relay.specs.Terms.{IsWithinTerms}
 use Rattle.xp_relay.specs.declared.terms.Terms.{Terms}
+use Rattle.xp_core.specs.Acts.{agreement_of}
 use Rattle.xp_core.specs.steps.ReceivedPackets.{answer_of}
 use Rattle.xp_core.specs.declared.outcome.Outcome.TheVariants.{Declined}
-use Rattle.xp_machine.specs.RelayTerms.{terms_of}
+use Rattle.xp_core.specs.RelayedPackets.{relay_terms}
 use Rattle.xp_core.specs.steps.EventLine.{event_line_context}
-use Rattle.xp_core.proofs.Clearings.{carried_otherwise, connected, declined, indicated, not_called, quiet_otherwise, settled_otherwise}
+use Rattle.xp_machine.specs.StoredState.{call_of_stored}
+use Rattle.xp_core.proofs.Clearings.{called_within, caller_within, carried_otherwise, connected, declined, indicated, not_called, quiet_otherwise, settled_otherwise, settled_within}
 use Rattle.xp_core.proofs.plan.answer.answer.Goals as goal
 
 pub returns-in_default : goal.returns-in_default
@@ -14,7 +21,22 @@ returns-in_default g c before found =
     not_called (event_line_context c.args.found.now before) (answer_of c.args.answer.now) c.none.result c.in_default.ensures (search rules) (search rules) (search rules)
 
 pub examine-requires : goal.examine-requires
-examine-requires g c = indicated c.args.found.now.machine.now c.args.found.now.line c.in-Some.call.now c.in-Some.ensures c.requires.terms
+examine-requires g c = indicated c.args.found.now.subs.now c.args.found.now.machine.now c.args.found.now.line c.in-Some.call.now c.in-Some.ensures c.requires.terms
+
+pub terms_on-requires-clause-caller : goal.terms_on-requires-clause-caller
+terms_on-requires-clause-caller g c = caller_within c.args.found.now.subs.now c.args.found.now.machine.now c.args.found.now.line c.in-Some.call.now c.in-Some.ensures c.requires.coupled
+
+pub terms_on-requires-clause-called : goal.terms_on-requires-clause-called
+terms_on-requires-clause-called g c = called_within c.args.found.now.subs.now c.args.found.now.machine.now c.args.found.now.line c.in-Some.call.now c.in-Some.ensures c.requires.coupled
+
+pub opened-requires : goal.opened-requires
+opened-requires g c =
+    let subs = c.args.found.now.subs.now in
+    let call = c.in-Some.call.now in
+    let S : Answer _ → Type 0 = λ a. IfConnected a (λ k. (modulus : Modulus) → AreTerms modulus call.setup.indicated → AreSettled modulus call.setup.indicated k.terms) in
+    subst IsWithinTerms (sym (c.terms_on.ensures ∙ ap (relay_terms subs (call_of_stored call)) c.agreement_of-agreement.ensures))
+    (settled_within subs c.args.found.now.machine.now c.args.found.now.line call c.in-Some.ensures c.requires.terms
+    (agreement_of c.args.found.now.moment c.in-Connected.connection) (subst S c.in-Connected.is c.in_ok-connection.ensures.settled))
 
 pub returns-in_ok-metered-in-Connected : goal.returns-in_ok-metered-in-Connected
 returns-in_ok-metered-in-Connected g c before found =
@@ -25,7 +47,7 @@ returns-in_ok-metered-in-Connected g c before found =
       metered = c.in_ok-metered-in-Connected.metered;
       kept = ap (λ p. p.relay_update) c.carrying.ensures;
       shows = let P : Terms → Type 0 = λ t. RepresentsCall c.in_ok-metered-in-Connected.metered.relay (coupled t) in (
-        subst P (c.relay_terms.ensures ∙ ap terms_of c.agreement_of-agreement.ensures) c.in_ok-metered-in-Connected.ensures.shows,
+        subst P (c.terms_on.ensures ∙ ap (relay_terms at.tables (call_of_stored c.in-Some.call.now)) c.agreement_of-agreement.ensures) c.in_ok-metered-in-Connected.ensures.shows,
         c.in_ok-metered-in-Connected.ensures.meter ∙ c.new-meter.ensures ∙ ap opening c.segment_limit.ensures,
       );
     })

@@ -1,6 +1,6 @@
 use Rattle.std.proofs.Common.{rules, ◌≡◌, ◌∙◌, ℕ, Option, Some, [], ◌∷◌, ap, subst, sym}
 use Rattle.xp_answer.specs.ForwardedClear.{ForwardedClear}
-use Rattle.xp_facilities.specs.declared.segment_counts.SegmentCounts.{SegmentCounts}
+use Rattle.xp_facilities.specs.declared.charging_information.ChargingInformation.{ChargingInformation}
 use Rattle.xp_core.specs.steps.ReceivedPackets.{clear_of}
 use Rattle.xp_core.specs.steps.EventLine.{event_line_context}
 use Rattle.xp_machine.specs.StoredState.{entry_of}
@@ -18,7 +18,7 @@ returns g c before found =
     let packet = c.in_ok-packet.packet in
     let on : call_on at.world at.line ≡ Some (entry_of call) = in_call at c.args.found.now.charged found c.in-Some.field-0 c.in-Some.is in
     let P : Option (ℕ × Call) → Type 0 = λ f. IsToldOn at clear f (c.send.result ∷ []) in
-    let C : Option SegmentCounts → Type 0 = λ i. ForwardedClear call.setup.fast clear.cause clear.diagnostic clear.block i packet in
+    let C : Option ChargingInformation → Type 0 = λ i. ForwardedClear call.setup.fast clear.cause clear.diagnostic clear.block i packet in
     subst P (sym on) (
       packet,
       subst C (c.far_information-information.ensures.told before found ∙ ap (far_information at) on) (search (rules, c.in_ok-packet.ensures.carried)),

@@ -14,6 +14,6 @@ returns-clause-planned g c before ended far ends =
     (kept.Refuse line c.args.request.now.identifier)
     (IsRefused line c.args.request.now.identifier c.args.request.now.block.now.called c.args.why)
     (send_as c.args.found.now.machine.now line c.args.request.now.identifier (clear_indication c.args.why.cause c.args.why.diagnostic) ∷ []) []
-    (refused_record c.args.found.now.machine.now.next line c.args.request.now.block.now.called c.args.why ∷ []) ends
+    (refused_record c.args.found.now.machine.now.next c.args.found.now.moment line c.args.request.now.block.now.called c.args.why ∷ []) ends
     (search rules) (search rules) (search rules) (search rules) (λ w. refl)
-    (ap (λ number. refused_record number line c.args.request.now.block.now.called c.args.why ∷ []) (sym ends.next))
+    (ap (λ number. refused_record number c.args.found.now.moment line c.args.request.now.block.now.called c.args.why ∷ []) (sym ends.next))

@@ -13,7 +13,7 @@ returns-clause-finished g c =
       | in-Ok w ↦ inl w.result-is
       | in-Err w ↦ inr w.result-is
     ] in
-    let new : Progress _ = record { moment = c.play.new.self; line = c.self.inside.line.items; number = c.self.inside.number } in
+    let new : Progress _ = record { state = c.play.new.self; line = c.self.inside.line.items; number = c.self.inside.number } in
     subst (λ old. (text : List ℕ) × Appends (g.W.Write.contents c.args.writer.now) (g.W.Write.contents c.flush.new.self) text × Finished old c.match-flush.result new text) c.self.view_is
     (flushed c.match-flush.result c.self.inside.playing c.play.new.self c.self.inside.number c.self.inside.line.items _ _ _ told
     (subst (λ line. (text : List ℕ) × Appends (g.W.Write.contents c.args.writer.now) (g.W.Write.contents c.play.new.writer) text × Played c.self.inside.playing c.self.inside.number line (Ok tt) c.play.new.self text) c.deref.ensures.value c.in_ok-play.ensures)

@@ -18,7 +18,7 @@ returns-in-Ok-eq0 g c =
 pub returns-in_err-take-in-Ok : goal.returns-in_err-take-in-Ok
 returns-in_err-take-in-Ok g c =
     let p = err_from_is_err_and c.from_residual.result c.from_residual.ensures.1 in
-    subst (λ result. IfSome (g.R.Read.remaining c.args.reader.now) (Told c.args.self.now (g.W.Write.contents c.args.writer.now) (g.W.Write.contents c.take.new.writer) result (g.R.Read.remaining c.read.new.self) c.take.new.self.moment.exchange))
+    subst (λ result. IfSome (g.R.Read.remaining c.args.reader.now) (Told c.args.self.now (g.W.Write.contents c.args.writer.now) (g.W.Write.contents c.take.new.writer) result (g.R.Read.remaining c.read.new.self) c.take.new.self.state.exchange))
     (sym (p.1 ∙ ap Err p.2))
     (told_stops c.args.self.now _ _ (g.R.Read.remaining c.read.new.self) c.loop.self c.take.new.self _ _ _ _ _ c.in_err-take-in-Ok.field-0.0 c.loop.invariant.0 c.in-Ok.ensures.bytes.0 refl c.in_err-take-in-Ok.ensures.took)
 

@@ -12,7 +12,7 @@ returns-clause-lines g c =
 
 pub returns-clause-terms : goal.returns-clause-terms
 returns-clause-terms g c =
-    subst (λ book. AllHaveTerms (world_after book.subs book.history)) c.self.view_is c.history.ensures.terms
+    subst (λ book. AllHaveTerms book.subs (world_after book.subs book.history)) c.self.view_is c.history.ensures.terms
 
 pub returns-clause-delivered : goal.returns-clause-delivered
 returns-clause-delivered g c =

@@ -28,6 +28,7 @@ returns-in-Begin-clause-keyed g c =
       called = c.in-Begin.called;
       dialled = c.in-Begin.dialled;
       setup = c.in-Begin.setup;
+      requested = c.in-Begin.requested;
       agreed = None;
     } in
     begun_keyed c.args.lines.now.items c.args.calls.now (stored_world c.args.lines.now.items c.args.calls.now c.args.next.now) c.requires.keyed call refl c.requires.fresh
@@ -41,6 +42,7 @@ returns-in-Begin-clause-made g c =
       called = c.in-Begin.called;
       dialled = c.in-Begin.dialled;
       setup = c.in-Begin.setup;
+      requested = c.in-Begin.requested;
       agreed = None;
     } in
     begun_kept c.args.lines.now.items c.args.calls.now (stored_world c.args.lines.now.items c.args.calls.now c.args.next.now) c.requires.keyed call refl c.requires.fresh

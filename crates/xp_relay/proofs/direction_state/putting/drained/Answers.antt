@@ -1,6 +1,6 @@
 use Rattle.std.proofs.Common.{◌∙◌, ◌+◌, ◌++◌, sym, ap, arith, length}
+use Rattle.xp_packets.specs.Numbers.{numbers}
 use Rattle.xp_relay.specs.Direction.{numbered}
-use Rattle.xp_relay.specs.Terms.{numbers}
 use Rattle.xp_relay.proofs.Residues.{is_number, moved}
 use Rattle.xp_relay.proofs.direction_state.putting.drained.Goals as goal
 

@@ -1,7 +1,7 @@
 use Rattle.std.proofs.Common.{◌≡◌, ◌+◌, ◌<◌, ◌≤◌, ◌++◌, length}
 use Rattle.std.specs.VecDeque.{deque_capacity}
+use Rattle.xp_packets.specs.Numbers.{numbers}
 use Rattle.xp_relay.specs.Direction.{numbered}
-use Rattle.xp_relay.specs.Terms.{numbers}
 use Rattle.xp_relay.proofs.direction_state.putting.drained.Given as goal
 
 abbrev pub invariant-loop-carried : goal.invariant-loop-carried
