@@ -1,8 +1,10 @@
+mod AddUp
 mod Expiring
 mod Octets
 mod Offered
 mod Pulling
 pub mod Served
+pub mod Sessions
 mod Sums
 mod Together
 mod Worked

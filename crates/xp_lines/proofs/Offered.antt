@@ -4,17 +4,14 @@ use Rattle.std.specs.Prelude.{option_to_list}
 use Rattle.std.proofs.lemmas.List.{map-append}
 use Rattle.xp_packets.specs.declared.modulus.Modulus.{Modulus}
 use Rattle.xp_frames.specs.Deframer.{DeframerState}
-use Rattle.xp_core.specs.declared.entry.Entry.{Entry}
 use Rattle.xp_core.specs.declared.event.Event.{Event}
 use Rattle.xp_core.specs.declared.event.What.{What}
-use Rattle.xp_core.specs.declared.event.What.TheVariants.{Up}
 use Rattle.xp_subs.specs.Tables.{Tables}
 use Rattle.xp_lock.specs.Passes.{GainsEvent, Pass, own_entries}
 use Rattle.xp_lines.specs.FrameEvents.{IsReadAs, AreReadAs}
 use Rattle.xp_lock.specs.declared.receipt.Receipt.{Receipt}
 use Rattle.xp_lines.specs.steps.Offering.{IsRefusal, NextIs, Tells, event_on}
 use Rattle.xp_lines.specs.Offers.{Gains, Offers, happened, on_line}
-use Rattle.xp_lines.specs.steps.Sessions.{ComesUp}
 use Rattle.xp_lines.specs.AnswerTimer.{has_any}
 use Rattle.xp_lines.specs.declared.offering.Stop.{Stop}
 
@@ -114,17 +111,6 @@ module _ {A : Type 0} where
     entries = gains.entry ∷ [];
     own_entries_are = gains.own_entries_are;
     events = ap (λ (e : Event A). on_line e.line e.what ∷ []) gains.event_is ∙ ap (λ l. on_line l what ∷ []) same;
-  }
-
-  -- that a link came was accepted
-  pub comes_up : (subs : Tables) (before pass : Pass A) (moment : ℕ) (what : What A) (receipt : Receipt) (connection : ℕ) → GainsEvent subs before (event_on before.line moment what) receipt pass → what ≡ Up → connection ≡ receipt.connection → ComesUp subs connection pass
-  comes_up subs before pass moment what receipt connection gains is_up connection_is = record {
-    before = before;
-    moment = moment;
-    receipt = receipt;
-    gains =
-        subst (λ event. GainsEvent subs before event receipt pass) (ap (event_on before.line moment) is_up ∙ ap (λ line. event_on line moment Up) (sym gains.line)) gains;
-    connection_is = connection_is;
   }
 
 module _ {T : Type 0} where

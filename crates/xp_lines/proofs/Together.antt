@@ -16,7 +16,7 @@ use Rattle.xp_lock.specs.Passes.{Pass, own_entries}
 use Rattle.xp_lines.specs.Offers.{Gains, happened, on_line}
 use Rattle.xp_lines.specs.Reads.{Completes, stays}
 use Rattle.xp_lines.specs.AnswerTimer.{Expires, answered, has_any, since_after_all}
-use Rattle.xp_lines.specs.Together.{AreTurns, IsFresh, IsLeftSo, Left, MayFollow, Together, TurnsAddUp, but_expiries, calls, expiries, is_linked, is_no_expiry, last_of, waits}
+use Rattle.xp_lines.specs.Together.{AreTurns, IsFresh, Left, MayFollow, Together, TurnsAddUp, but_expiries, calls, expiries, is_linked, is_no_expiry, last_of, waits}
 use Rattle.xp_lines.specs.Turns.{Downs, Follows, IsTurnBy, Seen, Worked, WritesAndReads, is_owed}
 use Rattle.xp_lines.specs.Wire.{Took, carried, wire}
 use Rattle.xp_lines.specs.declared.reading.ReadOutcome.{ReadOutcome}
@@ -42,7 +42,7 @@ no_header : HasNoBadHeader []
 no_header fault bad = bad
 
 module _ {A : Type 0} where
-  took_mine : (old : Pass A) (items : List _) (new : Pass A) → Took old items new → own_entries new ≡ own_entries old
+  pub took_mine : (old : Pass A) (items : List _) (new : Pass A) → Took old items new → own_entries new ≡ own_entries old
   took_mine old items new took = ap (λ line. handed line new.seen) took.line ∙ ap (λ seen. handed old.line seen) took.seen
 
   together_fresh : (modulus : Modulus) (connection : ℕ) (pass : Pass A) (came : Seen A) → IsFresh came → Together modulus connection pass came true pass came
@@ -254,12 +254,12 @@ module _ {A : Type 0} where
         next.0
 
     -- what a turn leaves to the next
-    abbrev Next : TurnOutcome → Pass A → Seen A → Type 0
+    abbrev pub Next : TurnOutcome → Pass A → Seen A → Type 0
     Next Linked pass seen = Together modulus connection old came true pass seen
     Next Dropped pass seen = Together modulus connection old came false pass seen
     Next DownOwed pass seen = (t : Together modulus connection old came false pass seen) × (t.closing ≡ []) × (seen.held ≡ Some Down)
-    Next Halted pass seen = Together modulus connection old came false pass seen
-    Next Journal pass seen = Together modulus connection old came false pass seen
+    Next Halted pass seen = (t : Together modulus connection old came false pass seen) × (t.closing ≡ [])
+    Next Journal pass seen = (t : Together modulus connection old came false pass seen) × (t.closing ≡ [])
 
     next_by_down : (linked : Bool) (pass : Pass A) (seen : Seen A) (after : TurnOutcome) (new_pass : Pass A) (left : Option (What A))
         → (t : Together modulus connection old came linked pass seen) → t.closing ≡ [] → Downs pass after new_pass left
@@ -268,8 +268,8 @@ module _ {A : Type 0} where
     next_by_down linked pass seen Dropped new_pass left t opened downs = down_taken linked pass seen new_pass left t opened downs
     next_by_down linked pass seen DownOwed new_pass left t opened downs =
         let next = nothing_offered linked pass seen new_pass left t opened downs.0 in (next.0, next.1, downs.1)
-    next_by_down linked pass seen Halted new_pass left t opened downs = (nothing_offered linked pass seen new_pass left t opened downs).0
-    next_by_down linked pass seen Journal new_pass left t opened downs = (nothing_offered linked pass seen new_pass left t opened downs).0
+    next_by_down linked pass seen Halted new_pass left t opened downs = nothing_offered linked pass seen new_pass left t opened downs
+    next_by_down linked pass seen Journal new_pass left t opened downs = nothing_offered linked pass seen new_pass left t opened downs
 
     next_by_heard : (outcome : ReadOutcome) (pass : Pass A) (seen : Seen A) (after : TurnOutcome) (new_pass : Pass A) (left : Option (What A))
         → (t : Together modulus connection old came (stays outcome) pass seen) → t.closing ≡ [] → Follows outcome pass seen.held after new_pass left
@@ -280,9 +280,9 @@ module _ {A : Type 0} where
         (subst (λ h. Together modulus connection old came true pass (record seen { held = h })) (sym follows.2) t))
     next_by_heard outcomes.Over pass seen after new_pass left t opened follows = next_by_down false pass seen after new_pass left t opened follows
     next_by_heard outcomes.Halted pass seen after new_pass left t opened follows =
-        subst (λ a. Next a new_pass (record seen { held = left })) (sym follows.0) (nothing_offered false pass seen new_pass left t opened follows.1).0
+        subst (λ a. Next a new_pass (record seen { held = left })) (sym follows.0) (nothing_offered false pass seen new_pass left t opened follows.1)
     next_by_heard outcomes.Journal pass seen after new_pass left t opened follows =
-        subst (λ a. Next a new_pass (record seen { held = left })) (sym follows.0) (nothing_offered false pass seen new_pass left t opened follows.1).0
+        subst (λ a. Next a new_pass (record seen { held = left })) (sym follows.0) (nothing_offered false pass seen new_pass left t opened follows.1)
 
     next_by_work : (now : ℕ) (pass : Pass A) (seen : Seen A) (after : TurnOutcome) (new_pass : Pass A) (new : Seen A)
         → Together modulus connection old came true pass seen → Worked modulus now connection pass seen after new_pass new → Next after new_pass new
@@ -304,16 +304,28 @@ module _ {A : Type 0} where
         subst (λ o. IsTurnBy o modulus now connection pass seen after new_pass new) (ap is_owed held) turn in
         subst (Next after new_pass) (sym owed.1) (next_by_down false pass seen after new_pass new.held t opened owed.0)
 
-    together_of : (after : TurnOutcome) (pass : Pass A) (seen : Seen A) → Next after pass seen → Together modulus connection old came (is_linked after) pass seen
+    pub together_of : (after : TurnOutcome) (pass : Pass A) (seen : Seen A) → Next after pass seen → Together modulus connection old came (is_linked after) pass seen
     together_of Linked pass seen next = next
     together_of Dropped pass seen next = next
     together_of DownOwed pass seen next = next.0
-    together_of Halted pass seen next = next
-    together_of Journal pass seen next = next
+    together_of Halted pass seen next = next.0
+    together_of Journal pass seen next = next.0
+
+    -- where the link did not go in the last turn, its Down was not accepted
+    pub none_closed : (after : TurnOutcome) (pass : Pass A) (seen : Seen A) → (after ≡ Dropped → ⊥) → (next : Next after pass seen) → (together_of after pass seen next).closing ≡ []
+    unfolding together_of
+    none_closed Linked pass seen there next = (next.kept refl).5
+    none_closed Dropped pass seen there next = absurd (there refl)
+    none_closed DownOwed pass seen there next = next.1
+    none_closed Halted pass seen there next = next.1
+    none_closed Journal pass seen there next = next.1
+
+    abbrev pub IsLeft : Left A → Type 0
+    IsLeft left = Next left.after left.pass left.seen
 
     turns_from : (after : TurnOutcome) (pass : Pass A) (seen : Seen A) (turns : List (Left A)) → Next after pass seen → MayFollow after turns → AreTurns modulus connection pass seen turns
-        → IsLeftSo modulus connection old came (last_of (record { after = after; pass = pass; seen = seen }) turns)
-    turns_from after pass seen [] next may are = together_of after pass seen next
+        → IsLeft (last_of (record { after = after; pass = pass; seen = seen }) turns)
+    turns_from after pass seen [] next may are = next
     turns_from Linked pass seen (left ∷ turns) next may are =
         turns_from left.after left.pass left.seen turns (next_linked (is_owed seen.held) are.0.0 pass seen left.after left.pass left.seen next are.0.1) are.1 are.2
     turns_from DownOwed pass seen (left ∷ turns) next may are =
@@ -322,5 +334,12 @@ module _ {A : Type 0} where
     turns_from Halted pass seen (left ∷ turns) next may are = absurd (let none : left ∷ turns ≡ [] = may in cc)
     turns_from Journal pass seen (left ∷ turns) next may are = absurd (let none : left ∷ turns ≡ [] = may in cc)
 
+-- what the last turn left
+pub left_by : (A : Type 0) (modulus : Modulus) (connection : ℕ) (pass : Pass A) (came : Seen A) (turns : List (Left A)) → IsFresh came → AreTurns modulus connection pass came turns
+    → IsLeft modulus connection pass came (last_of (record { after = Linked; pass = pass; seen = came }) turns)
+left_by A modulus connection pass came turns fresh are = turns_from modulus connection pass came Linked pass came turns (together_fresh modulus connection pass came fresh) tt are
+
 pub add_up : (A : Type 0) → TurnsAddUp A
-add_up A modulus connection pass came turns fresh are = turns_from modulus connection pass came Linked pass came turns (together_fresh modulus connection pass came fresh) tt are
+add_up A modulus connection pass came turns fresh are =
+    let last = last_of (record { after = Linked; pass = pass; seen = came }) turns in
+    together_of modulus connection pass came last.after last.pass last.seen (left_by A modulus connection pass came turns fresh are)

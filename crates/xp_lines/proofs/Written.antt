@@ -202,3 +202,12 @@ module _ {A : Type 0} where
     λ not_lost. rang (sym same ∙ not_lost),
     λ is_open. none_closes (still_open is_open),
   )
+
+  -- the same, where the outputs were taken by the line's modulus under another name
+  pub written_by : (modulus other : Modulus) (connection : ℕ) (old : Pass A) (unwritten : List ℕ) (before : Option (List ℕ)) (rest : List ℕ) (between : Option (List ℕ)) (new : Pass A) (filled left : List ℕ) (after : Option (List ℕ)) (timer later : AnswerTimer) (taking ended : Ended)
+      → Leaves before between unwritten rest → rest ≡ [] → other ≡ modulus → TakenOut other connection old rest timer taking new filled later
+      → Leaves between after filled left → is_lost ended ≡ is_lost taking → (ended ≡ ends.Open → taking ≡ ends.Open)
+      → WrittenOut modulus connection old unwritten before timer ended new left after later
+  written_by modulus other connection old unwritten before rest between new filled left after timer later taking ended first none same_modulus taken second same still_open =
+      written_all modulus connection old unwritten before rest between new filled left after timer later taking ended first none
+      (subst (λ m. TakenOut m connection old rest timer taking new filled later) same_modulus taken) second same still_open

@@ -1,10 +1,13 @@
+pub mod AddUp
 pub mod AnswerTimer
 pub mod Counts
 pub mod Flow
 pub mod FrameEvents
 pub mod Gates
 pub mod Offers
+pub mod Pairs
 pub mod Reads
+pub mod Sessions
 pub mod Together
 pub mod Turns
 pub mod Wire

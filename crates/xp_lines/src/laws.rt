@@ -1,5 +1,6 @@
-//! The law of many turns: the function's contract is the law, and its body is empty.
+//! The laws of many turns and of many links: a function's contract is the law, and its body is empty.
 
+ghost use Rattle.xp_lines.specs.AddUp.{LinksAddUp};
 ghost use Rattle.xp_lines.specs.Together.{TurnsAddUp};
 
 use std::alloc::Allocator;
@@ -10,4 +11,10 @@ use std::alloc::Allocator;
 /// frame header came.
 pub fn turns_add_up<A: Allocator>()
     ensures { TurnsAddUp A }
+{}
+
+/// All links of a line add up. The entries of its own that its pass gained are the events of its links, one link after the other:
+/// the Up of the link, the events of its turns, which add up, and at most one Down.
+pub fn links_add_up<A: Allocator>()
+    ensures { LinksAddUp A }
 {}

@@ -21,7 +21,7 @@ mod waiting;
 mod writing;
 
 pub use flow::{Flow, push_rest};
-pub use laws::turns_add_up;
+pub use laws::{links_add_up, turns_add_up};
 pub use line::{EndReason, LineEnd, serve_line};
 pub use link::{Arrived, Clock, Gate, Link, Port, Pulled, Pushed};
 pub use session::Session;

@@ -1,8 +1,8 @@
 //! The thread of one line.
 
-ghost use Rattle.std.specs.Prelude.{◌≡◌, IfSome, None};
-ghost use Rattle.xp_lines.specs.Together.{IsFresh};
-ghost use Rattle.xp_lines.specs.steps.Sessions.{ComesUp};
+ghost use Rattle.std.specs.Prelude.{◌≡◌, List, None};
+ghost use Rattle.xp_lines.specs.Sessions.{AreMoved, AreSessions, Drops, PastSession};
+ghost use Rattle.xp_lines.specs.steps.Sessions.{Closes, Connects, IsOn, IsThere, Steps, TurnsOn, here, seen_on};
 
 use crate::link::{Arrived, Clock, Gate, Link, Port};
 use crate::offering::{Stop, offer};
@@ -55,34 +55,75 @@ pub fn serve_line<N: Name, P: Port, C: Clock, G: Gate, A: Allocator + Copy, R: W
     records: u64,
 ) -> LineEnd<N, A>
     ensures line { result.pass.line ≡ pass.line }
+    ensures sessions { (sessions : List (PastSession A)) × AreSessions N.subs (AreMoved P.Link.pushed P.Link.pulled) pass sessions result.pass }
 {
     let mut pass = pass;
     let mut port = port;
     let mut clock = clock;
     let mut gate = gate;
-    let mut session = None;
-    let mut why = EndReason::Turns;
-    for _turn in 0..turns {
-        let step = match session {
-            Some(linked) => go_on(rt, exchange, &mut pass, linked, &mut clock, &mut gate),
-            None => connect(rt, alloc, exchange, &mut pass, &mut port, &mut clock),
-        };
-        session = step.session;
-        if step.records >= records {
-            exchange.halt(rt);
-        }
-        if let Some(end) = step.end {
-            why = end;
-            break;
-        }
-    }
-    if let Some(linked) = session {
-        close(rt, exchange, &mut pass, &mut clock, linked);
-    }
+    let last = have_turns(
+        rt, alloc, exchange, &mut pass, &mut port, &mut clock, &mut gate, turns, records,
+    );
+    let why = last.why;
+    close(rt, exchange, &mut pass, &mut clock, last.session);
     if why == EndReason::Journal {
         exchange.halt(rt);
     }
     LineEnd { pass, why }
+}
+
+/// How a line's turns ended.
+#[derive(Drop)]
+struct Last<L: Link, A: Allocator> {
+    /// The line with its link, if it has one still.
+    session: Option<Session<L, A>>,
+    /// Why there are no more turns.
+    why: EndReason,
+}
+
+/// The turns of a line, until it has had so many, or has ended.
+fn have_turns<N: Name, P: Port, C: Clock, G: Gate, A: Allocator + Copy, R: Wait>(
+    rt: &R,
+    alloc: A,
+    exchange: &Exchange<N, A>,
+    pass: &mut LinePass<N, A>,
+    port: &mut P,
+    clock: &mut C,
+    gate: &mut G,
+    turns: u64,
+    records: u64,
+) -> Last<P::Link, A>
+    ensures line { pass.new.line ≡ pass.old.line }
+    ensures on { IsOn N.subs (AreMoved P.Link.pushed P.Link.pulled) IsThere pass.old (here P.Link.pushed P.Link.pulled result.session) pass.new }
+{
+    let mut session = None;
+    for _turn in 0..turns {
+        let step = have_turn(rt, alloc, exchange, pass, port, clock, gate, session);
+        halt_at(rt, exchange, step.records, records);
+        if let Some(why) = step.end {
+            return Last {
+                session: step.session,
+                why,
+            };
+        }
+        session = step.session;
+    }
+    Last {
+        session,
+        why: EndReason::Turns,
+    }
+}
+
+/// Halts the exchange where so many charging records are made.
+fn halt_at<N: Name, A: Allocator + Copy, R: Wait>(
+    rt: &R,
+    exchange: &Exchange<N, A>,
+    made: u64,
+    records: u64,
+) {
+    if made >= records {
+        exchange.halt(rt);
+    }
 }
 
 /// The result of one turn of a line, with a link or without one.
@@ -96,6 +137,26 @@ struct Step<L: Link, A: Allocator> {
     end: Option<EndReason>,
 }
 
+/// One turn of a line, on its link if it has one.
+fn have_turn<N: Name, P: Port, C: Clock, G: Gate, A: Allocator + Copy, R: Wait>(
+    rt: &R,
+    alloc: A,
+    exchange: &Exchange<N, A>,
+    pass: &mut LinePass<N, A>,
+    port: &mut P,
+    clock: &mut C,
+    gate: &mut G,
+    session: Option<Session<P::Link, A>>,
+) -> Step<P::Link, A>
+    ensures line { pass.new.line ≡ pass.old.line }
+    ensures steps { Steps N.subs (AreMoved P.Link.pushed P.Link.pulled) pass.old (here P.Link.pushed P.Link.pulled session) (here P.Link.pushed P.Link.pulled result.session) result.end pass.new }
+{
+    match session {
+        Some(linked) => go_on(rt, exchange, pass, linked, clock, gate),
+        None => connect(rt, alloc, exchange, pass, port, clock),
+    }
+}
+
 /// A turn on a link.
 fn go_on<N: Name, L: Link, C: Clock, G: Gate, A: Allocator + Copy, R: Wait>(
     rt: &R,
@@ -106,6 +167,7 @@ fn go_on<N: Name, L: Link, C: Clock, G: Gate, A: Allocator + Copy, R: Wait>(
     gate: &mut G,
 ) -> Step<L, A>
     ensures line { pass.new.line ≡ pass.old.line }
+    ensures turns { TurnsOn N.subs (AreMoved L.pushed L.pulled) session.connection pass.old (seen_on L.pushed L.pulled session).1 (here L.pushed L.pulled result.session) result.end pass.new }
 {
     let mut session = session;
     let turned = turn(rt, exchange, pass, &mut session, clock, gate);
@@ -144,8 +206,7 @@ fn connect<N: Name, P: Port, C: Clock, A: Allocator + Copy, R: Wait>(
     clock: &mut C,
 ) -> Step<P::Link, A>
     ensures line { pass.new.line ≡ pass.old.line }
-    ensures connection { IfSome result.session (λ session. ComesUp N.subs session.connection pass.new) }
-    ensures fresh { IfSome result.session (λ session. IsFresh (record { held = session.waiting; frames = session.frames; unwritten = session.unwritten.items; pushed = P.Link.pushed session.link; pulled = P.Link.pulled session.link; unanswered_since = session.unanswered_since })) }
+    ensures connects { Connects N.subs (AreMoved P.Link.pushed P.Link.pulled) pass.old (here P.Link.pushed P.Link.pulled result.session) result.end pass.new }
 {
     if exchange.halted() {
         return unlinked(Some(EndReason::Halted));
@@ -180,12 +241,12 @@ fn drain<N: Name, A: Allocator + Copy, R: Wait>(
     exchange: &Exchange<N, A>,
     pass: &mut LinePass<N, A>,
 )
-    ensures line { pass.new.line ≡ pass.old.line }
+    ensures { Drops pass.old pass.new }
 {
     for _output in 0..MOST_DRAINED {
-        if exchange.next_out(rt, pass).is_none() {
+        let Some(_dropped) = exchange.next_out(rt, pass) else {
             return;
-        }
+        };
     }
 }
 
@@ -199,8 +260,7 @@ fn come_up<N: Name, L: Link, C: Clock, A: Allocator + Copy, R: Wait>(
     link: L,
 ) -> Step<L, A>
     ensures line { pass.new.line ≡ pass.old.line }
-    ensures connection { IfSome result.session (λ session. ComesUp N.subs session.connection pass.new) }
-    ensures fresh { IfSome result.session (λ session. IsFresh (record { held = session.waiting; frames = session.frames; unwritten = session.unwritten.items; pushed = L.pushed session.link; pulled = L.pulled session.link; unanswered_since = session.unanswered_since })) }
+    ensures connects { Connects N.subs (AreMoved L.pushed L.pulled) pass.old (here L.pushed L.pulled result.session) result.end pass.new }
 {
     let moment = clock.now();
     match offer(rt, exchange, pass, clock, moment, Waiting::up()) {
@@ -222,18 +282,21 @@ fn come_up<N: Name, L: Link, C: Clock, A: Allocator + Copy, R: Wait>(
     }
 }
 
-/// Offers that the line's last link went, and drops it.
+/// Offers that the line's last link went, and drops it, if there is one.
 fn close<N: Name, L: Link, C: Clock, A: Allocator + Copy, R: Wait>(
     rt: &R,
     exchange: &Exchange<N, A>,
     pass: &mut LinePass<N, A>,
     clock: &mut C,
-    session: Session<L, A>,
+    session: Option<Session<L, A>>,
 )
     ensures line { pass.new.line ≡ pass.old.line }
+    ensures closes { Closes (here L.pushed L.pulled session) pass.old pass.new }
 {
     // The link goes even if the exchange refuses the event.
-    let mut session = session;
-    let moment = clock.now();
-    let _ = go_down(rt, exchange, pass, clock, moment, &mut session.waiting, 0);
+    if let Some(linked) = session {
+        let mut linked = linked;
+        let moment = clock.now();
+        let _ = go_down(rt, exchange, pass, clock, moment, &mut linked.waiting, 0);
+    }
 }

@@ -1,3 +1,5 @@
+mod EarlyEnds
 mod Fronts
 mod Passes
-mod Served
+mod Ports
+mod Told

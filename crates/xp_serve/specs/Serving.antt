@@ -1,40 +1,42 @@
 -- What serving the lines of subscriptions comes to.
-use Rattle.std.specs.Prelude.{◌≡◌, ◌⊎◌, ℕ, List, flat_map, Option, Result, Ok, Err}
+use Rattle.std.specs.Prelude.{◌≡◌, ◌⊎◌, ℕ, List, flat_map, Option, None, Some, Result, Ok, Err}
 use Rattle.std.specs.Io.KnownBytes.{Appends, Keeps}
 use Rattle.xp_charge.specs.Text.{record_text}
 use Rattle.xp_core.specs.Records.{OneRecordEach, records_of}
 use Rattle.xp_core.specs.Worlds.{world_after}
-use Rattle.xp_core.specs.declared.entry.Entry.{Entry}
-use Rattle.xp_lock.specs.Passes.{IsLegal}
-use Rattle.xp_serve.specs.Failures.{IsLineName, IsWanting}
+use Rattle.xp_serve.specs.Ends.{failure_of}
+use Rattle.xp_serve.specs.Failures.{IsWanting}
 use Rattle.xp_serve.specs.Printing.{IsFront}
+use Rattle.xp_serve.specs.Served.{IsServed}
+use Rattle.xp_serve.specs.declared.ends.EarlyEnd.{EarlyEnd}
 use Rattle.xp_serve.specs.declared.failure.ServeFailure.{ServeFailure}
-use Rattle.xp_serve.specs.declared.failure.ServeFailure.TheVariants.{Host, Port, Journal, Thread, Memory, Output}
+use Rattle.xp_serve.specs.declared.failure.ServeFailure.TheVariants.{Memory, Output}
+use Rattle.xp_serve.specs.declared.served.Served.{Served}
 use Rattle.xp_subs.specs.Tables.{Tables}
 
--- The text of the records, which is written whole but for want of memory and a writer that fails. The host was an address.
-abbrev pub IsWritten : Tables → List ℕ → List ℕ → Result (Unit {0}) ServeFailure → Type 0
-IsWritten tables whole text (Ok done) = text ≡ whole
-IsWritten tables whole text (Err Host) = ⊥
-IsWritten tables whole text (Err (Port name)) = (text ≡ whole) × IsLineName tables name
-IsWritten tables whole text (Err Journal) = text ≡ whole
-IsWritten tables whole text (Err Thread) = text ≡ whole
-IsWritten tables whole text (Err Memory) = IsFront text whole
-IsWritten tables whole text (Err Output) = IsFront text whole
+-- what is told of the lowest line that ended before its time, if any did
+abbrev pub outcome : Tables → Option EarlyEnd → Result (Unit {0}) ServeFailure
+outcome tables None = Ok tt
+outcome tables (Some early_end) = Err (failure_of tables early_end)
 
--- A run of the exchange machine from its first moment: it has one record for each call that ended, and these are written.
-pub record Served (A : Type 0) (tables : Tables) (before after : Option (List ℕ)) (result : Result (Unit {0}) ServeFailure) : Type 0 where
-  pub history : List (Entry A)
-  pub legal : IsLegal tables history
-  pub one_each : OneRecordEach tables history (world_after tables history)
+-- The text of the records is written whole, and the lowest line that ended before its time is told. Or memory is wanting or the
+-- writer fails, and a front of the text is written.
+abbrev pub IsTold : Tables → Option EarlyEnd → List ℕ → List ℕ → Result (Unit {0}) ServeFailure → Type 0
+IsTold tables early_end whole text result =
+    ((text ≡ whole) × (result ≡ outcome tables early_end)) ⊎ (IsFront text whole × ((result ≡ Err Memory) ⊎ (result ≡ Err Output)))
+
+-- One record for each call that ended in the history of the book, and these are written.
+pub record Tells (served : Served) (before after : Option (List ℕ)) (result : Result (Unit {0}) ServeFailure) : Type 0 where
+  pub one_each : OneRecordEach served.book.subs served.book.history (world_after served.book.subs served.book.history)
   pub text : List ℕ
   pub written : Appends before after text
-  pub told : IsWritten tables (flat_map (record_text tables) (records_of history)) text result
+  pub told : IsTold served.book.subs served.early_end (flat_map (record_text served.book.subs) (records_of served.book.history)) text result
 
 abbrev pub IsUnserved : Tables → Result (Unit {0}) ServeFailure → Type 0
 IsUnserved tables (Ok done) = ⊥
 IsUnserved tables (Err failure) = IsWanting tables failure
 
--- no line was served and nothing written, or a run was
-abbrev pub Serves : Type 0 → Tables → Option (List ℕ) → Option (List ℕ) → Result (Unit {0}) ServeFailure → Type 0
-Serves A tables before after result = (Keeps before after × IsUnserved tables result) ⊎ Served A tables before after result
+-- no line was served and nothing written, or what the lines' threads left is told
+abbrev pub Serves : Tables → Option (List ℕ) → Option (List ℕ) → Result (Unit {0}) ServeFailure → Type 0
+Serves tables before after result =
+    (Keeps before after × IsUnserved tables result) ⊎ ((served : Served) × IsServed tables served × Tells served before after result)

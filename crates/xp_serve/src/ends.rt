@@ -1,7 +1,7 @@
 //! How the lines ended.
 
-ghost use Rattle.std.specs.Prelude.{◌≡◌, ◌+◌, ◌≤◌, ◌<◌, [], IfSome, map, vec_capacity, vec_len};
-ghost use Rattle.xp_serve.specs.steps.Ends.{failure_of, early_end_cause, first_early_end};
+ghost use Rattle.std.specs.Prelude.{◌≡◌, ◌+◌, ◌≤◌, ◌<◌, [], length, map, vec_capacity, vec_len};
+ghost use Rattle.xp_serve.specs.Ends.{failure_of, early_end_cause, first_early_end};
 ghost use Rattle.xp_subs.specs.Tables.{line_count};
 
 use crate::failure::ServeFailure;
@@ -23,7 +23,9 @@ pub enum EarlyEndCause {
 /// That a line ended before its time.
 #[derive(Clone, Copy, Debug, PartialEq)]
 pub struct EarlyEnd {
+    /// The number of the line.
     pub line: LineNo,
+    /// What ended it.
     pub cause: EarlyEndCause,
 }
 
@@ -52,25 +54,44 @@ fn cause_of(why: EndReason) -> Option<EarlyEndCause>
     }
 }
 
-/// The lowest line that ended before its time.
-pub fn first_early_end<N: Name>(ends: &[LineEnd<N>]) -> Option<EarlyEnd>
-    ensures first { result ≡ first_early_end ends.now }
-    ensures line { IfSome result (λ early_end. early_end.line < line_count N.subs) }
+/// The lowest line that ended before its time, where these are the ends of all lines in order.
+pub(crate) fn first_early_end(end_reasons: &[EndReason]) -> Option<EarlyEnd>
+    requires { length end_reasons.now ≤ 512 }
+    ensures { result ≡ first_early_end 0 end_reasons.now }
 {
-    for end in ends {
-        if let Some(cause) = cause_of(end.why) {
-            let line = end.pass.line();
+    for (line, why) in end_reasons.iter().enumerate() {
+        if let Some(cause) = cause_of(*why) {
+            let line = line as LineNo;
             return Some(EarlyEnd { line, cause });
         }
     }
     None
 }
 
+/// Why these lines ended, in order.
+pub(crate) fn end_reasons_of<N: Name>(
+    ends: &[LineEnd<N>],
+    end_reasons: Vec<EndReason>,
+) -> Vec<EndReason>
+    requires room { vec_len end_reasons + length ends.now ≤ vec_capacity end_reasons }
+    requires none { end_reasons.items ≡ [] }
+    ensures { result.items ≡ map (λ end. end.why) ends.now }
+{
+    let mut end_reasons = end_reasons;
+    for end in ends {
+        end_reasons.push_reserved(end.why);
+    }
+    end_reasons
+}
+
 /// The passes of the lines that have ended.
-pub fn passes_of<N: Name>(ends: Vec<LineEnd<N>>, passes: Vec<LinePass<N>>) -> Vec<LinePass<N>>
+pub(crate) fn passes_of<N: Name>(
+    ends: Vec<LineEnd<N>>,
+    passes: Vec<LinePass<N>>,
+) -> Vec<LinePass<N>>
     requires room { vec_len passes + vec_len ends ≤ vec_capacity passes }
     requires none { passes.items ≡ [] }
-    ensures { map (λ pass. pass.line) result.items ≡ map (λ end. end.pass.line) ends.items }
+    ensures { result.items ≡ map (λ end. end.pass) ends.items }
 {
     let mut passes = passes;
     for end in ends {

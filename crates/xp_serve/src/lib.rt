@@ -7,8 +7,12 @@ mod host;
 mod limits;
 mod listening;
 mod printing;
+mod served;
 mod serving;
 
+pub use ends::{EarlyEnd, EarlyEndCause};
 pub use failure::ServeFailure;
 pub use limits::Limits;
-pub use serving::serve;
+pub use listening::listen_all;
+pub use served::Served;
+pub use serving::{TcpThreadInputs, serve, serve_on, thread_inputs};

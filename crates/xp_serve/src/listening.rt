@@ -1,8 +1,10 @@
 //! Listening on the port of each line.
 
-ghost use Rattle.std.specs.Prelude.{◌≡◌, ◌+◌, ◌<◌, IfErr, IfOk, OnOk};
+ghost use Rattle.std.specs.Prelude.{◌≡◌, ◌<◌, ◌++◌, ◌∷◌, [], IfErr, IfOk, OnOk};
 ghost use Rattle.xp_serve.specs.Failures.{IsWanting};
-ghost use Rattle.xp_subs.specs.Tables.{line_count};
+ghost use Rattle.xp_serve.specs.Ports.{ports_of};
+ghost use Rattle.xp_subs.specs.Sound.{IsSound};
+ghost use Rattle.xp_subs.specs.Tables.{line_at, line_count};
 
 use crate::failure::ServeFailure;
 use std::alloc::Global;
@@ -21,7 +23,7 @@ pub fn listen_all<R: Net>(
     subs: &Subs,
     host: IpAddr,
 ) -> Result<Sockets, ServeFailure>
-    ensures all { IfOk result (λ sockets. sockets ≡ line_count subs.now) }
+    ensures ports { IfOk result (λ sockets. sockets ≡ ports_of subs.now) }
     ensures wanting { IfErr result (IsWanting subs.now) }
 {
     let lines = subs.counts().lines;
@@ -40,8 +42,9 @@ fn listen<R: Net>(
     line: LineNo,
     sockets: &mut Sockets,
 ) -> Result<(), ServeFailure>
-    requires { line < line_count subs.now }
-    ensures one { OnOk result (sockets.new ≡ sockets.old + 1) }
+    requires line { line < line_count subs.now }
+    requires sound { IsSound subs.now }
+    ensures one { OnOk result (sockets.new ≡ sockets.old ++ (line_at subs.now line).port ∷ []) }
     ensures wanting { IfErr result (IsWanting subs.now) }
 {
     match sockets.listen(rt, host, subs.port_of(line)) {

@@ -1,24 +1,47 @@
-//! Printing the charging records.
+//! Printing the charging records, and what ended a line before its time.
 
-ghost use Rattle.std.specs.Prelude.{All, flat_map};
+ghost use Rattle.std.specs.Prelude.{◌<◌, All, IfSome, flat_map};
 ghost use Rattle.xp_charge.specs.Lines.{HasLines};
 ghost use Rattle.xp_charge.specs.Text.{record_text};
+ghost use Rattle.xp_serve.specs.Serving.{Tells};
 ghost use Rattle.xp_serve.specs.steps.Printing.{Prints};
 ghost use Rattle.xp_subs.specs.Tables.{line_count};
 
 use crate::failure::ServeFailure;
+use crate::served::Served;
 use std::alloc::Global;
 use std::io::Write;
 use xp_charge::Record;
 use xp_exchange::write_out;
 use xp_subs::Subs;
 
+/// Writes the charging records of what was served, and tells the lowest line that ended before its time.
+///
+/// # Errors
+///
+/// What that line told. `Memory` and `Output` where not all records could be written.
+pub(crate) fn tell<W: Write>(
+    alloc: Global,
+    served: &Served,
+    writer: &mut W,
+) -> Result<(), ServeFailure>
+    requires { IfSome served.now.early_end (λ early_end. early_end.line < line_count served.now.book.subs) }
+    ensures { Tells served.now (W.contents writer.old) (W.contents writer.new) result }
+{
+    let subs = served.book.subs();
+    print_records(alloc, subs, served.book.records(), writer)?;
+    match served.early_end {
+        Some(early_end) => Err(early_end.failure(subs)),
+        None => Ok(()),
+    }
+}
+
 /// Writes the lines of charging records, in order.
 ///
 /// # Errors
 ///
 /// `Memory`, `Output`. Then a front of them is written.
-pub fn print_records<W: Write>(
+fn print_records<W: Write>(
     alloc: Global,
     subs: &Subs,
     records: &[Record],

@@ -1,24 +1,21 @@
 //! The three stations, served over TCP to two clients.
 
-ghost use Rattle.std.specs.Prelude.{◌≡◌};
+ghost use Rattle.std.specs.Prelude.{◌≡◌, IfOk, length};
+ghost use Rattle.xp_subs.specs.Tables.{line_count};
 
 use crate::client::{Step, connect, play};
 use crate::frames::{CLEAR, CONFIRMATION};
 use std::alloc::{AllocError, Global};
 use std::io;
-use std::marker::Brand;
 use std::net::{IpAddr, Ipv4Addr, Net, TcpListener, TcpStream};
 use std::sync::Wait;
 use std::test::Fail;
 use std::thread::{Threads, join};
-use xp_lines::{EndReason, LineEnd, ThreadInputs, serve_all};
-use xp_lock::{Exchange, LinePass, Name, PreparedExchange, prepare};
+use xp_lines::EndReason;
+use xp_serve::{Limits, Served, serve_on};
 use xp_subs::Subs;
-use xp_tcp::{OpenGate, Sockets, TcpClock, TcpPort};
+use xp_tcp::Sockets;
 use xp_testing::THREE_STATIONS;
-
-/// How many lines the three stations have.
-const LINES: usize = 5;
 
 /// More turns than a line has in these tests. A clock sleeps for half a second at most, so a line that nothing else ends has
 /// ended within a minute.
@@ -33,7 +30,7 @@ pub struct Clients {
 
 /// What came of it.
 #[derive(Drop)]
-pub struct Served {
+pub struct Met {
     /// How many steps of a1's and of b1's client were as told.
     pub steps: (usize, usize),
     /// A letter for each line, H where it has ended because the exchange was halted; and the charging records.
@@ -64,110 +61,57 @@ pub fn meet<R: Net<Listener = TcpListener, Stream = TcpStream> + Threads + Sync>
     Ok(join(rt, call, be_called))
 }
 
-/// The same. Where a step was not as told there may be no record, so the exchange is halted.
-fn meet_or_halt<
-    N: Name,
-    R: Net<Listener = TcpListener, Stream = TcpStream> + Threads + Wait + Sync,
->(rt: &R, exchange: &Exchange<N>, ports: (u16, u16), clients: Clients) -> (usize, usize) {
-    let steps = meet(rt, ports, clients).unwrap_or((0, 0));
-    if steps != (clients.a1.len(), clients.b1.len()) {
-        exchange.halt(rt);
-    }
-    steps
-}
-
-/// Listens for each line, on a port that the system picks.
-fn listen_all<R: Net>(rt: &R, alloc: Global) -> Result<Sockets, Fail> {
-    let mut sockets = Sockets::new(alloc, LINES)?;
-    for _line in 0..LINES {
+/// Listens for each line at 127.0.0.1, on a port that the system picks.
+fn listen_all<R: Net>(rt: &R, alloc: Global, subs: &Subs) -> Result<Sockets, Fail>
+    ensures { IfOk result (λ sockets. length sockets ≡ line_count subs.now) }
+{
+    let lines = subs.counts().lines;
+    let mut sockets = Sockets::new(alloc, lines)?;
+    for _line in 0..lines {
         sockets.listen(rt, IpAddr::V4(Ipv4Addr::LOCALHOST), 0)?;
     }
     Ok(sockets)
 }
 
-type TcpThreadInputs<N> = ThreadInputs<N, TcpPort, TcpClock, OpenGate>;
-
-fn parts<N: Name>(
-    alloc: Global,
-    passes: Vec<LinePass<N>>,
-    sockets: Sockets,
-) -> Result<Vec<TcpThreadInputs<N>>, AllocError> {
-    let mut parts = Vec::new(alloc);
-    let ends = sockets.into_ends(alloc)?;
-    for (pass, (port, clock)) in passes.into_iter().zip(ends) {
-        parts.push(ThreadInputs {
-            pass,
-            port,
-            clock,
-            gate: OpenGate,
-        })?;
-    }
-    Ok(parts)
-}
-
-/// Adds a letter for each line, and gives the passes back.
-fn passes<N: Name>(
-    alloc: Global,
-    ends: Vec<LineEnd<N>>,
-    text: &mut Vec<u8>,
-) -> Result<Vec<LinePass<N>>, AllocError> {
-    let mut passes = Vec::new(alloc);
-    for end in ends {
-        text.push(if end.why == EndReason::Halted {
+/// A letter for each line, and the charging records.
+fn text_of(alloc: Global, served: &Served) -> Result<Vec<u8>, AllocError> {
+    let mut text = Vec::new(alloc);
+    for why in &served.end_reasons {
+        text.push(if *why == EndReason::Halted {
             b'H'
         } else {
             b'o'
         })?;
-        passes.push(end.pass)?;
     }
     text.push(b'\n')?;
-    Ok(passes)
-}
-
-/// Closes the exchange, and adds the charging records.
-fn close<N: Name, R: Wait>(
-    rt: &R,
-    exchange: Exchange<N>,
-    passes: Vec<LinePass<N>>,
-    text: &mut Vec<u8>,
-) -> Result<(), AllocError> {
-    if let Ok(book) = exchange.close(rt, passes) {
-        for ended in book.records() {
-            ended.write(book.subs(), text)?;
-        }
+    for ended in served.book.records() {
+        ended.write(served.book.subs(), &mut text)?;
     }
-    Ok(())
+    Ok(text)
 }
 
-/// The steps of the clients; the text is added.
-fn serves<
-    N: Name + Send + Sync,
-    R: Net<Listener = TcpListener, Stream = TcpStream> + Threads + Wait + Sync,
->(
+/// Serves the lines to the two clients until there is a charging record.
+fn serve_clients<R: Net<Listener = TcpListener, Stream = TcpStream> + Threads + Wait + Sync>(
     rt: &R,
     alloc: Global,
-    prepared: PreparedExchange,
+    subs: Subs,
     sockets: Sockets,
     clients: Clients,
-    text: &mut Vec<u8>,
-) -> Result<(usize, usize), AllocError>
-    requires subs { N.subs ≡ prepared.subs }
-    requires history_length { N.history_length ≡ prepared.history_length }
-    requires queues { N.queues ≡ prepared.queues }
+) -> (Option<Served>, (usize, usize))
+    requires { length sockets ≡ line_count subs }
 {
     let ports = (sockets.port(0).unwrap_or(0), sockets.port(1).unwrap_or(0));
-    let (exchange, all) = Exchange::<N>::start(alloc, prepared)?;
-    let parts = parts(alloc, all, sockets)?;
-    let (ends, steps) = join(
+    let limits = Limits {
+        records: 1,
+        turns: TURNS,
+    };
+    join(
         rt,
-        || serve_all(rt, alloc, &exchange, parts, TURNS, 1).ok(),
-        || meet_or_halt(rt, &exchange, ports, clients),
-    );
-    if let Some(ends) = ends {
-        let all = passes(alloc, ends, text)?;
-        close(rt, exchange, all, text)?;
-    }
-    Ok(steps)
+        || -> Option<Served>
+            requires { length sockets ≡ line_count subs }
+        { serve_on(rt, alloc, subs, sockets, limits).ok() },
+        || meet(rt, ports, clients).unwrap_or((0, 0)),
+    )
 }
 
 /// Serves the three stations until there is a charging record.
@@ -175,13 +119,15 @@ pub fn serve<R: Net<Listener = TcpListener, Stream = TcpStream> + Threads + Wait
     rt: &R,
     alloc: Global,
     clients: Clients,
-) -> Result<Served, Fail> {
-    let sockets = listen_all(rt, alloc)?;
-    let prepared = prepare(alloc, Subs::read(alloc, THREE_STATIONS)?)?;
-    let mut text = Vec::new(alloc);
-    let steps = serves::<Brand, R>(rt, alloc, prepared, sockets, clients, &mut text)?;
-    Ok(Served {
+) -> Result<Met, Fail> {
+    let subs = Subs::read(alloc, THREE_STATIONS)?;
+    let sockets = listen_all(rt, alloc, &subs)?;
+    let (served, steps) = serve_clients(rt, alloc, subs, sockets, clients);
+    let Some(served) = served else {
+        return Err("out of memory".into());
+    };
+    Ok(Met {
         steps,
-        text: String::from_utf8(text)?,
+        text: String::from_utf8(text_of(alloc, &served)?)?,
     })
 }

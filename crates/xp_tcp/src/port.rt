@@ -9,15 +9,17 @@ use mio::Registry;
 use mio::net::TcpListener;
 use std::io;
 use std::io::ErrorKind;
+use std::marker::Model;
 use std::sync::Arc;
 use xp_lines::{Arrived, Port};
 
 /// How many connections are taken at most in one call, where those before failed.
 const MOST_TAKEN: usize = 16;
 
-/// The listening socket of a line.
+/// The listening socket of a line. Contracts see it as its port.
 #[derive(Drop)]
 pub struct TcpPort {
+    port: u16,
     listener: TcpListener,
     /// What the line's thread waits for.
     waits: Registry,
@@ -26,14 +28,26 @@ pub struct TcpPort {
     line: usize,
 }
 
+impl Model for TcpPort {
+    ghost use Rattle.std.specs.Prelude.{ℕ};
+
+    ghost Value = { ℕ };
+
+    ghost view = { λ port. port.port };
+}
+
 impl TcpPort {
     pub(crate) fn new(
+        port: u16,
         listener: TcpListener,
         waits: Registry,
         wakers: Arc<Vec<LineWaker>>,
         line: usize,
-    ) -> TcpPort {
+    ) -> TcpPort
+        ensures { result ≡ port }
+    {
         TcpPort {
+            port,
             listener,
             waits,
             wakers,
@@ -57,7 +71,9 @@ impl TcpPort {
 impl Port for TcpPort {
     type Link = TcpLink;
 
-    fn next(&mut self) -> Arrived<TcpLink> {
+    fn next(&mut self) -> Arrived<TcpLink>
+        ensures { self.new ≡ self.old }
+    {
         for _taken in 0..MOST_TAKEN {
             if let Some(arrived) = self.take_one() {
                 return arrived;

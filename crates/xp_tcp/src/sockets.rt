@@ -1,6 +1,7 @@
 //! The listening sockets of an exchange's lines.
 
-ghost use Rattle.std.specs.Prelude.{◌≡◌, ◌+◌, ◌<◌, ◌↔◌, IfOk, IsSome, OnErr, OnOk, vec_len};
+ghost use Rattle.std.specs.Prelude.{◌≡◌, ◌<◌, [], IfOk, OnErr, OnOk, map, slice_get};
+ghost use Rattle.xp_tcp.specs.Ports.{Listens};
 ghost use Rattle.xp_tcp.specs.declared.sockets.ListenFault.TheVariants.{Memory as OutOfMemory, Port as NoPort};
 
 use crate::clock::TcpClock;
@@ -62,7 +63,7 @@ struct Listening {
     port: u16,
 }
 
-/// The listening sockets of the lines, in line order, with what their threads wait on. Contracts see how many there are.
+/// The listening sockets of the lines, in line order, with what their threads wait on. Contracts see their ports.
 #[derive(Drop)]
 pub struct Sockets {
     lines: Vec<Listening>,
@@ -70,17 +71,17 @@ pub struct Sockets {
 }
 
 impl Model for Sockets {
-    ghost use Rattle.std.specs.Prelude.{ℕ, vec_len};
+    ghost use Rattle.std.specs.Prelude.{ℕ, List, map};
 
-    ghost Value = { ℕ };
+    ghost Value = { List ℕ };
 
-    ghost view = { λ sockets. vec_len sockets.lines };
+    ghost view = { λ sockets. map (λ line. line.port) sockets.lines.items };
 }
 
 impl Sockets {
     /// No sockets yet, with room for so many.
     pub fn new(alloc: Global, count: usize) -> Result<Sockets, AllocError>
-        ensures { IfOk result (λ sockets. sockets ≡ 0) }
+        ensures { IfOk result (λ sockets. sockets ≡ []) }
     {
         Ok(Sockets {
             lines: Vec::with_capacity(alloc, count)?,
@@ -94,13 +95,13 @@ impl Sockets {
     ///
     /// `Port` where the port can't be had, `Memory`. No line is added then.
     pub fn listen<R: Net>(&mut self, rt: &R, host: IpAddr, port: u16) -> Result<(), ListenFault>
-        ensures ok { OnOk result (self.new ≡ self.old + 1) }
+        ensures ok { OnOk result (Listens self.old port self.new) }
         ensures err { OnErr result (self.new ≡ self.old) }
     {
         let alloc = *self.lines.allocator();
         self.lines.reserve(1)?;
         let events = Events::with_capacity(alloc, MOST_EVENTS)?;
-        let (line, waker) = open(rt, SocketAddr::new(host, port), events)?;
+        let (line, waker) = open(rt, host, port, events)?;
         self.wakers.reserve(1)?;
         self.wakers.push_reserved(LineWaker::new(waker));
         self.lines.push_reserved(line);
@@ -109,14 +110,15 @@ impl Sockets {
 
     /// The port on which a line's socket listens.
     pub fn port(&self, line: LineNo) -> Option<u16>
-        ensures { IsSome result ↔ (line < self.now) }
+        ensures { result ≡ slice_get self.now line }
     {
         self.lines.get(line as usize).map(|line| line.port)
     }
 
-    /// What the threads of the lines are given, in line order. The time of day is read once, for all clocks.
+    /// What the threads of the lines are given, in line order: each has the port of its line. The time of day is read once, for
+    /// all clocks.
     pub fn into_ends(self, alloc: Global) -> Result<Vec<(TcpPort, TcpClock)>, AllocError>
-        ensures { IfOk result (λ ends. vec_len ends ≡ self) }
+        ensures { IfOk result (λ ends. map (λ end. end.0) ends.items ≡ self) }
     {
         let Sockets { lines, wakers } = self;
         let wakers = Arc::new(alloc, wakers)?;
@@ -124,7 +126,13 @@ impl Sockets {
         let start = Start::read();
         for line in lines {
             let place = ends.len();
-            let port = TcpPort::new(line.listener, line.waits, Arc::try_clone(&wakers)?, place);
+            let port = TcpPort::new(
+                line.port,
+                line.listener,
+                line.waits,
+                Arc::try_clone(&wakers)?,
+                place,
+            );
             let clock = TcpClock::new(
                 line.poll,
                 line.events,
@@ -138,11 +146,16 @@ impl Sockets {
     }
 }
 
-/// Listens at an address: the socket, and what wakes the thread that waits on it.
-fn open<R: Net>(rt: &R, at: SocketAddr, events: Events) -> io::Result<(Listening, Waker)> {
+/// Listens on a port at an address: the socket, and what wakes the thread that waits on it. At port 0 the system picks one.
+fn open<R: Net>(rt: &R, host: IpAddr, port: u16, events: Events) -> io::Result<(Listening, Waker)>
+    ensures { IfOk result (λ opened. 0 < port → opened.0.port ≡ port) }
+{
     let poll = Poll::new(rt)?;
-    let mut listener = TcpListener::bind(rt, at)?;
-    let port = listener.local_addr()?.port();
+    let mut listener = TcpListener::bind(rt, SocketAddr::new(host, port))?;
+    let port = match port {
+        0 => listener.local_addr()?.port(),
+        _ => port,
+    };
     poll.registry()
         .register(&mut listener, LISTENER, Interest::READABLE)?;
     let waker = Waker::new(poll.registry(), WAKER)?;

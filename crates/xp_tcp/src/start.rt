@@ -12,7 +12,7 @@ const CLOCK_OF_TICKS: i32 = 6;
 #[derive(Clone, Copy, Debug)]
 pub(crate) struct Start {
     /// The time of day, since 1970.
-    time_of_day: Duration,
+    pub(crate) time_of_day: Duration,
     /// The time since the system began.
     uptime: Duration,
 }

@@ -1,11 +1,19 @@
--- The line of each thread that was started, or that could not be.
-use Rattle.std.specs.Prelude.{ℕ, Result, Ok, Err}
+-- For private steps. The threads that were started, or could not be, and what they return.
+use Rattle.std.specs.Prelude.{◌≡◌, ℕ, List, Option, Result, Ok, Err}
+use Rattle.std.specs.declared.alloc.Global.{Global as Alloc}
 use Rattle.std.specs.declared.thread.PromisedHandle.{PromisedHandle}
+use Rattle.xp_subs.specs.Tables.{Tables}
+use Rattle.xp_lock.specs.Passes.{Pass}
+use Rattle.xp_lines.specs.Sessions.{IsLineServed}
 use Rattle.xp_lines.specs.declared.line.LineEnd.{LineEnd}
 use Rattle.xp_lines.specs.declared.threads.OfLine.{OfLine}
 
-module _ {N A : Type 0} where
-  -- the line whose thread was started, or the line whose thread could not be started
-  abbrev pub line_begun : Result (PromisedHandle (LineEnd N A) OfLine) (LineEnd N A) → ℕ
-  line_begun (Ok handle) = handle.promise.0
-  line_begun (Err end) = end.pass.line
+module _ {N L : Type 0} (subs : Tables) (of_link : Option (List ℕ) → Option (List ℕ) → Type 0) where
+  -- the thread of the line with this pass was started, or it could not be started, and this is how the line ended
+  abbrev pub Begins : Pass Alloc → Result (PromisedHandle (LineEnd N Alloc) (OfLine N L)) (LineEnd N Alloc) → Type 0
+  Begins first (Ok handle) = handle.promise.first.value ≡ first
+  Begins first (Err end) = IsLineServed subs of_link first end.pass
+
+  -- this is how the line ended
+  abbrev pub Ends : Result (PromisedHandle (LineEnd N Alloc) (OfLine N L)) (LineEnd N Alloc) → LineEnd N Alloc → Type 0
+  Ends begun end = (first : Pass Alloc) → Begins first begun → IsLineServed subs of_link first end.pass

@@ -1,4 +1,5 @@
 use Rattle.std.proofs.Common.{arith, rules}
+use Rattle.xp_lines.proofs.Served.{same_lines}
 use Rattle.xp_lines.proofs.threads.serve_all.Goals as goal
 
 pub scoped-requires : goal.scoped-requires
@@ -15,3 +16,6 @@ scoped-requires g c =
         (omega (arith, second, also), ((begun.items, ends.items), (search rules, search rules, search rules, search rules, search rules, search rules, search rules))),
       );
     }
+
+pub returns-clause-ok : goal.returns-clause-ok
+returns-clause-ok g c = same_lines _ _ (λ part. part.pass) (λ end. end.pass) c.args.parts.items c.scoped.result.items c.scoped.ensures.1

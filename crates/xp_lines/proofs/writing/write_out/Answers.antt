@@ -1,5 +1,5 @@
-use Rattle.std.proofs.Common.{refl, subst}
-use Rattle.xp_lines.proofs.Written.{TakenOut, written_all, written_first}
+use Rattle.std.proofs.Common.{refl}
+use Rattle.xp_lines.proofs.Written.{written_by, written_first}
 use Rattle.xp_lines.proofs.writing.write_out.Goals as goal
 
 pub returns-in-Waits-clause-writes : goal.returns-in-Waits-clause-writes
@@ -10,5 +10,5 @@ returns-in-Broken-clause-writes g c = written_first _ _ _ _ _ _ _ _ _ c.in-Broke
 
 pub returns-clause-writes : goal.returns-clause-writes
 returns-clause-writes g c =
-    written_all _ _ _ _ _ _ _ _ _ _ _ _ _ _ _ c.in-Free.ensures.leaves (c.in-Free.ensures.free refl)
-    (subst (λ m. TakenOut m _ _ _ _ _ _ _ _) c.modulus-modulus.ensures c.take_out-taken.ensures) c.push_rest-flow.ensures.leaves c.ended_at.ensures.lost c.ended_at.ensures.stays
+    written_by _ _ _ _ _ _ _ _ _ _ _ _ _ _ _ _ c.in-Free.ensures.leaves (c.in-Free.ensures.free refl) c.modulus-modulus.ensures c.take_out-taken.ensures c.push_rest-flow.ensures.leaves
+    c.ended_at.ensures.lost c.ended_at.ensures.stays

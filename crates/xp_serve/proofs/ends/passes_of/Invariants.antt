@@ -7,5 +7,5 @@ abbrev pub invariant-loop-end : goal.invariant-loop-end
 invariant-loop-end g l = record {
   many : length (into_iter_items l.end-iterator) ≡ into_iter_len l.end-iterator;
   room : vec_len l.passes + into_iter_len l.end-iterator ≤ vec_capacity l.passes;
-  lines : map (λ pass. pass.line) l.passes.items ++ map (λ end. end.pass.line) (into_iter_items l.end-iterator) ≡ map (λ end. end.pass.line) l.fn.ends.items;
+  passes : l.passes.items ++ map (λ end. end.pass) (into_iter_items l.end-iterator) ≡ map (λ end. end.pass) l.fn.ends.items;
 }

@@ -5,6 +5,8 @@ use Rattle.xp_serve.proofs.serving.thread_inputs.Given as goal
 abbrev pub invariant-loop-pass : goal.invariant-loop-pass
 invariant-loop-pass g l = record {
   many : length (into_iter_items l.pass-iterator) ≡ into_iter_len l.pass-iterator;
+  many_ends : length (into_iter_items l.ends) ≡ into_iter_len l.ends;
   ends : into_iter_len l.ends ≡ into_iter_len l.pass-iterator;
-  lines : map (λ part. part.pass.line) l.parts.items ++ map (λ pass. pass.line) (into_iter_items l.pass-iterator) ≡ map (λ pass. pass.line) l.fn.passes.items;
+  passes : map (λ part. part.pass) l.parts.items ++ into_iter_items l.pass-iterator ≡ l.fn.passes.items;
+  ports : map (λ part. part.port) l.parts.items ++ map (λ end. end.0) (into_iter_items l.ends) ≡ l.fn.sockets;
 }

@@ -1,0 +1,5 @@
+use Rattle.xp_lines.proofs.Served.{each_ended}
+use Rattle.xp_lines.proofs.threads.fn.serve_all.scope.Goals as goal
+
+pub returns : goal.returns
+returns g c = each_ended _ _ _ _ _ c.begin_all-begun.ensures.begin c.end_all.ensures
