@@ -22,9 +22,6 @@ PROGRAM = HERE.parent.parent / "crates/xp/out/xp"
 # A station for each line, of which an exchange has at most 256.
 MOST_PAIRS = 128
 
-# The most entries that a history may have.
-JOURNAL = 10_000_000
-
 Record = collections.namedtuple("Record", "number caller called dialled payer sent received cause diagnostic seconds")
 
 
@@ -35,7 +32,7 @@ def address(pair):
 
 def subscriptions(pairs, base):
     """A subscription file of so many pairs of lines: a0 calls, on the port `base`, b0 is called, on the next one."""
-    stations = [f"journal = {JOURNAL}"]
+    stations = []
     for pair in range(pairs):
         for name, number, port in ((f"a{pair}", f"20{pair:04}", base + 2 * pair), (f"b{pair}", address(pair), base + 2 * pair + 1)):
             stations.append(f'[[station]]\naddress = "{number}"\nline = [{{ name = "{name}", port = {port} }}]')

@@ -2,7 +2,7 @@
 """A long run of `xp serve` with calls that come and go at random, and random data in both directions.
 
 In the end each call must have one record, with the segments that were sent and the seconds that it was connected, and
-the memory must have grown by the history alone. README.md says what is checked. The seed fixes what is chosen, not when the exchange answers.
+the memory must have grown by the records alone. README.md says what is checked. The seed fixes what is chosen, not when the exchange answers.
 """
 
 import argparse
@@ -26,12 +26,8 @@ CALL, ACCEPTED, CLEAR, CONFIRMATION, READY = 0x0B, 0x0F, 0x13, 0x17, 0x01
 # Calls begun in a second for each pair of lines, at most; seconds between two packets of an end, on average.
 RATE, GAP = 0.8, 0.04
 
-# What a call makes of entries, on average, from above, and how many of those that a history holds are used.
-ENTRIES, BUDGET = 75, 0.9 * server.JOURNAL
-
-# The most memory for an event: an entry takes some 515 octets over such data, and the copy of the event that the
-# line keeps some 200.
-OCTETS = 1_000
+# The most memory for an event: a call's record is kept until serving ends, one for some fifty events.
+OCTETS = 20
 
 SAMPLES = 20
 
@@ -321,7 +317,7 @@ def check_memory(samples):
     growth = [(end[1] - begin[1]) / max(1, end[0] - begin[0]) for begin, end in zip(halves, halves[1:])]
     print(f"memory: {growth[0]:,.0f} octets an event in the first half, {growth[1]:,.0f} in the second, at most {OCTETS:,}")
     if growth[1] > OCTETS:
-        sys.exit("the memory grows by more than the history")
+        sys.exit("the memory grows by more than the records")
 
 
 def main():
@@ -333,7 +329,7 @@ def main():
     arguments = parser.parse_args()
 
     seed = random.SystemRandom().randrange(1 << 32) if arguments.seed is None else arguments.seed
-    wanted = max(1, int(min(RATE * arguments.pairs * arguments.seconds, BUDGET / ENTRIES)))
+    wanted = max(1, int(RATE * arguments.pairs * arguments.seconds))
     print(f"seed {seed}, {2 * arguments.pairs} lines, {wanted:,} calls in {arguments.seconds:g} seconds", flush=True)
     with tempfile.TemporaryDirectory() as folder, server.Exchange(arguments.xp, folder, arguments.pairs, wanted) as exchange:
         soak = Soak(exchange, arguments.pairs, wanted, arguments.seconds, seed)

@@ -1,5 +1,5 @@
 -- An entry puts out few packets to a line.
-use Rattle.std.proofs.Common.{◌≡◌, ℕ, suc, ◌+◌, ◌≤◌, Bool, true, false, cond, eqb, IfOk, OnOk, Result, Ok, Err, Option, Some, None, List, [], ◌∷◌, ◌++◌, filter, length, map, refl, ap, sym, subst, arith, length-append}
+use Rattle.std.proofs.Common.{◌≡◌, ℕ, suc, ◌+◌, ◌≤◌, Bool, true, false, cond, eqb, IfOk, Result, Ok, Err, Option, Some, None, List, [], ◌∷◌, ◌++◌, filter, length, map, refl, ap, sym, subst, arith, length-append}
 use Rattle.std.proofs.lemmas.List.{length-map}
 use Rattle.xp_causes.specs.declared.clearing_cause.TheConstants.{LOCAL_PROCEDURE_ERROR, NETWORK_CONGESTION, NUMBER_BUSY, OUT_OF_ORDER, REMOTE_PROCEDURE_ERROR}
 use Rattle.xp_causes.specs.declared.diagnostic.TheConstants.{CALL_COLLISION, NO_ADDITIONAL_INFORMATION, TIMER_EXPIRED_FOR_INCOMING_CALL}
@@ -19,12 +19,10 @@ use Rattle.xp_core.specs.declared.outcome.Outcome.{Outcome}
 use Rattle.xp_core.specs.declared.outcome.Outcome.TheVariants.{Plain, Put, Refused, Connected, Declined, Exceeded}
 use Rattle.xp_core.specs.declared.output.Output.{Output}
 use Rattle.xp_machine.specs.declared.relays.MeteredRelay.{MeteredRelay}
-use Rattle.xp_core.specs.declared.stepped.Stepped.{Stepped}
 use Rattle.xp_core.specs.Acts.{Acts, Answers, CarriesAs, Confirms, IsAnswered, IsPlain, IsRequested, Requests, outputs_of_cancel, closed, outputs_to_both, outputs_of_error, outputs_of_fall}
 use Rattle.xp_core.specs.Agreed.{AllHaveTerms}
 use Rattle.xp_core.specs.RelayedPackets.{RelayedPacket, arrivals, relay_terms, relayed_by, turn_of_relayed}
-use Rattle.xp_core.specs.OutputsPerLine.{AreFew, GrowsByFew, to_line}
-use Rattle.xp_core.specs.Exchange.{Exchange}
+use Rattle.xp_core.specs.OutputsPerLine.{AreFew, to_line}
 use Rattle.xp_core.specs.StepContext.{StepContext, step_context}
 use Rattle.xp_core.specs.Step.{Step}
 use Rattle.xp_core.specs.Table.{CallAccepted, CallRequest, ClearRequest, accepted_in, action_at, clear_in, packet_in, request_in}
@@ -33,7 +31,6 @@ use Rattle.xp_core.specs.steps.PreparedEntry.{Enters}
 use Rattle.xp_machine.specs.World.{Call, World, call_on}
 use Rattle.xp_core.proofs.RelayedPackets.{of_carried}
 use Rattle.xp_core.proofs.Delivered.{relay_within}
-use Rattle.xp_core.proofs.Showing.{exchange_of}
 use Rattle.xp_machine.proofs.InCall.{shown_on}
 
 module _ {A : Type 0} where
@@ -159,20 +156,8 @@ module _ {A : Type 0} where
       omega (arith, each, few, ap length step.outputs)
 
   -- the outcome of a call that returns what `advance` returned
-  pub outcome_few : {E : Type 0} (tables : Tables) (old : World) (relays : List (Option (MeteredRelay A))) (history : List (Entry A)) (records : List Record) (event : Event A)
-      (new : World) (later : List (Option (MeteredRelay A))) (entries : List (Entry A)) (charged : List Record) (tells : Bool) (outcome : Result (Stepped A) E) → AllHaveTerms tables old
-      → IfOk outcome (λ told. Enters tables old relays history records event new later entries charged tells told) → tells ≡ true → IfOk outcome (λ told. AreFew told.outputs)
-  outcome_few tables old relays history records event new later entries charged tells (Ok told) terms done does =
-      let P : List (Output A) → Type 0 = λ outputs. AreFew outputs in
-      subst P (sym (done.outputs does)) (few_of_step tables history old done.entry new terms done.step)
-  outcome_few tables old relays history records event new later entries charged tells (Err fault) terms done does = tt
-
-  -- the entry of a call that returns what `advance` returned, on an exchange of this history
-  pub outcome_grows : {E : Type 0} (tables : Tables) (old : World) (relays : List (Option (MeteredRelay A))) (history : List (Entry A)) (records : List Record) (event : Event A)
-      (new : World) (later : List (Option (MeteredRelay A))) (entries : List (Entry A)) (charged : List Record) (tells : Bool) (outcome : Result (Stepped A) E) (exchange : Exchange A) (stalls : ℕ)
-      → AllHaveTerms tables old → IfOk outcome (λ told. Enters tables old relays history records event new later entries charged tells told)
-      → exchange_of tables history stalls ≡ exchange → OnOk outcome (GrowsByFew exchange.history entries)
-  outcome_grows tables old relays history records event new later entries charged tells (Ok told) exchange stalls terms done is =
-      let P : Exchange A → Type 0 = λ e. GrowsByFew e.history entries in
-      subst P is (done.entry, done.grown, few_of_step tables history old done.entry new terms done.step)
-  outcome_grows tables old relays history records event new later entries charged tells (Err fault) exchange stalls terms done is = tt
+  pub outcome_few : {E : Type 0} (tables : Tables) (old : World) (relays : List (Option (MeteredRelay A))) (history : List (Entry A)) (waiting : List Record) (event : Event A)
+      (new : World) (later : List (Option (MeteredRelay A))) (entries : List (Entry A)) (charged : List Record) (outcome : Result (Entry A) E) → AllHaveTerms tables old
+      → IfOk outcome (λ entry. Enters tables old relays history waiting event new later entries charged entry) → IfOk outcome (λ entry. AreFew entry.outputs)
+  outcome_few tables old relays history waiting event new later entries charged (Ok entry) terms done = few_of_step tables history old entry new terms done.step
+  outcome_few tables old relays history waiting event new later entries charged (Err fault) terms done = tt

@@ -26,6 +26,7 @@ pub mod Origins
 pub mod Outcomes
 pub mod Plans
 pub mod Quiet
+pub mod RecordCounts
 pub mod Relaying
 pub mod Requests
 pub mod RunLemmas

@@ -1,7 +1,8 @@
 -- Every line that an entry of a run names is one of the subscriptions'.
-use Rattle.std.proofs.Common.{◌≡◌, ℕ, ◌<◌, eqb, Some, List, [], ◌∷◌, ◌++◌, All, length, refl, ap, arith}
+use Rattle.std.proofs.Common.{◌≡◌, ℕ, ◌<◌, eqb, IfOk, Result, Ok, Err, Some, List, [], ◌∷◌, ◌++◌, All, length, refl, ap, arith, subst, sym}
+use Rattle.std.proofs.Math.Seq.{drop-append_seam}
 use Rattle.std.proofs.lemmas.Bool.{cond_both}
-use Rattle.std.proofs.lemmas.List.Elements.{All-nil, All-cons, All-push, All-append, All-same, All-weaker}
+use Rattle.std.proofs.lemmas.List.Elements.{All-nil, All-cons, All-push, All-append, All-drop, All-head, All-same, All-tail, All-weaker}
 use Rattle.std.specs.List.{AllByRecursion}
 use Rattle.xp_charge.specs.Lines.{HasLines as NamesLines}
 use Rattle.xp_charge.specs.declared.record.Record.{Record}
@@ -19,6 +20,7 @@ use Rattle.xp_machine.specs.Changes.{Change, Rises, Leaves, Begins, IsRefused, C
 use Rattle.xp_machine.specs.Clearing.{record_of, refused_record}
 use Rattle.xp_machine.specs.Coupling.{AreCoupled, IsHeld}
 use Rattle.xp_core.specs.Lines.{HasLines}
+use Rattle.xp_core.specs.Records.{records_of}
 use Rattle.xp_core.specs.Run.{Run}
 use Rattle.xp_core.specs.Segments.{segments_of}
 use Rattle.xp_core.specs.StepContext.{StepContext, step_context}
@@ -123,3 +125,23 @@ module _ {A : Type 0} where
   run_named tables history world sound run =
       (run_keeps (λ before w. Run tables before w × All (HasLines (line_count tables)) before) tables (step_named tables sound) [] (opening (line_count tables)) history world
       (refl, All-nil (HasLines (line_count tables))) run).1
+
+-- ---- the lines that records name
+
+module _ {A : Type 0} where
+  pub history_records_named : (lines : ℕ) (history : List (Entry A)) → All (HasLines lines) history → All (NamesLines lines) (records_of history)
+  history_records_named lines [] named = All-nil (NamesLines lines)
+  history_records_named lines (entry ∷ entries) named =
+      All-append (NamesLines lines) entry.records.items (records_of entries) (All-head (HasLines lines) entry entries named).records
+      (history_records_named lines entries (All-tail (HasLines lines) entry entries named))
+
+  -- those that wait
+  pub waiting_named : (lines : ℕ) (history : List (Entry A)) (given waiting : List Record) → given ++ waiting ≡ records_of history → All (HasLines lines) history → All (NamesLines lines) waiting
+  waiting_named lines history given waiting all named =
+      let P : List Record → Type 0 = λ records. All (NamesLines lines) records in
+      subst P (drop-append_seam given waiting) (All-drop (NamesLines lines) (length given) (given ++ waiting) (subst P (sym all) (history_records_named lines history named)))
+
+-- what holds of the value of an Ok leads on
+pub if_ok : {X E : Type 0} {P : X → Type 0} (Q : X → Type 0) (outcome : Result X E) → IfOk outcome P → ((x : X) → P x → Q x) → IfOk outcome Q
+if_ok Q (Ok x) is goes = goes x is
+if_ok Q (Err fault) is goes = tt

@@ -1,5 +1,5 @@
 -- As an event is entered, what is kept goes on to show the state that the history leads to.
-use Rattle.std.proofs.Common.{◌≡◌, ◌∙◌, ℕ, ◌+◌, ◌<◌, Bool, true, IfOk, OnErr, Result, Ok, Err, Option, Some, None, List, [], ◌∷◌, ◌++◌, length, length-set, replicate, refl, ap, sym, subst, append-nil}
+use Rattle.std.proofs.Common.{◌≡◌, ◌∙◌, ℕ, ◌+◌, ◌<◌, ◌≤◌, IfOk, OnErr, Result, Ok, Err, Option, Some, None, List, [], ◌∷◌, ◌++◌, length, length-append, length-set, replicate, refl, ap, sym, subst, append-nil, append_assoc, arith}
 use Rattle.std.proofs.lemmas.List.{length-replicate}
 use Rattle.std.proofs.lemmas.List.Concat.{flat_map-append}
 use Rattle.std.proofs.lemmas.List.Elements.{All-nil, All-pop, All-push}
@@ -12,17 +12,16 @@ use Rattle.xp_core.specs.declared.advance.PreparedEntry.{PreparedEntry}
 use Rattle.xp_core.specs.declared.entry.Entry.{Entry}
 use Rattle.xp_core.specs.declared.event.Event.{Event}
 use Rattle.xp_core.specs.declared.outcome.Outcome.{Outcome}
-use Rattle.xp_core.specs.declared.output.Output.{Output}
 use Rattle.xp_core.specs.declared.plan.Plan.{Plan}
 use Rattle.xp_machine.specs.declared.relays.RelayUpdate.{RelayUpdate}
 use Rattle.xp_machine.specs.declared.relays.MeteredRelay.{MeteredRelay}
-use Rattle.xp_core.specs.declared.stepped.Stepped.{Stepped}
 use Rattle.xp_core.specs.Agreed.{AllHaveTerms}
-use Rattle.xp_core.specs.Exchange.{Advances, AdvancesUntold, Exchange, IsReadable, world_of}
+use Rattle.xp_core.specs.Exchange.{Advances, Exchange, IsReadable, world_of}
 use Rattle.xp_core.specs.steps.Plan.{Plans, applied_by}
 use Rattle.xp_core.specs.Records.{records_of}
 use Rattle.xp_core.specs.steps.Relays.{RelaysRepresentCalls}
 use Rattle.xp_machine.specs.Relays.{relays_with}
+use Rattle.xp_core.specs.Lines.{HasLines}
 use Rattle.xp_core.specs.Run.{Run}
 use Rattle.xp_core.specs.StepContext.{step_context}
 use Rattle.xp_core.specs.steps.CoreInvariant.{CoreInvariant}
@@ -33,6 +32,7 @@ use Rattle.xp_machine.specs.World.{World, call_numbered, opening}
 use Rattle.xp_core.specs.Writable.{AreWritable}
 use Rattle.xp_core.proofs.Agreed.{run_agreed}
 use Rattle.xp_core.proofs.Fitting.{run_fits}
+use Rattle.xp_core.proofs.Names.{run_named}
 use Rattle.xp_core.proofs.Relaying.{carried_next}
 use Rattle.xp_core.proofs.RunLemmas.{run_push}
 use Rattle.xp_core.proofs.Worlds.{run_world}
@@ -60,18 +60,17 @@ module _ {A : Type 0} where
       subst P (sym outcome) made
 
   -- and entered
-  pub enters : (tables : Tables) (old : World) (relays : List (Option (MeteredRelay A))) (history : List (Entry A)) (records : List Record) (event : Event A) (work : PreparedEntry A)
-      (new : World) (later : List (Option (MeteredRelay A))) (entries : List (Entry A)) (charged : List Record) (told : Stepped A) (entry : Entry A)
+  pub enters : (tables : Tables) (old : World) (relays : List (Option (MeteredRelay A))) (history : List (Entry A)) (waiting : List Record) (event : Event A) (work : PreparedEntry A)
+      (new : World) (later : List (Option (MeteredRelay A))) (entries : List (Entry A)) (charged : List Record) (entry : Entry A)
       → IsPreparedEntry tables history old relays event work new later
       → entry ≡ record { number = length history + 1; event = event; outcome = work.outcome; outputs = work.outputs; records = work.records }
       → event.line < length old.lines
-      → entries ≡ history ++ entry ∷ [] → charged ≡ records ++ work.records.items → told.entry ≡ length history + 1
-      → (tells : Bool) → (tells ≡ true → work.told ≡ work.outputs) → told.outputs ≡ work.told
-      → Enters tables old relays history records event new later entries charged tells told
-  enters tables old relays history records event work new later entries charged told entry works is line grown recorded number tells copied outputs =
+      → entries ≡ history ++ entry ∷ [] → charged ≡ waiting ++ work.records.items
+      → Enters tables old relays history waiting event new later entries charged entry
+  enters tables old relays history waiting event work new later entries charged entry works is line grown recorded =
       let made : Entry A = record { number = length history + 1; event = event; outcome = work.outcome; outputs = work.outputs; records = work.records } in
-      record {
-        entry = made;
+      let P : Entry A → Type 0 = λ e. Enters tables old relays history waiting event new later entries charged e in
+      subst P (sym is) (record {
         event_is = refl;
         step = record {
           number = refl;
@@ -85,128 +84,126 @@ module _ {A : Type 0} where
         relays_on = works.relays_on;
         grown = grown ∙ ap (λ e. history ++ e ∷ []) is;
         recorded = recorded;
-        number = number;
-        outputs = λ does. outputs ∙ copied does;
-      }
+      })
 
-  module _ (tables : Tables) (history : List (Entry A)) (machine : World) (relays : List (Option (MeteredRelay A))) (records : List Record) (shows : CoreInvariant tables history machine relays records)
-      (event : Event A) (readable : IsReadable event.what) (new : World) (later : List (Option (MeteredRelay A))) (entries : List (Entry A)) (charged : List Record) (tells : Bool) (told : Stepped A)
-      (done : Enters tables machine relays history records event new later entries charged tells told) where
+  module _ (tables : Tables) (history : List (Entry A)) (machine : World) (relays : List (Option (MeteredRelay A))) (given waiting : List Record) (shows : CoreInvariant tables history machine relays (given ++ waiting))
+      (event : Event A) (readable : IsReadable event.what) (room : length history < tables.journal) (new : World) (later : List (Option (MeteredRelay A))) (entries : List (Entry A)) (charged : List Record) (entry : Entry A)
+      (done : Enters tables machine relays history waiting event new later entries charged entry) where
     led_here : Run tables history machine
     led_here = let P : World → Type 0 = λ w. Run tables history w in subst P (sym shows.shown) shows.run
 
-    led : Run tables (history ++ done.entry ∷ []) new
-    led = run_push tables [] (opening (line_count tables)) history machine done.entry new led_here done.step
+    led : Run tables (history ++ entry ∷ []) new
+    led = run_push tables [] (opening (line_count tables)) history machine entry new led_here done.step
 
     -- the relays of what was entered
-    went_on : RelaysAdvance tables history machine done.entry.event done.entry.outcome relays later
-    went_on = let P : Event A → Type 0 = λ e. RelaysAdvance tables history machine e done.entry.outcome relays later in subst P (sym done.event_is) done.relays_on
+    went_on : RelaysAdvance tables history machine entry.event entry.outcome relays later
+    went_on = let P : Event A → Type 0 = λ e. RelaysAdvance tables history machine e entry.outcome relays later in subst P (sym done.event_is) done.relays_on
 
-    entered : CoreInvariant tables (history ++ done.entry ∷ []) new later charged
+    entered : CoreInvariant tables (history ++ entry ∷ []) new later (given ++ charged)
     entered =
-        let P : World → Type 0 = λ w. Run tables (history ++ done.entry ∷ []) w in
+        let P : World → Type 0 = λ w. Run tables (history ++ entry ∷ []) w in
         let E : Event A → Type 0 = λ e. IsReadable e.what in
+        let longer : length (history ++ entry ∷ []) ≡ length history + 1 = length-append history (entry ∷ []) in
         record {
           sound = shows.sound;
-          run = subst P (run_world tables (history ++ done.entry ∷ []) new led) led;
-          readable = All-push (λ e. IsReadable e.event.what) history done.entry shows.readable (subst E (sym done.event_is) readable);
-          shown = run_world tables (history ++ done.entry ∷ []) new led;
-          carried = carried_next tables history machine done.entry new led_here done.step relays later shows.carried shows.places went_on;
+          run = subst P (run_world tables (history ++ entry ∷ []) new led) led;
+          readable = All-push (λ e. IsReadable e.event.what) history entry shows.readable (subst E (sym done.event_is) readable);
+          shown = run_world tables (history ++ entry ∷ []) new led;
+          carried = carried_next tables history machine entry new led_here done.step relays later shows.carried shows.places went_on;
           places = places_kept went_on.relay_update relays later went_on.become ∙ shows.places;
-          charged = done.recorded ∙ ap (λ r. r ++ done.entry.records.items) shows.charged
-              ∙ ap (λ r. records_of history ++ r) (sym (append-nil done.entry.records.items))
-              ∙ sym (flat_map-append (λ e. e.records.items) history (done.entry ∷ []));
+          charged = ap (λ r. given ++ r) done.recorded ∙ sym (append_assoc given waiting entry.records.items) ∙ ap (λ r. r ++ entry.records.items) shows.charged
+              ∙ ap (λ r. records_of history ++ r) (sym (append-nil entry.records.items))
+              ∙ sym (flat_map-append (λ e. e.records.items) history (entry ∷ []));
+          within = omega (arith, longer, room);
         }
 
-    pub shows_next : CoreInvariant tables entries new later charged
-    shows_next = let P : List (Entry A) → Type 0 = λ h. CoreInvariant tables h new later charged in subst P (sym done.grown) entered
+    pub shows_next : CoreInvariant tables entries new later (given ++ charged)
+    shows_next = let P : List (Entry A) → Type 0 = λ h. CoreInvariant tables h new later (given ++ charged) in subst P (sym done.grown) entered
 
     abbrev before : ℕ → Exchange A
-    before stalls = record { subs = tables; history = history; stalls = stalls }
+    before stalls = record { subs = tables; history = history; given = given; waiting = waiting; stalls = stalls }
 
     abbrev after : ℕ → Exchange A
-    after stalls = record { subs = tables; history = entries; stalls = stalls }
+    after left = record { subs = tables; history = entries; given = given; waiting = charged; stalls = left }
 
-    -- the outputs may be returned beside it
-    advances_with : (outputs : List (Output A)) → outputs ≡ done.entry.outputs → (stalls left : ℕ)
-        → Advances (before stalls) event (after left) (record { entry = told.entry; outputs = outputs })
-    advances_with outputs same stalls left =
-        let P : World → Type 0 = λ w. Step tables history w done.entry (world_of (after left)) in
-        let Q : World → Type 0 = λ w. Step tables history machine done.entry w in
+    pub advances : (stalls left : ℕ) → Advances (before stalls) event (after left) entry
+    advances stalls left =
+        let P : World → Type 0 = λ w. Step tables history w entry (world_of (after left)) in
+        let Q : World → Type 0 = λ w. Step tables history machine entry w in
         record {
-          entry = done.entry;
           event_is = done.event_is;
           step = subst P shows.shown (subst Q shows_next.shown done.step);
           history = done.grown;
           subs = refl;
-          number = done.number;
-          outputs = same;
+          given = refl;
+          waiting = done.recorded;
         }
 
-    pub advances : tells ≡ true → (stalls left : ℕ) → Advances (before stalls) event (after left) told
-    advances does stalls left = advances_with told.outputs (done.outputs does) stalls left
+    -- each packet that the entry puts out can be encoded
+    pub entry_fits : AreWritable tables entry.outputs
+    entry_fits = (All-pop (λ e. AreWritable tables e.outputs) entries history (Some entry) done.grown (run_fits tables entries _ shows_next.sound shows_next.run shows_next.readable)).1
 
-    pub advances_untold : (stalls left : ℕ) → AdvancesUntold (before stalls) event (after left) told.entry
-    advances_untold stalls left = (done.entry.outputs, advances_with done.entry.outputs refl stalls left)
-
-    pub told_fits : tells ≡ true → AreWritable tables told.outputs
-    told_fits does =
-        let W : List _ → Type 0 = λ outputs. AreWritable tables outputs in
-        subst W (sym (done.outputs does))
-        (All-pop (λ e. AreWritable tables e.outputs) entries history (Some done.entry) done.grown (run_fits tables entries _ shows_next.sound shows_next.run shows_next.readable)).1
+    -- the lines that the entry names are the subscriptions'
+    pub entry_named : HasLines (line_count tables) entry
+    entry_named = (All-pop (HasLines (line_count tables)) entries history (Some entry) done.grown (run_named tables entries _ shows_next.sound shows_next.run)).1
 
   -- the live calls that are kept have their terms
   pub kept_terms : (tables : Tables) (history : List (Entry A)) (machine : World) (relays : List (Option (MeteredRelay A))) (records : List Record) → CoreInvariant tables history machine relays records → AllHaveTerms tables machine
   kept_terms tables history machine relays records shows =
       let P : World → Type 0 = λ w. AllHaveTerms tables w in subst P (sym shows.shown) (run_agreed tables history _ shows.run)
 
+  abbrev pub exchange_of : Tables → List (Entry A) → List Record → List Record → ℕ → Exchange A
+  exchange_of subs history given waiting stalls = record { subs = subs; history = history; given = given; waiting = waiting; stalls = stalls }
+
   -- the outcome of a call that returns what `advance` returned
-  pub outcome_shows : {E : Type 0} (tables : Tables) (history : List (Entry A)) (machine : World) (relays : List (Option (MeteredRelay A))) (records : List Record) (event : Event A) (new : World) (later : List (Option (MeteredRelay A))) (entries : List (Entry A))
-      (charged : List Record) (tells : Bool) (outcome : Result (Stepped A) E) → CoreInvariant tables history machine relays records → IsReadable event.what
-      → IfOk outcome (λ told. Enters tables machine relays history records event new later entries charged tells told)
-      → OnErr outcome (new ≡ machine) → OnErr outcome (later ≡ relays) → OnErr outcome (entries ≡ history) → OnErr outcome (charged ≡ records) → CoreInvariant tables entries new later charged
-  outcome_shows tables history machine relays records event new later entries charged tells (Ok told) shows readable done same_world same_relays same_history same_records =
-      shows_next tables history machine relays records shows event readable new later entries charged tells told done
-  outcome_shows tables history machine relays records event new later entries charged tells (Err fault) shows readable done same_world same_relays same_history same_records =
-      let P : World → Type 0 = λ w. CoreInvariant tables entries w later charged in
-      let K : List (Option (MeteredRelay A)) → Type 0 = λ r. CoreInvariant tables entries machine r charged in
-      let Q : List (Entry A) → Type 0 = λ h. CoreInvariant tables h machine relays charged in
-      let R : List Record → Type 0 = λ r. CoreInvariant tables history machine relays r in
-      subst P (sym same_world) (subst K (sym same_relays) (subst Q (sym same_history) (subst R (sym same_records) shows)))
+  module _ {E : Type 0} (tables : Tables) (history : List (Entry A)) (machine : World) (relays : List (Option (MeteredRelay A))) (given waiting : List Record) (event : Event A)
+      (new : World) (later : List (Option (MeteredRelay A))) (entries : List (Entry A)) (kept charged : List Record) where
+    abbrev Entering : Result (Entry A) E → Type 0
+    Entering outcome = IfOk outcome (λ entry. Enters tables machine relays history waiting event new later entries charged entry)
 
-  abbrev pub exchange_of : Tables → List (Entry A) → ℕ → Exchange A
-  exchange_of subs history stalls = record { subs = subs; history = history; stalls = stalls }
+    pub outcome_shows : (outcome : Result (Entry A) E) → CoreInvariant tables history machine relays (given ++ waiting) → IsReadable event.what → length history < tables.journal
+        → Entering outcome → OnErr outcome (new ≡ machine) → OnErr outcome (later ≡ relays) → OnErr outcome (entries ≡ history) → kept ≡ given → OnErr outcome (charged ≡ waiting)
+        → CoreInvariant tables entries new later (kept ++ charged)
+    outcome_shows (Ok entry) shows readable room done same_world same_relays same_history same_given same_waiting =
+        let P : List Record → Type 0 = λ r. CoreInvariant tables entries new later (r ++ charged) in
+        subst P (sym same_given) (shows_next tables history machine relays given waiting shows event readable room new later entries charged entry done)
+    outcome_shows (Err fault) shows readable room done same_world same_relays same_history same_given same_waiting =
+        let P : World → Type 0 = λ w. CoreInvariant tables entries w later (kept ++ charged) in
+        let K : List (Option (MeteredRelay A)) → Type 0 = λ r. CoreInvariant tables entries machine r (kept ++ charged) in
+        let Q : List (Entry A) → Type 0 = λ h. CoreInvariant tables h machine relays (kept ++ charged) in
+        let G : List Record → Type 0 = λ r. CoreInvariant tables history machine relays (r ++ charged) in
+        let R : List Record → Type 0 = λ r. CoreInvariant tables history machine relays (given ++ r) in
+        subst P (sym same_world) (subst K (sym same_relays) (subst Q (sym same_history) (subst G (sym same_given) (subst R (sym same_waiting) shows))))
 
-  pub outcome_advances : {E : Type 0} (tables : Tables) (history : List (Entry A)) (machine : World) (relays : List (Option (MeteredRelay A))) (records : List Record) (event : Event A) (new : World) (later : List (Option (MeteredRelay A))) (entries : List (Entry A))
-      (charged : List Record) (tells : Bool) (outcome : Result (Stepped A) E) (old : Exchange A) (stalls left : ℕ) → CoreInvariant tables history machine relays records → IsReadable event.what
-      → IfOk outcome (λ told. Enters tables machine relays history records event new later entries charged tells told) → exchange_of tables history stalls ≡ old
-      → tells ≡ true → IfOk outcome (λ told. Advances old event (exchange_of tables entries left) told)
-  outcome_advances tables history machine relays records event new later entries charged tells (Ok told) old stalls left shows readable done is does =
-      let P : Exchange A → Type 0 = λ e. Advances e event (exchange_of tables entries left) told in
-      subst P is (advances tables history machine relays records shows event readable new later entries charged tells told done does stalls left)
-  outcome_advances tables history machine relays records event new later entries charged tells (Err fault) old stalls left shows readable done is does = tt
+    pub outcome_advances : (outcome : Result (Entry A) E) (old : Exchange A) (stalls left : ℕ) → CoreInvariant tables history machine relays (given ++ waiting) → IsReadable event.what
+        → length history < tables.journal → Entering outcome → kept ≡ given → exchange_of tables history given waiting stalls ≡ old
+        → IfOk outcome (λ entry. Advances old event (exchange_of tables entries kept charged left) entry)
+    outcome_advances (Ok entry) old stalls left shows readable room done same is =
+        let P : Exchange A → Type 0 = λ e. Advances e event (exchange_of tables entries kept charged left) entry in
+        let G : List Record → Type 0 = λ r. Advances (exchange_of tables history given waiting stalls) event (exchange_of tables entries r charged left) entry in
+        subst P is (subst G (sym same) (advances tables history machine relays given waiting shows event readable room new later entries charged entry done stalls left))
+    outcome_advances (Err fault) old stalls left shows readable room done same is = tt
 
-  pub outcome_advances_untold : {E : Type 0} (tables : Tables) (history : List (Entry A)) (machine : World) (relays : List (Option (MeteredRelay A))) (records : List Record) (event : Event A) (new : World) (later : List (Option (MeteredRelay A))) (entries : List (Entry A))
-      (charged : List Record) (tells : Bool) (outcome : Result (Stepped A) E) (old : Exchange A) (stalls left : ℕ) → CoreInvariant tables history machine relays records → IsReadable event.what
-      → IfOk outcome (λ told. Enters tables machine relays history records event new later entries charged tells told) → exchange_of tables history stalls ≡ old
-      → IfOk outcome (λ told. AdvancesUntold old event (exchange_of tables entries left) told.entry)
-  outcome_advances_untold tables history machine relays records event new later entries charged tells (Ok told) old stalls left shows readable done is =
-      let P : Exchange A → Type 0 = λ e. AdvancesUntold e event (exchange_of tables entries left) told.entry in
-      subst P is (advances_untold tables history machine relays records shows event readable new later entries charged tells told done stalls left)
-  outcome_advances_untold tables history machine relays records event new later entries charged tells (Err fault) old stalls left shows readable done is = tt
+    pub outcome_fits : (outcome : Result (Entry A) E) → CoreInvariant tables history machine relays (given ++ waiting) → IsReadable event.what
+        → length history < tables.journal → Entering outcome → IfOk outcome (λ entry. AreWritable tables entry.outputs)
+    outcome_fits (Ok entry) shows readable room done =
+        entry_fits tables history machine relays given waiting shows event readable room new later entries charged entry done
+    outcome_fits (Err fault) shows readable room done = tt
 
-  pub outcome_fits : {E : Type 0} (tables : Tables) (history : List (Entry A)) (machine : World) (relays : List (Option (MeteredRelay A))) (records : List Record) (event : Event A) (new : World) (later : List (Option (MeteredRelay A))) (entries : List (Entry A))
-      (charged : List Record) (tells : Bool) (outcome : Result (Stepped A) E) → CoreInvariant tables history machine relays records → IsReadable event.what
-      → IfOk outcome (λ told. Enters tables machine relays history records event new later entries charged tells told) → tells ≡ true → IfOk outcome (λ told. AreWritable tables told.outputs)
-  outcome_fits tables history machine relays records event new later entries charged tells (Ok told) shows readable done does =
-      told_fits tables history machine relays records shows event readable new later entries charged tells told done does
-  outcome_fits tables history machine relays records event new later entries charged tells (Err fault) shows readable done does = tt
+    pub outcome_named : (outcome : Result (Entry A) E) → CoreInvariant tables history machine relays (given ++ waiting) → IsReadable event.what
+        → length history < tables.journal → Entering outcome → IfOk outcome (HasLines (line_count tables))
+    outcome_named (Ok entry) shows readable room done =
+        entry_named tables history machine relays given waiting shows event readable room new later entries charged entry done
+    outcome_named (Err fault) shows readable room done = tt
 
   -- a call that returns a failure has changed nothing
-  pub outcome_keeps : {E : Type 0} (subs : Tables) (history entries : List (Entry A)) (outcome : Result (Stepped A) E) (old : Exchange A) (stalls left : ℕ)
-      → OnErr outcome (entries ≡ history) → OnErr outcome (left ≡ stalls) → exchange_of subs history stalls ≡ old → OnErr outcome (exchange_of subs entries left ≡ old)
-  outcome_keeps subs history entries (Ok told) old stalls left same as_many shown = tt
-  outcome_keeps subs history entries (Err fault) old stalls left same as_many shown = ap (λ h. exchange_of subs h left) same ∙ ap (exchange_of subs history) as_many ∙ shown
+  pub outcome_keeps : {E : Type 0} (subs : Tables) (history entries : List (Entry A)) (given kept waiting charged : List Record) (outcome : Result (Entry A) E) (old : Exchange A) (stalls left : ℕ)
+      → OnErr outcome (entries ≡ history) → kept ≡ given → OnErr outcome (charged ≡ waiting) → OnErr outcome (left ≡ stalls) → exchange_of subs history given waiting stalls ≡ old
+      → OnErr outcome (exchange_of subs entries kept charged left ≡ old)
+  outcome_keeps subs history entries given kept waiting charged (Ok entry) old stalls left same same_given same_waiting as_many shown = tt
+  outcome_keeps subs history entries given kept waiting charged (Err fault) old stalls left same same_given same_waiting as_many shown =
+      ap (λ h. exchange_of subs h kept charged left) same ∙ ap (λ r. exchange_of subs history r charged left) same_given
+      ∙ ap (λ r. exchange_of subs history given r left) same_waiting ∙ ap (exchange_of subs history given waiting) as_many ∙ shown
 
   -- nothing was entered yet
   pub opening_shows : (tables : Tables) (history : List (Entry A)) (machine : World) (relays : List (Option (MeteredRelay A))) (records : List Record) → IsSound tables → history ≡ []
@@ -222,6 +219,7 @@ module _ {A : Type 0} where
         carried = subst W (sym at) (λ number call agreement is agreed. let gone : call_numbered (opening (line_count tables)) number ≡ None = get-empty nat_cmp number in absurd (cc));
         places = ap length unused ∙ length-replicate (line_count tables) None;
         charged = nothing;
+        within = let least : 0 ≤ tables.journal = omega arith in least;
       })
 
   -- the relays of the calls that are live now

@@ -1,5 +1,5 @@
 -- What a stall leads to.
-use Rattle.std.proofs.Common.{◌≡◌, ◌∙◌, ℕ, true, false, Option, Some, None, [], ◌∷◌, refl, ap, sym, subst}
+use Rattle.std.proofs.Common.{◌≡◌, ◌∙◌, ℕ, ◌+◌, ◌<◌, ◌≤◌, true, false, Option, Some, None, [], ◌∷◌, refl, ap, sym, subst, arith}
 use Rattle.xp_causes.specs.declared.clearing_cause.TheConstants.{OUT_OF_ORDER}
 use Rattle.xp_causes.specs.declared.diagnostic.TheConstants.{NO_ADDITIONAL_INFORMATION}
 use Rattle.xp_channel.specs.declared.action.Action.{Action}
@@ -107,3 +107,16 @@ places_for_others Down is = refl
 places_for_others (Frame identifier packet) is = refl
 places_for_others (WrongFrame wrong) is = refl
 places_for_others Expire is = refl
+
+-- every event takes a place
+least_places : {A : Type 0} (what : What A) → 1 ≤ places_for what
+least_places Stall = omega arith
+least_places Up = omega arith
+least_places Down = omega arith
+least_places (Frame identifier packet) = omega arith
+least_places (WrongFrame wrong) = omega arith
+least_places Expire = omega arith
+
+-- so a history that has the places for an event can get its entry
+pub has_room : {A : Type 0} (what : What A) (count limit : ℕ) → count + places_for what ≤ limit → count < limit
+has_room what count limit enough = let least = least_places what in omega (arith, enough, least)

@@ -4,13 +4,12 @@ use Rattle.xp_packets.specs.Encodability.{CanBeEncoded}
 use Rattle.xp_packets.specs.declared.modulus.Modulus.TheVariants.{Long}
 use Rattle.xp_packets.specs.declared.packet.Packet.{Packet}
 use Rattle.xp_packets.specs.declared.packet.Packet.TheVariants.{Call}
+use Rattle.xp_charge.specs.declared.record.Record.{Record}
 use Rattle.xp_subs.specs.Tables.{Tables}
 use Rattle.xp_core.specs.declared.entry.Entry.{Entry}
 use Rattle.xp_core.specs.declared.event.Event.{Event}
 use Rattle.xp_core.specs.declared.event.What.{What}
 use Rattle.xp_core.specs.declared.event.What.TheVariants.{Up, Down, Frame, WrongFrame, Expire, Stall}
-use Rattle.xp_core.specs.declared.output.Output.{Output}
-use Rattle.xp_core.specs.declared.stepped.Stepped.{Stepped}
 use Rattle.xp_core.specs.Worlds.{world_after}
 use Rattle.xp_core.specs.Step.{Step}
 use Rattle.xp_machine.specs.World.{World}
@@ -18,6 +17,9 @@ use Rattle.xp_machine.specs.World.{World}
 pub record Exchange (A : Type 0) : Type 0 where
   pub subs : Tables
   pub history : List (Entry A)
+  -- the charging records that were handed over, and those that wait, in the order in which the calls ended
+  pub given : List Record
+  pub waiting : List Record
   -- how many stalls are prepared
   pub stalls : ℕ
 
@@ -46,16 +48,11 @@ module _ {A : Type 0} where
   IsReadable Expire = Unit {0}
   IsReadable Stall = Unit {0}
 
-  -- the history grows by one entry of this event, which is a step. The entry's number and its outputs are returned.
-  pub record Advances (old : Exchange A) (event : Event A) (new : Exchange A) (told : Stepped A) : Type 0 where
-    pub entry : Entry A
+  -- the history grows by this entry, which is of this event and a step. Its records wait until they are handed over.
+  pub record Advances (old : Exchange A) (event : Event A) (new : Exchange A) (entry : Entry A) : Type 0 where
     pub event_is : entry.event ≡ event
     pub step : Step old.subs old.history (world_of old) entry (world_of new)
     pub history : new.history ≡ old.history ++ entry ∷ []
     pub subs : new.subs ≡ old.subs
-    pub number : told.entry ≡ entry.number
-    pub outputs : told.outputs ≡ entry.outputs
-
-  -- the same, where only the entry's number is returned
-  abbrev pub AdvancesUntold : Exchange A → Event A → Exchange A → ℕ → Type 0
-  AdvancesUntold old event new number = (outputs : List (Output A)) × Advances old event new (record { entry = number; outputs = outputs })
+    pub given : new.given ≡ old.given
+    pub waiting : new.waiting ≡ old.waiting ++ entry.records.items

@@ -1,6 +1,5 @@
 -- How much one entry puts out to a line.
-use Rattle.std.specs.Prelude.{◌≡◌, ℕ, ◌==◌, ◌≤◌, List, [], ◌∷◌, ◌++◌, filter, length, map}
-use Rattle.xp_core.specs.declared.entry.Entry.{Entry}
+use Rattle.std.specs.Prelude.{ℕ, ◌==◌, ◌≤◌, List, filter, length, map}
 use Rattle.xp_core.specs.declared.output.Outgoing.{Outgoing}
 use Rattle.xp_core.specs.declared.output.Output.{Output}
 
@@ -12,7 +11,3 @@ module _ {A : Type 0} where
   -- each line gets at most 17: a window may have 15 packets, and an RNR and an interrupt may come before them
   abbrev pub AreFew : List (Output A) → Type 0
   AreFew outputs = (line : ℕ) → length (to_line line outputs) ≤ 17
-
-  -- a history grows by one entry, which puts out few to each line
-  abbrev pub GrowsByFew : List (Entry A) → List (Entry A) → Type 0
-  GrowsByFew old new = (entry : Entry A) × (new ≡ old ++ entry ∷ []) × AreFew entry.outputs

@@ -11,6 +11,7 @@ ghost use Rattle.xp_core.specs.steps.Sound.{IsSound};
 ghost use Rattle.xp_core.specs.Stalls.{is_stall, left_after};
 ghost use Rattle.xp_core.specs.steps.PreparedEntry.{Enters, IsPreparedEntry};
 
+use crate::entry::Entry;
 use crate::event::{Event, What};
 use crate::fault::StepFault;
 use crate::journal::Journal;
@@ -19,9 +20,9 @@ use crate::output::Outputs;
 use crate::plan::{Plan, plan_of};
 use crate::records::Records;
 use crate::stalling::{Spare, give_up};
-use crate::stepped::Stepped;
+use crate::workspace::Workspace;
 use std::alloc::{AllocError, Allocator};
-use xp_machine::{Machine, Relays, Workspace};
+use xp_machine::{Machine, Relays};
 use xp_subs::Subs;
 
 /// What an event leads to, before it is entered.
@@ -29,13 +30,11 @@ use xp_subs::Subs;
 pub struct PreparedEntry<A: Allocator> {
     pub outcome: Outcome,
     pub outputs: Outputs<A>,
-    /// The copy of the outputs that is returned, if the caller asks for one.
-    pub told: Outputs<A>,
     pub records: Records<A>,
 }
 
-/// Enters one event. It allocates first, and then changes the state, the history and the records. A prepared stall
-/// allocates nothing. The outputs are returned only if `tells` is true.
+/// Enters one event, and returns its entry. It allocates first, and then changes the state, the history and the records. A
+/// prepared stall allocates nothing.
 #[inline(always)]
 pub fn advance<A: Allocator + Copy>(
     alloc: A,
@@ -45,16 +44,15 @@ pub fn advance<A: Allocator + Copy>(
     journal: &mut Journal<A>,
     workspace: &mut Workspace<A>,
     event: Event<A>,
-    tells: bool,
-) -> Result<Stepped<A>, StepFault<A>>
+) -> Result<Entry<A>, StepFault<A>>
     requires subs { IsSubs subs.now }
     requires line { event.line < line_count subs.now }
     requires sound { IsSound subs.now (length journal.old.history) machine.old }
     requires terms { AllHaveTerms subs.now machine.old }
     requires coupled { AreCoupled subs.now machine.old }
     requires carried { RelaysRepresentCalls subs.now journal.old.history machine.old relays.old }
-    requires few { length journal.old.history < 2 ^ 32 }
-    ensures ok { IfOk result (λ told. Enters subs.now machine.old relays.old journal.old.history journal.old.records event machine.new relays.new journal.new.history journal.new.records tells told) }
+    requires few { length journal.old.history < 2 ^ 60 }
+    ensures ok { IfOk result (λ entry. Enters subs.now machine.old relays.old journal.old.history journal.old.waiting event machine.new relays.new journal.new.history journal.new.waiting entry) }
     ensures memory { IfErr result (λ fault. fault ≡ StepFault.Memory event) }
     ensures prepared { is_stall event.what ≡ true → 0 < journal.old.stalls → IsOk result }
     ensures stalls { OnOk result (journal.new.stalls ≡ left_after event.what journal.old.stalls) }
@@ -62,11 +60,10 @@ pub fn advance<A: Allocator + Copy>(
     ensures machine { OnErr result (machine.new ≡ machine.old) }
     ensures relays { OnErr result (relays.new ≡ relays.old) }
     ensures history { OnErr result (journal.new.history ≡ journal.old.history) }
-    ensures records { OnErr result (journal.new.records ≡ journal.old.records) }
+    ensures given { journal.new.given ≡ journal.old.given }
+    ensures waiting { OnErr result (journal.new.waiting ≡ journal.old.waiting) }
 {
-    match prepare_entry(
-        alloc, subs, machine, relays, journal, workspace, &event, tells,
-    ) {
+    match prepare_entry(alloc, subs, machine, relays, journal, workspace, &event) {
         Ok(work) => Ok(journal.enter(event, work)),
         Err(_) => Err(StepFault::Memory(event)),
     }
@@ -82,7 +79,6 @@ fn prepare_entry<A: Allocator + Copy>(
     journal: &mut Journal<A>,
     workspace: &mut Workspace<A>,
     event: &Event<A>,
-    tells: bool,
 ) -> Result<PreparedEntry<A>, AllocError>
     requires subs { IsSubs subs.now }
     requires line { event.now.line < line_count subs.now }
@@ -90,16 +86,15 @@ fn prepare_entry<A: Allocator + Copy>(
     requires terms { AllHaveTerms subs.now machine.old }
     requires coupled { AreCoupled subs.now machine.old }
     requires carried { RelaysRepresentCalls subs.now journal.old.history machine.old relays.old }
-    requires few { length journal.old.history < 2 ^ 32 }
+    requires few { length journal.old.history < 2 ^ 60 }
     ensures ok { IfOk result (λ work. IsPreparedEntry subs.now journal.old.history machine.old relays.old event.now work machine.new relays.new) }
-    ensures told { IfOk result (λ work. tells ≡ true → work.told ≡ work.outputs) }
     ensures prepared { is_stall event.now.what ≡ true → 0 < journal.old.stalls → IsOk result }
     ensures stalls { OnOk result (journal.new.stalls ≡ left_after event.now.what journal.old.stalls) }
     ensures as_many { OnErr result (journal.new.stalls ≡ journal.old.stalls) }
-    ensures room { OnOk result (journal.new.stalls < journal.new.entry_room) }
     ensures places { IfOk result (λ work. journal.new.stalls + length work.records.items ≤ journal.new.record_room) }
     ensures history { journal.new.history ≡ journal.old.history }
-    ensures records { journal.new.records ≡ journal.old.records }
+    ensures given { journal.new.given ≡ journal.old.given }
+    ensures waiting { journal.new.waiting ≡ journal.old.waiting }
     ensures machine { OnErr result (machine.new ≡ machine.old) }
     ensures relays { OnErr result (relays.new ≡ relays.old) }
 {
@@ -133,18 +128,12 @@ fn prepare_entry<A: Allocator + Copy>(
         workspace,
     )?;
     let outputs = outputs.into_outputs();
-    let told = if tells {
-        outputs.copy()?
-    } else {
-        Outputs::new(alloc)
-    };
     journal.reserve(records.as_slice())?;
     machine.apply(cancelled, change)?;
-    relays.put_if_any(relay_update, workspace);
+    relays.put_if_any(relay_update, &mut workspace.relays);
     Ok(PreparedEntry {
         outcome,
         outputs,
-        told,
         records,
     })
 }

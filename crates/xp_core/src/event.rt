@@ -61,13 +61,13 @@ impl<A: Allocator> What<A> {
 
     /// Returns how many places of the history must be left for the event: one for its entry, and, unless the event is a
     /// stall, three for the stalls that may follow it.
-    pub(crate) fn places(&self) -> usize
+    pub(crate) fn places(&self) -> u64
         ensures { result ≡ places_for self.now }
     {
         match self {
             What::Stall => 1,
             What::Up | What::Down | What::Frame { .. } | What::WrongFrame(_) | What::Expire => 1
-                + MOST_STALLS,
+                + MOST_STALLS as u64,
         }
     }
 }

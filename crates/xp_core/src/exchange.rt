@@ -1,6 +1,8 @@
-//! The serial exchange. It takes one event after another, and enters each into the history.
+//! The serial exchange. It takes one event after another, and enters each into the history. The history is a list that
+//! proofs alone can read: it takes no memory, however long the exchange runs.
 
-ghost use Rattle.std.specs.Prelude.{◌≡◌, ◌+◌, ◌<◌, ◌≤◌, true, [], All, IfOk, IfErr, IsOk, OnErr, OnOk, Err, length};
+ghost use Rattle.std.specs.Prelude.{◌≡◌, ◌+◌, ◌<◌, ◌≤◌, ◌^◌, true, [], ◌++◌, All, IfOk, IfErr, IsOk, OnErr, OnOk, Err, length};
+ghost use Rattle.xp_charge.specs.Lines.{HasLines as NamesLines};
 ghost use Rattle.xp_subs.specs.Tables.{line_count};
 ghost use Rattle.xp_machine.specs.Channel.{is_off as is_off_in};
 ghost use Rattle.xp_core.specs.Exchange.{world_of};
@@ -13,12 +15,13 @@ use crate::entry::Entry;
 use crate::event::Event;
 use crate::fault::StepFault;
 use crate::journal::Journal;
+use crate::output::Outputs;
 use crate::stalling::is_off;
-use crate::stepped::Stepped;
+use crate::workspace::Workspace;
 use std::alloc::{AllocError, Allocator, Global};
 use std::marker::Model;
 use xp_charge::Record;
-use xp_machine::{LineView, Machine, Relays, Workspace};
+use xp_machine::{LineView, Machine, Relays};
 use xp_relay::FlowState;
 use xp_subs::{LineNo, Subs};
 
@@ -38,23 +41,26 @@ impl<A: Allocator> Model for Core<A> {
 
     ghost Value = { Exchange A };
 
+    ghost use Rattle.std.specs.Prelude.{◌++◌};
     ghost use Rattle.xp_core.specs.steps.CoreInvariant.{CoreInvariant};
 
-    ghost view = { λ c. record { subs = c.subs; history = c.journal.history; stalls = c.journal.stalls } };
+    ghost view = { λ c. record { subs = c.subs; history = c.journal.history; given = c.journal.given; waiting = c.journal.waiting; stalls = c.journal.stalls } };
 
-    ghost invariant = { λ c. CoreInvariant c.subs c.journal.history c.machine c.relays c.journal.records };
+    ghost invariant = { λ c. CoreInvariant c.subs c.journal.history c.machine c.relays (c.journal.given ++ c.journal.waiting) };
 }
 
 impl<A: Allocator + Copy> Core<A> {
-    ghost use Rattle.xp_core.specs.Exchange.{Advances, AdvancesUntold, IsReadable};
-    ghost use Rattle.xp_core.specs.OutputsPerLine.{AreFew, GrowsByFew};
+    ghost use Rattle.xp_core.specs.Exchange.{Advances, IsReadable};
+    ghost use Rattle.xp_core.specs.Lines.{HasLines};
+    ghost use Rattle.xp_core.specs.OutputsPerLine.{AreFew};
+    ghost use Rattle.xp_core.specs.Records.{records_of};
     ghost use Rattle.xp_core.specs.Stalls.{is_stall, left_after, places_for};
     ghost use Rattle.xp_core.specs.Writable.{AreWritable};
 
     /// Returns the exchange of these subscriptions. All lines are out of service, no call was made yet, the history is
     /// empty, and no stall is prepared.
     pub fn new(alloc: A, subs: Subs) -> Result<Core<A>, AllocError>
-        ensures { IfOk result (λ core. core ≡ record { subs = subs; history = []; stalls = 0 }) }
+        ensures { IfOk result (λ core. core ≡ record { subs = subs; history = []; given = []; waiting = []; stalls = 0 }) }
     {
         let lines = subs.counts().lines;
         let machine = Machine::new(alloc, lines)?;
@@ -65,12 +71,12 @@ impl<A: Allocator + Copy> Core<A> {
             machine,
             relays,
             journal: Journal::new(alloc),
-            workspace: Workspace::new(),
+            workspace: Workspace::new(alloc),
         })
     }
 
-    /// Acts on one event, and enters it into the history. It returns the number of the new entry, and an equal copy of
-    /// what is put out.
+    /// Acts on one event, enters it into the history, and returns the new entry. The history keeps what the entry was, so
+    /// the caller may move or drop all of it. The records of the entry wait until they are handed over.
     ///
     /// The condition is that the line is one of the subscriptions', and that a frame is one that can be read: its
     /// identifier is at most 4,095, and its packet can be encoded modulo 128. A prepared stall allocates nothing, and is
@@ -80,61 +86,20 @@ impl<A: Allocator + Copy> Core<A> {
     ///
     /// `JournalFull` if fewer than four places of the history are left, for a stall if none is left. Else `Memory` if
     /// memory is wanting. The event comes back, and nothing has changed.
-    pub fn step(&mut self, event: Event<A>) -> Result<Stepped<A>, StepFault<A>>
+    pub fn step(&mut self, event: Event<A>) -> Result<Entry<A>, StepFault<A>>
         requires line { event.line < line_count self.old.subs }
         requires readable { IsReadable event.what }
-        ensures ok { IfOk result (λ told. Advances self.old event self.new told) }
-        ensures writable { IfOk result (λ told. AreWritable self.old.subs told.outputs) }
-        ensures few { IfOk result (λ told. AreFew told.outputs) }
+        ensures ok { IfOk result (λ entry. Advances self.old event self.new entry) }
+        ensures writable { IfOk result (λ entry. AreWritable self.old.subs entry.outputs) }
+        ensures few { IfOk result (λ entry. AreFew entry.outputs) }
+        ensures lines { IfOk result (HasLines (line_count self.old.subs)) }
         ensures full { self.old.subs.journal < length self.old.history + places_for event.what → result ≡ Err (StepFault.JournalFull event) }
         ensures room { length self.old.history + places_for event.what ≤ self.old.subs.journal → IfErr result (λ fault. fault ≡ StepFault.Memory event) }
         ensures stalls { OnOk result (self.new.stalls ≡ left_after event.what self.old.stalls) }
         ensures prepared { is_stall event.what ≡ true → 0 < self.old.stalls → length self.old.history < self.old.subs.journal → IsOk result }
         ensures err { OnErr result (self.new ≡ self.old) }
     {
-        self.act_on(event, true)
-    }
-
-    /// Acts on one event as `step` does, under the same condition, but makes no copy of what is put out. It returns
-    /// only the number of the new entry, so the caller reads in the history what is put out.
-    ///
-    /// # Errors
-    ///
-    /// As those of `step`.
-    pub fn enter(&mut self, event: Event<A>) -> Result<u64, StepFault<A>>
-        requires line { event.line < line_count self.old.subs }
-        requires readable { IsReadable event.what }
-        ensures ok { IfOk result (λ number. AdvancesUntold self.old event self.new number) }
-        ensures few { OnOk result (GrowsByFew self.old.history self.new.history) }
-        ensures full { self.old.subs.journal < length self.old.history + places_for event.what → result ≡ Err (StepFault.JournalFull event) }
-        ensures room { length self.old.history + places_for event.what ≤ self.old.subs.journal → IfErr result (λ fault. fault ≡ StepFault.Memory event) }
-        ensures stalls { OnOk result (self.new.stalls ≡ left_after event.what self.old.stalls) }
-        ensures prepared { is_stall event.what ≡ true → 0 < self.old.stalls → length self.old.history < self.old.subs.journal → IsOk result }
-        ensures err { OnErr result (self.new ≡ self.old) }
-    {
-        match self.act_on(event, false) {
-            Ok(stepped) => Ok(stepped.entry),
-            Err(fault) => Err(fault),
-        }
-    }
-
-    /// Acts on an event. It returns a copy of what is put out only if `tells` is true.
-    #[inline(always)]
-    fn act_on(&mut self, event: Event<A>, tells: bool) -> Result<Stepped<A>, StepFault<A>>
-        requires line { event.line < line_count self.old.subs }
-        requires readable { IsReadable event.what }
-        ensures untold { IfOk result (λ told. AdvancesUntold self.old event self.new told.entry) }
-        ensures ok { tells ≡ true → IfOk result (λ told. Advances self.old event self.new told) }
-        ensures writable { tells ≡ true → IfOk result (λ told. AreWritable self.old.subs told.outputs) }
-        ensures few { tells ≡ true → IfOk result (λ told. AreFew told.outputs) }
-        ensures entry_few { OnOk result (GrowsByFew self.old.history self.new.history) }
-        ensures full { self.old.subs.journal < length self.old.history + places_for event.what → result ≡ Err (StepFault.JournalFull event) }
-        ensures room { length self.old.history + places_for event.what ≤ self.old.subs.journal → IfErr result (λ fault. fault ≡ StepFault.Memory event) }
-        ensures stalls { OnOk result (self.new.stalls ≡ left_after event.what self.old.stalls) }
-        ensures prepared { is_stall event.what ≡ true → 0 < self.old.stalls → length self.old.history < self.old.subs.journal → IsOk result }
-        ensures err { OnErr result (self.new ≡ self.old) }
-    {
-        if self.journal.history().len() + event.what.places() > self.subs.journal() as usize {
+        if self.journal.count() + event.what.places() > self.subs.journal() {
             return Err(StepFault::JournalFull(event));
         }
         let Core {
@@ -145,9 +110,23 @@ impl<A: Allocator + Copy> Core<A> {
             journal,
             workspace,
         } = self;
-        advance(
-            *alloc, subs, machine, relays, journal, workspace, event, tells,
-        )
+        advance(*alloc, subs, machine, relays, journal, workspace, event)
+    }
+
+    /// Hands over the charging records that wait: those of the calls that ended since the last time, in the order in which
+    /// they ended. So each record of the history is handed over once, or waits.
+    ///
+    /// # Errors
+    ///
+    /// `AllocError` if an allocation fails. Then no record was handed over.
+    pub fn take_records(&mut self) -> Result<Vec<Record, A>, AllocError>
+        ensures taken { IfOk result (λ taken. taken.items ≡ self.old.waiting) }
+        ensures ok { OnOk result (self.new ≡ record self.old { given = self.old.given ++ self.old.waiting; waiting = [] }) }
+        ensures each { IfOk result (λ taken. self.old.given ++ taken.items ≡ records_of self.old.history) }
+        ensures lines { IfOk result (λ taken. All (NamesLines (line_count self.old.subs)) taken.items) }
+        ensures err { OnErr result (self.new ≡ self.old) }
+    {
+        self.journal.take_records(self.alloc)
     }
 
     /// Prepares the three stalls that may follow one event. Each of them then allocates nothing, whatever other events
@@ -198,21 +177,32 @@ impl<A: Allocator> Core<A> {
         Some(metered.relay.state(call.end_of(line)))
     }
 
-    /// Returns the records of the ended calls, in the order in which they ended. There is one for each ended call, and
-    /// no other.
+    /// Returns the charging records that wait: those that were not handed over yet, in the order in which the calls ended.
+    /// With those that were handed over they are the records of the history: one for each ended call, and no other.
     pub fn records(&self) -> &[Record]
-        ensures records { result.now ≡ records_of self.now.history }
+        ensures waiting { result.now ≡ self.now.waiting }
+        ensures each { self.now.given ++ self.now.waiting ≡ records_of self.now.history }
         ensures one_each { OneRecordEach self.now.subs self.now.history (world_of self.now) }
+        ensures lines { All (NamesLines (line_count self.now.subs)) result.now }
     {
         self.journal.records()
     }
 
-    /// Returns all entries, which lead to the present state. Each packet that they put out can be encoded by the modulus
-    /// of its line. Each line that they put something out to, and each line that they record, is one of the
-    /// subscriptions'. Closed user groups let the stations of each call be joined, the sizes of each live call are in
+    /// Returns how many charging records the history has: those that were handed over, and those that wait.
+    pub fn record_count(&self) -> u64
+        ensures { result ≡ length (records_of self.now.history) }
+    {
+        self.journal.record_count()
+    }
+
+    /// Returns how many entries the history has. They lead to the present state. Each packet that they put out can be
+    /// encoded by the modulus of its line. Each line that they put something out to, and each line that they record, is one
+    /// of the subscriptions'. Closed user groups let the stations of each call be joined, the sizes of each live call are in
     /// their ranges, and what a connected call accepts arrives.
-    pub fn history(&self) -> &[Entry<A>]
-        ensures entries { result.now ≡ self.now.history }
+    pub fn count(&self) -> u64
+        ensures count { result ≡ length self.now.history }
+        ensures within { result ≤ self.now.subs.journal }
+        ensures few { result ≤ 2 ^ 59 }
         ensures run { Run self.now.subs self.now.history (world_of self.now) }
         ensures writable { All (λ entry. AreWritable self.now.subs entry.outputs) self.now.history }
         ensures lines { All (HasLines (line_count self.now.subs)) self.now.history }
@@ -220,7 +210,14 @@ impl<A: Allocator> Core<A> {
         ensures terms { AllHaveTerms self.now.subs (world_of self.now) }
         ensures delivered { AreDelivered self.now.subs self.now.history (world_of self.now) }
     {
-        self.journal.history()
+        self.journal.count()
+    }
+
+    /// Keeps the memory of outputs that are done with. The next step may use it, and then it allocates less.
+    pub fn keep_memory(&mut self, outputs: Outputs<A>)
+        ensures { self.new ≡ self.old }
+    {
+        self.workspace.keep_outputs(outputs);
     }
 
     /// Returns the subscriptions.

@@ -1,51 +1,60 @@
 //! The journal: the history, and the records of the ended calls.
 
-ghost use Rattle.std.specs.Prelude.{◌≡◌, ◌+◌, ◌<◌, ◌≤◌, ◌^◌, [], ◌∷◌, ◌++◌, IfNone, IfSome, OnOk, length, vec_len, vec_capacity};
-ghost use Rattle.xp_core.specs.steps.Journal.{AreSame, IsSpent, next_entry};
+ghost use Rattle.std.specs.Prelude.{◌≡◌, ◌+◌, ◌<◌, ◌≤◌, ◌^◌, [], ◌∷◌, ◌++◌, IfNone, IfOk, IfSome, OnErr, OnOk, length, vec_len, vec_capacity};
+ghost use Rattle.xp_core.specs.steps.Journal.{AreSame, HasHandedOver, IsSpent, next_entry};
 ghost use Rattle.xp_core.specs.declared.journal.TheConstants.{MOST_STALLS};
 
 use crate::advance::PreparedEntry;
 use crate::entry::Entry;
 use crate::event::Event;
 use crate::stalling::Spare;
-use crate::stepped::Stepped;
 use std::alloc::{AllocError, Allocator};
 use std::marker::Model;
 use xp_charge::Record;
+use xp_past::Past;
 
 /// How many stalls may follow one event.
 pub const MOST_STALLS: usize = 3;
 
-/// The history and the records. For each prepared stall there is a spare, a place in the history and a place in the
-/// records.
+/// The history and the records. The history takes no memory: it is counted. The records wait until they are handed over.
+/// For each prepared stall there is a spare, and a place among the records that wait.
 #[derive(Drop)]
 pub struct Journal<A: Allocator> {
-    history: Vec<Entry<A>, A>,
-    records: Vec<Record, A>,
+    /// How many entries the history has.
+    count: u64,
+    history: Past<Entry<A>>,
+    /// How many records were handed over.
+    given_count: u64,
+    given: Past<Record>,
+    waiting: Vec<Record, A>,
     spares: Vec<Spare<A>, A>,
 }
 
 impl<A: Allocator> Model for Journal<A> {
-    ghost use Rattle.std.specs.Prelude.{◌+◌, ◌-◌, ◌≤◌, vec_len, vec_capacity};
+    ghost use Rattle.std.specs.Prelude.{◌≡◌, ◌+◌, ◌-◌, ◌≤◌, length, vec_len, vec_capacity};
     ghost use Rattle.xp_core.specs.steps.Journal.{Journaled};
 
     ghost Value = { Journaled A };
 
-    ghost view = { λ j. record { history = j.history.items; records = j.records.items; stalls = vec_len j.spares; entry_room = vec_capacity j.history - vec_len j.history; record_room = vec_capacity j.records - vec_len j.records } };
+    ghost view = { λ j. record { history = j.history.items; given = j.given.items; waiting = j.waiting.items; stalls = vec_len j.spares; record_room = vec_capacity j.waiting - vec_len j.waiting } };
 
-    ghost invariant = { λ j. (vec_len j.history + vec_len j.spares ≤ vec_capacity j.history) × (vec_len j.records + vec_len j.spares ≤ vec_capacity j.records) × (vec_len j.spares ≤ 3) };
+    ghost invariant = { λ j. (j.count ≡ length j.history.items) × (j.given_count ≡ length j.given.items) × (vec_len j.waiting + vec_len j.spares ≤ vec_capacity j.waiting) × (vec_len j.spares ≤ 3) };
 }
 
 impl<A: Allocator + Copy> Journal<A> {
     /// Returns an empty journal, with no stall prepared.
     pub fn new(alloc: A) -> Journal<A>
         ensures history { result.history ≡ [] }
-        ensures records { result.records ≡ [] }
+        ensures given { result.given ≡ [] }
+        ensures waiting { result.waiting ≡ [] }
         ensures stalls { result.stalls ≡ 0 }
     {
         Journal {
-            history: Vec::new(alloc),
-            records: Vec::new(alloc),
+            count: 0,
+            history: Past::new(),
+            given_count: 0,
+            given: Past::new(),
+            waiting: Vec::new(alloc),
             spares: Vec::new(alloc),
         }
     }
@@ -56,43 +65,72 @@ impl<A: Allocator + Copy> Journal<A> {
         ensures ok { OnOk result (MOST_STALLS ≤ self.new.stalls) }
         ensures more { self.old.stalls ≤ self.new.stalls }
         ensures history { self.new.history ≡ self.old.history }
-        ensures records { self.new.records ≡ self.old.records }
+        ensures given { self.new.given ≡ self.old.given }
+        ensures waiting { self.new.waiting ≡ self.old.waiting }
     {
-        self.history.reserve(MOST_STALLS)?;
-        self.records.reserve(MOST_STALLS)?;
+        self.waiting.reserve(MOST_STALLS)?;
         while self.spares.len() < MOST_STALLS {
             self.spares.push(Spare::new(alloc)?)?;
         }
         Ok(())
     }
+
+    /// Hands over the records that wait. Those of later stalls keep their places.
+    pub fn take_records(&mut self, alloc: A) -> Result<Vec<Record, A>, AllocError>
+        requires few { length self.old.given + length self.old.waiting < 2 ^ 64 }
+        ensures taken { IfOk result (λ taken. taken.items ≡ self.old.waiting) }
+        ensures ok { OnOk result (HasHandedOver self.old self.new) }
+        ensures err { OnErr result (self.new ≡ self.old) }
+    {
+        let mut taken = Vec::new(alloc);
+        taken.append(&mut self.waiting)?;
+        self.given.extend(taken.as_slice());
+        self.given_count += taken.len() as u64;
+        Ok(taken)
+    }
 }
 
 impl<A: Allocator> Journal<A> {
-    pub fn history(&self) -> &[Entry<A>]
-        ensures { result.now ≡ self.now.history }
+    /// Returns how many entries the history has.
+    pub fn count(&self) -> u64
+        ensures { result ≡ length self.now.history }
     {
-        self.history.as_slice()
+        self.count
     }
 
+    /// Returns the history, which proofs alone can read.
+    pub fn history(&self) -> &Past<Entry<A>>
+        ensures { result.now.items ≡ self.now.history }
+    {
+        &self.history
+    }
+
+    /// Returns the records that wait.
     pub fn records(&self) -> &[Record]
-        ensures { result.now ≡ self.now.records }
+        ensures { result.now ≡ self.now.waiting }
     {
-        self.records.as_slice()
+        self.waiting.as_slice()
     }
 
-    /// Makes room for one more entry with these records, besides the room of the prepared stalls.
+    /// Returns how many records there are: those that were handed over, and those that wait.
+    pub fn record_count(&self) -> u64
+        requires few { length self.now.given + length self.now.waiting < 2 ^ 64 }
+        ensures { result ≡ length self.now.given + length self.now.waiting }
+    {
+        self.given_count + self.waiting.len() as u64
+    }
+
+    /// Makes room for these records, besides the places of the prepared stalls.
     pub fn reserve(&mut self, records: &[Record]) -> Result<(), AllocError>
         ensures same { AreSame self.old self.new }
-        ensures entry { OnOk result (self.new.stalls < self.new.entry_room) }
         ensures records { OnOk result (self.new.stalls + length records.now ≤ self.new.record_room) }
     {
         let stalls = self.spares.len();
-        self.history.reserve(stalls + 1)?;
-        self.records.reserve(stalls + records.len())?;
+        self.waiting.reserve(stalls + records.len())?;
         Ok(())
     }
 
-    /// Takes the spare of a stall, if one is prepared. The places of that stall are then free.
+    /// Takes the spare of a stall, if one is prepared. The place of that stall is then free.
     pub fn take_spare(&mut self) -> Option<Spare<A>>
         ensures some { IfSome result (λ _. IsSpent self.old self.new) }
         ensures none { IfNone result ((self.old.stalls ≡ 0) × (self.new ≡ self.old)) }
@@ -100,36 +138,33 @@ impl<A: Allocator> Journal<A> {
         self.spares.pop()
     }
 
-    /// Enters an event that leads to this. It allocates nothing.
-    pub fn enter(&mut self, event: Event<A>, work: PreparedEntry<A>) -> Stepped<A>
-        requires entry { self.old.stalls < self.old.entry_room }
+    /// Enters an event that leads to this, and returns the new entry. It allocates nothing.
+    pub fn enter(&mut self, event: Event<A>, work: PreparedEntry<A>) -> Entry<A>
         requires records { self.old.stalls + length work.records.items ≤ self.old.record_room }
-        requires few { length self.old.history < 2 ^ 32 }
-        ensures history { self.new.history ≡ self.old.history ++ next_entry self.old.history event work ∷ [] }
-        ensures records { self.new.records ≡ self.old.records ++ work.records.items }
+        requires few { length self.old.history < 2 ^ 60 }
+        ensures entry { result ≡ next_entry self.old.history event work }
+        ensures history { self.new.history ≡ self.old.history ++ result ∷ [] }
+        ensures given { self.new.given ≡ self.old.given }
+        ensures waiting { self.new.waiting ≡ self.old.waiting ++ work.records.items }
         ensures stalls { self.new.stalls ≡ self.old.stalls }
-        ensures number { result.entry ≡ length self.old.history + 1 }
-        ensures told { result.outputs ≡ work.told }
     {
         let PreparedEntry {
             outcome,
             outputs,
-            told,
             records,
         } = work;
-        add_all(&mut self.records, records.as_slice());
-        let number = self.history.len() as u64 + 1;
-        self.history.push_reserved(Entry {
+        add_all(&mut self.waiting, records.as_slice());
+        let number = self.count + 1;
+        let entry = Entry {
             number,
             event,
             outcome,
             outputs,
             records,
-        });
-        Stepped {
-            entry: number,
-            outputs: told,
-        }
+        };
+        self.count = number;
+        self.history.push(&entry);
+        entry
     }
 }
 

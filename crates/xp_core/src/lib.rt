@@ -1,4 +1,5 @@
-//! The call-control exchange as one machine. It takes an event of a line, and enters it into the history.
+//! The call-control exchange as one machine. It takes an event of a line, and enters it into the history, which
+//! proofs alone can read.
 #![tactic(auto)]
 
 mod advance;
@@ -13,8 +14,8 @@ mod output;
 mod plan;
 mod records;
 mod stalling;
-mod stepped;
 mod table;
+mod workspace;
 
 pub use entry::Entry;
 pub use event::{Event, What};
@@ -24,4 +25,3 @@ pub use laws::{every_event_has_a_step, step_is_determined_but_the_line};
 pub use outcome::Outcome;
 pub use output::{Outgoing, Output, Outputs, Put};
 pub use records::Records;
-pub use stepped::Stepped;

@@ -1,4 +1,4 @@
-ghost use Rattle.std.specs.Prelude.{◌≡◌, ◌+◌, ◌-◌, ◌<◌, ◌≤◌, [], ◌∷◌, ◌++◌, IfOk, length, option_to_list};
+ghost use Rattle.std.specs.Prelude.{◌≡◌, ◌+◌, ◌-◌, ◌<◌, ◌≤◌, [], ◌∷◌, ◌++◌, IfNone, IfOk, IfSome, length, option_to_list};
 
 use std::alloc::{AllocError, Allocator, Global};
 use std::marker::Model;
@@ -30,15 +30,6 @@ pub struct Output<A: Allocator = Global> {
     pub line: LineNo,
     /// What is put out to the line, and to which connection of it.
     pub outgoing: Outgoing<A>,
-}
-
-impl<A: Allocator + Copy> Output<A> {
-    /// An equal copy, by the same allocator.
-    pub fn copy(&self) -> Result<Output<A>, AllocError>
-        ensures { IfOk result (λ copied. copied ≡ self.now) }
-    {
-        self.clone()
-    }
 }
 
 /// What one event puts out, in order.
@@ -73,26 +64,30 @@ impl<A: Allocator> Outputs<A> {
         self.outputs.as_slice()
     }
 
-    /// Returns the vector of the outputs, in order.
-    pub fn into_items(self) -> Vec<Output<A>, A>
-        ensures { result.items ≡ self }
+    /// Removes the first output and returns it, if there is one. The list keeps its memory.
+    pub fn take_first(&mut self) -> Option<Output<A>>
+        ensures some { IfSome result (λ first. self.old ≡ first ∷ self.new) }
+        ensures none { IfNone result (self.old ≡ []) }
     {
-        self.outputs
-    }
-}
-
-impl<A: Allocator + Copy> Outputs<A> {
-    /// An equal copy, by the same allocator.
-    pub fn copy(&self) -> Result<Outputs<A>, AllocError>
-        ensures { IfOk result (λ copied. copied ≡ self.now) }
-    {
-        let source = self.outputs.as_slice();
-        let mut outputs = Vec::new(*self.outputs.allocator());
-        outputs.reserve(source.len())?;
-        for output in source {
-            outputs.push(output.copy()?)?;
+        if self.outputs.is_empty() {
+            return None;
         }
-        Ok(Outputs { outputs })
+        Some(self.outputs.remove(0))
+    }
+
+    /// Returns how many outputs the memory of the list has room for.
+    pub(crate) fn room(&self) -> usize {
+        self.outputs.capacity()
+    }
+
+    /// Returns no outputs, with room for this many, in the memory of the list if it is enough.
+    pub(crate) fn emptied(self, room: usize) -> Result<Buffer<A>, AllocError>
+        ensures { IfOk result (λ buffer. buffer ≡ record { outputs = []; room = room }) }
+    {
+        let Outputs { mut outputs } = self;
+        outputs.clear();
+        outputs.reserve(room)?;
+        Ok(Buffer { outputs, room })
     }
 }
 

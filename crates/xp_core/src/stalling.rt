@@ -29,16 +29,16 @@ use std::marker::Model;
 use xp_causes::clearing_cause::OUT_OF_ORDER;
 use xp_causes::diagnostic::NO_ADDITIONAL_INFORMATION;
 use xp_machine::{ChannelState, Machine, NoCallState, Relays};
+use xp_past::Past;
 use xp_subs::{LineNo, Subs};
 
 /// How many outputs a stall has at most: one closes the line's connection, and one clears the far end of its call.
 const MOST_OUTPUTS: usize = 2;
 
-/// Room for what one stall puts out, for the copy that is returned, and for the record of the call that ends.
+/// Room for what one stall puts out, and for the record of the call that ends.
 #[derive(Debug, Drop)]
 pub struct Spare<A: Allocator> {
     outputs: Buffer<A>,
-    told: Buffer<A>,
     records: Records<A>,
 }
 
@@ -49,14 +49,13 @@ impl<A: Allocator> Model for Spare<A> {
 
     ghost view = { λ _. tt };
 
-    ghost invariant = { λ s. (s.outputs ≡ record { outputs = []; room = 2 }) × (s.told ≡ record { outputs = []; room = 2 }) × (s.records.items ≡ []) × (0 < s.records.room) };
+    ghost invariant = { λ s. (s.outputs ≡ record { outputs = []; room = 2 }) × (s.records.items ≡ []) × (0 < s.records.room) };
 }
 
 impl<A: Allocator + Copy> Spare<A> {
     pub fn new(alloc: A) -> Result<Spare<A>, AllocError> {
         Ok(Spare {
             outputs: Buffer::with_room(alloc, MOST_OUTPUTS)?,
-            told: Buffer::with_room(alloc, MOST_OUTPUTS)?,
             records: Records::with_room(alloc, 1)?,
         })
     }
@@ -70,15 +69,14 @@ pub fn give_up<A: Allocator + Copy>(
     subs: &Subs,
     machine: &mut Machine<A>,
     relays: &Relays<A>,
-    before: &[Entry<A>],
+    before: &Past<Entry<A>>,
     spare: Spare<A>,
     line: LineNo,
     moment: u64,
 ) -> PreparedEntry<A>
     requires sound { IsSound subs.now }
-    requires carried { RelaysRepresentCalls subs.now before.now machine.old relays.now }
-    ensures makes { MakesStall (step_context subs.now before.now machine.old line moment) result machine.new }
-    ensures copied { result.told ≡ result.outputs }
+    requires carried { RelaysRepresentCalls subs.now before.now.items machine.old relays.now }
+    ensures makes { MakesStall (step_context subs.now before.now.items machine.old line moment) result machine.new }
     ensures one { length result.records.items ≤ 1 }
 {
     if is_off(machine.line(line).state) {
@@ -100,18 +98,12 @@ pub fn is_off(state: ChannelState) -> bool
 fn unused<A: Allocator>(spare: Spare<A>) -> PreparedEntry<A>
     ensures outcome { result.outcome ≡ Outcome.Plain }
     ensures outputs { result.outputs ≡ [] }
-    ensures told { result.told ≡ [] }
     ensures records { result.records.items ≡ [] }
 {
-    let Spare {
-        outputs,
-        told,
-        records,
-    } = spare;
+    let Spare { outputs, records } = spare;
     PreparedEntry {
         outcome: Outcome::Plain,
         outputs: outputs.into_outputs(),
-        told: told.into_outputs(),
         records,
     }
 }
@@ -122,14 +114,14 @@ fn fall<A: Allocator + Copy>(
     subs: &Subs,
     machine: &Machine<A>,
     relays: &Relays<A>,
-    before: &[Entry<A>],
+    before: &Past<Entry<A>>,
     spare: Spare<A>,
     line: LineNo,
     moment: u64,
 ) -> PreparedEntry<A>
     requires sound { IsSound subs.now }
-    requires carried { RelaysRepresentCalls subs.now before.now machine.now relays.now }
-    ensures fallen { IsFallen (step_context subs.now before.now machine.now line moment) result }
+    requires carried { RelaysRepresentCalls subs.now before.now.items machine.now relays.now }
+    ensures fallen { IsFallen (step_context subs.now before.now.items machine.now line moment) result }
     ensures one { length result.records.items ≤ 1 }
 {
     let charged = charged_on(subs, machine, relays, before, line);
@@ -140,18 +132,12 @@ fn fall<A: Allocator + Copy>(
         moment,
         charged,
     };
-    let Spare {
-        outputs,
-        told,
-        records,
-    } = spare;
+    let Spare { outputs, records } = spare;
     let outputs = tell(alloc, outputs, &found);
-    let told = tell(alloc, told, &found);
     let records = charge(records, &found);
     PreparedEntry {
         outcome: Outcome::Plain,
         outputs,
-        told,
         records,
     }
 }

@@ -4,7 +4,6 @@ use Rattle.std.proofs.lemmas.List.{map-append}
 use Rattle.xp_subs.specs.Tables.{Tables}
 use Rattle.xp_core.specs.declared.entry.Entry.{Entry}
 use Rattle.xp_core.specs.declared.event.Event.{Event}
-use Rattle.xp_core.specs.declared.stepped.Stepped.{Stepped}
 use Rattle.xp_core.specs.Exchange.{Exchange, Advances, world_of}
 use Rattle.xp_core.specs.Run.{RunFrom}
 use Rattle.xp_machine.specs.World.{World}
@@ -59,22 +58,22 @@ module _ {A : Type 0} where
       }
 
   -- one step
-  pub acts_on_one : (old : Exchange A) (event : Event A) (new : Exchange A) (told : Stepped A) → Advances old event new told → length old.history + 4 ≤ old.subs.journal → ActsOn old (event ∷ []) new
-  acts_on_one old event new told advances room = record {
-    entries = advances.entry ∷ [];
+  pub acts_on_one : (old : Exchange A) (event : Event A) (new : Exchange A) (entry : Entry A) → Advances old event new entry → length old.history + 4 ≤ old.subs.journal → ActsOn old (event ∷ []) new
+  acts_on_one old event new entry advances room = record {
+    entries = entry ∷ [];
     run = (world_of new, advances.step, refl);
     of_events = ap (λ first. first ∷ []) advances.event_is;
     history = advances.history;
     subs = advances.subs;
-    room = inr (omega (arith, room, ap length advances.history, length-append old.history (advances.entry ∷ [])));
+    room = inr (omega (arith, room, ap length advances.history, length-append old.history (entry ∷ [])));
   }
 
   -- what is told of it is the text of its entry
-  pub told_one : (old : Exchange A) (event : Event A) (new : Exchange A) (told : Stepped A) (advances : Advances old event new told) → IsWritten old new (entry_text old.subs advances.entry)
-  told_one old event new told advances = record {
-    entries = advances.entry ∷ [];
+  pub told_one : (old : Exchange A) (event : Event A) (new : Exchange A) (entry : Entry A) (advances : Advances old event new entry) → IsWritten old new (entry_text old.subs entry)
+  told_one old event new entry advances = record {
+    entries = entry ∷ [];
     history = advances.history;
-    text_is = sym (append-nil (entry_text old.subs advances.entry));
+    text_is = sym (append-nil (entry_text old.subs entry));
   }
 
   pub first_of_all : (old now : Exchange A) (events : List (Event A)) → ActsOn old events now → ActsOnFirst old events now

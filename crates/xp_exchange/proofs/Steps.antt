@@ -1,12 +1,10 @@
 -- One step, and what is told of it.
-use Rattle.std.proofs.Common.{◌≡◌, ℕ, ◌+◌, ◌-◌, ◌<◌, ◌≤◌, List, [], ◌∷◌, ◌++◌, length, take, refl, sym, ap, ◌∙◌, subst, get_or, Option, Result, Ok, Err, inl, inr, arith, length-append}
-use Rattle.std.proofs.lemmas.List.{get_or-append-add}
+use Rattle.std.proofs.Common.{◌≡◌, ℕ, ◌+◌, ◌<◌, ◌≤◌, List, [], ◌∷◌, ◌++◌, length, take, refl, sym, ap, ◌∙◌, subst, Option, Result, Ok, Err, inl, inr, arith}
 use Rattle.std.proofs.lemmas.Bool.{cases_lt}
 use Rattle.std.specs.Io.KnownBytes.{Appends}
 use Rattle.xp_subs.specs.Tables.{Tables}
 use Rattle.xp_core.specs.declared.entry.Entry.{Entry}
 use Rattle.xp_core.specs.declared.event.Event.{Event}
-use Rattle.xp_core.specs.declared.stepped.Stepped.{Stepped}
 use Rattle.xp_core.specs.Exchange.{Exchange, Advances}
 use Rattle.xp_script.specs.Text.{entry_text}
 use Rattle.xp_exchange.specs.declared.fault.ReplayFault.{ReplayFault}
@@ -17,15 +15,6 @@ use Rattle.xp_exchange.specs.steps.Acting.{Tells, Acted, reason}
 use Rattle.xp_exchange.proofs.Acts.{acts_on_one, first_of_all, first_of_none, told_one}
 use Rattle.xp_exchange.proofs.Bytes.{appends_nothing}
 use Rattle.xp_exchange.proofs.Tellings.{told_nothing}
-
--- the last of a list that was pushed to
-pub last_pushed : {X : Type 0} (xs : List X) (x d : X) (all : List X) (at : ℕ) → all ≡ xs ++ x ∷ [] → at ≡ length all - 1 → get_or all at d ≡ x
-last_pushed xs x d all at pushed place =
-    let count : at ≡ length xs + 0 = omega (arith, place, ap length pushed, length-append xs (x ∷ [])) in
-    ap (λ list. get_or list at d) pushed ∙ ap (λ i. get_or (xs ++ x ∷ []) i d) count ∙ get_or-append-add xs (x ∷ []) 0 d
-
-pub pushed_length : {X : Type 0} (xs : List X) (x : X) (all : List X) → all ≡ xs ++ x ∷ [] → length all ≡ length xs + 1
-pushed_length xs x all pushed = ap length pushed ∙ length-append xs (x ∷ [])
 
 abbrev IsAnswered : {X E : Type 0} → Result X E → Type 0
 IsAnswered (Ok x) = Unit {0}
@@ -39,29 +28,29 @@ found_room result x e count most ok full = elim (cases_lt most count) [
 ]
 
 module _ {A : Type 0} where
-  pub told_step : (result : Result (Unit {0}) ReplayFault) (old new : Exchange A) (event : Event A) (told : Stepped A) (tables : Tables) (entry : Entry A) (before after : Option (List ℕ))
-      → (advances : Advances old event new told) → length old.history + 4 ≤ old.subs.journal → tables ≡ old.subs → entry ≡ advances.entry → Tells before after (entry_text tables entry) result
+  pub told_step : (result : Result (Unit {0}) ReplayFault) (old new : Exchange A) (event : Event A) (entry : Entry A) (tables : Tables) (before after : Option (List ℕ))
+      → (advances : Advances old event new entry) → length old.history + 4 ≤ old.subs.journal → tables ≡ old.subs → Tells before after (entry_text tables entry) result
       → (text : List ℕ) × Appends before after text × Acted old (event ∷ []) result new text
-  told_step result old new event told tables entry before after advances room same this tells =
-      go result (subst (λ text. Tells before after text result) (ap (λ subs. entry_text subs entry) same ∙ ap (entry_text old.subs) this) tells)
+  told_step result old new event entry tables before after advances room same tells =
+      go result (subst (λ text. Tells before after text result) (ap (λ subs. entry_text subs entry) same) tells)
     where
-      go : (result : Result (Unit {0}) ReplayFault) → Tells before after (entry_text old.subs advances.entry) result
+      go : (result : Result (Unit {0}) ReplayFault) → Tells before after (entry_text old.subs entry) result
           → (text : List ℕ) × Appends before after text × Acted old (event ∷ []) result new text
-      go (Ok done) tells = (entry_text old.subs advances.entry, tells, (acts_on_one old event new told advances room, told_one old event new told advances))
+      go (Ok done) tells = (entry_text old.subs entry, tells, (acts_on_one old event new entry advances room, told_one old event new entry advances))
       go (Err Memory) tells = (
         [],
         tells,
         (
-          first_of_all old new (event ∷ []) (acts_on_one old event new told advances room),
-          inr (record { entries = []; last = advances.entry; history = advances.history; text_is = refl }),
+          first_of_all old new (event ∷ []) (acts_on_one old event new entry advances room),
+          inr (record { entries = []; last = entry; history = advances.history; text_is = refl }),
         ),
       )
       go (Err Write) tells = (
-        take tells.0 (entry_text old.subs advances.entry),
+        take tells.0 (entry_text old.subs entry),
         tells.1,
         (
-          first_of_all old new (event ∷ []) (acts_on_one old event new told advances room),
-          record { whole = entry_text old.subs advances.entry; told = told_one old event new told advances; count = tells.0; front = refl },
+          first_of_all old new (event ∷ []) (acts_on_one old event new entry advances room),
+          record { whole = entry_text old.subs entry; told = told_one old event new entry advances; count = tells.0; front = refl },
         ),
       )
       go (Err Journal) tells = elim tells [ ]

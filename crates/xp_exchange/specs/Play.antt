@@ -69,7 +69,7 @@ module _ {A : Type 0} where
 module _ {A : Type 0} where
   -- a new exchange
   abbrev pub opened : Tables → Exchange A
-  opened tables = record { subs = tables; history = []; stalls = 0 }
+  opened tables = record { subs = tables; history = []; given = []; waiting = []; stalls = 0 }
 
   -- a script begins: no frame is unfinished, and the moment is 0
   abbrev pub start : Exchange A → PlayState A

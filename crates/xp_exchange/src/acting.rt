@@ -14,7 +14,7 @@ use crate::writing::write_out;
 use std::alloc::Allocator;
 use std::collections::VecDeque;
 use std::io::Write;
-use xp_core::{Core, Entry, Event, StepFault};
+use xp_core::{Core, Entry, Event, Outputs, StepFault};
 use xp_script::write_entry;
 use xp_subs::Subs;
 
@@ -50,19 +50,19 @@ fn act_on<A: Allocator + Copy, W: Write>(
     ensures acted { (text : List ℕ) × Appends (W.contents writer.old) (W.contents writer.new) text × Acted core.old (event ∷ []) result core.new text }
     ensures subs { core.new.subs ≡ core.old.subs }
 {
-    match core.enter(event) {
-        Ok(_) => {
-            let entries = core.history();
-            tell(
-                core.subs(),
-                &entries[entries.len() - 1],
-                memory,
-                text,
-                writer,
-            )
+    match core.step(event) {
+        Ok(entry) => {
+            let told = tell(core.subs(), &entry, memory, text, writer);
+            core.keep_memory(outputs_of(entry));
+            told
         }
         Err(fault) => Err(reason_of(&fault)),
     }
+}
+
+/// Returns the outputs of an entry, and drops the rest.
+fn outputs_of<A: Allocator>(entry: Entry<A>) -> Outputs<A> {
+    entry.outputs
 }
 
 /// Returns why a step was refused, without the event.

@@ -12,7 +12,6 @@ use memchr::memchr;
 use std::alloc::{Allocator, Global};
 use std::io::{ErrorKind, Read, Write};
 use std::marker::Model;
-use std::mem;
 use xp_core::Core;
 use xp_script::MAX_LINE_OCTETS;
 use xp_subs::Subs;
@@ -32,8 +31,7 @@ pub struct Replayed<A: Allocator = Global> {
     pub core: Core<A>,
 }
 
-/// Opens an exchange and replays a script on it, as `replay_on` does. It does not free the memory of the exchange, which
-/// lasts to the end of the program: to free it takes some 500 instructions for each entry.
+/// Opens an exchange and replays a script on it, as `replay_on` does.
 ///
 /// # Errors
 ///
@@ -49,7 +47,7 @@ pub fn replay<A: Allocator + Copy, R: Read + Drop, W: Write>(
 {
     let core = Core::new(alloc, subs)?;
     let Replayed { ended, core } = replay_on(alloc, core, &mut reader, writer);
-    mem::forget(core);
+    drop(core);
     ended
 }
 

@@ -1,15 +1,15 @@
 //! `xp_core`: steps of which each request for memory is refused in turn.
 
-ghost use Rattle.std.specs.Prelude.{All, IfOk};
+ghost use Rattle.std.specs.Prelude.{IfOk};
 ghost use Rattle.xp_core.specs.Exchange.{IsReadable};
 ghost use Rattle.xp_core.specs.Writable.{AreWritable};
 ghost use Rattle.xp_script.specs.Lines.{HasLines};
 ghost use Rattle.xp_subs.specs.Tables.{line_count};
 
-use std::alloc::{AllocError, Allocator, Global};
+use std::alloc::{Allocator, Global};
 use std::process::Abort;
 use std::test::Fail;
-use xp_core::{Core, Entry, Event, StepFault, Stepped, What};
+use xp_core::{Core, Entry, Event, StepFault, What};
 use xp_machine::LineView;
 use xp_packets::{Modulus, PacketFault, decode};
 use xp_script::{Command, write_entry};
@@ -138,45 +138,69 @@ pub fn event_of<A: Allocator + Copy>(
     })
 }
 
-/// Hands an event in.
+/// Hands an event in, and adds the text of its entry.
 fn offer<A: Allocator + Copy>(
     rt: &impl Abort,
     core: &mut Core<A>,
     event: Event<A>,
-) -> Result<Stepped<A>, StepFault<A>>
+    ample: A,
+    text: &mut Vec<u8, A>,
+) -> Result<(), StepFault<A>>
     requires { IsReadable event.what }
 {
     let lines = core.subs().counts().lines;
     assert!(rt; usize::from(event.line) < lines);
-    core.step(event)
+    match core.step(event) {
+        Ok(entry) => {
+            tell(rt, core.subs(), &entry, ample, text);
+            Ok(())
+        }
+        Err(fault) => Err(fault),
+    }
+}
+
+/// Adds the text of an entry.
+fn tell<A: Allocator + Copy>(
+    rt: &impl Abort,
+    subs: &Subs,
+    entry: &Entry<A>,
+    ample: A,
+    text: &mut Vec<u8, A>,
+)
+    requires writable { AreWritable subs.now entry.now.outputs }
+    requires lines { HasLines (line_count subs.now) entry.now }
+{
+    assert!(rt; write_entry(subs, entry, &mut Vec::new(ample), text).is_ok());
 }
 
 /// All that the exchange shows of its lines, and how long its lists are.
-fn shown<A: Allocator + Copy>(core: &Core<A>) -> ([LineView; 4], usize, usize) {
+fn shown<A: Allocator + Copy>(core: &Core<A>) -> ([LineView; 4], u64, usize) {
     (
         [A1, B1, H1, C1].map(|line| core.line(line)),
-        core.history().len(),
+        core.count(),
         core.records().len(),
     )
 }
 
-/// Hands an event in. Where that is refused for memory nothing has changed, and it is handed in again.
+/// Hands an event in, and adds the text of its entry: whether it was taken. Where it is refused for memory nothing has
+/// changed, and it is handed in again.
 fn offer_again<A: Allocator + Copy>(
     rt: &impl Abort,
     core: &mut Core<A>,
     ample: A,
     line: LineNo,
     packet: &[u8],
-) -> Result<Option<Stepped<A>>, PacketFault> {
+    text: &mut Vec<u8, A>,
+) -> Result<bool, PacketFault> {
     let before = shown(core);
     let event = event_of(ample, line, packet)?;
-    match offer(rt, core, event) {
-        Ok(told) => Ok(Some(told)),
-        Err(StepFault::JournalFull(_)) => Ok(None),
+    match offer(rt, core, event, ample, text) {
+        Ok(()) => Ok(true),
+        Err(StepFault::JournalFull(_)) => Ok(false),
         Err(StepFault::Memory(_)) => {
             assert_eq!(rt; shown(core), before);
             let event = event_of(ample, line, packet)?;
-            Ok(offer(rt, core, event).ok())
+            Ok(offer(rt, core, event, ample, text).is_ok())
         }
     }
 }
@@ -193,42 +217,25 @@ fn brought(subs: &Subs, alloc: Global, line: &str) -> Result<(LineNo, Vec<u8>), 
     }
 }
 
-/// The text of all entries.
-fn told<A: Allocator + Copy>(core: &Core<A>, ample: A) -> Result<Vec<u8, A>, AllocError> {
-    text_of(core.subs(), core.history(), ample)
-}
-
-/// The text of entries of an exchange with these subscriptions.
-fn text_of<A: Allocator + Copy>(
-    subs: &Subs,
-    entries: &[Entry<A>],
-    ample: A,
-) -> Result<Vec<u8, A>, AllocError>
-    requires writable { All (λ entry. AreWritable subs.now entry.outputs) entries.now }
-    requires lines { All (HasLines (line_count subs.now)) entries.now }
-{
-    let mut text = Vec::new(ample);
-    for entry in entries {
-        write_entry(subs, entry, &mut Vec::new(ample), &mut text)?;
-    }
-    Ok(text)
-}
-
 /// A new exchange of the four stations, where there is memory for it.
 fn opened<A: Allocator + Copy>(alloc: Global, scarce: A) -> Result<Option<Core<A>>, Fail> {
     Ok(Core::new(scarce, Subs::read(alloc, FOUR_STATIONS)?).ok())
 }
 
-/// Plays a line of the script. A second refusal is a failure.
+/// Plays a line of the script, and adds the text of its entry. A second refusal is a failure.
 fn play_line<A: Allocator + Copy>(
     rt: &impl Abort,
     core: &mut Core<A>,
     alloc: Global,
     ample: A,
     line: &str,
+    text: &mut Vec<u8, A>,
 ) -> Result<(), Fail> {
     let (line, packet) = brought(core.subs(), alloc, line)?;
-    offer_again(rt, core, ample, line, &packet)?.ok_or("a second refusal")?;
+    assert!(rt;
+        offer_again(rt, core, ample, line, &packet, text)?,
+        "a second refusal"
+    );
     Ok(())
 }
 
@@ -242,10 +249,11 @@ fn play<A: Allocator + Copy>(
     let Some(mut core) = opened(alloc, scarce)? else {
         return Ok(());
     };
+    let mut text = Vec::new(ample);
     for line in SCRIPT.lines() {
-        play_line(rt, &mut core, alloc, ample, line)?;
+        play_line(rt, &mut core, alloc, ample, line, &mut text)?;
     }
-    assert_eq!(rt; told(&core, ample)?.as_slice(), TEXT);
+    assert_eq!(rt; text.as_slice(), TEXT);
     assert_eq!(rt; core.records().len(), 4);
     stall_all(rt, &mut core, ample)
 }
@@ -260,14 +268,21 @@ fn stall_all<A: Allocator + Copy>(
     if core.reserve_stalls().is_err() {
         core.reserve_stalls()?;
     }
-    offer_again(rt, core, ample, A1, &DATA)?.ok_or("a second refusal")?;
+    let mut text = Vec::new(ample);
+    assert!(rt;
+        offer_again(rt, core, ample, A1, &DATA, &mut text)?,
+        "a second refusal"
+    );
     for line in [H1, A1, B1] {
         let event = Event {
             line,
             moment: MOMENT,
             what: What::Stall,
         };
-        assert!(rt; offer(rt, core, event).is_ok(), "line {line}");
+        assert!(rt;
+            offer(rt, core, event, ample, &mut text).is_ok(),
+            "line {line}"
+        );
     }
     assert_eq!(rt; core.records().len(), 6);
     Ok(())

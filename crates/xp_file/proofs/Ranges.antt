@@ -1,5 +1,5 @@
 -- A number that is read of a key lies in its range.
-use Rattle.std.proofs.Common.{◌≡◌, ℕ, ◌≤◌, ℤ, pos, ◌&&◌, inl, inr, Option, None, Some, Ok, Err, option_and_then, refl}
+use Rattle.std.proofs.Common.{arith, ◌≡◌, ℕ, ◌≤◌, ℤ, pos, ◌&&◌, inl, inr, Option, None, Some, Ok, Err, option_and_then, refl}
 use Rattle.std.proofs.lemmas.Bool.{and_parts, cases_Bool, leb-true}
 use Rattle.std.specs.Prelude.{nat_le}
 use Rattle.toml.specs.Data.{Data, Members, as_integer, get_member}
@@ -33,13 +33,16 @@ found low high key (Some value) x e = in_range low high (as_integer value) x (so
 pub required_range : (low high : ℕ) (key : Key) (table : Members) (x : ℕ) → required (number_in low high) key table ≡ Ok x → (low ≤ x) × (x ≤ high)
 required_range low high key table x e = found low high key (get_member (key_text key) table) x e
 
-pub defaulted_range : (low high absent : ℕ) (key : Key) (table : Members) (x : ℕ) → low ≤ absent → absent ≤ high
-    → defaulted (number_in low high) absent key table ≡ Ok x → (low ≤ x) × (x ≤ high)
-defaulted_range low high absent key table x least most e = by (get_member (key_text key) table) refl
+pub defaulted_range : (low high absent most : ℕ) (key : Key) (table : Members) (x : ℕ) → low ≤ absent → absent ≤ most → high ≤ most
+    → defaulted (number_in low high) absent key table ≡ Ok x → (low ≤ x) × (x ≤ most)
+defaulted_range low high absent most key table x least greatest beyond e = by (get_member (key_text key) table) refl
   where
-    by : (value : Option Data) → get_member (key_text key) table ≡ value → (low ≤ x) × (x ≤ high)
+    by : (value : Option Data) → get_member (key_text key) table ≡ value → (low ≤ x) × (x ≤ most)
     by None none =
         let made : Ok absent ≡ Ok x = rw none at e in
         let this : absent ≡ x = cc in
-        rw (← this) (least, most)
-    by (Some value) is = found low high key (Some value) x (rw is at e)
+        rw (← this) (least, greatest)
+    by (Some value) is =
+        let range = found low high key (Some value) x (rw is at e) in
+        let within = range.1 in
+        (range.0, omega (arith, within, beyond))

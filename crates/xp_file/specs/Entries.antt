@@ -31,10 +31,14 @@ pub record IsStationEntry (station : StationData) : Type 0 where
   pub lines : All IsLineEntry station.lines
   pub groups : All IsGroupEntry station.groups
 
+-- the most entries of a history to which the file sets no limit
+abbrev pub no_journal_limit : ℕ
+no_journal_limit = 576460752303423488
+
 -- the limits that a file sets are in their ranges: of the segments of a call in one direction, and of the entries of
 -- the history
 pub record AreLimits (segment_limit journal : ℕ) : Type 0 where
   pub some_segment : 1 ≤ segment_limit
   pub eight_digits : segment_limit ≤ 99_999_999
   pub least_entries : 4 ≤ journal
-  pub most_entries : journal ≤ 10_000_000
+  pub most_entries : journal ≤ no_journal_limit

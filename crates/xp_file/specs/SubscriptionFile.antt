@@ -11,7 +11,7 @@ use Rattle.xp_file.specs.declared.fault.SubscriptionFault.TheVariants as faults
 use Rattle.xp_file.specs.declared.key.Key.{Key}
 use Rattle.xp_file.specs.declared.key.Key.TheVariants as keys
 use Rattle.xp_file.specs.declared.entry.Redirection.{Redirection}
-use Rattle.xp_file.specs.Entries.{StationData}
+use Rattle.xp_file.specs.Entries.{StationData, no_journal_limit}
 use Rattle.xp_packets.specs.declared.modulus.Modulus.TheVariants.{Eight}
 use Rattle.xp_file.specs.Reading.{◌>>=◌, number_in, line_name_in, group_name_in, address_in, modulus_in, tables_in, some_tables_in, required, defaulted, optional, flag, each, examined, has_only, checked}
 
@@ -133,7 +133,7 @@ pub record FileData : Type 0 where
 unfoldable pub file_of : Members → Result FileData SubscriptionFault
 file_of table = do
   segment_limit ← defaulted (number_in 1 99999999) 99999999 keys.SegmentLimit table
-  journal ← defaulted (number_in 4 10000000) 1000000 keys.Journal table
+  journal ← defaulted (number_in 4 10000000) no_journal_limit keys.Journal table
   host ← defaulted as_str (codes "127.0.0.1") keys.Host table
   tables ← required some_tables_in keys.Station table
   stations ← checked (has_only top_keys table) (faults.Field keys.Other) (each entry_of tables)

@@ -6,7 +6,7 @@ ghost use Rattle.toml.specs.View.{table_view};
 ghost use Rattle.xp_file.specs.declared.fault.SubscriptionFault.TheVariants.{Memory as OutOfMemory};
 ghost use Rattle.xp_file.specs.declared.key.Key.TheVariants as keys;
 ghost use Rattle.xp_packets.specs.declared.modulus.Modulus.TheVariants.{Eight};
-ghost use Rattle.xp_file.specs.Entries.{AreLimits, IsStationEntry};
+ghost use Rattle.xp_file.specs.Entries.{AreLimits, IsStationEntry, no_journal_limit};
 ghost use Rattle.xp_file.specs.SubscriptionFile.{facilities_of, line_of, lines_of, group_of, groups_of, redirection_of, are_listed, entry_of, file_of, file_in};
 ghost use Rattle.xp_file.specs.Reading.{each, has_only, required, optional, defaulted, number_in, address_in, modulus_in, line_name_in, group_name_in};
 
@@ -29,8 +29,9 @@ use xp_packets::{Digits, Modulus};
 pub struct SubscriptionFile {
     /// The most segments that a call may have in one direction, 1 to 99,999,999.
     pub segment_limit: u32,
-    /// The most entries that the history may have, 4 to 10,000,000.
-    pub journal: u32,
+    /// The most entries that the history may have, 4 to 10,000,000. If the file sets no limit, it is 2^59, which no history
+    /// reaches.
+    pub journal: u64,
     /// The host on whose ports the exchange listens.
     pub host: String,
     /// The stations in the order of the file, at least one.
@@ -57,11 +58,12 @@ const MAX_SEGMENT_LIMIT: u32 = 99_999_999;
 /// The smallest limit to the entries of the history.
 const MIN_JOURNAL: u32 = 4;
 
-/// The greatest limit to the entries of the history.
+/// The greatest limit to the entries of the history that a file can set.
 const MAX_JOURNAL: u32 = 10_000_000;
 
-/// The default limit to the entries of the history.
-const DEFAULT_JOURNAL: u32 = 1_000_000;
+/// More entries than any history has: 2^59. At a million events a second it lasts for 18,000 years. Seventeen outputs to a
+/// line for each entry can still be counted in 64 bits.
+const NO_JOURNAL_LIMIT: u64 = 576_460_752_303_423_488;
 
 /// The default host.
 const DEFAULT_HOST: &str = "127.0.0.1";
@@ -302,13 +304,7 @@ fn read_table(alloc: Global, table: &Table) -> Result<SubscriptionFile, Subscrip
         MAX_SEGMENT_LIMIT,
         MAX_SEGMENT_LIMIT,
     )?;
-    let journal = limit(
-        table,
-        Key::Journal,
-        MIN_JOURNAL,
-        MAX_JOURNAL,
-        DEFAULT_JOURNAL,
-    )?;
+    let journal = journal(table)?;
     let host = host(alloc, table)?;
     let tables = some_tables_at(alloc, table, Key::Station)?;
     if !has_only(table, &TOP_KEYS) {
@@ -333,6 +329,17 @@ fn limit(
     ensures { result ≡ defaulted (number_in low high) absent key (table_view table.now) }
 {
     defaulted(table, key, absent, |value| number(value, low, high))
+}
+
+fn journal(table: &Table) -> Result<u64, SubscriptionFault>
+    ensures { result ≡ defaulted (number_in 4 10000000) no_journal_limit keys.Journal (table_view table.now) }
+{
+    defaulted(
+        table,
+        Key::Journal,
+        NO_JOURNAL_LIMIT,
+        |value| number(value, MIN_JOURNAL, MAX_JOURNAL).map(u64::from),
+    )
 }
 
 fn host(alloc: Global, table: &Table) -> Result<String, SubscriptionFault>

@@ -50,28 +50,62 @@ pub static FAULTS: [Plan; 5] = [
     SILENT,
 ];
 
-/// The record that belongs to these events: a call ends at the first clear or lost link behind it.
-fn wanted_record(events: &str) -> &'static str {
-    let mut called = false;
-    for event in events.as_bytes() {
-        match *event {
-            b'C' => called = true,
-            b'X' if called => return "record 1 a1 b1 2080020 caller 0 0 00 0 0\n",
-            b'D' if called => return "record 1 a1 b1 2080020 caller 0 0 09 0 0\n",
-            _ => {}
-        }
-    }
-    ""
+/// How a line's link fails: at a pull, or at a push, each of which takes one octet then. The number of the pull or push at
+/// which it fails decides what comes of the call.
+struct Failing {
+    line: LineNo,
+    at_push: bool,
+    /// Below this number the link is gone before a1 calls.
+    before_call: u64,
+    /// Below this number it is gone before a1 clears the call, and the call ends as the line does.
+    before_clear: u64,
+    /// From this number on the run meets no fault: as many as there are turns, or octets that are wanted.
+    met: u64,
 }
 
-/// Which line's link fails, whether at a push, each of which takes one octet then, and how many runs meet the fault: as many
-/// as there are turns, or octets that are wanted.
-static FAILING: [(LineNo, bool, u64); 4] = [
-    (0, false, 8),
-    (1, false, 8),
-    (0, true, 22),
-    (1, true, 35),
+/// A line pulls once in a turn. a1 calls at its first pull and clears at its second; b1 accepts at its first and confirms at
+/// its second. The first 15 octets for a1 are the call connected packet, and the first 26 for b1 the incoming call.
+static FAILING: [Failing; 4] = [
+    Failing {
+        line: 0,
+        at_push: false,
+        before_call: 1,
+        before_clear: 2,
+        met: 8,
+    },
+    Failing {
+        line: 1,
+        at_push: false,
+        before_call: 0,
+        before_clear: 1,
+        met: 8,
+    },
+    Failing {
+        line: 0,
+        at_push: true,
+        before_call: 0,
+        before_clear: 15,
+        met: 22,
+    },
+    Failing {
+        line: 1,
+        at_push: true,
+        before_call: 0,
+        before_clear: 26,
+        met: 35,
+    },
 ];
+
+/// The record of the call where the link fails at the pull or push of this number.
+fn wanted_record(failing: &Failing, number: u64) -> &'static str {
+    if number < failing.before_call {
+        ""
+    } else if number < failing.before_clear {
+        "record 1 a1 b1 2080020 caller 0 0 09 0 0\n"
+    } else {
+        "record 1 a1 b1 2080020 caller 0 0 00 0 0\n"
+    }
+}
 
 fn flaws(at_push: bool, number: u64) -> Flaws {
     if at_push {
@@ -89,22 +123,17 @@ fn flaws(at_push: bool, number: u64) -> Flaws {
 }
 
 /// One link fails at the first pull or push, then in a new run at the second, until a run meets no fault: how many did.
-fn faults(
-    rt: &(impl Wait + Abort),
-    alloc: Global,
-    line: LineNo,
-    at_push: bool,
-) -> Result<u64, Fail> {
+fn faults(rt: &(impl Wait + Abort), alloc: Global, failing: &Failing) -> Result<u64, Fail> {
     for number in 0..100u64 {
         let board = Arc::new(alloc, Board::new())?;
-        let failing = flaws(at_push, number);
-        let other = flaws(at_push, u64::MAX);
+        let this = flaws(failing.at_push, number);
+        let other = flaws(failing.at_push, u64::MAX);
         let playing = Playing {
             scenario: Scenario::Faults,
-            flaws: if line == 0 {
-                [failing, other]
+            flaws: if failing.line == 0 {
+                [this, other]
             } else {
-                [other, failing]
+                [other, this]
             },
             turns: 8,
             step: 0,
@@ -112,12 +141,12 @@ fn faults(
         let played = play(rt, alloc, &playing, &board)?;
         assert_eq!(rt;
             played.records.as_str(),
-            wanted_record(played.events.as_str()),
+            wanted_record(failing, number),
             "{number}"
         );
-        assert!(rt; board.of(line).front().is_some(), "{number}");
-        if !board.of(line).failed.load(Ordering::SeqCst) {
-            assert_eq!(rt; played.events.as_str(), "UUCAXY\n");
+        assert!(rt; board.of(failing.line).front().is_some(), "{number}");
+        if !board.of(failing.line).failed.load(Ordering::SeqCst) {
+            assert_eq!(rt; played.entries, 6);
             assert!(rt; board.as_wanted(Scenario::Faults));
             return Ok(number);
         }
@@ -127,9 +156,9 @@ fn faults(
 
 #[test]
 fn links_fail(rt: HostRuntime) -> Result<(), Fail> {
-    for (line, at_push, met) in &FAILING {
-        let runs = faults(&rt, rt.alloc(), *line, *at_push)?;
-        assert_eq!(rt; runs, *met, "line {line}");
+    for failing in &FAILING {
+        let runs = faults(&rt, rt.alloc(), failing)?;
+        assert_eq!(rt; runs, failing.met, "line {}", failing.line);
     }
     Ok(())
 }

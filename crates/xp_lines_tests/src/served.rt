@@ -195,14 +195,14 @@ pub static HALTED: [Plan; 5] = [
     NO_LINK,
 ];
 
-/// How the lines are served, and why each has ended, its own events and the records.
+/// How the lines are served, and why each has ended, how many entries there are and the records.
 static SERVED: [(Serving, &str); 7] = [
     (
         Serving {
             scenario: Scenario::TwoCalls,
             ..USUALLY
         },
-        "HHHHH\nUC\nUA\nUC\nUD\n\nrecord 2 a1 h2 2080030 caller 0 0 09 0 0\n",
+        "HHHHH\n8\nrecord 2 a1 h2 2080030 caller 0 0 09 0 0\n",
     ),
     (
         Serving {
@@ -210,7 +210,7 @@ static SERVED: [(Serving, &str); 7] = [
             turns: 1000,
             ..USUALLY
         },
-        "TTTTT\nUYD\nUYD\nUYD\nUYD\nUYD\n",
+        "TTTTT\n15\n",
     ),
     (
         Serving {
@@ -218,14 +218,14 @@ static SERVED: [(Serving, &str); 7] = [
             step: 1,
             ..USUALLY
         },
-        "HHHHH\nUC\nUE\nU\nU\nU\nrecord 1 a1 b1 2080020 caller 0 0 11 49 0\n",
+        "HHHHH\n7\nrecord 1 a1 b1 2080020 caller 0 0 11 49 0\n",
     ),
     (
         Serving {
             scenario: Scenario::LostLink,
             ..USUALLY
         },
-        "HHHHH\nUC\nUD\nU\nU\nU\nrecord 1 a1 b1 2080020 caller 0 0 09 0 0\n",
+        "HHHHH\n7\nrecord 1 a1 b1 2080020 caller 0 0 09 0 0\n",
     ),
     (
         Serving {
@@ -233,21 +233,21 @@ static SERVED: [(Serving, &str); 7] = [
             halted: true,
             ..USUALLY
         },
-        "HHHHH\n\n\n\n\n\n",
+        "HHHHH\n0\n",
     ),
     (
         Serving {
             scenario: Scenario::BrokenPort,
             ..USUALLY
         },
-        "HHHHP\nUCX\nUA\nU\nU\n\nrecord 1 a1 b1 2080020 caller 0 0 00 0 0\n",
+        "HHHHP\n7\nrecord 1 a1 b1 2080020 caller 0 0 00 0 0\n",
     ),
     (
         Serving {
             scenario: Scenario::FullJournal,
             ..USUALLY
         },
-        "HJHHH\nUC\nU\nU\nU\nU\n",
+        "HJHHH\n6\n",
     ),
 ];
 

@@ -2,7 +2,7 @@
 
 ghost use Rattle.std.specs.Prelude.{◌≡◌};
 
-use crate::account::{subs, tell_lines, tell_records, why_letter};
+use crate::account::{subs, tell_records, why_letter};
 use crate::board::Board;
 use crate::pace::{PlannedGate, Ticking};
 use crate::plan::Scenario;
@@ -102,13 +102,13 @@ fn serves<N: Name + Send + Sync, R: Threads + Wait + Sync>(
     };
     let all = passes(alloc, ends, &mut text)?;
     if let Ok(book) = exchange.close(rt, all) {
-        tell_lines(&book, &mut text)?;
+        text.extend_from_slice(format!(in alloc; "{}\n", book.count())?.as_bytes())?;
         tell_records(&book, &mut text)?;
     }
     Ok(text)
 }
 
-/// Serves the lines: why each has ended, its own events, and the charging records.
+/// Serves the lines: why each has ended, how many entries the closed book has, and the charging records.
 pub fn serve<R: Threads + Wait + Sync>(
     rt: &R,
     alloc: Global,

@@ -2,7 +2,7 @@
 
 ghost use Rattle.std.specs.Prelude.{◌≡◌};
 
-use crate::account::{subs, tell_all, tell_records};
+use crate::account::{subs, tell_records};
 use crate::board::Board;
 use crate::pace::{PlannedGate, Ticking};
 use crate::plan::{Flaws, Scenario};
@@ -30,8 +30,8 @@ pub struct Playing {
 /// What came of it.
 #[derive(Drop)]
 pub struct Played {
-    /// All events in order, and the charging records; none where the exchange could not be closed.
-    pub events: String,
+    /// How many entries the closed book has, and the charging records; none where the exchange could not be closed.
+    pub entries: u64,
     pub records: String,
     /// How many outputs b1's outbox kept to the end, and whether the last of them is to close the connection.
     pub kept: usize,
@@ -146,14 +146,14 @@ fn is_close(item: &Outgoing) -> bool {
     matches!(item.put, Put::Close)
 }
 
-/// The events and the records are added.
+/// The records are added, and the entries counted.
 fn plays<N: Name>(
     rt: &impl Wait,
     alloc: Global,
     prepared: PreparedExchange<Global>,
     playing: &Playing,
     board: &Arc<Board>,
-    events: &mut Vec<u8>,
+    entries: &mut u64,
     records: &mut Vec<u8>,
 ) -> Result<(usize, bool), AllocError>
     requires subs { N.subs ≡ prepared.subs }
@@ -179,7 +179,7 @@ fn plays<N: Name>(
         all.push(pass)?;
     }
     if let Ok(book) = exchange.close(rt, all) {
-        tell_all(&book, events)?;
+        *entries = book.count();
         tell_records(&book, records)?;
     }
     Ok(kept)
@@ -193,7 +193,7 @@ pub fn play(
     board: &Arc<Board>,
 ) -> Result<Played, Fail> {
     let prepared = prepare(alloc, subs(alloc, playing.scenario)?)?;
-    let mut events = Vec::new(alloc);
+    let mut entries = 0;
     let mut records = Vec::new(alloc);
     let (kept, closes) = plays::<Brand>(
         rt,
@@ -201,11 +201,11 @@ pub fn play(
         prepared,
         playing,
         board,
-        &mut events,
+        &mut entries,
         &mut records,
     )?;
     Ok(Played {
-        events: String::from_utf8(events)?,
+        entries,
         records: String::from_utf8(records)?,
         kept,
         closes,

@@ -100,7 +100,7 @@ fn call_between_unlike_lines(rt: HostRuntime) -> Result<(), Fail> {
         step: 100,
     };
     let played = play(&rt, rt.alloc(), &playing, &board)?;
-    assert_eq!(rt; played.events.as_str(), "UUCAdrXY\n");
+    assert_eq!(rt; played.entries, 8);
     // b1 accepts in its first turn, and a1 clears in its third
     assert_eq!(rt;
         played.records.as_str(),

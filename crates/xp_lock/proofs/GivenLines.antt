@@ -8,7 +8,7 @@ use Rattle.std.proofs.lemmas.List.Elements.{filter-append}
 use Rattle.xp_core.specs.declared.entry.Entry.{Entry}
 use Rattle.xp_core.specs.declared.output.Output.{Output}
 use Rattle.xp_lock.specs.Given.{AreApart, AreGiven, is_among}
-use Rattle.xp_lock.specs.steps.Given.{AddFew, AreAdded, IsGivenToFew}
+use Rattle.xp_lock.specs.steps.Given.{AddFew, AreAdded}
 use Rattle.xp_lock.specs.Outgoing.{put_out_to, to_line}
 use Rattle.xp_lock.proofs.Putting.{to_line_other, to_line_same}
 use Rattle.xp_lock.proofs.Trio.{Among, among_either, among_left, among_right}
@@ -174,24 +174,3 @@ module _ {A : Type 0} where
         );
     once = added.once;
   }
-
-  pub given_few : (entries : List (Entry A)) (at : ℕ) (entry : Entry A) (lines : List ℕ) → at < length entries → entry ≡ get_or entries at entry
-      → IsGivenToFew entries → AreGiven (take at entries) lines → AddFew lines entry.outputs
-  given_few entries at entry lines within is few given =
-      let next : take (at + 1) entries ≡ take at entries ++ entry ∷ [] = take_more entries at entry within ∙ ap (λ x. take at entries ++ x ∷ []) (sym is) in
-      record {
-        lines = few.lines;
-        few = few.few;
-        there = λ line here. few.goes line (
-            let some = (given.each line).0 here in
-            let all = put_more line (take at entries) (drop at entries) in
-            let whole = ap (λ xs. length (put_out_to line xs)) (take-append-drop at entries) in
-            omega (arith, some, all, whole));
-        goes = λ line some. few.goes line (
-            let all = put_more line (take (at + 1) entries) (drop (at + 1) entries) in
-            let whole = ap (λ xs. length (put_out_to line xs)) (take-append-drop (at + 1) entries) in
-            let front = ap (λ xs. length (put_out_to line xs)) next in
-            let both = put_more line (take at entries) (entry ∷ []) in
-            let one = put_one line entry in
-            omega (arith, some, all, whole, front, both, one));
-      }

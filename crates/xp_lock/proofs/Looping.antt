@@ -8,14 +8,16 @@ use Rattle.xp_subs.specs.Tables.{line_count}
 use Rattle.xp_core.specs.declared.entry.Entry.{Entry}
 use Rattle.xp_core.specs.declared.event.What.TheVariants.{Stall}
 use Rattle.xp_core.specs.declared.output.Outgoing.{Outgoing}
-use Rattle.xp_core.specs.declared.stepped.Stepped.{Stepped}
 use Rattle.xp_machine.specs.Channel.{is_off}
 use Rattle.xp_core.specs.Exchange.{Advances, Exchange, world_of}
+use Rattle.xp_core.specs.Records.{records_of}
 use Rattle.xp_core.specs.steps.Stalls.{stall_of}
 use Rattle.xp_core.specs.Step.{Step}
 use Rattle.xp_core.specs.Worlds.{world_after}
 use Rattle.xp_machine.specs.World.{World, state_at}
 use Rattle.xp_core.proofs.Sounds.{IsRight, run_right, step_right}
+use Rattle.xp_lock.specs.Given.{AreGiven}
+use Rattle.xp_lock.specs.steps.Given.{AddFew, AreAdded}
 use Rattle.xp_lock.specs.Outboxes.{outbox_at}
 use Rattle.xp_lock.specs.steps.Outboxes.{HasRoomFor, IsPut}
 use Rattle.xp_lock.specs.Forced.{AreAt, IsDue, IsLowestDue, Stalls}
@@ -23,7 +25,7 @@ use Rattle.xp_lock.specs.Outgoing.{put_out_to, to_line}
 use Rattle.xp_lock.specs.steps.Stalling.{HasEntered, HasStalled, IsLowestShort, IsSearched, IsShort}
 use Rattle.xp_lock.proofs.Calls.{AreClosed, closed}
 use Rattle.xp_lock.proofs.Entered.{drop_front, take_front}
-use Rattle.xp_lock.proofs.GivenLines.{is_from}
+use Rattle.xp_lock.proofs.GivenLines.{given_more, is_from}
 use Rattle.xp_lock.proofs.Putting.{box_there}
 use Rattle.xp_lock.proofs.Stalled.{EachLine, closed_next, each_push, each_weaker, few, goes_among, off_after, one_less, one_up, rises, served, stalls_grow, stalls_push, stays_off, up, up_most}
 use Rattle.xp_lock.proofs.Trio.{Among, goes_to, trio, trio_few}
@@ -46,6 +48,8 @@ module _ {A : Type 0} (core : Exchange A) (from moment : ℕ) (outboxes : List (
     pub moments : AreAt moment stalls
     pub history : now.history ≡ core.history ++ stalls
     pub subs : now.subs ≡ core.subs
+    pub handed_over : now.given ≡ core.given
+    pub waiting : now.waiting ≡ core.waiting ++ records_of stalls
     pub prepared : 3 ≤ now.stalls + length stalls
     pub right : IsRight core.subs (length now.history) (world_of now)
     pub closed : AreClosed lines (world_of now)
@@ -101,6 +105,8 @@ module _ {A : Type 0} (core : Exchange A) (from moment : ℕ) (outboxes : List (
           moments = All-nil is_at;
           history = sym (append-nil core.history);
           subs = refl;
+          handed_over = refl;
+          waiting = sym (append-nil core.waiting);
           prepared = omega (arith, prepared);
           right = subst (λ xs. IsRight core.subs (length xs) (world_of core)) (sym entered.history)
               (step_right core.subs entered.before old_world entered.entry (world_of core) right_before entered.step);
@@ -140,6 +146,8 @@ module _ {A : Type 0} (core : Exchange A) (from moment : ℕ) (outboxes : List (
           moments = loop.moments;
           history = loop.history;
           subs = loop.subs;
+          handed_over = loop.handed_over;
+          waiting = loop.waiting;
           prepared = loop.prepared;
           right = loop.right;
           closed = loop.closed;
@@ -189,10 +197,11 @@ module _ {A : Type 0} (core : Exchange A) (from moment : ℕ) (outboxes : List (
             let some : 0 < (outbox_at after line).free = omega (arith, enough, most) in
             none line (box_there after line some) (short_is line due);
         few = let most = loop.left in omega (arith, most);
-        given = record { lines = loop.lines; few = loop.few_lines; goes = λ line some. is_from loop.lines line (loop.goes line some) };
         moments = loop.moments;
         history = loop.history;
         subs = loop.subs;
+        handed_over = loop.handed_over;
+        waiting = loop.waiting;
         stays = loop.stays;
         count = loop.count;
         queues = loop.queues;
@@ -238,97 +247,118 @@ module _ {A : Type 0} (core : Exchange A) (from moment : ℕ) (outboxes : List (
             let same : line_count now.subs ≡ line_count core.subs = ap line_count loop.subs in
             omega (arith, there, many, lines, same)
 
-        module _ (next : Exchange A) (told : Stepped A) (advances : Advances now (stall_of line moment) next told) where
-          here : advances.entry.event.line ≡ line
+        module _ (next : Exchange A) (entry : Entry A) (advances : Advances now (stall_of line moment) next entry) where
+          here : entry.event.line ≡ line
           here = ap (λ e. e.line) advances.event_is
 
-          what : advances.entry.event.what ≡ Stall
+          what : entry.event.what ≡ Stall
           what = ap (λ e. e.what) advances.event_is
 
-          on : is_off (state_at (world_of now) advances.entry.event.line) ≡ false
+          on : is_off (state_at (world_of now) entry.event.line) ≡ false
           on = ap (λ l. is_off (state_at (world_of now) l)) here ∙ lowest.is.in_service
 
           right_now : IsRight now.subs (length now.history) (world_of now)
           right_now = subst (λ t. IsRight t (length now.history) (world_of now)) (sym loop.subs) loop.right
 
-          few_out : (l : ℕ) → length (to_line l told.outputs) ≤ 2
-          few_out l = subst (λ os. length (to_line l os) ≤ 2) (sym advances.outputs)
-              (few now.subs now.history (world_of now) advances.entry (world_of next) right_now advances.step what on l)
+          few_out : (l : ℕ) → length (to_line l entry.outputs) ≤ 2
+          few_out l = few now.subs now.history (world_of now) entry (world_of next) right_now advances.step what on l
 
-          pub room : HasRoomFor told.outputs after
-          room l = elim (cases_lt 0 (length (to_line l told.outputs))) [
+          pub room : HasRoomFor entry.outputs after
+          room l = elim (cases_lt 0 (length (to_line l entry.outputs))) [
             | inl some ↦
-                let serves = served now.subs now.history (world_of now) advances.entry (world_of next) right_now advances.step what on l
-                (subst (λ os. 0 < length (to_line l os)) advances.outputs some) in
+                let serves = served now.subs now.history (world_of now) entry (world_of next) right_now advances.step what on l some in
                 let enough = loop.places l serves in
                 omega (arith, enough, few_out l, at_most_two)
             | inr none ↦ omega (arith, none)
           ]
 
-          module _ (last : List (Putting (Outgoing A))) (put : IsPut told.outputs after last) (used : next.stalls + 1 ≡ now.stalls) where
-            one_more : length (loop.stalls ++ advances.entry ∷ []) ≡ length loop.stalls + 1
-            one_more = length-append loop.stalls (advances.entry ∷ [])
+          -- the lines that were given something, with those of this stall, are few
+          pub adds_few : (lines : List ℕ) → AreGiven (drop from now.history) lines → AddFew lines entry.outputs
+          adds_few lines given = record {
+            lines = loop.lines;
+            few = loop.few_lines;
+            there = λ l here. is_from loop.lines l (loop.goes l (subst (λ xs. 0 < length xs) (given_now l) ((given.each l).0 here)));
+            goes = λ l some. is_from loop.lines l
+                (goes_among now.subs now.history (world_of now) entry (world_of next) right_now advances.step what on loop.lines loop.closed
+                (subst (Among loop.lines) (sym here) among) l some);
+          }
+
+          -- so the lines that were given something since
+          pub given_next : (lines more : List ℕ) → AreGiven (drop from now.history) lines → AreAdded lines entry.outputs more → AreGiven (drop from next.history) more
+          given_next lines more given added =
+              let since_then : drop from next.history ≡ drop from now.history ++ entry ∷ [] =
+              since_now next (loop.stalls ++ entry ∷ []) (advances.history ∙ ap (λ xs. xs ++ entry ∷ []) loop.history ∙ append_assoc core.history loop.stalls (entry ∷ []))
+              ∙ sym (append_assoc since loop.stalls (entry ∷ [])) ∙ ap (λ xs. xs ++ entry ∷ []) (sym (since_now now loop.stalls loop.history)) in
+              subst (λ xs. AreGiven xs more) (sym since_then) (given_more (drop from now.history) entry lines more given added)
+
+          module _ (last : List (Putting (Outgoing A))) (put : IsPut entry.outputs after last) (used : next.stalls + 1 ≡ now.stalls) where
+            one_more : length (loop.stalls ++ entry ∷ []) ≡ length loop.stalls + 1
+            one_more = length-append loop.stalls (entry ∷ [])
 
             longer : length next.history ≡ length now.history + 1
-            longer = ap length advances.history ∙ length-append now.history (advances.entry ∷ [])
+            longer = ap length advances.history ∙ length-append now.history (entry ∷ [])
 
             -- what is put out to a line since, with this entry
-            more_out : (l : ℕ) → length (put_out_to l (since ++ (loop.stalls ++ advances.entry ∷ []))) ≡ length (put_out_to l (since ++ loop.stalls)) + length (to_line l told.outputs)
+            more_out : (l : ℕ) → length (put_out_to l (since ++ (loop.stalls ++ entry ∷ []))) ≡ length (put_out_to l (since ++ loop.stalls)) + length (to_line l entry.outputs)
             more_out l =
-                ap (λ xs. length (put_out_to l xs)) (sym (append_assoc since loop.stalls (advances.entry ∷ [])))
-                ∙ ap length (flat_map-append (λ (e : Entry A). to_line l e.outputs) (since ++ loop.stalls) (advances.entry ∷ []))
-                ∙ length-append (put_out_to l (since ++ loop.stalls)) (put_out_to l (advances.entry ∷ []))
-                ∙ ap (λ xs. length (put_out_to l (since ++ loop.stalls)) + length xs) (append-nil (to_line l advances.entry.outputs) ∙ ap (to_line l) (sym advances.outputs))
+                ap (λ xs. length (put_out_to l xs)) (sym (append_assoc since loop.stalls (entry ∷ [])))
+                ∙ ap length (flat_map-append (λ (e : Entry A). to_line l e.outputs) (since ++ loop.stalls) (entry ∷ []))
+                ∙ length-append (put_out_to l (since ++ loop.stalls)) (put_out_to l (entry ∷ []))
+                ∙ ap (λ xs. length (put_out_to l (since ++ loop.stalls)) + length xs) (append-nil (to_line l entry.outputs))
 
-            step_core : Step core.subs (take from core.history ++ (since ++ loop.stalls)) (world_of now) advances.entry (world_of next)
+            step_core : Step core.subs (take from core.history ++ (since ++ loop.stalls)) (world_of now) entry (world_of next)
             step_core =
                 let same : now.history ≡ take from core.history ++ (since ++ loop.stalls) =
                 loop.history ∙ ap (λ xs. xs ++ loop.stalls) (sym whole_is) ∙ append_assoc (take from core.history) since loop.stalls in
-                subst (λ xs. Step core.subs xs (world_of now) advances.entry (world_of next)) same
-                (subst (λ t. Step t now.history (world_of now) advances.entry (world_of next)) loop.subs advances.step)
+                subst (λ xs. Step core.subs xs (world_of now) entry (world_of next)) same
+                (subst (λ t. Step t now.history (world_of now) entry (world_of next)) loop.subs advances.step)
 
             stays_out : (l : ℕ) → is_off (state_at (world_of now) l) ≡ true → is_off (state_at (world_of next) l) ≡ true
-            stays_out = stays_off now.subs now.history (world_of now) advances.entry (world_of next) right_now advances.step what on
+            stays_out = stays_off now.subs now.history (world_of now) entry (world_of next) right_now advances.step what on
 
             comes_from : (l : ℕ) → is_off (state_at (world_of next) l) ≡ false → is_off (state_at (world_of now) l) ≡ false
-            comes_from = rises now.subs now.history (world_of now) advances.entry (world_of next) right_now advances.step what on
+            comes_from = rises now.subs now.history (world_of now) entry (world_of next) right_now advances.step what on
 
-            gone_now : is_off (state_at (world_of next) advances.entry.event.line) ≡ true
-            gone_now = off_after now.subs now.history (world_of now) advances.entry (world_of next) right_now advances.step what on
+            gone_now : is_off (state_at (world_of next) entry.event.line) ≡ true
+            gone_now = off_after now.subs now.history (world_of now) entry (world_of next) right_now advances.step what on
 
-            free_last : (l : ℕ) → (outbox_at last l).free ≡ (outbox_at after l).free - length (to_line l told.outputs)
+            free_last : (l : ℕ) → (outbox_at last l).free ≡ (outbox_at after l).free - length (to_line l entry.outputs)
             free_last l = ap (λ b. b.free) (put.each l)
 
             pub goes_on : Looping next last
             goes_on = record {
-              stalls = loop.stalls ++ advances.entry ∷ [];
+              stalls = loop.stalls ++ entry ∷ [];
               known = loop.known;
               lines = loop.lines;
               few_lines = loop.few_lines;
-              forced = stalls_push core.subs (take from core.history) (world_of core) loop.known since loop.stalls (world_of now) advances.entry (world_of next) loop.forced what
+              forced = stalls_push core.subs (take from core.history) (world_of core) loop.known since loop.stalls (world_of now) entry (world_of next) loop.forced what
                   (subst (IsLowestDue (world_of now) loop.known (since ++ loop.stalls)) (sym here) due_here) step_core;
-              moments = All-append is_at loop.stalls (advances.entry ∷ []) loop.moments
-                  (All-cons is_at advances.entry [] (ap (λ e. e.moment) advances.event_is) (All-nil is_at));
-              history = advances.history ∙ ap (λ xs. xs ++ advances.entry ∷ []) loop.history ∙ append_assoc core.history loop.stalls (advances.entry ∷ []);
+              moments = All-append is_at loop.stalls (entry ∷ []) loop.moments
+                  (All-cons is_at entry [] (ap (λ e. e.moment) advances.event_is) (All-nil is_at));
+              history = advances.history ∙ ap (λ xs. xs ++ entry ∷ []) loop.history ∙ append_assoc core.history loop.stalls (entry ∷ []);
               subs = advances.subs ∙ loop.subs;
+              handed_over = advances.given ∙ loop.handed_over;
+              waiting = advances.waiting ∙ ap (λ xs. xs ++ entry.records.items) loop.waiting ∙ append_assoc core.waiting (records_of loop.stalls) entry.records.items
+                  ∙ ap (λ xs. core.waiting ++ xs) (ap (λ xs. records_of loop.stalls ++ xs) (sym (append-nil entry.records.items))
+                  ∙ sym (flat_map-append (λ (e : Entry A). e.records.items) loop.stalls (entry ∷ [])));
               prepared = let all = loop.prepared in omega (arith, all, used, one_more);
               right =
                   subst (λ t. IsRight t (length next.history) (world_of next)) loop.subs
                   (subst (λ xs. IsRight now.subs (length xs) (world_of next)) (sym advances.history)
-                  (step_right now.subs now.history (world_of now) advances.entry (world_of next) right_now advances.step));
-              closed = closed_next now.subs now.history (world_of now) advances.entry (world_of next) right_now advances.step what on loop.lines loop.closed;
+                  (step_right now.subs now.history (world_of now) entry (world_of next) right_now advances.step));
+              closed = closed_next now.subs now.history (world_of now) entry (world_of next) right_now advances.step what on loop.lines loop.closed;
               goes = λ l some. elim (cases_lt 0 (length (put_out_to l (since ++ loop.stalls)))) [
                 | inl before ↦ loop.goes l before
                 | inr none ↦
-                    goes_among now.subs now.history (world_of now) advances.entry (world_of next) right_now advances.step what on loop.lines loop.closed
+                    goes_among now.subs now.history (world_of now) entry (world_of next) right_now advances.step what on loop.lines loop.closed
                     (subst (Among loop.lines) (sym here) among) l
-                    (subst (λ os. 0 < length (to_line l os)) advances.outputs (omega (arith, some, none, more_out l)))
+                    (omega (arith, some, none, more_out l))
               ];
               left =
-                  let less = one_less (world_of now) (world_of next) stays_out loop.lines advances.entry.event.line on gone_now (subst (Among loop.lines) (sym here) among) in
+                  let less = one_less (world_of now) (world_of next) stays_out loop.lines entry.event.line on gone_now (subst (Among loop.lines) (sym here) among) in
                   let most = loop.left in
                   omega (arith, less, most, one_more);
-              gone = each_push (λ l. is_off (state_at (world_of next) l) ≡ true) loop.stalls advances.entry
+              gone = each_push (λ l. is_off (state_at (world_of next) l) ≡ true) loop.stalls entry
                   (each_weaker (λ l. is_off (state_at (world_of now) l) ≡ true) (λ l. is_off (state_at (world_of next) l) ≡ true) stays_out loop.stalls loop.gone) gone_now;
               journal = let enough = loop.journal in omega (arith, enough, longer, one_more);
               places = λ l up_now.
@@ -339,11 +369,11 @@ module _ {A : Type 0} (core : Exchange A) (from moment : ℕ) (outboxes : List (
               queues = λ l. ap (λ b. b.queue) (put.each l) ∙ loop.queues l;
               capacities = λ l. ap (λ b. b.capacity) (put.each l) ∙ loop.capacities l;
               put = λ l.
-                  ap (λ b. b.put) (put.each l) ∙ ap (λ xs. xs ++ to_line l told.outputs) (loop.put l)
-                  ∙ append_assoc (outbox_at outboxes l).put (put_out_to l loop.stalls) (to_line l told.outputs)
+                  ap (λ b. b.put) (put.each l) ∙ ap (λ xs. xs ++ to_line l entry.outputs) (loop.put l)
+                  ∙ append_assoc (outbox_at outboxes l).put (put_out_to l loop.stalls) (to_line l entry.outputs)
                   ∙ ap (λ xs. (outbox_at outboxes l).put ++ xs)
-                  (ap (λ xs. put_out_to l loop.stalls ++ xs) (ap (to_line l) advances.outputs ∙ sym (append-nil (to_line l advances.entry.outputs)))
-                  ∙ sym (flat_map-append (λ (e : Entry A). to_line l e.outputs) loop.stalls (advances.entry ∷ [])));
+                  (ap (λ xs. put_out_to l loop.stalls ++ xs) (sym (append-nil (to_line l entry.outputs)))
+                  ∙ sym (flat_map-append (λ (e : Entry A). to_line l e.outputs) loop.stalls (entry ∷ [])));
               free = λ l. let was = loop.free l in let fits = room l in omega (arith, was, fits, free_last l, more_out l);
               least = loop.least;
             }

@@ -31,15 +31,17 @@ module _ {A : Type 0} where
     pub queues_same : queues new.outboxes ≡ queues old.outboxes
     pub history : new.history ≡ old.history
     pub subs : new.subs ≡ old.subs
+    pub given : new.given ≡ old.given
 
   all_left : (old new : CoreWithOutboxes A) → new ≡ old → IsLeft old new
-  all_left old new same = record { queues_same = ap (λ s. queues s.outboxes) same; history = ap (λ s. s.history) same; subs = ap (λ s. s.subs) same }
+  all_left old new same = record { queues_same = ap (λ s. queues s.outboxes) same; history = ap (λ s. s.history) same; subs = ap (λ s. s.subs) same; given = ap (λ s. s.given) same }
 
   looked_left : (old new : CoreWithOutboxes A) (up : Bool) (line : ℕ) → new ≡ record old { outboxes = new.outboxes } → LooksIf up line old.outboxes new.outboxes → IsLeft old new
   looked_left old new up line same looks = record {
     queues_same = same_queues old.outboxes new.outboxes (as_many up line old.outboxes new.outboxes looks) (λ other. (alike up line old.outboxes new.outboxes looks other).queue);
     history = ap (λ s. s.history) same;
     subs = ap (λ s. s.subs) same;
+    given = ap (λ s. s.given) same;
   }
 
   pub queues_left : (old : CoreWithOutboxes A) (event : Event A) (fault : OfferFault A) (new : CoreWithOutboxes A) → Refuses old event fault new → IsLeft old new

@@ -1,6 +1,7 @@
 -- A look before an Up.
 use Rattle.std.proofs.Common.{◌≡◌, ℕ, ◌≤◌, Bool, true, false, List, ◌∷◌, ◌++◌, length, sym, refl, ap, ◌∙◌, subst, inl, inr, arith}
 use Rattle.std.proofs.lemmas.Bool.{cases_eq}
+use Rattle.xp_charge.specs.declared.record.Record.{Record}
 use Rattle.xp_outbox.specs.Ends.{Putting}
 use Rattle.xp_subs.specs.Tables.{Tables}
 use Rattle.xp_core.specs.declared.entry.Entry.{Entry}
@@ -65,11 +66,11 @@ module _ {A : Type 0} where
       }
 
   -- what a take does since the look, it does since before
-  pub takes_ready : (subs : Tables) (history : List (Entry A)) (halted up : Bool) (line : ℕ) (outboxes after : List (Putting (Outgoing A))) (event : Event A) (done : Receipt) (new : CoreWithOutboxes A)
+  pub takes_ready : (subs : Tables) (history : List (Entry A)) (handed waiting : List Record) (halted up : Bool) (line : ℕ) (outboxes after : List (Putting (Outgoing A))) (event : Event A) (done : Receipt) (new : CoreWithOutboxes A)
       → LooksIf up line outboxes after
-      → Takes (record { subs = subs; history = history; outboxes = after; halted = halted }) event done new
-      → Takes (record { subs = subs; history = history; outboxes = outboxes; halted = halted }) event done new
-  takes_ready subs history halted up line outboxes after event done new looks takes = record {
+      → Takes (record { subs = subs; history = history; given = handed; waiting = waiting; outboxes = after; halted = halted }) event done new
+      → Takes (record { subs = subs; history = history; given = handed; waiting = waiting; outboxes = outboxes; halted = halted }) event done new
+  takes_ready subs history handed waiting halted up line outboxes after event done new looks takes = record {
     running = takes.running;
     places = takes.places;
     entry = takes.entry;
@@ -93,6 +94,8 @@ module _ {A : Type 0} where
     room = takes.room;
     subs = takes.subs;
     halted = takes.halted;
+    handed_over = takes.handed_over;
+    waiting = takes.waiting;
     number = takes.number;
     records = takes.records;
     connection = takes.connection;

@@ -5,15 +5,12 @@ use Rattle.std.proofs.Math.Seq.{take-append_seam}
 use Rattle.std.proofs.lemmas.Bool.{cases_eq, cases_lt}
 use Rattle.std.proofs.lemmas.Grind.{flat_map-append}
 use Rattle.std.proofs.lemmas.List.{get_or-replicate, get_or-set_other, get_or-set_same, get_or_past, length-replicate}
-use Rattle.std.proofs.lemmas.List.Elements.{All-append, All-cons, All-head, All-nil, All-tail}
+use Rattle.std.proofs.lemmas.List.Elements.{All-cons, All-head, All-nil, All-tail}
 use Rattle.std.specs.Prelude.{◌||◌, min, replicate, take}
 use mathlib.Core.List.{IsPrefix}
-use Rattle.xp_charge.specs.Lines.{HasLines as NamesLines}
 use Rattle.xp_subs.specs.Tables.{Tables, line_count}
 use Rattle.xp_core.specs.declared.entry.Entry.{Entry}
 use Rattle.xp_core.specs.OutputsPerLine.{AreFew}
-use Rattle.xp_core.specs.Lines.{HasLines}
-use Rattle.xp_core.specs.Records.{records_of}
 use Rattle.xp_core.specs.Run.{Run}
 use Rattle.xp_core.specs.Step.{Step}
 use Rattle.xp_machine.specs.World.{World, opening}
@@ -71,12 +68,12 @@ module _ {A : Type 0} where
       omega (arith, all, joined)
 
   -- so a number holds the count
-  pub can_count : (tables : Tables) (history : List (Entry A)) (world : World) (pass : Pass A) → Run tables history world → length history ≤ tables.journal → tables.journal < 2 ^ 32
+  pub can_count : (tables : Tables) (history : List (Entry A)) (world : World) (pass : Pass A) → Run tables history world → length history ≤ 2 ^ 59
       → IsPrefix pass.taken (put_out_to pass.line history) → length pass.taken < 2 ^ 64
-  can_count tables history world pass run few most front =
+  can_count tables history world pass run few front =
       let taken = few_taken history pass front in
       let put = few_put tables history world run pass.line in
-      omega (arith, taken, put, few, most)
+      omega (arith, taken, put, few)
 
 -- ---- the counts by line
 
@@ -141,11 +138,3 @@ module _ {A : Type 0} where
       All-cons (IsCounted book) pass passes
       (counted_one book pass (All-head (PassMatches book.history) pass passes told) (All-head (IsNoted book.taken) pass passes noted))
       (counted_all book passes (All-tail (PassMatches book.history) pass passes told) (All-tail (IsNoted book.taken) pass passes noted))
-
-  -- ---- the lines that records name
-
-  pub records_named : (lines : ℕ) (history : List (Entry A)) → All (HasLines lines) history → All (NamesLines lines) (records_of history)
-  records_named lines [] named = All-nil (NamesLines lines)
-  records_named lines (entry ∷ entries) named =
-      All-append (NamesLines lines) entry.records.items (records_of entries) (All-head (HasLines lines) entry entries named).records
-      (records_named lines entries (All-tail (HasLines lines) entry entries named))

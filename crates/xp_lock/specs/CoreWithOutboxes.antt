@@ -1,6 +1,7 @@
 -- The exchange with its outboxes (`CoreWithOutboxes`), what it does as it takes an event (`Takes`), and when it refuses one
 -- (`Refuses`).
 use Rattle.std.specs.Prelude.{◌≡◌, ℕ, ◌+◌, ◌<◌, ◌≤◌, Bool, true, false, List, ◌∷◌, ◌++◌, length}
+use Rattle.xp_charge.specs.declared.record.Record.{Record}
 use Rattle.xp_outbox.specs.Ends.{Putting}
 use Rattle.xp_subs.specs.Tables.{Tables}
 use Rattle.xp_core.specs.declared.entry.Entry.{Entry}
@@ -19,10 +20,13 @@ use Rattle.xp_lock.specs.Forced.{Forces}
 use Rattle.xp_lock.specs.Given.{AreGiven}
 use Rattle.xp_lock.specs.Outgoing.{put_out_to}
 
--- the subscriptions, the history, the put ends of the outboxes, and whether it refuses every event
+-- the subscriptions, the history, the records that were handed over and those that wait, the put ends of the outboxes, and
+-- whether it refuses every event
 pub record CoreWithOutboxes (A : Type 0) : Type 0 where
   pub subs : Tables
   pub history : List (Entry A)
+  pub given : List Record
+  pub waiting : List Record
   -- by line
   pub outboxes : List (Putting (Outgoing A))
   pub halted : Bool
@@ -68,6 +72,9 @@ module _ {A : Type 0} where
     pub room : is_up event.what ≡ true → PLACES_KEPT ≤ known event.line
     pub subs : new.subs ≡ old.subs
     pub halted : new.halted ≡ false
+    -- the records of these entries wait until they are handed over
+    pub handed_over : new.given ≡ old.given
+    pub waiting : new.waiting ≡ old.waiting ++ records_of (entry ∷ stalls)
     -- the receipt is this
     pub number : done.entry ≡ entry.number
     pub records : done.records ≡ length (records_of new.history)

@@ -1,5 +1,5 @@
 -- The lines to which some entries put something out (`AreGiven`).
-use Rattle.std.specs.Prelude.{◌≡◌, ◌↔◌, ◌⊎◌, ℕ, ◌<◌, ◌≤◌, ◌==◌, ◌||◌, Bool, true, false, List, [], ◌∷◌, length}
+use Rattle.std.specs.Prelude.{◌≡◌, ◌↔◌, ℕ, ◌<◌, ◌==◌, ◌||◌, Bool, true, false, List, [], ◌∷◌, length}
 use Rattle.xp_core.specs.declared.entry.Entry.{Entry}
 use Rattle.xp_lock.specs.Outgoing.{put_out_to}
 

@@ -1,5 +1,5 @@
 -- The parts of an exchange before it starts (`Prepared`), and the passes that it starts with (`AreFirst`).
-use Rattle.std.specs.Prelude.{◌≡◌, ℕ, ◌<◌, List, [], All, Some, length, map, slice_get}
+use Rattle.std.specs.Prelude.{◌≡◌, ℕ, ◌<◌, List, [], Some, length, slice_get}
 use Rattle.atomic_table.specs.Seated.{TableId}
 use Rattle.xp_subs.specs.Tables.{Tables}
 use Rattle.xp_lock.specs.Passes.{Pass}

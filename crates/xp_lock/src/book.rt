@@ -1,6 +1,6 @@
 //! The book of a closed exchange.
 
-ghost use Rattle.std.specs.Prelude.{◌≡◌, ◌≤◌, All, length};
+ghost use Rattle.std.specs.Prelude.{◌≡◌, ◌≤◌, [], All, length};
 ghost use Rattle.xp_charge.specs.Lines.{HasLines as NamesLines};
 ghost use Rattle.xp_subs.specs.Tables.{line_count};
 ghost use Rattle.xp_core.specs.Agreed.{AllHaveTerms};
@@ -22,7 +22,7 @@ ghost use Rattle.xp_lock.specs.Outgoing.{put_out_to};
 use std::alloc::{Allocator, Global};
 use std::marker::Model;
 use xp_charge::Record;
-use xp_core::{Core, Entry};
+use xp_core::Core;
 use xp_machine::LineView;
 use xp_subs::{LineNo, Subs};
 
@@ -34,6 +34,7 @@ pub struct Book<A: Allocator = Global> {
 }
 
 impl<A: Allocator> Model for Book<A> {
+    ghost use Rattle.std.specs.Prelude.{◌≡◌, []};
     ghost use Rattle.xp_lock.specs.Closing.{Closed};
 
     ghost Value = { Closed A };
@@ -42,24 +43,25 @@ impl<A: Allocator> Model for Book<A> {
 
     ghost view = { λ b. record { subs = b.core.subs; history = b.core.history; taken = b.taken.items } };
 
-    ghost invariant = { λ b. AreWithin b.taken.items b.core.history };
+    ghost invariant = { λ b. AreWithin b.taken.items b.core.history × (b.core.given ≡ []) };
 }
 
 impl<A: Allocator> Book<A> {
     /// The book of this core, with the counts of the outputs that the lines took, by line.
     pub(crate) fn new(core: Core<A>, taken: Vec<u64, A>) -> Book<A>
-        requires { AreWithin taken.items core.history }
+        requires within { AreWithin taken.items core.history }
+        requires given { core.given ≡ [] }
         ensures { result ≡ record { subs = core.subs; history = core.history; taken = taken.items } }
     {
         Book { core, taken }
     }
 
-    /// Returns all entries of the history, a run of the exchange machine that leads to the last state. Each packet that an
-    /// entry puts out can be encoded by the modulus of its line, and each line that an entry names is one of the
+    /// Returns how many entries the history has. It is a run of the exchange machine that leads to the last state. Each packet
+    /// that an entry puts out can be encoded by the modulus of its line, and each line that an entry names is one of the
     /// subscriptions. Closed user groups let the stations of each live call, and of each line that a call was ever put to,
     /// be joined. The sizes of each live call are in their ranges, and what a connected call accepts arrives.
-    pub fn history(&self) -> &[Entry<A>]
-        ensures entries { result.now ≡ self.now.history }
+    pub fn count(&self) -> u64
+        ensures count { result ≡ length self.now.history }
         ensures run { Run self.now.subs self.now.history (world_after self.now.subs self.now.history) }
         ensures writable { All (λ entry. AreWritable self.now.subs entry.outputs) self.now.history }
         ensures lines { All (HasLines (line_count self.now.subs)) self.now.history }
@@ -67,7 +69,7 @@ impl<A: Allocator> Book<A> {
         ensures terms { AllHaveTerms self.now.subs (world_after self.now.subs self.now.history) }
         ensures delivered { AreDelivered self.now.subs self.now.history (world_after self.now.subs self.now.history) }
     {
-        self.core.history()
+        self.core.count()
     }
 
     /// Returns the charging records, in the order in which the calls ended: one for each call that ended, and no other. They
@@ -77,9 +79,14 @@ impl<A: Allocator> Book<A> {
         ensures one_each { OneRecordEach self.now.subs self.now.history (world_after self.now.subs self.now.history) }
         ensures lines { All (NamesLines (line_count self.now.subs)) result.now }
     {
-        let core = &self.core;
-        let _entries = core.history();
-        core.records()
+        self.core.records()
+    }
+
+    /// Returns how many charging records the history has.
+    pub fn record_count(&self) -> u64
+        ensures { result ≡ length (records_of self.now.history) }
+    {
+        self.core.record_count()
     }
 
     /// Returns the last state of a line.

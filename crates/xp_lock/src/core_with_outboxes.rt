@@ -1,6 +1,6 @@
 //! The serial exchange with the outboxes of its lines. It enters one event at a time, with the stalls that the event forces.
 
-ghost use Rattle.std.specs.Prelude.{◌≡◌, ◌+◌, ◌<◌, ◌≤◌, true, false, IfOk, IfErr, length};
+ghost use Rattle.std.specs.Prelude.{◌≡◌, ◌+◌, ◌<◌, true, false, IfOk, IfErr};
 ghost use Rattle.xp_subs.specs.Tables.{line_count};
 ghost use Rattle.xp_core.specs.Exchange.{IsReadable};
 ghost use Rattle.xp_lock.specs.Outboxes.{HaveCapacity};
@@ -18,7 +18,7 @@ use std::sync::Wait;
 use xp_core::{Core, Event, What};
 
 /// How many places of the history must be left: one for the event, and three for the stalls that it may force.
-const PLACES_FOR_AN_EVENT: usize = 4;
+const PLACES_FOR_AN_EVENT: u64 = 4;
 
 /// The serial exchange, the put ends of its lines' outboxes, and whether it refuses every event.
 #[derive(Drop)]
@@ -35,7 +35,7 @@ impl<A: Allocator> Model for CoreWithOutboxes<A> {
 
     ghost use Rattle.xp_lock.specs.steps.Outboxes.{OutboxesMatch};
 
-    ghost view = { λ s. record { subs = s.core.subs; history = s.core.history; outboxes = s.outboxes.items; halted = s.halted } };
+    ghost view = { λ s. record { subs = s.core.subs; history = s.core.history; given = s.core.given; waiting = s.core.waiting; outboxes = s.outboxes.items; halted = s.halted } };
 
     ghost invariant = { λ s. OutboxesMatch s.core.subs s.core.history s.outboxes.items };
 }
@@ -51,7 +51,7 @@ impl<A: Allocator + Copy> CoreWithOutboxes<A> {
     /// The exchange of this core and these outboxes. It is not halted.
     pub fn new(core: Core<A>, outboxes: Vec<OutboxPutEnd<A>, A>) -> CoreWithOutboxes<A>
         requires { OutboxesMatch core.subs core.history outboxes.items }
-        ensures { result ≡ record { subs = core.subs; history = core.history; outboxes = outboxes.items; halted = false } }
+        ensures { result ≡ record { subs = core.subs; history = core.history; given = core.given; waiting = core.waiting; outboxes = outboxes.items; halted = false } }
     {
         CoreWithOutboxes {
             core,
@@ -84,7 +84,7 @@ impl<A: Allocator + Copy> CoreWithOutboxes<A> {
         if self.halted {
             return Err(OfferFault::Halted(event));
         }
-        if self.core.history().len() + PLACES_FOR_AN_EVENT > self.core.subs().journal() as usize {
+        if self.core.count() + PLACES_FOR_AN_EVENT > self.core.subs().journal() {
             return Err(OfferFault::JournalFull(event));
         }
         let up = comes_up(&event.what);
@@ -107,6 +107,8 @@ impl<A: Allocator + Copy> CoreWithOutboxes<A> {
     pub fn into_parts(self) -> (Core<A>, Vec<OutboxPutEnd<A>, A>)
         ensures subs { result.0.subs ≡ self.subs }
         ensures history { result.0.history ≡ self.history }
+        ensures given { result.0.given ≡ self.given }
+        ensures waiting { result.0.waiting ≡ self.waiting }
         ensures outboxes { result.1.items ≡ self.outboxes }
         ensures kept { OutboxesMatch self.subs self.history self.outboxes }
     {

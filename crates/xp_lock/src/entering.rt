@@ -8,12 +8,13 @@ ghost use Rattle.xp_lock.specs.steps.Stalling.{CanEnter, with_outboxes};
 ghost use Rattle.xp_lock.specs.CoreWithOutboxes.{Takes};
 
 use crate::fault::OfferFault;
-use crate::outboxes::{OutboxPutEnd, put_all};
+use crate::given::GivenLines;
+use crate::outboxes::{OutboxPutEnd, put_out};
 use crate::receipt::Receipt;
 use crate::stalling::stall_all;
 use std::alloc::Allocator;
 use std::sync::Wait;
-use xp_core::{Core, Event, StepFault};
+use xp_core::{Core, Entry, Event, StepFault};
 
 /// Enters an event, puts its outputs into the outboxes, and enters the stalls that it forces, at its moment. The stalls are prepared
 /// first, so that nothing can fail once the event is entered.
@@ -37,15 +38,20 @@ pub fn enter<A: Allocator + Copy, R: Wait>(
     }
     let line = event.line;
     let moment = event.moment;
-    let from = core.history().len();
+    let from = core.count();
     let _coupled = core.line(line);
-    let told = match core.step(event) {
-        Ok(told) => told,
+    let Entry {
+        number,
+        outputs,
+        ..
+    } = match core.step(event) {
+        Ok(entry) => entry,
         Err(StepFault::Memory(event) | StepFault::JournalFull(event)) => return Err(
             OfferFault::Memory(event),
         ),
     };
-    put_all(rt, outboxes, told.outputs);
-    stall_all(rt, core, outboxes, from, moment);
-    Ok(Receipt::new(told.entry, core, line, from))
+    let mut given = GivenLines::new();
+    put_out(rt, core, outboxes, &mut given, outputs);
+    stall_all(rt, core, outboxes, &mut given, from, moment);
+    Ok(Receipt::new(number, core, line, given))
 }

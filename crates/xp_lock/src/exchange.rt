@@ -164,7 +164,7 @@ impl<N: Name, A: Allocator + Copy> Exchange<N, A> {
             taken,
         } = self;
         let book = lock.into_inner().close(rt, &history_length, passes, taken);
-        let _legal = book.history();
+        let _legal = book.count();
         Ok(book)
     }
 }

@@ -221,7 +221,7 @@ impl<A: Allocator> HistoryLength<A> {
         ensures history_length { keeper.new.history_length ≡ keeper.old.history_length }
         ensures shown { IsPublished core.now.history keeper.old.knows keeper.new.knows }
     {
-        let count = core.history().len() as u64;
+        let count = core.count();
         self.table
             .shared
             .compare_exchange_with::<PublishHistory>(&mut keeper.seat, 0, before, count, core);

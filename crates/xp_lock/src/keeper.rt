@@ -1,6 +1,6 @@
 //! What the lock protects.
 
-ghost use Rattle.std.specs.Prelude.{◌≡◌, ◌<◌, ◌^◌, ◌∷◌, false, true, IfOk, IfErr, OnErr, OnOk, length, map, replicate};
+ghost use Rattle.std.specs.Prelude.{◌≡◌, ◌<◌, ◌^◌, [], ◌∷◌, false, true, IfOk, IfErr, OnErr, OnOk, length, map, replicate};
 ghost use mathlib.Core.List.{IsPrefix};
 ghost use Rattle.xp_subs.specs.Tables.{line_count};
 ghost use Rattle.xp_core.specs.Exchange.{IsReadable};
@@ -35,7 +35,7 @@ pub struct Keeper<N: Name, A: Allocator = Global> {
 }
 
 impl<N: Name, A: Allocator> Model for Keeper<N, A> {
-    ghost use Rattle.std.specs.Prelude.{◌≡◌, map};
+    ghost use Rattle.std.specs.Prelude.{◌≡◌, [], map};
     ghost use Rattle.xp_subs.specs.Tables.{line_count};
     ghost use Rattle.xp_lock.specs.CoreWithOutboxes.{CoreWithOutboxes as Seen};
 
@@ -45,7 +45,7 @@ impl<N: Name, A: Allocator> Model for Keeper<N, A> {
 
     ghost view = { λ k. k.core_with_outboxes };
 
-    ghost invariant = { λ k. (k.history_seat.history_length ≡ N.history_length) × (k.history_seat.knows ≡ keeping (line_count N.subs) k.core_with_outboxes.history) × (k.core_with_outboxes.subs ≡ N.subs) × (map (λ b. b.queue) k.core_with_outboxes.outboxes ≡ N.queues) };
+    ghost invariant = { λ k. (k.history_seat.history_length ≡ N.history_length) × (k.history_seat.knows ≡ keeping (line_count N.subs) k.core_with_outboxes.history) × (k.core_with_outboxes.subs ≡ N.subs) × (map (λ b. b.queue) k.core_with_outboxes.outboxes ≡ N.queues) × (k.core_with_outboxes.given ≡ []) };
 }
 
 impl<N: Name, A: Allocator + Copy> Keeper<N, A> {
@@ -58,6 +58,7 @@ impl<N: Name, A: Allocator + Copy> Keeper<N, A> {
         requires knows { history_seat.knows ≡ keeping (line_count N.subs) core_with_outboxes.history }
         requires subs { core_with_outboxes.subs ≡ N.subs }
         requires queues { map (λ b. b.queue) core_with_outboxes.outboxes ≡ N.queues }
+        requires given { core_with_outboxes.given ≡ [] }
         ensures { result ≡ core_with_outboxes }
     {
         Keeper {
@@ -100,10 +101,10 @@ impl<N: Name, A: Allocator + Copy> Keeper<N, A> {
         ensures capacities { HaveCapacity (line_count N.subs) self.new.outboxes }
     {
         let _line = pass.line;
-        let before = self.core_with_outboxes.core().history().len() as u64;
+        let before = self.core_with_outboxes.core().count();
         let done = self.core_with_outboxes.take(rt, event)?;
         let core = self.core_with_outboxes.core();
-        let _legal = core.history();
+        let _legal = core.count();
         history_length.refresh(&mut self.history_seat, &mut pass.history_seat, core, before);
         Ok(done)
     }
@@ -134,8 +135,7 @@ impl<N: Name, A: Allocator + Copy> Keeper<N, A> {
         let mut history_seat = history_seat;
         let mut outboxes = outboxes;
         let mut taken = zeros;
-        let _entries = core.history();
-        let _most = core.subs().journal();
+        let _entries = core.count();
         for pass in passes {
             let at = pass.line as usize;
             taken[at] = compare_pass(rt, history_length, &mut history_seat, &mut outboxes, pass);

@@ -1,13 +1,16 @@
 //! The put ends of the lines' outboxes: what puts outputs into them, and what looks at their free places.
 
 ghost use Rattle.std.specs.Prelude.{◌≡◌, ◌<◌, ◌≤◌, true, false, [], ◌∷◌, length, slice_set};
+ghost use Rattle.xp_lock.specs.Given.{AreApart};
+ghost use Rattle.xp_lock.specs.steps.Given.{AddFew, AreAdded};
 ghost use Rattle.xp_lock.specs.Outboxes.{IsLookedAt, LooksIf, PLACES_KEPT, outbox_at};
 ghost use Rattle.xp_lock.specs.steps.Outboxes.{HasRoomFor, IsPut, with_items};
 
+use crate::given::{GivenLines, add_lines};
 use std::alloc::Allocator;
 use std::sync::Wait;
 use std::thread;
-use xp_core::{Outgoing, Output, Outputs};
+use xp_core::{Core, Outgoing, Output, Outputs};
 use xp_outbox::PutEnd;
 use xp_subs::LineNo;
 
@@ -29,18 +32,40 @@ fn put_one<A: Allocator, R: Wait>(rt: &R, outboxes: &mut Vec<OutboxPutEnd<A>, A>
     outboxes[at].put(rt, output.outgoing);
 }
 
-/// Puts each output into the outbox of its line, in order.
-pub fn put_all<A: Allocator, R: Wait>(
+/// Puts each output into the outbox of its line, in order. Returns the list without them, which keeps its memory.
+fn put_all<A: Allocator, R: Wait>(
     rt: &R,
     outboxes: &mut Vec<OutboxPutEnd<A>, A>,
     outputs: Outputs<A>,
-)
+) -> Outputs<A>
     requires { HasRoomFor outputs outboxes.old.items }
     ensures { IsPut outputs outboxes.old.items outboxes.new.items }
 {
-    for output in outputs.into_items() {
+    let mut left = outputs;
+    while let Some(output) = left.take_first() {
         put_one(rt, outboxes, output);
     }
+    left
+}
+
+/// Puts the outputs of an entry into the outboxes, and adds their lines to those that were given something. The exchange
+/// gets the memory of the outputs back.
+pub fn put_out<A: Allocator + Copy, R: Wait>(
+    rt: &R,
+    core: &mut Core<A>,
+    outboxes: &mut Vec<OutboxPutEnd<A>, A>,
+    given: &mut GivenLines,
+    outputs: Outputs<A>,
+)
+    requires room { HasRoomFor outputs outboxes.old.items }
+    requires few { AddFew given.old.items outputs }
+    requires once { AreApart given.old.items }
+    ensures core { core.new ≡ core.old }
+    ensures outboxes { IsPut outputs outboxes.old.items outboxes.new.items }
+    ensures given { AreAdded given.old.items outputs given.new.items }
+{
+    add_lines(given, outputs.as_slice());
+    core.keep_memory(put_all(rt, outboxes, outputs));
 }
 
 /// Whether an event of this line may be entered. An event that is no Up always may. For an Up it looks at the free places

@@ -38,7 +38,7 @@ impl<A: Allocator> Model for PreparedExchange<A> {
 
     ghost view = { λ b. record { subs = b.core.subs; history_length = b.history_length; queues = map (λ box. box.queue) b.outboxes.items } };
 
-    ghost invariant = { λ b. (b.core.history ≡ []) × (b.history_seat ≡ record { history_length = b.history_length; knows = keeping 0 [] }) × OutboxesMatch b.core.subs [] b.outboxes.items × (map (λ end. end.queue) b.ends.items ≡ map (λ box. box.queue) b.outboxes.items) × All (λ end. end.taken ≡ []) b.ends.items × (b.lines ≡ line_count b.core.subs) × (line_count b.core.subs ≤ 512) × (length b.ends.items ≡ line_count b.core.subs) × (b.taken.items ≡ replicate (line_count b.core.subs) 0) };
+    ghost invariant = { λ b. (b.core.history ≡ []) × (b.core.given ≡ []) × (b.history_seat ≡ record { history_length = b.history_length; knows = keeping 0 [] }) × OutboxesMatch b.core.subs [] b.outboxes.items × (map (λ end. end.queue) b.ends.items ≡ map (λ box. box.queue) b.outboxes.items) × All (λ end. end.taken ≡ []) b.ends.items × (b.lines ≡ line_count b.core.subs) × (line_count b.core.subs ≤ 512) × (length b.ends.items ≡ line_count b.core.subs) × (b.taken.items ≡ replicate (line_count b.core.subs) 0) };
 }
 
 /// Makes the parts of an exchange of these subscriptions: an exchange with an empty history, and an empty outbox with 64

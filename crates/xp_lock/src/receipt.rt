@@ -1,14 +1,12 @@
 //! The result of accepting an event.
 
-ghost use Rattle.std.specs.Prelude.{◌≡◌, ◌<◌, ◌≤◌, drop, length};
+ghost use Rattle.std.specs.Prelude.{◌≡◌, ◌<◌, length};
 ghost use Rattle.xp_subs.specs.Tables.{line_count};
 ghost use Rattle.xp_core.specs.Exchange.{world_of};
 ghost use Rattle.xp_core.specs.Records.{records_of};
 ghost use Rattle.xp_machine.specs.World.{line_at};
-ghost use Rattle.xp_lock.specs.Given.{AreGiven};
-ghost use Rattle.xp_lock.specs.steps.Given.{IsGivenToFew};
 
-use crate::given::{GivenLines, given_lines};
+use crate::given::GivenLines;
 use std::alloc::Allocator;
 use xp_core::Core;
 use xp_subs::LineNo;
@@ -17,33 +15,31 @@ use xp_subs::LineNo;
 #[derive(Debug, Drop)]
 pub struct Receipt {
     entry: u64,
-    records: usize,
+    records: u64,
     connection: u64,
     given: GivenLines,
 }
 
 impl Receipt {
-    /// The receipt of an event of this line. Its entry has this number and stands behind this many entries. The stalls that
-    /// it forced stand behind it.
+    /// The receipt of an event of this line, as it and the stalls that it forced are entered. Its entry has this number, and
+    /// something was put out to these lines.
     pub(crate) fn new<A: Allocator>(
         entry: u64,
         core: &Core<A>,
         line: LineNo,
-        before: usize,
+        given: GivenLines,
     ) -> Receipt
         requires line { line < line_count core.now.subs }
-        requires before { before ≤ length core.now.history }
-        requires few { IsGivenToFew (drop before core.now.history) }
         ensures entry { result.entry ≡ entry }
         ensures records { result.records ≡ length (records_of core.now.history) }
         ensures connection { result.connection ≡ (line_at (world_of core.now) line).connection }
-        ensures given { AreGiven (drop before core.now.history) result.given.items }
+        ensures given { result.given.items ≡ given.items }
     {
         Receipt {
             entry,
-            records: core.records().len(),
+            records: core.record_count(),
             connection: core.line(line).connection,
-            given: given_lines(&core.history()[before..]),
+            given,
         }
     }
 
@@ -55,7 +51,7 @@ impl Receipt {
     }
 
     /// Returns how many charging records the history has.
-    pub fn records(&self) -> usize
+    pub fn records(&self) -> u64
         ensures { result ≡ self.now.records }
     {
         self.records

@@ -1,60 +1,65 @@
 //! The stalls that an event forces: a line in service that takes its outputs too slowly goes out of service.
 
-ghost use Rattle.std.specs.Prelude.{ℕ, ◌≡◌, ◌+◌, ◌<◌, ◌≤◌, true, false, All, IfNone, IfSome, length, slice_set};
+ghost use Rattle.std.specs.Prelude.{ℕ, ◌≡◌, ◌+◌, ◌<◌, ◌≤◌, true, false, IfNone, IfSome, drop, length, slice_set};
 ghost use Rattle.xp_subs.specs.Tables.{line_count};
 ghost use Rattle.xp_machine.specs.Channel.{is_off as is_off_at};
 ghost use Rattle.xp_core.specs.Exchange.{Advances, world_of};
 ghost use Rattle.xp_core.specs.steps.Stalls.{stall_of};
 ghost use Rattle.xp_machine.specs.World.{state_at};
+ghost use Rattle.xp_lock.specs.Given.{AreGiven};
 ghost use Rattle.xp_lock.specs.Outboxes.{outbox_at};
 ghost use Rattle.xp_lock.specs.steps.Outboxes.{IsAlike};
 ghost use Rattle.xp_lock.specs.steps.Stalling.{HasEntered, HasStalled, HaveRoom, IsLowestShort, IsSearched, IsShort};
 
-use crate::given::is_given;
-use crate::outboxes::{LEAST_PLACES, OutboxPutEnd, look_at, put_all};
+use crate::given::{GivenLines, is_there};
+use crate::outboxes::{LEAST_PLACES, OutboxPutEnd, look_at, put_out};
 use std::alloc::Allocator;
 use std::sync::Wait;
 use xp_channel::Channel;
-use xp_core::{Core, Entry, Event, Output, Stepped, What};
+use xp_core::{Core, Entry, Event, What};
 use xp_subs::LineNo;
 
 /// Stalls the lines that are due at this moment, the lowest first, until none is due. The stalls are prepared, so they
-/// allocate nothing.
+/// allocate nothing. The entries from this place on put something out to the given lines.
 pub fn stall_all<A: Allocator + Copy, R: Wait>(
     rt: &R,
     core: &mut Core<A>,
     outboxes: &mut Vec<OutboxPutEnd<A>, A>,
-    from: usize,
+    given: &mut GivenLines,
+    from: u64,
     moment: u64,
 )
     requires entered { HasEntered core.old from outboxes.old.items }
     requires prepared { 3 ≤ core.old.stalls }
-    ensures { HasStalled core.old from moment outboxes.old.items core.new outboxes.new.items }
+    requires given { AreGiven (drop from core.old.history) given.old.items }
+    ensures stalled { HasStalled core.old from moment outboxes.old.items core.new outboxes.new.items }
+    ensures given { AreGiven (drop from core.new.history) given.new.items }
 {
-    while let Some(line) = due_line(rt, core, outboxes, from) {
-        let told = stall(core, line, moment);
-        put_all(rt, outboxes, told.outputs);
+    while let Some(line) = due_line(rt, core, outboxes, given.as_slice(), from) {
+        let Entry { outputs, .. } = stall(core, line, moment);
+        put_out(rt, core, outboxes, given, outputs);
     }
 }
 
-/// Returns the lowest line that the entries from this place on make due to be stalled. Nearly always each line to which they
-/// put something out is known to have its 24 free places. Then it goes through no lines.
+/// Returns the lowest line that the entries from this place on make due to be stalled. They put something out to the given
+/// lines. Nearly always each of these is known to have its 24 free places. Then it goes through no others.
 fn due_line<A: Allocator, R: Wait>(
     rt: &R,
     core: &Core<A>,
     outboxes: &mut Vec<OutboxPutEnd<A>, A>,
-    from: usize,
+    given: &[LineNo],
+    from: u64,
 ) -> Option<LineNo>
     requires count { length outboxes.old.items ≡ line_count core.now.subs }
-    requires from { from ≤ length core.now.history }
+    requires given { AreGiven (drop from core.now.history) given.now }
     ensures searched { IsSearched core.now outboxes.old.items outboxes.new.items }
     ensures due { IfSome result (IsLowestShort core.now from outboxes.new.items) }
     ensures none { IfNone result ((line : ℕ) → line < length outboxes.new.items → IsShort core.now from outboxes.new.items line → ⊥) }
 {
-    if all_have_room(outboxes.as_slice(), &core.history()[from..]) {
+    if all_have_room(outboxes.as_slice(), given) {
         return None;
     }
-    find_due(rt, core, outboxes, from)
+    find_due(rt, core, outboxes, given, from)
 }
 
 /// Goes through the lines, and returns the lowest that is due.
@@ -62,41 +67,30 @@ fn find_due<A: Allocator, R: Wait>(
     rt: &R,
     core: &Core<A>,
     outboxes: &mut Vec<OutboxPutEnd<A>, A>,
-    from: usize,
+    given: &[LineNo],
+    from: u64,
 ) -> Option<LineNo>
     requires count { length outboxes.old.items ≡ line_count core.now.subs }
-    requires from { from ≤ length core.now.history }
+    requires given { AreGiven (drop from core.now.history) given.now }
     ensures searched { IsSearched core.now outboxes.old.items outboxes.new.items }
     ensures due { IfSome result (IsLowestShort core.now from outboxes.new.items) }
     ensures none { IfNone result ((line : ℕ) → line < length outboxes.new.items → IsShort core.now from outboxes.new.items line → ⊥) }
 {
     let lines = core.subs().counts().lines as LineNo;
     for line in 0..lines {
-        if is_due(rt, core, outboxes, line, from) {
+        if is_due(rt, core, outboxes, given, line, from) {
             return Some(line);
         }
     }
     None
 }
 
-/// Whether each line to which these entries put something out is known to have its 24 free places.
-fn all_have_room<A: Allocator>(outboxes: &[OutboxPutEnd<A>], entries: &[Entry<A>]) -> bool
-    ensures { result ≡ true → All (λ entry. HaveRoom outboxes.now entry.outputs) entries.now }
+/// Whether each of these lines is known to have its 24 free places.
+fn all_have_room<A: Allocator>(outboxes: &[OutboxPutEnd<A>], lines: &[LineNo]) -> bool
+    ensures { result ≡ true → HaveRoom outboxes.now lines.now }
 {
-    for entry in entries {
-        if !have_room(outboxes, entry.outputs.as_slice()) {
-            return false;
-        }
-    }
-    true
-}
-
-/// Whether each line of these outputs is known to have its 24 free places.
-fn have_room<A: Allocator>(outboxes: &[OutboxPutEnd<A>], outputs: &[Output<A>]) -> bool
-    ensures { result ≡ true → HaveRoom outboxes.now outputs.now }
-{
-    for output in outputs {
-        let Some(end) = outboxes.get(usize::from(output.line)) else {
+    for line in lines {
+        let Some(end) = outboxes.get(usize::from(*line)) else {
             return false;
         };
         if end.free() < LEAST_PLACES {
@@ -112,16 +106,17 @@ fn is_due<A: Allocator, R: Wait>(
     rt: &R,
     core: &Core<A>,
     outboxes: &mut Vec<OutboxPutEnd<A>, A>,
+    given: &[LineNo],
     line: LineNo,
-    from: usize,
+    _from: u64,
 ) -> bool
     requires there { line < length outboxes.old.items }
-    requires from { from ≤ length core.now.history }
+    requires given { AreGiven (drop _from core.now.history) given.now }
     ensures outboxes { outboxes.new.items ≡ slice_set outboxes.old.items line (outbox_at outboxes.new.items line) }
     ensures alike { IsAlike (outbox_at outboxes.old.items line) (outbox_at outboxes.new.items line) }
     ensures still { is_off_at (state_at (world_of core.now) line) ≡ true → outbox_at outboxes.new.items line ≡ outbox_at outboxes.old.items line }
-    ensures due { result ≡ true → IsShort core.now from outboxes.new.items line }
-    ensures none { result ≡ false → IsShort core.now from outboxes.new.items line → ⊥ }
+    ensures due { result ≡ true → IsShort core.now _from outboxes.new.items line }
+    ensures none { result ≡ false → IsShort core.now _from outboxes.new.items line → ⊥ }
 {
     let end = &mut outboxes[usize::from(line)];
     if end.free() >= LEAST_PLACES {
@@ -130,7 +125,7 @@ fn is_due<A: Allocator, R: Wait>(
     if is_off(core, line) {
         return false;
     }
-    if !is_given(&core.history()[from..], line) {
+    if !is_there(given, line) {
         return false;
     }
     look_at(rt, end) < LEAST_PLACES
@@ -144,7 +139,7 @@ fn is_off<A: Allocator>(core: &Core<A>, line: LineNo) -> bool
 }
 
 /// Stalls a line at this moment. The stall was prepared, and has its place in the history.
-fn stall<A: Allocator + Copy>(core: &mut Core<A>, line: LineNo, moment: u64) -> Stepped<A>
+fn stall<A: Allocator + Copy>(core: &mut Core<A>, line: LineNo, moment: u64) -> Entry<A>
     requires line { line < line_count core.old.subs }
     requires prepared { 0 < core.old.stalls }
     requires place { length core.old.history < core.old.subs.journal }
@@ -156,7 +151,7 @@ fn stall<A: Allocator + Copy>(core: &mut Core<A>, line: LineNo, moment: u64) -> 
         moment,
         what: What::Stall,
     }) {
-        Ok(told) => told,
+        Ok(entry) => entry,
         Err(_) => unreachable!(),
     }
 }

@@ -12,9 +12,9 @@ pub fn entries_at_close<N: Name, A: Allocator + Copy>(
     rt: &impl Wait,
     exchange: Exchange<N, A>,
     passes: Vec<LinePass<N, A>, A>,
-) -> Option<usize> {
+) -> Option<u64> {
     if let Ok(book) = exchange.close(rt, passes) {
-        return Some(book.history().len());
+        return Some(book.count());
     }
     None
 }
@@ -26,7 +26,7 @@ pub fn closes_in_two<N: Name>(
     exchange: Exchange<N>,
     passes: Vec<LinePass<N>>,
     last: Option<LinePass<N>>,
-) -> (Option<u16>, Option<usize>) {
+) -> (Option<u16>, Option<u64>) {
     if let Err(fault) = exchange.close(rt, passes) {
         return closes_after(rt, fault, last);
     }
@@ -37,7 +37,7 @@ fn closes_after<N: Name>(
     rt: &impl Wait,
     fault: CloseFault<N>,
     last: Option<LinePass<N>>,
-) -> (Option<u16>, Option<usize>) {
+) -> (Option<u16>, Option<u64>) {
     let CloseFault {
         line,
         exchange,

@@ -22,7 +22,7 @@ struct Seen {
     refused: bool,
     rung: bool,
     missing: Option<u16>,
-    entries: Option<usize>,
+    entries: Option<u64>,
 }
 
 /// a1 calls b1, and the exchange is halted before b1 answers.

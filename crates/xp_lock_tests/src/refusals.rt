@@ -60,7 +60,7 @@ struct Told {
     /// Whether one of them was refused for memory.
     refused: bool,
     /// How many entries the closed book has.
-    entries: usize,
+    entries: u64,
 }
 
 impl Told {

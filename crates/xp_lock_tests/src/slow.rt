@@ -29,9 +29,10 @@ struct Seen {
     /// Whether an Up of b1 was refused for want of room then, and whether it was taken once its outputs were.
     without_room: bool,
     came_up: bool,
-    /// The number and the moment of the last entry that is a stall, and how many there are.
-    stall: Option<(u64, u64)>,
-    stalls: usize,
+    /// How many entries the closed book has: one for each event that was taken, and one for each stall.
+    entries: u64,
+    /// The moment at which the first call ended.
+    ended: Option<u64>,
     /// How many outputs the closed book counts as taken by a1 and by b1.
     taken: (u64, u64),
     /// The segments of the first record, from the caller and from the called line, and its seconds.
@@ -170,26 +171,12 @@ fn talk<N: Name>(
     Ok(seen)
 }
 
-/// The number and the moment of the last entry that is a stall, and how many there are.
-fn stalls(book: &Book) -> (Option<(u64, u64)>, usize) {
-    let mut last = None;
-    let mut count = 0usize;
-    for entry in book.history() {
-        if matches!(entry.event.what, What::Stall) {
-            last = Some((entry.number, entry.event.moment));
-            count = count.saturating_add(1);
-        }
-    }
-    (last, count)
-}
-
 /// What the closed book tells.
 fn note_book(seen: &mut Seen, book: &Book) {
-    let (stall, count) = stalls(book);
-    seen.stall = stall;
-    seen.stalls = count;
+    seen.entries = book.count();
     seen.taken = (book.taken(0), book.taken(1));
     if let Some(ended) = book.records().first() {
+        seen.ended = Some(ended.ended);
         seen.segments = Some((ended.from_caller, ended.from_called, ended.seconds()));
     }
 }
@@ -219,7 +206,8 @@ fn slow_line_is_stalled(rt: HostRuntime) -> Result<(), Fail> {
     let prepared = prepare(rt.alloc(), Subs::read(rt.alloc(), THREE_STATIONS)?)?;
     // two connections, the call and its answer, forty packets with thirty-nine acknowledgements between them; a1 takes the
     // answer, these acknowledgements and the clear indication, b1 the call, the packets and what closes its connection
-    // the call is connected at 10, and the stall has the moment of the fortieth packet
+    // the call is connected at 10, and the stall has the moment of the fortieth packet; of 86 events one Up is refused, and
+    // one entry is the stall's
     assert_eq!(rt;
         plays::<Brand>(&rt, rt.alloc(), prepared, false)?,
         Seen {
@@ -229,8 +217,8 @@ fn slow_line_is_stalled(rt: HostRuntime) -> Result<(), Fail> {
             cleared: Some((0x09, Some(0))),
             without_room: true,
             came_up: true,
-            stall: Some((84, 139)),
-            stalls: 1,
+            entries: 86,
+            ended: Some(139),
             taken: (41, 42),
             segments: Some((40, 0, 129)),
         }
@@ -250,8 +238,8 @@ fn line_that_takes_at_once_is_not_stalled(rt: HostRuntime) -> Result<(), Fail> {
             cleared: None,
             without_room: false,
             came_up: true,
-            stall: None,
-            stalls: 0,
+            entries: 86,
+            ended: None,
             taken: (41, 41),
             segments: None,
         }

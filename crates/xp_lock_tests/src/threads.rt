@@ -11,9 +11,9 @@ use std::marker::Brand;
 use std::sync::Wait;
 use std::test::Fail;
 use std::thread::{Threads, join};
-use xp_core::{Entry, What};
+use xp_core::What;
 use xp_lock::{Exchange, LinePass, Name, PreparedExchange, prepare};
-use xp_subs::{LineNo, Subs};
+use xp_subs::Subs;
 use xp_testing::THREE_STATIONS;
 
 /// How many clear confirmations each line offers: an error in p1, and then what confirms its clear indication.
@@ -70,26 +70,11 @@ fn offer_both<N: Name + Send + Sync>(
     )
 }
 
-/// How many events of the line there are, where the first is its connection and the others are packets.
-fn own_events(history: &[Entry], line: LineNo) -> Option<usize> {
-    let mut count = 0usize;
-    for entry in history {
-        if entry.event.line == line {
-            if matches!(entry.event.what, What::Up) != (count == 0) {
-                return None;
-            }
-            count = count.saturating_add(1);
-        }
-    }
-    Some(count)
-}
-
-/// How many entries there are, how many events of each line, and how many outputs each took.
+/// How many entries there are, and how many outputs each line took.
 #[derive(Debug, Default, Drop, PartialEq)]
 struct Counts {
     offered: (bool, bool),
-    entries: usize,
-    events: (Option<usize>, Option<usize>),
+    entries: u64,
     taken: (u64, u64),
 }
 
@@ -108,8 +93,7 @@ fn both<N: Name + Send + Sync>(
         ..Counts::default()
     };
     if let Ok(book) = exchange.close(rt, passes) {
-        counts.entries = book.history().len();
-        counts.events = (own_events(book.history(), 0), own_events(book.history(), 1));
+        counts.entries = book.count();
         counts.taken = (book.taken(0), book.taken(1));
     }
     Ok(counts)
@@ -123,7 +107,6 @@ fn two_threads_history(rt: HostRuntime) -> Result<(), Fail> {
         Counts {
             offered: (true, true),
             entries: 202,
-            events: (Some(101), Some(101)),
             taken: (50, 50),
         }
     );

@@ -18,7 +18,7 @@ pub struct Subs {
     pub(crate) lines: Vec<Line>,
     pub(crate) groups: IndexSet<Name>,
     pub(crate) segment_limit: u32,
-    pub(crate) journal: u32,
+    pub(crate) journal: u64,
     pub(crate) host: String,
     pub(crate) targets: IndexMap<Digits, Target>,
     pub(crate) names: IndexMap<Name, LineNo>,
@@ -136,8 +136,9 @@ impl Subs {
         self.segment_limit
     }
 
-    /// The most entries that the history may have, 4 to 10,000,000.
-    pub fn journal(&self) -> u32
+    /// The most entries that the history may have, 4 to 10,000,000. If the file sets no limit, it is 2^59, which no history
+    /// reaches.
+    pub fn journal(&self) -> u64
         ensures { result ≡ self.now.journal }
     {
         self.journal

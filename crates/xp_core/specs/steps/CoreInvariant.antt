@@ -1,5 +1,5 @@
 -- The invariant of a core.
-use Rattle.std.specs.Prelude.{◌≡◌, Option, List, length}
+use Rattle.std.specs.Prelude.{◌≡◌, ◌≤◌, Option, List, length}
 use Rattle.xp_subs.specs.Sound.{IsSound}
 use Rattle.xp_subs.specs.Tables.{Tables, line_count}
 use Rattle.xp_core.specs.declared.entry.Entry.{Entry}
@@ -22,3 +22,4 @@ module _ {A : Type 0} where
     pub carried : RelaysRepresentCalls tables history machine relays
     pub places : length relays ≡ line_count tables
     pub charged : records ≡ records_of history
+    pub within : length history ≤ tables.journal

@@ -1,5 +1,5 @@
 -- A plan is what an event settles, puts out, records and changes, in the terms of the code.
-use Rattle.std.specs.Prelude.{◌≡◌, ℕ, ◌+◌, Option, None, Some, List, [], ◌++◌, option_to_list}
+use Rattle.std.specs.Prelude.{◌≡◌, ℕ, Option, None, Some, List, [], ◌++◌, option_to_list}
 use Rattle.xp_answer.specs.ForwardedClear.{ForwardedClear}
 use Rattle.xp_channel.specs.declared.action.Action.{Action}
 use Rattle.xp_packets.specs.declared.packet.Packet.{Packet}

@@ -1,5 +1,5 @@
 -- What an event leads to, before it is entered.
-use Rattle.std.specs.Prelude.{◌≡◌, Bool, true, Option, List, [], ◌∷◌, ◌++◌}
+use Rattle.std.specs.Prelude.{◌≡◌, Option, List, [], ◌∷◌, ◌++◌}
 use Rattle.xp_charge.specs.declared.record.Record.{Record}
 use Rattle.xp_subs.specs.Tables.{Tables}
 use Rattle.xp_core.specs.declared.advance.PreparedEntry.{PreparedEntry}
@@ -8,7 +8,6 @@ use Rattle.xp_core.specs.declared.event.Event.{Event}
 use Rattle.xp_core.specs.declared.outcome.Outcome.{Outcome}
 use Rattle.xp_machine.specs.declared.relays.RelayUpdate.{RelayUpdate}
 use Rattle.xp_machine.specs.declared.relays.MeteredRelay.{MeteredRelay}
-use Rattle.xp_core.specs.declared.stepped.Stepped.{Stepped}
 use Rattle.xp_core.specs.Acts.{Acts}
 use Rattle.xp_core.specs.RelayedPackets.{relayed_in}
 use Rattle.xp_machine.specs.Changes.{all_changed, recorded_by}
@@ -39,14 +38,11 @@ module _ {A : Type 0} where
     pub relays_on : RelaysAdvance tables before old event work.outcome relays later
     pub leads : new ≡ all_changed (effects_of (step_context tables before old event.line event.moment) event.what (action_at old event) work.outcome) old
 
-  -- what is kept of an exchange before and after an event is entered, and whether what it puts out is returned
-  pub record Enters (tables : Tables) (old : World) (relays : List (Option (MeteredRelay A))) (history : List (Entry A)) (records : List Record) (event : Event A)
-      (new : World) (later : List (Option (MeteredRelay A))) (entries : List (Entry A)) (charged : List Record) (tells : Bool) (told : Stepped A) : Type 0 where
-    pub entry : Entry A
+  -- what is kept of an exchange before and after an event is entered, and its entry
+  pub record Enters (tables : Tables) (old : World) (relays : List (Option (MeteredRelay A))) (history : List (Entry A)) (waiting : List Record) (event : Event A)
+      (new : World) (later : List (Option (MeteredRelay A))) (entries : List (Entry A)) (charged : List Record) (entry : Entry A) : Type 0 where
     pub event_is : entry.event ≡ event
     pub step : Step tables history old entry new
     pub relays_on : RelaysAdvance tables history old event entry.outcome relays later
     pub grown : entries ≡ history ++ entry ∷ []
-    pub recorded : charged ≡ records ++ entry.records.items
-    pub number : told.entry ≡ entry.number
-    pub outputs : tells ≡ true → told.outputs ≡ entry.outputs
+    pub recorded : charged ≡ waiting ++ entry.records.items

@@ -30,5 +30,4 @@ module _ {A : Type 0} where
   pub record IsFallen (at : StepContext A) (work : PreparedEntry A) : Type 0 where
     pub plain : work.outcome ≡ Plain
     pub outputs : work.outputs ≡ outputs_of (outputs_of_stall at)
-    pub copied : work.told ≡ work.outputs
     pub records : work.records.items ≡ recorded_at at (leaves at.line GoesOut OUT_OF_ORDER NO_ADDITIONAL_INFORMATION (call_on at.world at.line) ∷ [])

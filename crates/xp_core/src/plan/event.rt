@@ -26,10 +26,12 @@ use super::request::{Cancelled, request};
 use crate::entry::Entry;
 use crate::event::{Event, What};
 use crate::table::action_of;
+use crate::workspace::Workspace;
 use std::alloc::{AllocError, Allocator};
 use xp_causes::diagnostic::TIMER_EXPIRED_FOR_INCOMING_CALL;
 use xp_channel::Action;
-use xp_machine::{Machine, Relays, Workspace};
+use xp_machine::{Machine, Relays};
+use xp_past::Past;
 use xp_subs::Subs;
 
 /// Plans what an event does. It fails only if memory is wanting.
@@ -38,7 +40,7 @@ pub fn plan_of<A: Allocator + Copy>(
     subs: &Subs,
     machine: &Machine<A>,
     relays: &Relays<A>,
-    before: &[Entry<A>],
+    before: &Past<Entry<A>>,
     event: &Event<A>,
     workspace: &mut Workspace<A>,
 ) -> Result<Plan<A>, AllocError>
@@ -46,8 +48,8 @@ pub fn plan_of<A: Allocator + Copy>(
     requires line { event.now.line < line_count subs.now }
     requires terms { AllHaveTerms subs.now machine.now }
     requires coupled { AreCoupled subs.now machine.now }
-    requires carried { RelaysRepresentCalls subs.now before.now machine.now relays.now }
-    ensures { IfOk result (λ plan. Plans (step_context subs.now before.now machine.now event.now.line event.now.moment) event.now.what (cell (channel_of (state_at machine.now event.now.line)) (kind_of event.now.what)) plan) }
+    requires carried { RelaysRepresentCalls subs.now before.now.items machine.now relays.now }
+    ensures { IfOk result (λ plan. Plans (step_context subs.now before.now.items machine.now event.now.line event.now.moment) event.now.what (cell (channel_of (state_at machine.now event.now.line)) (kind_of event.now.what)) plan) }
 {
     let line = event.line;
     let moment = event.moment;
@@ -77,7 +79,7 @@ pub fn plan_of<A: Allocator + Copy>(
         },
         Action::Answer => match accepted_in(what) {
             None => nothing(alloc, &found),
-            Some(accepted) => answer(alloc, &found, &accepted, workspace),
+            Some(accepted) => answer(alloc, &found, &accepted, &mut workspace.relays),
         },
         Action::Confirm => match clear_in(what) {
             None => nothing(alloc, &found),

@@ -21,6 +21,7 @@ use xp_answer::{clear_confirmation, clear_indication};
 use xp_charge::{Meter, Record};
 use xp_facilities::ChargingInformation;
 use xp_machine::{Change, LiveCall, Machine, NoCallState, Relays};
+use xp_past::Past;
 use xp_subs::{LineNo, Subs};
 
 /// A live call, with what was counted of it so far.
@@ -53,12 +54,12 @@ pub fn charged_on<'a, A: Allocator>(
     subs: &Subs,
     machine: &'a Machine<A>,
     relays: &Relays<A>,
-    _before: &[Entry<A>],
+    _before: &Past<Entry<A>>,
     line: LineNo,
 ) -> Option<MeteredCall<'a>>
     requires sound { IsSound subs.now }
-    requires carried { RelaysRepresentCalls subs.now _before.now machine.now relays.now }
-    ensures charged { (moment : ℕ) → IsMeteredCall (step_context subs.now _before.now machine.now line moment) result }
+    requires carried { RelaysRepresentCalls subs.now _before.now.items machine.now relays.now }
+    ensures charged { (moment : ℕ) → IsMeteredCall (step_context subs.now _before.now.items machine.now line moment) result }
     ensures short { IsShort result }
 {
     let call = machine.call_on(line)?;
@@ -71,12 +72,12 @@ fn meter_of<A: Allocator>(
     subs: &Subs,
     _machine: &Machine<A>,
     relays: &Relays<A>,
-    _before: &[Entry<A>],
+    _before: &Past<Entry<A>>,
     call: &LiveCall,
 ) -> Meter
-    requires { RelaysRepresentCalls subs.now _before.now _machine.now relays.now }
+    requires { RelaysRepresentCalls subs.now _before.now.items _machine.now relays.now }
     ensures { call_numbered _machine.now call.now.number ≡ Some (call_of_stored call.now)
-        → result ≡ counted_by subs.now _before.now call.now.number (call_of_stored call.now) call.now.agreed }
+        → result ≡ counted_by subs.now _before.now.items call.now.number (call_of_stored call.now) call.now.agreed }
 {
     let limit = subs.segment_limit();
     if call.agreed.is_none() {

@@ -17,8 +17,9 @@ use super::send::send;
 use crate::event::What;
 use crate::output::Buffer;
 use crate::records::Records;
+use crate::workspace::Workspace;
 use std::alloc::{AllocError, Allocator};
-use xp_machine::{LiveCall, Machine, RelayUpdate, Relays, Workspace};
+use xp_machine::{LiveCall, Machine, RelayUpdate, Relays};
 use xp_packets::Packet;
 use xp_relay::Moves;
 
@@ -54,11 +55,11 @@ pub fn carry<A: Allocator + Copy>(
     let Ok(meter) = metered.count(here, packet) else {
         return exceed(alloc, found);
     };
-    let mut metered = workspace.copy_of(alloc, metered)?;
-    let room = workspace.moves(alloc, MOST_MOVES)?;
+    let mut metered = workspace.relays.copy_of(alloc, metered)?;
+    let room = workspace.relays.moves(alloc, MOST_MOVES)?;
     let mut moves = metered.take(here, packet, room)?;
-    let outputs = send_all(alloc, found.machine, call, &mut moves)?;
-    workspace.keep_moves(moves);
+    let outputs = send_all(alloc, found.machine, call, &mut moves, workspace)?;
+    workspace.relays.keep_moves(moves);
     metered.set_meter(meter);
     let caller = call.caller;
     Ok(Plan::of(outputs, Records::none(alloc)).carrying(RelayUpdate { caller, metered }))
@@ -80,10 +81,11 @@ fn send_all<A: Allocator>(
     machine: &Machine<A>,
     call: &LiveCall,
     moves: &mut Moves<A>,
+    workspace: &mut Workspace<A>,
 ) -> Result<Buffer<A>, AllocError>
     ensures { IfOk result (λ buffer. buffer.outputs ≡ map (send_on machine.now (call_of_stored call.now)) moves.old.moves) }
 {
-    let mut outputs = Buffer::with_room(alloc, moves.as_slice().len())?;
+    let mut outputs = workspace.buffer(alloc, moves.as_slice().len())?;
     while let Some(carried) = moves.take_first() {
         let line = call.line_at(carried.side);
         outputs = outputs.with(send(machine, line, carried.packet));

@@ -1,17 +1,10 @@
 -- For private steps. The lines to which entries put something out are few, and how a list of them grows by some outputs.
 use Rattle.std.specs.Prelude.{◌≡◌, ◌↔◌, ◌⊎◌, ℕ, ◌<◌, ◌≤◌, true, List, length}
-use Rattle.xp_core.specs.declared.entry.Entry.{Entry}
 use Rattle.xp_core.specs.declared.output.Output.{Output}
-use Rattle.xp_lock.specs.Outgoing.{put_out_to, to_line}
+use Rattle.xp_lock.specs.Outgoing.{to_line}
 use Rattle.xp_lock.specs.Given.{is_among, AreApart}
 
 module _ {A : Type 0} where
-  -- these entries put something out to three lines at most
-  pub record IsGivenToFew (entries : List (Entry A)) : Type 0 where
-    pub lines : List ℕ
-    pub few : length lines ≤ 3
-    pub goes : (line : ℕ) → 0 < length (put_out_to line entries) → is_among line lines ≡ true
-
   -- the new list has the lines of the old one and those of these outputs, each once
   pub record AreAdded (old : List ℕ) (outputs : List (Output A)) (new : List ℕ) : Type 0 where
     pub each : (line : ℕ) → (is_among line new ≡ true) ↔ ((is_among line old ≡ true) ⊎ (0 < length (to_line line outputs)))

@@ -5,9 +5,9 @@ use Rattle.xp_subs.specs.Tables.{line_count}
 use Rattle.xp_core.specs.declared.entry.Entry.{Entry}
 use Rattle.xp_core.specs.declared.event.Event.{Event}
 use Rattle.xp_core.specs.declared.output.Outgoing.{Outgoing}
-use Rattle.xp_core.specs.declared.output.Output.{Output}
 use Rattle.xp_machine.specs.Channel.{is_off}
 use Rattle.xp_core.specs.Exchange.{Exchange, world_of}
+use Rattle.xp_core.specs.Records.{records_of}
 use Rattle.xp_core.specs.Run.{Run}
 use Rattle.xp_core.specs.Worlds.{world_after}
 use Rattle.xp_core.specs.Step.{Step}
@@ -15,7 +15,6 @@ use Rattle.xp_machine.specs.World.{state_at}
 use Rattle.xp_lock.specs.Outboxes.{PLACES_KEPT, outbox_at}
 use Rattle.xp_lock.specs.steps.Outboxes.{AreAlike, OutboxesMatch}
 use Rattle.xp_lock.specs.Forced.{AreAt, IsQuiet, Stalls}
-use Rattle.xp_lock.specs.steps.Given.{IsGivenToFew}
 use Rattle.xp_lock.specs.Handed.{is_stall}
 use Rattle.xp_lock.specs.Outgoing.{put_out_to}
 use Rattle.xp_lock.specs.CoreWithOutboxes.{HasPlaces, CoreWithOutboxes, is_up}
@@ -27,7 +26,7 @@ PLACES_LEFT = 7
 module _ {A : Type 0} where
   -- the core with these outboxes, not halted
   abbrev pub with_outboxes : Exchange A → List (Putting (Outgoing A)) → CoreWithOutboxes A
-  with_outboxes core outboxes = record { subs = core.subs; history = core.history; outboxes = outboxes; halted = false }
+  with_outboxes core outboxes = record { subs = core.subs; history = core.history; given = core.given; waiting = core.waiting; outboxes = outboxes; halted = false }
 
   -- the event can be entered
   pub record CanEnter (core : Exchange A) (event : Event A) (outboxes : List (Putting (Outgoing A))) : Type 0 where
@@ -57,9 +56,9 @@ module _ {A : Type 0} where
     pub given : 0 < length (put_out_to line (drop from core.history))
     pub short : (outbox_at outboxes line).free < PLACES_KEPT
 
-  -- each line of these outputs is known to have its 24 free places
-  abbrev pub HaveRoom : List (Putting (Outgoing A)) → List (Output A) → Type 0
-  HaveRoom outboxes outputs = All (λ output. PLACES_KEPT ≤ (outbox_at outboxes output.line).free) outputs
+  -- each of these lines is known to have its 24 free places
+  abbrev pub HaveRoom : List (Putting (Outgoing A)) → List ℕ → Type 0
+  HaveRoom outboxes lines = All (λ line. PLACES_KEPT ≤ (outbox_at outboxes line).free) lines
 
   -- a line is short of places, and no lower line is
   pub record IsLowestShort (core : Exchange A) (from : ℕ) (outboxes : List (Putting (Outgoing A))) (line : ℕ) : Type 0 where
@@ -80,9 +79,11 @@ module _ {A : Type 0} where
     pub quiet : IsQuiet (world_of new) known (drop from core.history ++ stalls)
     pub moments : AreAt moment stalls
     pub few : length stalls ≤ 3
-    pub given : IsGivenToFew (drop from core.history ++ stalls)
     pub history : new.history ≡ core.history ++ stalls
     pub subs : new.subs ≡ core.subs
+    -- their records wait
+    pub handed_over : new.given ≡ core.given
+    pub waiting : new.waiting ≡ core.waiting ++ records_of stalls
     -- no line comes into service
     pub stays : (line : ℕ) → is_off (state_at (world_of new) line) ≡ false → is_off (state_at (world_of core) line) ≡ false
     pub count : length after ≡ length outboxes

@@ -1,10 +1,9 @@
 -- For private steps. The rule of the history length (`IsShared`), and its steps. The keeper's seat knows the whole history. The
 -- claim of a line knows a front of it with all entries of the line, so no one else has added entries of the line since. A
 -- claim that was compared at the end is given back, and no line has a second one to give.
-use Rattle.std.specs.Prelude.{◌≡◌, ◌≢◌, ℕ, ◌+◌, ◌<◌, true, false, List, [], ◌∷◌, ◌++◌, length, slice_index}
+use Rattle.std.specs.Prelude.{◌≡◌, ◌≢◌, ℕ, ◌<◌, true, false, List, [], ◌∷◌, ◌++◌, length, slice_index}
 use mathlib.Core.Option.{Option, none, some}
 use lib.ListN.{get_elem?}
-use Rattle.atomic_table.specs.Seated.{TableId}
 use Rattle.xp_core.specs.declared.entry.Entry.{Entry}
 use Rattle.xp_core.specs.Exchange.{Exchange}
 use Rattle.xp_lock.specs.declared.history_length.View.{View}

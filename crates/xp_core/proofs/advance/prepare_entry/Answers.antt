@@ -11,10 +11,10 @@ use Rattle.xp_core.proofs.advance.prepare_entry.Goals as goal
 pub returns-in-Some-clause-ok : goal.returns-in-Some-clause-ok
 returns-in-Some-clause-ok g c =
     let before = c.args.journal.now.history in
-    let same : c.history-before.result.now ≡ before = c.history-before.ensures ∙ ap (λ j. j.history) c.in-Some.ensures.some.1.is in
+    let same : c.history-before.result.now.items ≡ before = c.history-before.ensures ∙ ap (λ j. j.history) c.in-Some.ensures.some.1.is in
     let made : Event _ → List _ → Type 0 = λ event entries.
     IsPreparedEntry c.args.subs.now entries c.args.machine.now c.args.relays.now event c.give_up.result c.give_up.new.machine c.args.relays.now in
-    subst (made c.args.event.now) same (subst (λ event. made event c.history-before.result.now) (stall_is c.args.event.now c.in-Some.ensures.some.0) (c.give_up.ensures.makes c.args.relays.now))
+    subst (made c.args.event.now) same (subst (λ event. made event c.history-before.result.now.items) (stall_is c.args.event.now c.in-Some.ensures.some.0) (c.give_up.ensures.makes c.args.relays.now))
 
 pub apply-requires-clause-connection : goal.apply-requires-clause-connection
 apply-requires-clause-connection g c = λ line. omega (arith, c.requires.sound.connection line)

@@ -1,13 +1,12 @@
-use Rattle.std.proofs.Common.{refl, sym, ◌∙◌}
+use Rattle.std.proofs.Common.{refl}
 use Rattle.xp_core.proofs.stalling.fall.Goals as goal
 
 pub returns-clause-fallen : goal.returns-clause-fallen
 returns-clause-fallen g c =
     let found = c.charged_on-charged.ensures.charged c.args.moment in
-    let put = c.tell-outputs.ensures c.args.before.now found in
+    let put = c.tell-outputs.ensures c.args.before.now.items found in
     record {
       plain = refl;
       outputs = put;
-      copied = c.tell-told.ensures c.args.before.now found ∙ sym put;
-      records = c.charge-records.ensures.records c.args.before.now found;
+      records = c.charge-records.ensures.records c.args.before.now.items found;
     }

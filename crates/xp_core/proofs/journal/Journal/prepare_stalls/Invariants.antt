@@ -1,4 +1,4 @@
-use Rattle.std.proofs.Common.{◌≡◌, ◌+◌, ◌-◌, ◌≤◌, vec_len, vec_capacity}
+use Rattle.std.proofs.Common.{◌≡◌, ◌+◌, ◌-◌, ◌≤◌, length, vec_len, vec_capacity}
 use Rattle.xp_core.specs.declared.journal.TheConstants.{MOST_STALLS}
 use Rattle.xp_core.proofs.journal.Journal.prepare_stalls.Given as goal
 
@@ -6,9 +6,11 @@ use Rattle.xp_core.proofs.journal.Journal.prepare_stalls.Given as goal
 abbrev pub invariant-loop-alloc : goal.invariant-loop-alloc
 invariant-loop-alloc g l = record {
   history : l.self-inside.history.items ≡ l.fn.self.history;
-  records : l.self-inside.records.items ≡ l.fn.self.records;
-  entry_room : vec_len l.self-inside.history + MOST_STALLS ≤ vec_capacity l.self-inside.history;
-  record_room : vec_len l.self-inside.records + MOST_STALLS ≤ vec_capacity l.self-inside.records;
+  count : l.self-inside.count ≡ length l.self-inside.history.items;
+  given_count : l.self-inside.given_count ≡ length l.self-inside.given.items;
+  given : l.self-inside.given.items ≡ l.fn.self.given;
+  waiting : l.self-inside.waiting.items ≡ l.fn.self.waiting;
+  record_room : vec_len l.self-inside.waiting + MOST_STALLS ≤ vec_capacity l.self-inside.waiting;
   more : l.fn.self.stalls ≤ vec_len l.self-inside.spares;
   few : vec_len l.self-inside.spares ≤ MOST_STALLS;
 }

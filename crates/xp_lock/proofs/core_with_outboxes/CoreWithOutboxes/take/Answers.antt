@@ -1,4 +1,4 @@
-use Rattle.std.proofs.Common.{◌+◌, ◌≤◌, Bool, false, ap, arith, length, subst, sym, ◌∙◌}
+use Rattle.std.proofs.Common.{◌+◌, ◌≤◌, Bool, false, ap, arith, subst, sym, ◌∙◌}
 use Rattle.xp_lock.specs.steps.Outboxes.{OutboxesMatch}
 use Rattle.xp_lock.specs.CoreWithOutboxes.{Takes}
 use Rattle.xp_lock.proofs.Ready.{kept_ready, takes_ready}
@@ -11,9 +11,9 @@ pub enter-requires-clause-can : goal.enter-requires-clause-can
 enter-requires-clause-can g c = record {
   kept = kept_ready _ _ _ _ _ _ c.has_room.ensures.looks c.self.invariant;
   places =
-      let entries = ap length c.history.ensures.entries in
+      let entries = c.count.ensures.count in
       let limit = c.journal.ensures ∙ ap (λ t. t.journal) c.subs.ensures in
-      let enough : length c.history.result.now + 4 ≤ c.journal.result = c.if-history-journal.false in
+      let enough : c.count.result + 4 ≤ c.journal.result = c.if-count-journal.false in
       omega (arith, enough, entries, limit);
   kind = c.requires.kind;
   room = λ up. c.has_room.ensures.room (c.comes_up-up.ensures ∙ up) c.if-not-has_room.false;
@@ -28,8 +28,8 @@ invariant_of-self-in_err-done g c =
 pub returns-clause-ok : goal.returns-clause-ok
 returns-clause-ok g c =
     let inside = c.self.inside in
-    let since = takes_ready inside.core.subs inside.core.history false _ c.args.event.line inside.outboxes.items c.has_room.new.outboxes.items _ _ _ c.has_room.ensures.looks c.in_ok-done.ensures.ok in
-    let During : Bool → Type 0 = λ halted. Takes (record { subs = inside.core.subs; history = inside.core.history; outboxes = inside.outboxes.items; halted = halted }) c.args.event c.in_ok-done.done
-    (record { subs = c.enter.new.core.subs; history = c.enter.new.core.history; outboxes = c.enter.new.outboxes.items; halted = halted }) in
-    subst (λ old. Takes old c.args.event c.in_ok-done.done (record { subs = c.enter.new.core.subs; history = c.enter.new.core.history; outboxes = c.enter.new.outboxes.items; halted = inside.halted })) c.self.view_is
+    let since = takes_ready inside.core.subs inside.core.history inside.core.given inside.core.waiting false _ c.args.event.line inside.outboxes.items c.has_room.new.outboxes.items _ _ _ c.has_room.ensures.looks c.in_ok-done.ensures.ok in
+    let During : Bool → Type 0 = λ halted. Takes (record { subs = inside.core.subs; history = inside.core.history; given = inside.core.given; waiting = inside.core.waiting; outboxes = inside.outboxes.items; halted = halted }) c.args.event c.in_ok-done.done
+    (record { subs = c.enter.new.core.subs; history = c.enter.new.core.history; given = c.enter.new.core.given; waiting = c.enter.new.core.waiting; outboxes = c.enter.new.outboxes.items; halted = halted }) in
+    subst (λ old. Takes old c.args.event c.in_ok-done.done (record { subs = c.enter.new.core.subs; history = c.enter.new.core.history; given = c.enter.new.core.given; waiting = c.enter.new.core.waiting; outboxes = c.enter.new.outboxes.items; halted = inside.halted })) c.self.view_is
     (subst During (sym c.if-self.false) since)

@@ -13,7 +13,7 @@ pub returns-clause-counted : goal.returns-clause-counted
 returns-clause-counted g c =
     let book = c.close-book.result in
     subst (λ t. length (all_handed book.history) ≡ handed_together (line_count t) book.history) c.close-book.ensures.subs
-    (counted book.subs book.history _ c.history-legal.ensures.run)
+    (counted book.subs book.history _ c.count-legal.ensures.run)
 
 pub returns-clause-together : goal.returns-clause-together
 returns-clause-together g c =
@@ -21,4 +21,4 @@ returns-clause-together g c =
     let here : HasAll c.self.inside.lines c.args.passes.items = subst (HasAll c.self.inside.lines) c.as_slice.ensures.value c.in_default.ensures.all in
     let all : HasAll (line_count book.subs) c.args.passes.items =
     subst (λ lines. HasAll lines c.args.passes.items) (c.self.invariant.1 ∙ ap line_count (sym c.close-book.ensures.subs)) here in
-    together book.subs book.history _ c.args.passes.items c.history-legal.ensures.run all c.close-book.ensures.once c.close-book.ensures.told
+    together book.subs book.history _ c.args.passes.items c.count-legal.ensures.run all c.close-book.ensures.once c.close-book.ensures.told

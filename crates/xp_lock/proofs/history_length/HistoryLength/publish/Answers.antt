@@ -9,6 +9,6 @@ compare_exchange_with-requires g c =
       search rules,
       search rules,
       shows _ _ _ c.args.core.now c.args.before _ (ap (λ s. s.knows.keeps) seen ∙ c.requires.holds.0) (ap (λ s. s.knows.claims) seen ∙ c.requires.holds.1)
-          (c.requires.before ∙ ap (λ s. length s.knows.all) (sym seen)) (ap length c.history.ensures.entries)
+          (c.requires.before ∙ ap (λ s. length s.knows.all) (sym seen)) c.count-count.ensures.count
           (subst (λ s. IsGrown s.knows.line s.knows.all c.args.core.now.history) (sym seen) c.requires.grown),
     )

@@ -70,17 +70,12 @@ loop-pass-preserved g c =
     omega (arith, line, within, lines, zeros) in
     let core = c.into_parts-core.result.0 in
     let same = c.into_parts-core.ensures.history ∙ ap (λ s. s.history) c.self.view_is in
-    let few : length core.history ≤ core.subs.journal =
-    let kept = c.into_parts-core.ensures.kept.few in
-    let long = ap length c.into_parts-core.ensures.history in
-    let limit = ap (λ t. t.journal) c.into_parts-core.ensures.subs in
-    omega (arith, kept, long, limit) in
-    let most : core.subs.journal < 2 ^ 32 =
-    let told = c.journal-most.ensures in
-    let of = ap (λ t. t.journal) c.subs.ensures in
-    omega (arith, told, of) in
+    let few : length core.history ≤ 2 ^ 59 =
+    let many = c.count-entries.ensures.count in
+    let most = c.count-entries.ensures.few in
+    omega (arith, many, most) in
     let exact : c.compare_pass.result ≡ length pass.taken = c.compare_pass.ensures.count
-    (can_count core.subs core.history _ pass c.history-entries.ensures.run few most (subst (λ h. IsPrefix pass.taken (put_out_to pass.line h)) (sym same) one.taken)) in
+    (can_count core.subs core.history _ pass c.count-entries.ensures.run few (subst (λ h. IsPrefix pass.taken (put_out_to pass.line h)) (sym same) one.taken)) in
     let put_in : set counts c.pass.inside.line c.compare_pass.result ≡ set counts pass.line (length pass.taken) = λ i. set counts (line i) (exact i) in
     record {
       can_next = tt;
@@ -121,8 +116,8 @@ index_mut-requires g c =
     let zeros = ap length c.requires.zeros ∙ length-replicate {A = ℕ} (line_count g.N.Name.subs) 0 in
     omega (arith, within, lines, zeros, c.loop-pass.taken.ok.0)
 
-pub new-requires : goal.new-requires
-new-requires g c =
+pub new-requires-clause-within : goal.new-requires-clause-within
+new-requires-clause-within g c =
     subst (AreWithin c.loop-pass.taken.items) (sym (c.into_parts-core.ensures.history ∙ ap (λ s. s.history) c.self.view_is)) c.loop-pass.invariant.within
 
 pub returns-clause-taken : goal.returns-clause-taken

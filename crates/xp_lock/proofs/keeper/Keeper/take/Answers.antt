@@ -12,10 +12,10 @@ pub invariant_of-self : goal.invariant_of-self
 invariant_of-self g c =
     let left = queues_left _ _ _ _ c.in_err-done.ensures.err in
     let was = c.self.invariant in
-    (was.0, was.1 ∙ ap (keeping (line_count g.N.Name.subs)) (sym left.history), left.subs ∙ was.2, left.queues_same ∙ was.3)
+    (was.0, was.1 ∙ ap (keeping (line_count g.N.Name.subs)) (sym left.history), left.subs ∙ was.2, left.queues_same ∙ was.3, left.given ∙ was.4)
 
 pub refresh-requires-clause-before : goal.refresh-requires-clause-before
-refresh-requires-clause-before g c = ap length (c.history.ensures.entries ∙ c.core.ensures.history ∙ ap (λ v. v.all) (sym c.self.invariant.1))
+refresh-requires-clause-before g c = c.count-before.ensures.count ∙ ap length (c.core.ensures.history ∙ ap (λ v. v.all) (sym c.self.invariant.1))
 
 pub refresh-requires-clause-grown : goal.refresh-requires-clause-grown
 refresh-requires-clause-grown g c =
@@ -30,7 +30,7 @@ invariant_of-self-2 g c =
     let was = c.self.invariant in
     let takes = c.in_ok-done.ensures.ok in
     let knows = ap (λ n. keeping n c.core-core.result.now.history) (ap (λ v. v.next) was.1) ∙ ap (keeping (line_count g.N.Name.subs)) c.core-core.ensures.history in
-    (ap (λ s. s.history_length) c.refresh.ensures.keeper ∙ was.0, ap (λ s. s.knows) c.refresh.ensures.keeper ∙ knows, takes.subs ∙ was.2, queues_taken _ _ _ _ takes ∙ was.3)
+    (ap (λ s. s.history_length) c.refresh.ensures.keeper ∙ was.0, ap (λ s. s.knows) c.refresh.ensures.keeper ∙ knows, takes.subs ∙ was.2, queues_taken _ _ _ _ takes ∙ was.3, takes.handed_over ∙ was.4)
 
 pub returns-clause-fresh : goal.returns-clause-fresh
 returns-clause-fresh g c =
@@ -44,7 +44,7 @@ returns-clause-fresh g c =
     let own = ap (λ l. handed l c.self.inside.core_with_outboxes.history) (ap (λ v. v.line) (sym claim)) ∙ ap (handed inside.history_seat.knows.line) (sym all)
     ∙ c.refresh.ensures.own ∙ ap (λ l. handed l inside.history_seat.knows.seen) (ap (λ v. v.line) claim) in
     let legal : IsLegal c.take.new.self.subs c.take.new.self.history =
-    subst (λ t. IsLegal t c.take.new.self.history) c.core-core.ensures.subs (subst (IsLegal c.core-core.result.now.subs) c.core-core.ensures.history c.history-legal.ensures.run) in
+    subst (λ t. IsLegal t c.take.new.self.history) c.core-core.ensures.subs (subst (IsLegal c.core-core.result.now.subs) c.core-core.ensures.history c.count-legal.ensures.run) in
     subst (λ p. GainsEvent g.N.Name.subs p c.args.event c.in_ok-done.done after) c.pass.view_is
     (freshened _ _ _ _ takes before after g.N.Name.subs (takes.subs ∙ kept.2) c.requires.kind
     (c.requires.line ∙ ap (λ p. p.line) (sym c.pass.view_is))
