@@ -26,10 +26,10 @@ pub const CALL_AND_CLEAR: Clients = Clients {
 fn call_over_sockets(rt: HostRuntime) -> Result<(), Fail> {
     let served = serve(&rt, rt.alloc(), CALL_AND_CLEAR)?;
     assert_eq!(rt; served.steps, (5, 4));
-    assert_eq!(rt;
-        served.text.as_str(),
-        "HHHHH\nrecord 1 a1 b1 2080020 caller 0 0 00 0\n"
-    );
+    // The call is connected for less than a second, which its two moments may yet count as one.
+    let record = "HHHHH\nrecord 1 a1 b1 2080020 caller 0 0 00 0 ";
+    assert!(rt; served.text.as_str().starts_with(record), "{}", served.text);
+    assert_eq!(rt; served.text.as_str().lines().count(), 2);
     Ok(())
 }
 
@@ -48,7 +48,7 @@ fn client_that_hangs_up(rt: HostRuntime) -> Result<(), Fail> {
     assert_eq!(rt; served.steps, (3, 1));
     assert_eq!(rt;
         served.text.as_str(),
-        "HHHHH\nrecord 1 a1 b1 2080020 caller 0 0 09 0\n"
+        "HHHHH\nrecord 1 a1 b1 2080020 caller 0 0 09 0 0\n"
     );
     Ok(())
 }

@@ -60,9 +60,8 @@ fn lines_at_localhost(rt: HostRuntime) -> Result<(), Fail> {
         return Err("not served to the end".into());
     };
     let printed = String::from_utf8(printed)?;
-    assert_eq!(rt;
-        printed.as_str(),
-        "record 1 a1 b1 2080020 caller 0 0 00 0\n"
-    );
+    let record = "record 1 a1 b1 2080020 caller 0 0 00 0 ";
+    assert!(rt; printed.as_str().starts_with(record), "{printed}");
+    assert_eq!(rt; printed.as_str().lines().count(), 1);
     Ok(())
 }
