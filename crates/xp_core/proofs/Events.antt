@@ -1,29 +1,37 @@
 -- What is planned for an event, by what the table of actions has for it.
-use Rattle.std.proofs.Common.{◌≡◌, ℕ, IfOk, Result, Ok, Err, Option, Some, List, [], ◌∷◌, refl, subst}
+use Rattle.std.proofs.Common.{◌≡◌, ℕ, IfOk, Result, Ok, Err, Option, None, Some, List, [], ◌∷◌, refl, subst, sym}
 use Rattle.xp_causes.specs.declared.clearing_cause.TheConstants.{OUT_OF_ORDER, REMOTE_PROCEDURE_ERROR}
 use Rattle.xp_causes.specs.declared.diagnostic.TheConstants.{NO_ADDITIONAL_INFORMATION, TIMER_EXPIRED_FOR_INCOMING_CALL}
 use Rattle.xp_channel.specs.declared.action.Action.{Action}
 use Rattle.xp_channel.specs.declared.action.Action.TheVariants.{Nothing, Rise, Fall, NewCall, Collision, Answer as Accepting, Confirm, Free, Error, Relayed, Expired}
 use Rattle.xp_core.specs.declared.event.What.{What}
+use Rattle.xp_core.specs.declared.outcome.Outcome.TheVariants.{Plain}
 use Rattle.xp_core.specs.declared.plan.Plan.{Plan}
 use Rattle.xp_core.specs.Acts.{Answers, Confirms, IsPlain, Requests, outputs_of_cancel, outputs_of_error, outputs_of_fall}
 use Rattle.xp_machine.specs.Changes.{Change, GoesOut, IsCleared, IsFree, Leaves, Rises}
 use Rattle.xp_core.specs.steps.Plan.{IsPlainPlan, IsPlan, Plans, PlansAnswer, PlansRelayed, PlansClear, PlansRequest}
 use Rattle.xp_core.specs.steps.Relays.{RelaysFor}
 use Rattle.xp_core.specs.StepContext.{StepContext}
-use Rattle.xp_core.specs.Effects.{cancels, collides, confirms, leaves, requests}
+use Rattle.xp_core.specs.Effects.{answers, cancels, collides, confirms, leaves, requests}
 use Rattle.xp_core.specs.Table.{CallAccepted, CallRequest, ClearRequest, accepted_in, clear_in, request_in}
 use Rattle.xp_core.specs.EventOutputs.{EventOutputs, no_outputs}
-use Rattle.xp_machine.specs.World.{call_on}
+use Rattle.xp_machine.specs.World.{Call, call_on}
 use Rattle.xp_core.proofs.Quiet.{collides_quiet, leaves_quiet, requests_quiet}
 
 if_ok : {X E : Type 0} (result : Result X E) (P Q : X → Type 0) → ((x : X) → P x → Q x) → IfOk result P → IfOk result Q
 if_ok (Ok x) P Q leads holds = leads x holds
 if_ok (Err fault) P Q leads holds = tt
 
+unanswered : (line : ℕ) (found : Option (ℕ × Call)) → [] ≡ answers line found Plain
+unanswered line None = refl
+unanswered line (Some found) = refl
+
 module _ {A E : Type 0} (at : StepContext A) (what : What A) (action : Action) (result : Result (Plan A) E) where
   abbrev pub ArePlanned : Action → Type 0
   ArePlanned act = IfOk result (Plans at what act)
+
+  pub as_acted : (act : Action) → act ≡ action → ArePlanned act → ArePlanned action
+  as_acted act is planned = subst ArePlanned is planned
 
   abbrev PlainOf : EventOutputs A → List Change → Type 0
   PlainOf told changes = IfOk result (λ plan. IsPlainPlan plan at told changes)
@@ -85,3 +93,32 @@ module _ {A E : Type 0} (at : StepContext A) (what : What A) (action : Action) (
       let P : Option (CallRequest A) → Type 0 = λ asked. Requests at.tables at.world at.line (outputs_of_cancel at.world at.line) asked plan.outcome p.told in
       let Q : Option (CallRequest A) → Type 0 = λ asked. IsPlan plan at p.told (collides at.line at.moment asked (call_on at.world at.line) plan.outcome) in
       record { told = p.told; acts = subst P asks p.acts; relays = collides_quiet at.tables at.line at.moment (request_in what) (call_on at.world at.line) plan.outcome plan.relay_update p.quiet; planned = subst Q asks p.planned }) planned)
+
+  pub no_request_planned : None ≡ request_in what → PlainOf no_outputs [] → ArePlanned NewCall
+  no_request_planned lacks planned = if_ok result _ _ (λ plan p.
+      let P : Option (CallRequest A) → Type 0 = λ asked. Requests at.tables at.world at.line [] asked plan.outcome no_outputs in
+      let R : Option (CallRequest A) → Type 0 = λ asked. RelaysFor at.tables (requests at.line at.moment asked plan.outcome) plan.relay_update in
+      let Q : Option (CallRequest A) → Type 0 = λ asked. IsPlan plan at no_outputs (requests at.line at.moment asked plan.outcome) in
+      record { told = no_outputs; acts = subst P lacks (plain no_outputs plan [] p); relays = subst R lacks p.quiet; planned = subst Q lacks p.planned }) planned
+
+  pub no_collision_planned : None ≡ request_in what → PlainOf no_outputs [] → ArePlanned Collision
+  no_collision_planned lacks planned = if_ok result _ _ (λ plan p.
+      let P : Option (CallRequest A) → Type 0 = λ asked. Requests at.tables at.world at.line (outputs_of_cancel at.world at.line) asked plan.outcome no_outputs in
+      let R : Option (CallRequest A) → Type 0 = λ asked. RelaysFor at.tables (collides at.line at.moment asked (call_on at.world at.line) plan.outcome) plan.relay_update in
+      let Q : Option (CallRequest A) → Type 0 = λ asked. IsPlan plan at no_outputs (collides at.line at.moment asked (call_on at.world at.line) plan.outcome) in
+      record { told = no_outputs; acts = subst P lacks (plain no_outputs plan [] p); relays = subst R lacks p.quiet; planned = subst Q lacks p.planned }) planned
+
+  pub no_answer_planned : None ≡ accepted_in what → PlainOf no_outputs [] → ArePlanned Accepting
+  no_answer_planned lacks planned = if_ok result _ _ (λ plan p.
+      let found = call_on at.world at.line in
+      let P : Option (CallAccepted A) → Type 0 = λ asked. Answers at asked found plan.outcome no_outputs in
+      let R : List Change → Type 0 = λ changes. RelaysFor at.tables changes plan.relay_update in
+      let none : [] ≡ answers at.line found plan.outcome = subst (λ outcome. [] ≡ answers at.line found outcome) (sym p.plain) (unanswered at.line found) in
+      record { told = no_outputs; acts = subst P lacks (plain no_outputs plan [] p); relays = subst R none p.quiet; planned = subst (IsPlan plan at no_outputs) none p.planned }) planned
+
+  pub no_clear_planned : None ≡ clear_in what → PlainOf no_outputs [] → ArePlanned Confirm
+  no_clear_planned lacks planned = if_ok result _ _ (λ plan p.
+      let P : Option (ClearRequest A) → Type 0 = λ asked. Confirms at asked (call_on at.world at.line) plan.outcome no_outputs in
+      let R : Option (ClearRequest A) → Type 0 = λ asked. RelaysFor at.tables (confirms at.line asked (call_on at.world at.line)) plan.relay_update in
+      let Q : Option (ClearRequest A) → Type 0 = λ asked. IsPlan plan at no_outputs (confirms at.line asked (call_on at.world at.line)) in
+      record { told = no_outputs; acts = subst P lacks (plain no_outputs plan [] p); relays = subst R lacks p.quiet; planned = subst Q lacks p.planned }) planned

@@ -2,6 +2,7 @@
 use Rattle.std.proofs.Common.{◌≡◌, ℕ, ◌+◌, ◌<◌, ◌≤◌, List, [], ◌∷◌, ◌++◌, length, take, refl, sym, ap, ◌∙◌, subst, Option, Result, Ok, Err, inl, inr, arith}
 use Rattle.std.proofs.lemmas.Bool.{cases_lt}
 use Rattle.std.specs.Io.KnownBytes.{Appends}
+use Rattle.xp_charge.specs.declared.record.Record.{Record}
 use Rattle.xp_subs.specs.Tables.{Tables}
 use Rattle.xp_core.specs.declared.entry.Entry.{Entry}
 use Rattle.xp_core.specs.declared.event.Event.{Event}
@@ -11,7 +12,9 @@ use Rattle.xp_exchange.specs.declared.fault.ReplayFault.{ReplayFault}
 use Rattle.xp_exchange.specs.declared.fault.ReplayFault.TheVariants.{Script, Journal, Memory, Read, Write}
 use Rattle.xp_core.specs.declared.fault.StepFault.{StepFault}
 use Rattle.xp_core.specs.declared.fault.StepFault.TheVariants as steps
-use Rattle.xp_exchange.specs.steps.Acting.{Tells, Acted, reason}
+use Rattle.xp_exchange.specs.Play.{ActsOn}
+use Rattle.xp_exchange.specs.WholeScript.{IsWritten}
+use Rattle.xp_exchange.specs.steps.Acting.{Tells, Acted, ActsOnFirst, reason}
 use Rattle.xp_exchange.proofs.Acts.{acts_on_one, first_of_all, first_of_none, told_one}
 use Rattle.xp_exchange.proofs.Bytes.{appends_nothing}
 use Rattle.xp_exchange.proofs.Tellings.{told_nothing}
@@ -56,6 +59,34 @@ module _ {A : Type 0} where
       go (Err Journal) tells = elim tells [ ]
       go (Err Read) tells = elim tells [ ]
       go (Err (Script number)) tells = elim tells [ ]
+
+  -- What was acted on and written does not depend on which records wait.
+  acts_alike : (old new : Exchange A) (events : List (Event A)) (given waiting : List Record) → ActsOn old events new → ActsOn old events (record new { given = given; waiting = waiting })
+  acts_alike old new events given waiting acts = record { entries = acts.entries; run = acts.run; of_events = acts.of_events; history = acts.history; subs = acts.subs; room = acts.room }
+
+  abbrev first_alike : (old new : Exchange A) (events : List (Event A)) (given waiting : List Record) → ActsOnFirst old events new → ActsOnFirst old events (record new { given = given; waiting = waiting })
+  first_alike old new events given waiting acted =
+      record { first = acted.first; later = acted.later; in_order = acted.in_order; acts = acts_alike old new acted.first given waiting acted.acts }
+
+  written_alike : (old new : Exchange A) (text : List ℕ) (given waiting : List Record) → IsWritten old new text → IsWritten old (record new { given = given; waiting = waiting }) text
+  written_alike old new text given waiting written = record { entries = written.entries; history = written.history; text_is = written.text_is }
+
+  pub acted_alike : (result : Result (Unit {0}) ReplayFault) (old new : Exchange A) (events : List (Event A)) (text : List ℕ) (given waiting : List Record)
+      → Acted old events result new text → Acted old events result (record new { given = given; waiting = waiting }) text
+  acted_alike (Ok done) old new events text given waiting acted = (acts_alike old new events given waiting acted.0, written_alike old new text given waiting acted.1)
+  acted_alike (Err Journal) old new events text given waiting acted =
+      (first_alike old new events given waiting acted.0, written_alike old new text given waiting acted.1, acted.2, acted.3)
+  acted_alike (Err Memory) old new events text given waiting acted =
+      (first_alike old new events given waiting acted.0, elim acted.1 [
+        | inl refused ↦ inl (refused.0, written_alike old new text given waiting refused.1)
+        | inr untold ↦ inr (record { entries = untold.entries; last = untold.last; history = untold.history; text_is = untold.text_is })
+      ])
+  acted_alike (Err Write) old new events text given waiting acted = (
+    first_alike old new events given waiting acted.0,
+    record { whole = acted.1.whole; told = written_alike old new acted.1.whole given waiting acted.1.told; count = acted.1.count; front = acted.1.front },
+  )
+  acted_alike (Err Read) old new events text given waiting acted = elim acted [ ]
+  acted_alike (Err (Script number)) old new events text given waiting acted = elim acted [ ]
 
   abbrev IsFull : StepFault A → Type 0
   IsFull (steps.JournalFull event) = Unit {0}

@@ -18,6 +18,9 @@ use xp_core::{Core, Entry, Event, Outputs, StepFault};
 use xp_script::write_entry;
 use xp_subs::Subs;
 
+/// How many charging records wait before they are dropped.
+const MOST_WAITING: usize = 1_000;
+
 /// Takes the events off the queue and acts on them in turn. Writes the text of each entry before it acts on the next
 /// event. `memory` is for the octets of a frame, and `text` for the text of an entry. What they held is lost.
 pub fn act_on_all<A: Allocator + Copy, W: Write>(
@@ -54,9 +57,19 @@ fn act_on<A: Allocator + Copy, W: Write>(
         Ok(entry) => {
             let told = tell(core.subs(), &entry, memory, text, writer);
             core.keep_memory(outputs_of(entry));
+            drop_records(core);
             told
         }
         Err(fault) => Err(reason_of(&fault)),
+    }
+}
+
+/// Drops the records that wait, where they are many: their text was made with their entries. Without memory they wait on.
+fn drop_records<A: Allocator + Copy>(core: &mut Core<A>)
+    ensures { core.new ≡ record core.old { given = core.new.given; waiting = core.new.waiting } }
+{
+    if core.records().len() >= MOST_WAITING {
+        let _dropped = core.take_records();
     }
 }
 

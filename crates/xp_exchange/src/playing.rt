@@ -140,16 +140,16 @@ fn read_events<A: Allocator + Copy>(
     ensures lines { length streams.new ≡ length streams.old }
 {
     events.clear();
-    match command {
-        Command::Nothing | Command::At(_) => Ok(()),
+    let (line, what) = match command {
+        Command::Nothing | Command::At(_) => return Ok(()),
         Command::Up(line) => {
             if is_off(core, line) {
                 streams.begin(line);
             }
-            put(line, moment, What::Up, events)
+            (line, What::Up)
         }
-        Command::Down(line) => put(line, moment, What::Down, events),
-        Command::Expire(line) => put(line, moment, What::Expire, events),
+        Command::Down(line) => (line, What::Down),
+        Command::Expire(line) => (line, What::Expire),
         Command::In(line, octets) => {
             if is_off(core, line) {
                 return Ok(());
@@ -157,9 +157,10 @@ fn read_events<A: Allocator + Copy>(
             let modulus = core.subs().modulus_of(line);
             streams.read_events(modulus, line, moment, octets.as_slice(), events)?;
             *memory = octets.into_vec();
-            Ok(())
+            return Ok(());
         }
-    }
+    };
+    put(line, moment, what, events)
 }
 
 /// Returns whether a line is out of service.

@@ -22,10 +22,11 @@ use super::send::send;
 use crate::outcome::Outcome;
 use crate::output::Buffer;
 use crate::records::Records;
+use crate::workspace::Workspace;
 use std::alloc::{AllocError, Allocator};
 use xp_answer::{Answer, Connection, examine};
 use xp_charge::Meter;
-use xp_machine::{Agreement, Change, LiveCall, RelayUpdate, Workspace};
+use xp_machine::{Agreement, Change, LiveCall, RelayUpdate};
 use xp_relay::Terms;
 use xp_subs::Subs;
 
@@ -57,10 +58,12 @@ pub fn answer<A: Allocator + Copy>(
         answer.block,
     )? {
         Answer::Connected(connection) => {
-            let outputs = Buffer::with_room(alloc, 1)?;
+            let outputs = workspace.buffer(alloc, 1)?;
             let agreement = agreement_of(found.moment, &connection);
             let meter = Meter::new(found.subs.segment_limit());
-            let metered = workspace.opened(alloc, terms_on(found.subs, call, agreement), meter)?;
+            let metered = workspace
+                .relays
+                .opened(alloc, terms_on(found.subs, call, agreement), meter)?;
             let plan = connect(alloc, found, call, connection, outputs);
             let caller = call.caller;
             Ok(plan.carrying(RelayUpdate { caller, metered }))

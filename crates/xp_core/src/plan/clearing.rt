@@ -22,6 +22,7 @@ use crate::event::What;
 use crate::outcome::Outcome;
 use crate::output::{Buffer, Output};
 use crate::records::Records;
+use crate::workspace::Workspace;
 use std::alloc::{AllocError, Allocator};
 use xp_answer::forward_clear;
 use xp_causes::clearing_cause::{
@@ -145,13 +146,14 @@ pub fn confirm<A: Allocator + Copy>(
     alloc: A,
     found: &EventLine<'_, A>,
     clear: &ClearRequest<'_, A>,
+    workspace: &mut Workspace<A>,
 ) -> Result<Plan<A>, AllocError>
     requires { IsShort found.now.charged }
     ensures { (before : List (Entered A)) → IsEventLine found.now before → IfOk result (PlansClear (event_line_context found.now before) (clear_of clear.now)) }
 {
     let own = found.confirm_own(alloc);
     let far = carry_on(alloc, found, clear)?;
-    let outputs = Buffer::with_room(alloc, 2)?.with(own).with_some(far);
+    let outputs = workspace.buffer(alloc, 2)?.with(own).with_some(far);
     let cause = indicated_cause(clear.cause);
     let diagnostic = indicated_diagnostic(clear.diagnostic);
     let withdrawal = found.withdraw(NoCallState::IsFree, cause, diagnostic);

@@ -2,11 +2,12 @@
 
 ghost use Rattle.std.specs.Prelude.{◌≡◌, ◌<◌, [], IfOk, List};
 ghost use Rattle.xp_channel.specs.Table.{cell};
+ghost use Rattle.xp_channel.specs.declared.action.Action.TheVariants.{Answer as Answers, Collision as Collides, Confirm as Clears, NewCall as Requested};
 ghost use Rattle.xp_core.specs.Agreed.{AllHaveTerms};
 ghost use Rattle.xp_machine.specs.Channel.{channel_of};
 ghost use Rattle.xp_machine.specs.Coupling.{AreCoupled};
 ghost use Rattle.xp_core.specs.declared.entry.Entry.{Entry as Entered};
-ghost use Rattle.xp_core.specs.steps.EventLine.{event_line_context};
+ghost use Rattle.xp_core.specs.steps.EventLine.{IsEventLine, IsShort, event_line_context};
 ghost use Rattle.xp_core.specs.steps.Plan.{IsPlainPlan, Plans};
 ghost use Rattle.xp_core.specs.steps.Relays.{RelaysRepresentCalls};
 ghost use Rattle.xp_core.specs.StepContext.{step_context};
@@ -69,27 +70,88 @@ pub fn plan_of<A: Allocator + Copy>(
         Action::Free => free(alloc, &found),
         Action::Error(diagnostic) => fail(alloc, &found, diagnostic),
         Action::Expired => fail(alloc, &found, TIMER_EXPIRED_FOR_INCOMING_CALL),
-        Action::NewCall => match request_in(what) {
-            None => nothing(alloc, &found),
-            Some(call) => request(alloc, &found, &call, Cancelled::none()),
-        },
-        Action::Collision => match request_in(what) {
-            None => nothing(alloc, &found),
-            Some(call) => request(alloc, &found, &call, Cancelled::by(&found)),
-        },
-        Action::Answer => match accepted_in(what) {
-            None => nothing(alloc, &found),
-            Some(accepted) => answer(alloc, &found, &accepted, &mut workspace.relays),
-        },
-        Action::Confirm => match clear_in(what) {
-            None => nothing(alloc, &found),
-            Some(clear) => confirm(alloc, &found, &clear),
-        },
+        Action::NewCall => new_call(alloc, &found, what, workspace),
+        Action::Collision => collision(alloc, &found, what, workspace),
+        Action::Answer => answered(alloc, &found, what, workspace),
+        Action::Confirm => cleared(alloc, &found, what, workspace),
     }
 }
 
+/// Plans that nothing happens.
 fn nothing<A: Allocator + Copy>(alloc: A, _found: &EventLine<'_, A>) -> Result<Plan<A>, AllocError>
     ensures { (before : List (Entered A)) → IfOk result (λ plan. IsPlainPlan plan (event_line_context _found.now before) no_outputs []) }
 {
     Ok(Plan::none(alloc))
+}
+
+/// Plans a call request of a line that is in no call.
+#[inline(never)]
+fn new_call<A: Allocator + Copy>(
+    alloc: A,
+    found: &EventLine<'_, A>,
+    what: &What<A>,
+    workspace: &mut Workspace<A>,
+) -> Result<Plan<A>, AllocError>
+    requires { found.now.line < line_count found.now.subs.now }
+    ensures { (before : List (Entered A)) → IfOk result (Plans (event_line_context found.now before) what.now Requested) }
+{
+    match request_in(what) {
+        None => nothing(alloc, found),
+        Some(call) => request(alloc, found, &call, Cancelled::none(), workspace),
+    }
+}
+
+/// Plans a call request that collides with an incoming call of its line, which is cancelled.
+#[cold]
+#[inline(never)]
+fn collision<A: Allocator + Copy>(
+    alloc: A,
+    found: &EventLine<'_, A>,
+    what: &What<A>,
+    workspace: &mut Workspace<A>,
+) -> Result<Plan<A>, AllocError>
+    requires { found.now.line < line_count found.now.subs.now }
+    ensures { (before : List (Entered A)) → IsEventLine found.now before → IfOk result (Plans (event_line_context found.now before) what.now Collides) }
+{
+    match request_in(what) {
+        None => nothing(alloc, found),
+        Some(call) => request(alloc, found, &call, Cancelled::by(found), workspace),
+    }
+}
+
+/// Plans the answer to the incoming call of its line.
+#[inline(never)]
+fn answered<A: Allocator + Copy>(
+    alloc: A,
+    found: &EventLine<'_, A>,
+    what: &What<A>,
+    workspace: &mut Workspace<A>,
+) -> Result<Plan<A>, AllocError>
+    requires line { found.now.line < line_count found.now.subs.now }
+    requires terms { AllHaveTerms found.now.subs.now found.now.machine.now }
+    requires coupled { AreCoupled found.now.subs.now found.now.machine.now }
+    requires short { IsShort found.now.charged }
+    ensures { (before : List (Entered A)) → IsEventLine found.now before → IfOk result (Plans (event_line_context found.now before) what.now Answers) }
+{
+    match accepted_in(what) {
+        None => nothing(alloc, found),
+        Some(accepted) => answer(alloc, found, &accepted, workspace),
+    }
+}
+
+/// Plans a clear request.
+#[inline(never)]
+fn cleared<A: Allocator + Copy>(
+    alloc: A,
+    found: &EventLine<'_, A>,
+    what: &What<A>,
+    workspace: &mut Workspace<A>,
+) -> Result<Plan<A>, AllocError>
+    requires { IsShort found.now.charged }
+    ensures { (before : List (Entered A)) → IsEventLine found.now before → IfOk result (Plans (event_line_context found.now before) what.now Clears) }
+{
+    match clear_in(what) {
+        None => nothing(alloc, found),
+        Some(clear) => confirm(alloc, found, &clear, workspace),
+    }
 }

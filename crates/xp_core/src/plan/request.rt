@@ -22,6 +22,7 @@ use super::send::{clear_indication, send_as, send_far};
 use crate::outcome::Outcome;
 use crate::output::{Buffer, Output};
 use crate::records::Records;
+use crate::workspace::Workspace;
 use std::alloc::{AllocError, Allocator};
 use xp_answer::{Setup, incoming_call};
 use xp_causes::Refusal;
@@ -81,13 +82,14 @@ pub fn request<A: Allocator + Copy>(
     found: &EventLine<'_, A>,
     request: &CallRequest<'_, A>,
     cancelled: Cancelled<A>,
+    workspace: &mut Workspace<A>,
 ) -> Result<Plan<A>, AllocError>
     requires { found.now.line < line_count found.now.subs.now }
     ensures { (before : List (Entered A)) (ended : List Changing) (far : List (Sent A)) → IsCancelled cancelled (event_line_context found.now before) ended far
         → IfOk result (PlansRequest (event_line_context found.now before) (request_of request.now) ended far) }
 {
     let (subs, caller) = (found.subs, found.line);
-    let outputs = Buffer::with_room(alloc, count(&cancelled.told) + 1)?;
+    let outputs = workspace.buffer(alloc, count(&cancelled.told) + 1)?;
     match decide(alloc, subs, found.machine, caller, request.block)? {
         Verdict::Refuse(why) => {
             let records = Records::with_room(alloc, count(&cancelled.charged) + 1)?;
