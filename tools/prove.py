@@ -142,7 +142,7 @@ class Proof:
         # rt itself keeps other runs out, and nothing else runs by now.
         for it in self.held:
             os.close(it)
-        words = [*self.kit.guarded(), "rt", "run", "--", "check", EXAMPLE]
+        words = [*self.kit.guarded(), "rt", "run", "--jobs", str(self.at_once), "--", "check", EXAMPLE]
         return subprocess.run(words, cwd=PROGRAM, stdin=subprocess.DEVNULL, stdout=log, stderr=log).returncode
 
     def next_finished(self):

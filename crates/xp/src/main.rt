@@ -1,6 +1,8 @@
 //! The exchange as a program: it checks a subscription file, replays a script of events, and serves lines over TCP.
 #![tactic(auto)]
 
+ghost use Rattle.std.specs.Prelude.{◌≡◌};
+
 mod arguments;
 mod failure;
 mod laws;
@@ -38,10 +40,14 @@ fn run<R: AllocGlobal + Env + Files + Input + Net + Print + Sync + Threads + Wai
     let alloc = rt.alloc();
     let words = words(rt)?;
     let arguments = Arguments::read(alloc, &words)?;
-    let subs = subscriptions(alloc, fs::read_to_string(rt, arguments.file))?;
+    let text = fs::read_to_string(rt, arguments.file);
+    let subs = subscriptions(alloc, &text)?;
     match arguments.subcommand {
         Subcommand::Do(task) => do_task(rt, task, subs),
-        Subcommand::Serve(limits) => serve_lines(rt, limits, subs),
+        Subcommand::Serve(limits) => {
+            let names = subscriptions(alloc, &text)?;
+            serve_lines(rt, limits, subs, names)
+        }
     }
 }
 
@@ -54,15 +60,18 @@ fn do_task<R: AllocGlobal + Input + Print>(rt: &R, task: Task, subs: Subs) -> Re
     Ok(())
 }
 
-/// Serves the lines, and prints their charging records.
+/// Serves the lines, and prints their charging records. `names` are the same subscriptions once more.
 fn serve_lines<R: AllocGlobal + Net + Print + Sync + Threads + Wait>(
     rt: &R,
     limits: Limits,
     subs: Subs,
-) -> Result<(), Failure> {
+    names: Subs,
+) -> Result<(), Failure>
+    requires { names ≡ subs }
+{
     let alloc = rt.alloc();
-    let mut writer = BufWriter::new(alloc, io::writer(rt)).map_err(|_| TaskFailure::Memory)?;
-    serve(rt, alloc, subs, limits, &mut writer)?;
+    let writer = BufWriter::new(alloc, io::writer(rt)).map_err(|_| TaskFailure::Memory)?;
+    serve(rt, alloc, subs, names, limits, writer).outcome?;
     Ok(())
 }
 

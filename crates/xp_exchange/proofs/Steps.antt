@@ -76,11 +76,13 @@ module _ {A : Type 0} where
   acted_alike (Ok done) old new events text given waiting acted = (acts_alike old new events given waiting acted.0, written_alike old new text given waiting acted.1)
   acted_alike (Err Journal) old new events text given waiting acted =
       (first_alike old new events given waiting acted.0, written_alike old new text given waiting acted.1, acted.2, acted.3)
-  acted_alike (Err Memory) old new events text given waiting acted =
-      (first_alike old new events given waiting acted.0, elim acted.1 [
-        | inl refused ↦ inl (refused.0, written_alike old new text given waiting refused.1)
-        | inr untold ↦ inr (record { entries = untold.entries; last = untold.last; history = untold.history; text_is = untold.text_is })
-      ])
+  acted_alike (Err Memory) old new events text given waiting acted = (
+    first_alike old new events given waiting acted.0,
+    elim acted.1 [
+      | inl refused ↦ inl (refused.0, written_alike old new text given waiting refused.1)
+      | inr untold ↦ inr (record { entries = untold.entries; last = untold.last; history = untold.history; text_is = untold.text_is })
+    ],
+  )
   acted_alike (Err Write) old new events text given waiting acted = (
     first_alike old new events given waiting acted.0,
     record { whole = acted.1.whole; told = written_alike old new acted.1.whole given waiting acted.1.told; count = acted.1.count; front = acted.1.front },

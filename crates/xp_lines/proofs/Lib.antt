@@ -3,6 +3,7 @@ mod Expiring
 mod Octets
 mod Offered
 mod Pulling
+mod Recorded
 pub mod Served
 pub mod Sessions
 mod Sums

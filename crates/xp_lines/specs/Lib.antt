@@ -7,6 +7,7 @@ pub mod Gates
 pub mod Offers
 pub mod Pairs
 pub mod Reads
+pub mod Recorded
 pub mod Sessions
 pub mod Together
 pub mod Turns

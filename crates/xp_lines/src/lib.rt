@@ -3,7 +3,8 @@
 //! A line's thread takes connections from the line's port, one at a time. It reads packets from the connection and offers them
 //! to the exchange, and it writes to the connection the packets that the exchange puts out to the line.
 //! [`serve_all`] starts one thread for each line, [`serve_line`] is what such a thread runs, and [`turn`] is one turn on a
-//! connection, which is called a link here.
+//! connection, which is called a link here. The thread that calls [`serve_all`] hands the charging records to a
+//! [`RecordSink`] as calls end.
 #![tactic(auto)]
 
 mod answer_timer;
@@ -14,6 +15,8 @@ mod line;
 mod link;
 mod offering;
 mod reading;
+mod recording;
+mod recording_signal;
 mod session;
 mod threads;
 mod turning;
@@ -24,7 +27,9 @@ pub use flow::{Flow, push_rest};
 pub use laws::{links_add_up, turns_add_up};
 pub use line::{EndReason, LineEnd, serve_line};
 pub use link::{Arrived, Clock, Gate, Link, Port, Pulled, Pushed};
+pub use recording::{Received, RecordSink};
+pub use recording_signal::RecordingSignal;
 pub use session::Session;
-pub use threads::{ServeFault, ThreadInputs, serve_all};
+pub use threads::{LinesServed, ServeFault, ThreadInputs, serve_all};
 pub use turning::{TurnOutcome, Turned, turn};
 pub use waiting::Waiting;

@@ -6,6 +6,7 @@ ghost use Rattle.xp_lines.specs.steps.Sessions.{Closes, Connects, IsOn, IsThere,
 
 use crate::link::{Arrived, Clock, Gate, Link, Port};
 use crate::offering::{Stop, offer};
+use crate::recording_signal::RecordingSignal;
 use crate::session::Session;
 use crate::turning::{TurnOutcome, go_down, turn};
 use crate::waiting::Waiting;
@@ -43,6 +44,7 @@ pub struct LineEnd<N: Name, A: Allocator = Global> {
 
 /// Serves a line for at most `turns` turns, with the links that come from its port, one at a time. It halts the exchange where
 /// `records` charging records are made, or the journal is full. At the end it offers the Down of a link that is still there.
+/// It tells the recording thread of the records that were made, and that the line has ended.
 pub fn serve_line<N: Name, P: Port, C: Clock, G: Gate, A: Allocator + Copy, R: Wait>(
     rt: &R,
     alloc: A,
@@ -51,6 +53,7 @@ pub fn serve_line<N: Name, P: Port, C: Clock, G: Gate, A: Allocator + Copy, R: W
     port: P,
     clock: C,
     gate: G,
+    signal: &RecordingSignal,
     turns: u64,
     records: u64,
 ) -> LineEnd<N, A>
@@ -62,13 +65,14 @@ pub fn serve_line<N: Name, P: Port, C: Clock, G: Gate, A: Allocator + Copy, R: W
     let mut clock = clock;
     let mut gate = gate;
     let last = have_turns(
-        rt, alloc, exchange, &mut pass, &mut port, &mut clock, &mut gate, turns, records,
+        rt, alloc, exchange, &mut pass, &mut port, &mut clock, &mut gate, signal, turns, records,
     );
     let why = last.why;
     close(rt, exchange, &mut pass, &mut clock, last.session);
     if why == EndReason::Journal {
         exchange.halt(rt);
     }
+    signal.line_ended();
     LineEnd { pass, why }
 }
 
@@ -90,6 +94,7 @@ fn have_turns<N: Name, P: Port, C: Clock, G: Gate, A: Allocator + Copy, R: Wait>
     port: &mut P,
     clock: &mut C,
     gate: &mut G,
+    signal: &RecordingSignal,
     turns: u64,
     records: u64,
 ) -> Last<P::Link, A>
@@ -99,6 +104,7 @@ fn have_turns<N: Name, P: Port, C: Clock, G: Gate, A: Allocator + Copy, R: Wait>
     let mut session = None;
     for _turn in 0..turns {
         let step = have_turn(rt, alloc, exchange, pass, port, clock, gate, session);
+        signal.records_made(step.records);
         halt_at(rt, exchange, step.records, records);
         if let Some(why) = step.end {
             return Last {

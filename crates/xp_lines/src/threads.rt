@@ -1,19 +1,23 @@
-//! All lines of an exchange, each on its own thread.
+//! All lines of an exchange, each on its own thread, and their charging records on the thread that serves them.
 
 ghost use Rattle.std.specs.Prelude.{◌≡◌, IfErr, IfOk, [], map, vec_len, vec_capacity, ◌+◌, ◌≤◌};
 ghost use Rattle.xp_lines.specs.Pairs.{AreEach};
+ghost use Rattle.xp_lines.specs.Recorded.{HandsOn};
 ghost use Rattle.xp_lines.specs.Sessions.{AreMoved, IsLineServed};
 ghost use Rattle.xp_lines.specs.steps.Threads.{Begins, Ends};
+ghost use Rattle.xp_subs.specs.Tables.{line_count};
 
 use crate::line::{EndReason, LineEnd, serve_line};
 use crate::link::{Clock, Gate, Link, Port};
+use crate::recording::{RecordSink, keep_recording};
+use crate::recording_signal::RecordingSignal;
 use std::alloc::Global;
 use std::marker::PhantomData;
 use std::snapshot::Snapshot;
 use std::sync::Wait;
 use std::thread;
 use std::thread::{Promise, PromisedHandle, Scope, Threads};
-use xp_lock::{Exchange, LinePass, Name};
+use xp_lock::{Exchange, LinePass, Name, Recorder};
 
 /// What the thread of a line works with.
 #[derive(Drop)]
@@ -24,10 +28,22 @@ pub struct ThreadInputs<N: Name, P: Port, C: Clock, G: Gate> {
     pub gate: G,
 }
 
-/// An allocation failed, and no line was served. The parts come back.
+/// What is left as all lines have ended.
 #[derive(Drop)]
-pub struct ServeFault<N: Name, P: Port, C: Clock, G: Gate> {
+pub struct LinesServed<N: Name, S: RecordSink> {
+    /// How the lines ended, in the order in which they were given.
+    pub ends: Vec<LineEnd<N>>,
+    pub recorder: Recorder<N>,
+    /// The sink, with the charging records that it was given.
+    pub sink: S,
+}
+
+/// An allocation failed, and no line was served. All that was given comes back.
+#[derive(Drop)]
+pub struct ServeFault<N: Name, P: Port, C: Clock, G: Gate, S: RecordSink> {
     pub parts: Vec<ThreadInputs<N, P, C, G>>,
+    pub recorder: Recorder<N>,
+    pub sink: S,
 }
 
 /// The promise that a thread returns the pass of its line as serving leaves it.
@@ -51,44 +67,73 @@ type Begun<N, L> = Result<PromisedHandle<LineEnd<N>, OfLine<N, L>>, LineEnd<N>>;
 /// `records` the number of charging records at which the exchange is halted. If the thread of a line cannot be started, the
 /// exchange is halted. The ends are in the order of the parts.
 ///
+/// The recorder takes the charging records of calls as they end, and the sink is given them. It is given the rest once all lines
+/// have ended; those that no memory could be had for stay with the exchange. Where the sink can do nothing with further records,
+/// the exchange is halted.
+///
 /// # Errors
 ///
-/// `ServeFault` if an allocation fails. Then no line was served, and the parts come back.
+/// `ServeFault` if an allocation fails. Then no line was served, and all that was given comes back.
 pub fn serve_all<
     N: Name + Send + Sync,
     P: Port + Send,
     C: Clock + Send,
     G: Gate + Send,
+    S: RecordSink,
     R: Threads + Wait + Sync,
 >(
     rt: &R,
     alloc: Global,
     exchange: &Exchange<N>,
     parts: Vec<ThreadInputs<N, P, C, G>>,
+    recorder: Recorder<N>,
+    sink: S,
     turns: u64,
     records: u64,
-) -> Result<Vec<LineEnd<N>>, ServeFault<N, P, C, G>>
-    ensures ok { IfOk result (λ ends. map (λ end. end.pass.line) ends.items ≡ map (λ part. part.pass.line) parts.items) }
-    ensures served { IfOk result (λ ends. AreEach (IsLineServed N.subs (AreMoved P.Link.pushed P.Link.pulled)) (map (λ part. part.pass) parts.items) (map (λ end. end.pass) ends.items)) }
+) -> Result<LinesServed<N, S>, ServeFault<N, P, C, G, S>>
+    requires { S.lines sink ≡ line_count N.subs }
+    ensures ok { IfOk result (λ served. map (λ end. end.pass.line) served.ends.items ≡ map (λ part. part.pass.line) parts.items) }
+    ensures served { IfOk result (λ served. AreEach (IsLineServed N.subs (AreMoved P.Link.pushed P.Link.pulled)) (map (λ part. part.pass) parts.items) (map (λ end. end.pass) served.ends.items)) }
+    ensures recorded { IfOk result (λ served. HandsOn S.received S.keeps recorder sink served.recorder served.sink) }
     ensures err { IfErr result (λ fault. fault.parts ≡ parts) }
+    ensures kept { IfErr result (λ fault. (fault.recorder ≡ recorder) × (fault.sink ≡ sink)) }
 {
     let Ok(begun) = Vec::with_capacity(alloc, parts.len()) else {
-        return Err(ServeFault { parts });
+        return Err(ServeFault {
+            parts,
+            recorder,
+            sink,
+        });
     };
     let Ok(ends) = Vec::with_capacity(alloc, parts.len()) else {
-        return Err(ServeFault { parts });
+        return Err(ServeFault {
+            parts,
+            recorder,
+            sink,
+        });
     };
+    let signal = RecordingSignal::new(parts.len());
+    let shared = &signal;
     Ok(thread::scope(
         thread::scope_env(),
         rt,
-        |scope| -> Vec<LineEnd<N>>
+        |scope| -> LinesServed<N, S>
             requires begun { vec_len parts ≤ vec_capacity begun }
             requires ends { vec_len parts ≤ vec_capacity ends }
             requires none { (begun.items ≡ []) × (ends.items ≡ []) }
-            ensures { AreEach (IsLineServed N.subs (AreMoved P.Link.pushed P.Link.pulled)) (map (λ part. part.pass) parts.items) (map (λ end. end.pass) result.items) }
+            requires lines { S.lines sink ≡ line_count N.subs }
+            ensures served { AreEach (IsLineServed N.subs (AreMoved P.Link.pushed P.Link.pulled)) (map (λ part. part.pass) parts.items) (map (λ end. end.pass) result.ends.items) }
+            ensures recorded { HandsOn S.received S.keeps recorder sink result.recorder result.sink }
         {
-            let begun = begin_all(rt, scope, alloc, exchange, parts, begun, turns, records);
-            end_all(rt, begun, ends)
+            let begun = begin_all(
+                rt, scope, alloc, exchange, shared, parts, begun, turns, records,
+            );
+            let recorded = keep_recording(rt, exchange, recorder, sink, shared);
+            LinesServed {
+                ends: end_all(rt, begun, ends),
+                recorder: recorded.recorder,
+                sink: recorded.sink,
+            }
         },
     ))
 }
@@ -107,6 +152,7 @@ fn begin_all<
     scope: &Scope<'s, E>,
     alloc: Global,
     exchange: &'s Exchange<N>,
+    signal: &'s RecordingSignal,
     parts: Vec<ThreadInputs<N, P, C, G>>,
     begun: Vec<Begun<N, P::Link>>,
     turns: u64,
@@ -119,7 +165,7 @@ fn begin_all<
 {
     let mut begun = begun;
     for part in parts {
-        begun.push_reserved(begin_one(rt, scope, alloc, exchange, part, turns, records));
+        begun.push_reserved(begin_one(rt, scope, alloc, exchange, signal, part, turns, records));
     }
     begun
 }
@@ -138,6 +184,7 @@ fn begin_one<
     scope: &Scope<'s, E>,
     alloc: Global,
     exchange: &'s Exchange<N>,
+    signal: &'s RecordingSignal,
     part: ThreadInputs<N, P, C, G>,
     turns: u64,
     records: u64,
@@ -156,7 +203,11 @@ fn begin_one<
     };
     let run = move || -> LineEnd<N>
         ensures { IsLineServed N.subs (AreMoved P.Link.pushed P.Link.pulled) pass result.pass }
-    { serve_line(rt, alloc, exchange, pass, port, clock, gate, turns, records) };
+    {
+        serve_line(
+            rt, alloc, exchange, pass, port, clock, gate, signal, turns, records,
+        )
+    };
     match scope.spawn_with(promise, run) {
         Ok(handle) => Ok(handle),
         Err(refused) => {

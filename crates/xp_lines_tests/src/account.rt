@@ -1,10 +1,14 @@
-//! What a closed book tells, as a short text.
+//! What is told of lines that were served, as a short text.
+
+ghost use Rattle.std.specs.Prelude.{All};
+ghost use Rattle.xp_charge.specs.Lines.{HasLines};
+ghost use Rattle.xp_subs.specs.Tables.{line_count};
 
 use crate::plan::Scenario;
 use std::alloc::{AllocError, Global};
 use std::test::Fail;
+use xp_charge::Record;
 use xp_lines::EndReason;
-use xp_lock::Book;
 use xp_subs::Subs;
 
 /// The subscriptions of a scenario.
@@ -26,10 +30,12 @@ pub fn why_letter(why: EndReason) -> u8 {
     }
 }
 
-/// Adds the lines of the charging records.
-pub fn tell_records(book: &Book, text: &mut Vec<u8>) -> Result<(), AllocError> {
-    for ended in book.records() {
-        ended.write(book.subs(), text)?;
+/// Adds the lines of charging records.
+pub fn tell_records(records: &[Record], subs: &Subs, text: &mut Vec<u8>) -> Result<(), AllocError>
+    requires { All (HasLines (line_count subs.now)) records.now }
+{
+    for ended in records {
+        ended.write(subs, text)?;
     }
     Ok(())
 }

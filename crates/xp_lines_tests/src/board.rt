@@ -76,6 +76,8 @@ impl Seen {
 #[derive(Drop)]
 pub struct Board {
     lines: [Seen; 5],
+    /// How many charging records were handed to the sink.
+    pub recorded: AtomicU64,
     /// Whether a gate waited for another one in vain.
     pub late: AtomicBool,
 }
@@ -90,6 +92,7 @@ impl Board {
                 Seen::new(),
                 Seen::new(),
             ],
+            recorded: AtomicU64::new(0),
             late: AtomicBool::new(false),
         }
     }

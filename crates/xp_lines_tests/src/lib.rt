@@ -12,9 +12,13 @@ mod faults;
 #[cfg(test)]
 mod frames;
 #[cfg(test)]
+mod kept;
+#[cfg(test)]
 mod pace;
 #[cfg(test)]
 mod plan;
+#[cfg(test)]
+mod recorded;
 #[cfg(test)]
 mod served;
 #[cfg(test)]

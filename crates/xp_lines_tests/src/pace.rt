@@ -89,6 +89,7 @@ impl Gate for PlannedGate {
         let (other, octets) = leave.given;
         are_pulled(&self.board, leave.pulled)
             && self.board.of(other).got.load(Ordering::SeqCst) >= octets
+            && self.board.recorded.load(Ordering::SeqCst) >= leave.recorded
     }
 }
 

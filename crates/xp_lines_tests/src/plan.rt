@@ -2,6 +2,7 @@
 
 use crate::counts::REFUSED;
 use crate::faults::FAULTS;
+use crate::recorded::RECORDED;
 use crate::served::{
     BROKEN_PORT, FIVE_AT_ONCE, FULL_JOURNAL, HALTED, LOST_LINK, NO_ANSWER, TWO_CALLS,
 };
@@ -35,8 +36,10 @@ pub struct GateRule {
     pub meets: &'static [LineNo],
     /// Then it answers yes once these lines were pulled from,
     pub pulled: &'static [LineNo],
-    /// and this line's link took so many octets.
+    /// this line's link took so many octets,
     pub given: (LineNo, usize),
+    /// and so many charging records were handed to the sink.
+    pub recorded: u64,
 }
 
 /// Packets go at once.
@@ -44,6 +47,7 @@ pub const FREELY: GateRule = GateRule {
     meets: &[],
     pulled: &[],
     given: (0, 0),
+    recorded: 0,
 };
 
 /// What a line's link gives, and what it is to be given.
@@ -88,6 +92,7 @@ pub enum Scenario {
     FullJournal,
     Halted,
     Refused,
+    Recorded,
     Faults,
     Slow,
     Unlike,
@@ -105,6 +110,7 @@ impl Scenario {
             Scenario::FullJournal => &FULL_JOURNAL,
             Scenario::Halted => &HALTED,
             Scenario::Refused => &REFUSED,
+            Scenario::Recorded => &RECORDED,
             Scenario::Faults => &FAULTS,
             Scenario::Slow => &SLOW,
             Scenario::Unlike => &UNLIKE,

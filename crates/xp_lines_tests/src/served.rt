@@ -33,6 +33,7 @@ pub static TWO_CALLS: [Plan; 5] = [
             meets: &[2],
             pulled: &[3],
             given: (2, 15),
+            ..FREELY
         },
         ..SILENT
     },
@@ -56,6 +57,7 @@ pub static TWO_CALLS: [Plan; 5] = [
             meets: &[0],
             pulled: &[1],
             given: (2, 0),
+            ..FREELY
         },
         ..SILENT
     },

@@ -1,9 +1,11 @@
 //! Lines that are served, each by a thread of its own.
 
 ghost use Rattle.std.specs.Prelude.{◌≡◌};
+ghost use Rattle.xp_subs.specs.Tables.{line_count};
 
 use crate::account::{subs, tell_records, why_letter};
 use crate::board::Board;
+use crate::kept::Kept;
 use crate::pace::{PlannedGate, Ticking};
 use crate::plan::Scenario;
 use crate::wire::PlannedPort;
@@ -12,8 +14,8 @@ use std::marker::Brand;
 use std::sync::{Arc, Wait};
 use std::test::Fail;
 use std::thread::Threads;
-use xp_lines::{LineEnd, ThreadInputs, serve_all};
-use xp_lock::{Exchange, LinePass, Name, PreparedExchange, prepare};
+use xp_lines::{LineEnd, LinesServed, ThreadInputs, serve_all};
+use xp_lock::{Book, Exchange, LinePass, Name, PreparedExchange, prepare};
 
 /// How lines are served.
 #[derive(Clone, Copy)]
@@ -26,6 +28,8 @@ pub struct Serving {
     pub halted: bool,
     pub turns: u64,
     pub records: u64,
+    /// The number of records at which the sink stops serving.
+    pub kept: u64,
 }
 
 /// Two calls, served as most acts are.
@@ -35,6 +39,7 @@ pub const USUALLY: Serving = Serving {
     halted: false,
     turns: 5_000_000,
     records: 1,
+    kept: 1_000,
 };
 
 fn part<N: Name>(
@@ -79,43 +84,81 @@ fn passes<N: Name>(
     Ok(passes)
 }
 
-/// No text, where the exchange could not be closed.
+/// No text, where an allocation failed before a line was served.
 fn serves<N: Name + Send + Sync, R: Threads + Wait + Sync>(
     rt: &R,
     alloc: Global,
     prepared: PreparedExchange<Global>,
+    sink: Kept,
     serving: &Serving,
     board: &Arc<Board>,
 ) -> Result<Vec<u8>, AllocError>
+    requires lines { line_count sink.subs ≡ line_count prepared.subs }
     requires subs { N.subs ≡ prepared.subs }
     requires history_length { N.history_length ≡ prepared.history_length }
     requires queues { N.queues ≡ prepared.queues }
 {
-    let (exchange, all) = Exchange::<N, Global>::start(alloc, prepared)?;
+    let (exchange, all, recorder) = Exchange::<N, Global>::start(alloc, prepared)?;
     if serving.halted {
         exchange.halt(rt);
     }
-    let mut text = Vec::new(alloc);
     let parts = parts(alloc, all, serving, board)?;
-    let Ok(ends) = serve_all(rt, alloc, &exchange, parts, serving.turns, serving.records) else {
-        return Ok(text);
-    };
-    let all = passes(alloc, ends, &mut text)?;
-    if let Ok(book) = exchange.close(rt, all) {
-        text.extend_from_slice(format!(in alloc; "{}\n", book.count())?.as_bytes())?;
-        tell_records(&book, &mut text)?;
+    let (turns, records) = (serving.turns, serving.records);
+    match serve_all(rt, alloc, &exchange, parts, recorder, sink, turns, records) {
+        Ok(served) => close(rt, alloc, exchange, served),
+        Err(_) => Ok(Vec::new(alloc)),
     }
+}
+
+/// Closes the exchange. No more than why each line has ended, where it could not be closed.
+fn close<N: Name, R: Wait>(
+    rt: &R,
+    alloc: Global,
+    exchange: Exchange<N>,
+    served: LinesServed<N, Kept>,
+) -> Result<Vec<u8>, AllocError> {
+    let LinesServed {
+        ends,
+        recorder,
+        sink,
+    } = served;
+    let mut text = Vec::new(alloc);
+    let all = passes(alloc, ends, &mut text)?;
+    match exchange.close(rt, all, recorder) {
+        Ok(book) => tell_book(alloc, &book, &sink.text, text),
+        Err(_) => Ok(text),
+    }
+}
+
+/// Adds how many entries the book has, the charging records that the sink kept, and those that the book still has.
+fn tell_book(
+    alloc: Global,
+    book: &Book,
+    kept: &[u8],
+    text: Vec<u8>,
+) -> Result<Vec<u8>, AllocError> {
+    let mut text = text;
+    text.extend_from_slice(format!(in alloc; "{}\n", book.count())?.as_bytes())?;
+    text.extend_from_slice(kept)?;
+    tell_records(book.records(), book.subs(), &mut text)?;
     Ok(text)
 }
 
-/// Serves the lines: why each has ended, how many entries the closed book has, and the charging records.
+/// Serves the lines: why each has ended, how many entries the closed book has, and the charging records: those that the sink
+/// kept, and then those that the book still has.
 pub fn serve<R: Threads + Wait + Sync>(
     rt: &R,
     alloc: Global,
     serving: &Serving,
     board: &Arc<Board>,
 ) -> Result<String, Fail> {
-    let prepared = prepare(alloc, subs(alloc, serving.scenario)?)?;
-    let text = serves::<Brand, R>(rt, alloc, prepared, serving, board)?;
+    let named = subs(alloc, serving.scenario)?;
+    let subs = subs(alloc, serving.scenario)?;
+    if named.counts().lines != subs.counts().lines {
+        return Err("the subscriptions differ".into());
+    }
+    let sink = Kept::new(alloc, named, board, serving.kept)?;
+    let prepared = prepare(alloc, subs)?;
+    let text = serves::<Brand, R>(rt, alloc, prepared, sink, serving, board)?;
     Ok(String::from_utf8(text)?)
 }

@@ -160,7 +160,7 @@ fn plays<N: Name>(
     requires history_length { N.history_length ≡ prepared.history_length }
     requires queues { N.queues ≡ prepared.queues }
 {
-    let (exchange, passes) = Exchange::<N, Global>::start(alloc, prepared)?;
+    let (exchange, passes, recorder) = Exchange::<N, Global>::start(alloc, prepared)?;
     let mut rest = passes.into_iter();
     let (Some(mut a1), Some(mut b1)) = (rest.next(), rest.next()) else {
         return Ok((0, false));
@@ -178,9 +178,9 @@ fn plays<N: Name>(
     for pass in rest {
         all.push(pass)?;
     }
-    if let Ok(book) = exchange.close(rt, all) {
+    if let Ok(book) = exchange.close(rt, all, recorder) {
         *entries = book.count();
-        tell_records(&book, records)?;
+        tell_records(book.records(), book.subs(), records)?;
     }
     Ok(kept)
 }

@@ -33,18 +33,18 @@ module _ {A : Type 0} where
 
   -- only which claims were given back is another
   abbrev pub Keeps : SeatState A → SeatState A → Type 0
-  Keeps first now = now ≡ record first { knows = closing first.knows.next first.knows.all now.knows.returned }
+  Keeps first now = now ≡ record first { knows = closing first.knows.next first.knows.all first.knows.recorded now.knows.returned }
 
-  pub keeps_first : (first : SeatState A) (next : ℕ) (all : List (Entry A)) → first.knows ≡ keeping next all → Keeps first first
-  keeps_first first next all is =
-      ap (λ (v : View A). record first { knows = v }) (is ∙ (λ i. closing (sym (ap (λ v. v.next) is) i) (sym (ap (λ v. v.all) is) i) (sym (ap (λ v. v.returned) is) i)))
+  pub keeps_first : (first : SeatState A) (next : ℕ) (all recorded : List (Entry A)) → first.knows ≡ keeping next all recorded → Keeps first first
+  keeps_first first next all recorded is =
+      ap (λ (v : View A). record first { knows = v }) (is ∙ (λ i. closing (sym (ap (λ v. v.next) is) i) (sym (ap (λ v. v.all) is) i) (sym (ap (λ v. v.recorded) is) i) (sym (ap (λ v. v.returned) is) i)))
 
   pub keeps_on : (first now after : SeatState A) (line : ℕ) → Keeps first now
-      → after ≡ record now { knows = closing now.knows.next now.knows.all (line ∷ now.knows.returned) } → Keeps first after
+      → after ≡ record now { knows = closing now.knows.next now.knows.all now.knows.recorded (line ∷ now.knows.returned) } → Keeps first after
   keeps_on first now after line was step =
-      step ∙ (λ i. record (was i) { knows = closing (was i).knows.next (was i).knows.all (line ∷ now.knows.returned) })
-      ∙ (λ i. record first { knows = closing first.knows.next first.knows.all (sym (ap (λ s. s.knows.returned) step) i) })
+      step ∙ (λ i. record (was i) { knows = closing (was i).knows.next (was i).knows.all (was i).knows.recorded (line ∷ now.knows.returned) })
+      ∙ (λ i. record first { knows = closing first.knows.next first.knows.all first.knows.recorded (sym (ap (λ s. s.knows.returned) step) i) })
 
-  pub keeps_all : (first now : SeatState A) → Keeps first now → now.knows ≡ closing now.knows.next now.knows.all now.knows.returned
+  pub keeps_all : (first now : SeatState A) → Keeps first now → now.knows ≡ closing now.knows.next now.knows.all now.knows.recorded now.knows.returned
   keeps_all first now was =
-      ap (λ s. s.knows) was ∙ (λ i. closing (sym (ap (λ s. s.knows.next) was) i) (sym (ap (λ s. s.knows.all) was) i) now.knows.returned)
+      ap (λ s. s.knows) was ∙ (λ i. closing (sym (ap (λ s. s.knows.next) was) i) (sym (ap (λ s. s.knows.all) was) i) (sym (ap (λ s. s.knows.recorded) was) i) now.knows.returned)

@@ -12,8 +12,8 @@ use Rattle.xp_core.specs.Exchange.{Exchange}
 use Rattle.xp_lock.specs.declared.history_length.View.{View}
 use Rattle.xp_lock.specs.Given.{is_among}
 use Rattle.xp_lock.specs.Handed.{handed}
-use Rattle.xp_lock.specs.Views.{StartsWith, closing, keeping, next_claim, one_further}
-use Rattle.xp_lock.specs.steps.Views.{Fits, HasSeenOwn, IsChecked, IsGrown, IsShared, IsPublished, claim_of, joined, nobody, unclaimed}
+use Rattle.xp_lock.specs.Views.{StartsWith, closing, keeping, next_claim, one_further, recording}
+use Rattle.xp_lock.specs.steps.Views.{Fits, HasSeenOwn, IsChecked, IsGrown, IsRead, IsShared, IsPublished, claim_of, joined, nobody, recorder_of, unclaimed, unrecorded, with_recorder}
 use Rattle.xp_lock.proofs.Lists.{Each, each_new, each_set, handed-none, starts_empty, starts_longer, starts_whole}
 
 off : false ≡ true → ⊥
@@ -31,16 +31,20 @@ given_else owner line seat other apart = ap (λ b. cond b seat (owner other)) (n
 
 module _ {A : Type 0} where
   -- making the history length
-  pub begins : IsShared {A = A} (0 ∷ []) (keeping 0 [] ∷ [])
+  pub begins : IsShared {A = A} (0 ∷ []) (with_recorder (keeping 0 [] []) (recording []) ∷ [])
   begins = record {
     keeper_seat = 0;
+    recorder_seat = 0;
     owner = λ _. 0;
     next = 0;
     history = [];
+    recorded = [];
     returned = [];
     one = omega arith;
     history_length = refl;
-    each = λ seat view e. each_new (Fits 0 (λ _. 0) 0 [] []) [] (keeping 0 []) (record { keeps = λ _. (refl, refl, refl, refl); claims = λ c. absurd (off c) })
+    front = starts_empty [];
+    each = λ seat view e. each_new (Fits 0 0 (λ _. 0) 0 [] [] []) [] (with_recorder (keeping 0 [] []) (recording []))
+        (record { keeps = λ _. (refl, refl, refl, refl, refl); claims = λ c. absurd (off c); records = λ _. (refl, refl) })
         (λ j u none. absurd (some-ne-none u (sym none))) seat view e;
   }
 
@@ -52,15 +56,18 @@ module _ {A : Type 0} where
         let own_entries = (h.each seat v at).keeps may in
         let vs : List (View A) = set views seat (one_further v) in
         let owner : ℕ → ℕ = given_to h.owner v.next (length vs) in
-        let F : ℕ → View A → Type 0 = Fits h.keeper_seat owner (v.next + 1) h.history h.returned in
+        let F : ℕ → View A → Type 0 = Fits h.keeper_seat h.recorder_seat owner (v.next + 1) h.history h.recorded h.returned in
         record {
           keeper_seat = h.keeper_seat;
+          recorder_seat = h.recorder_seat;
           owner = owner;
           next = v.next + 1;
           history = h.history;
+          recorded = h.recorded;
           returned = h.returned;
           one = h.one;
           history_length = h.history_length;
+          front = h.front;
           each = each_new F vs (next_claim v)
               (record {
                 keeps = λ k. absurd (off k);
@@ -71,9 +78,10 @@ module _ {A : Type 0} where
                   front = starts_empty h.history;
                   own = ap (handed v.next) (sym own_entries.1 ∙ none);
                 };
+                records = λ r. absurd (off r);
               })
               (each_set F views seat (one_further v)
-              (record { keeps = λ _. (own_entries.0, own_entries.1, refl, own_entries.3); claims = λ c. absurd (off c) })
+              (record { keeps = λ _. (own_entries.0, own_entries.1, refl, own_entries.3, own_entries.4); claims = λ c. absurd (off c); records = (h.each seat v at).records })
               (λ j u other e. record {
                 keeps = λ k. absurd (other (((h.each j u e).keeps k).0 ∙ sym own_entries.0));
                 claims = λ c. let was = (h.each j u e).claims c in record {
@@ -83,6 +91,7 @@ module _ {A : Type 0} where
                   front = was.front;
                   own = was.own;
                 };
+                records = (h.each j u e).records;
               }));
         }
 
@@ -93,22 +102,26 @@ module _ {A : Type 0} where
         let own_entries = (h.each seat v at).claims may in
         let vs : List (View A) = set views seat (unclaimed v) in
         let owner : ℕ → ℕ = given_to h.owner v.line (length vs) in
-        let F : ℕ → View A → Type 0 = Fits h.keeper_seat owner h.next h.history h.returned in
+        let F : ℕ → View A → Type 0 = Fits h.keeper_seat h.recorder_seat owner h.next h.history h.recorded h.returned in
         record {
           keeper_seat = h.keeper_seat;
+          recorder_seat = h.recorder_seat;
           owner = owner;
           next = h.next;
           history = h.history;
+          recorded = h.recorded;
           returned = h.returned;
           one = h.one;
           history_length = h.history_length;
+          front = h.front;
           each = each_new F vs (claim_of v)
               (record {
                 keeps = λ k. absurd (off k);
                 claims = λ _. record { owned = given_here h.owner v.line (length vs); given = own_entries.given; out = own_entries.out; front = own_entries.front; own = own_entries.own };
+                records = λ r. absurd (off r);
               })
               (each_set F views seat (unclaimed v)
-              (record { keeps = λ k. (h.each seat v at).keeps k; claims = λ c. absurd (off c) })
+              (record { keeps = λ k. (h.each seat v at).keeps k; claims = λ c. absurd (off c); records = (h.each seat v at).records })
               (λ j u other e. record {
                 keeps = λ k. (h.each j u e).keeps k;
                 claims = λ c. let was = (h.each j u e).claims c in record {
@@ -118,6 +131,7 @@ module _ {A : Type 0} where
                   front = was.front;
                   own = was.own;
                 };
+                records = (h.each j u e).records;
               }));
         }
 
@@ -129,12 +143,13 @@ module _ {A : Type 0} where
         let was_there : get_elem? views other ≡ some u = ⊎_elim (λ x. absurd (two x.0)) (λ x. x.1) (at_set views seat other (joined v u) u at') in
         let theirs = (h.each other u was_there).claims may in
         let owner : ℕ → ℕ = given_to h.owner u.line seat in
-        let F : ℕ → View A → Type 0 = Fits h.keeper_seat owner h.next h.history h.returned in
+        let F : ℕ → View A → Type 0 = Fits h.keeper_seat h.recorder_seat owner h.next h.history h.recorded h.returned in
         let G : ℕ → View A → Type 0 = λ j w. j ≢ other → F j w in
         let inner : Each G (set views seat (joined v u)) = each_set G views seat (joined v u)
         (λ _. record {
           keeps = λ k. (h.each seat v at).keeps k;
           claims = λ _. record { owned = given_here h.owner u.line seat; given = theirs.given; out = theirs.out; front = theirs.front; own = theirs.own };
+          records = (h.each seat v at).records;
         })
         (λ j w _ e apart. record {
           keeps = λ k. (h.each j w e).keeps k;
@@ -145,17 +160,21 @@ module _ {A : Type 0} where
             front = was.front;
             own = was.own;
           };
+          records = (h.each j w e).records;
         }) in
         record {
           keeper_seat = h.keeper_seat;
+          recorder_seat = h.recorder_seat;
           owner = owner;
           next = h.next;
           history = h.history;
+          recorded = h.recorded;
           returned = h.returned;
           one = h.one;
           history_length = h.history_length;
+          front = h.front;
           each = each_set F (set views seat (joined v u)) other nobody
-              (record { keeps = λ k. absurd (off k); claims = λ c. absurd (off c) })
+              (record { keeps = λ k. absurd (off k); claims = λ c. absurd (off c); records = λ r. absurd (off r) })
               (λ j w apart e. inner j w e apart);
         }
 
@@ -176,18 +195,21 @@ module _ {A : Type 0} where
         let kept = (h.each seat v at).keeps may in
         let claimed = (h.each seat v at).claims claims in
         let now : List (Entry A) = h.history ++ more in
-        let F : ℕ → View A → Type 0 = Fits h.keeper_seat h.owner h.next now h.returned in
+        let F : ℕ → View A → Type 0 = Fits h.keeper_seat h.recorder_seat h.owner h.next now h.recorded h.returned in
         record {
           keeper_seat = h.keeper_seat;
+          recorder_seat = h.recorder_seat;
           owner = h.owner;
           next = h.next;
           history = now;
+          recorded = h.recorded;
           returned = h.returned;
           one = subst (λ k. 0 < k) (sym (length-set words 0 n)) h.one;
           history_length = get_or-set_same words 0 n 0 h.one ∙ long ∙ ap (λ xs. length xs + length more) kept.1 ∙ sym (length-append h.history more);
+          front = starts_longer h.history h.recorded more h.front;
           each = each_set F views seat (record v { all = v.all ++ more; seen = v.all ++ more })
               (record {
-                keeps = λ _. (kept.0, ap (λ xs. xs ++ more) kept.1, kept.2, kept.3);
+                keeps = λ _. (kept.0, ap (λ xs. xs ++ more) kept.1, kept.2, kept.3, kept.4);
                 claims = λ _. record {
                   owned = claimed.owned;
                   given = claimed.given;
@@ -195,6 +217,7 @@ module _ {A : Type 0} where
                   front = starts_whole now (v.all ++ more) (ap (λ xs. xs ++ more) (sym kept.1));
                   own = ap (λ xs. handed v.line (xs ++ more)) (sym kept.1);
                 };
+                records = (h.each seat v at).records;
               })
               (λ j u other e. record {
                 keeps = λ k. absurd (other (((h.each j u e).keeps k).0 ∙ sym kept.0));
@@ -205,6 +228,7 @@ module _ {A : Type 0} where
                   front = starts_longer h.history u.seen more was.front;
                   own = handed-none u.line h.history more (none u.line (λ same. other (sym was.owned ∙ ap h.owner same ∙ claimed.owned))) ∙ was.own;
                 };
+                records = (h.each j u e).records;
               });
         }
 
@@ -213,23 +237,26 @@ module _ {A : Type 0} where
 
     -- the keeper compares a claim, and it is given back
     checks_at : (seat : ℕ) (v : View A) → get_elem? views seat ≡ some v → v.keeps ≡ true → v.claims ≡ true
-        → IsShared (set words 0 (slice_index words 0)) (set views seat (closing v.next v.all (v.line ∷ v.returned)))
+        → IsShared (set words 0 (slice_index words 0)) (set views seat (closing v.next v.all v.recorded (v.line ∷ v.returned)))
     checks_at seat v at may claims =
         let kept = (h.each seat v at).keeps may in
         let claimed = (h.each seat v at).claims claims in
         let n : ℕ = slice_index words 0 in
         let returned : List ℕ = v.line ∷ h.returned in
-        let F : ℕ → View A → Type 0 = Fits h.keeper_seat h.owner h.next h.history returned in
+        let F : ℕ → View A → Type 0 = Fits h.keeper_seat h.recorder_seat h.owner h.next h.history h.recorded returned in
         record {
           keeper_seat = h.keeper_seat;
+          recorder_seat = h.recorder_seat;
           owner = h.owner;
           next = h.next;
           history = h.history;
+          recorded = h.recorded;
           returned = returned;
           one = subst (λ k. 0 < k) (sym (length-set words 0 n)) h.one;
           history_length = get_or-set_same words 0 n 0 h.one ∙ h.history_length;
-          each = each_set F views seat (closing v.next v.all (v.line ∷ v.returned))
-              (record { keeps = λ _. (kept.0, kept.1, kept.2, ap (λ xs. v.line ∷ xs) kept.3); claims = λ c. absurd (off c) })
+          front = h.front;
+          each = each_set F views seat (closing v.next v.all v.recorded (v.line ∷ v.returned))
+              (record { keeps = λ _. (kept.0, kept.1, kept.2, ap (λ xs. v.line ∷ xs) kept.3, kept.4); claims = λ c. absurd (off c); records = λ r. absurd (off r) })
               (λ j u other e. record {
                 keeps = λ k. absurd (other (((h.each j u e).keeps k).0 ∙ sym kept.0));
                 claims = λ c. let was = (h.each j u e).claims c in record {
@@ -239,7 +266,112 @@ module _ {A : Type 0} where
                   front = was.front;
                   own = was.own;
                 };
+                records = (h.each j u e).records;
               });
+        }
+
+    -- the recorder's part goes to a new seat
+    leaves : (seat : ℕ) (v : View A) → get_elem? views seat ≡ some v → v.records ≡ true
+        → IsShared words (set views seat (unrecorded v) ++ recorder_of v ∷ [])
+    leaves seat v at may =
+        let part = (h.each seat v at).records may in
+        let vs : List (View A) = set views seat (unrecorded v) in
+        let F : ℕ → View A → Type 0 = Fits h.keeper_seat (length vs) h.owner h.next h.history h.recorded h.returned in
+        record {
+          keeper_seat = h.keeper_seat;
+          recorder_seat = length vs;
+          owner = h.owner;
+          next = h.next;
+          history = h.history;
+          recorded = h.recorded;
+          returned = h.returned;
+          one = h.one;
+          history_length = h.history_length;
+          front = h.front;
+          each = each_new F vs (recorder_of v)
+              (record { keeps = λ k. absurd (off k); claims = λ c. absurd (off c); records = λ _. (refl, part.1) })
+              (each_set F views seat (unrecorded v)
+              (record { keeps = (h.each seat v at).keeps; claims = (h.each seat v at).claims; records = λ r. absurd (off r) })
+              (λ j u other e. record {
+                keeps = (h.each j u e).keeps;
+                claims = (h.each j u e).claims;
+                records = λ r. absurd (other (((h.each j u e).records r).0 ∙ sym part.0));
+              }));
+        }
+
+    -- the recorder's part comes to a seat
+    comes : (seat : ℕ) (v : View A) (other : ℕ) (u : View A) → get_elem? views seat ≡ some v → (other ≡ seat → ⊥)
+        → get_elem? (set views seat (with_recorder v u)) other ≡ some u → u.records ≡ true
+        → IsShared words (set (set views seat (with_recorder v u)) other nobody)
+    comes seat v other u at two at' may =
+        let was_there : get_elem? views other ≡ some u = ⊎_elim (λ x. absurd (two x.0)) (λ x. x.1) (at_set views seat other (with_recorder v u) u at') in
+        let part = (h.each other u was_there).records may in
+        let F : ℕ → View A → Type 0 = Fits h.keeper_seat seat h.owner h.next h.history h.recorded h.returned in
+        let G : ℕ → View A → Type 0 = λ j w. j ≢ other → F j w in
+        let inner : Each G (set views seat (with_recorder v u)) = each_set G views seat (with_recorder v u)
+        (λ _. record { keeps = (h.each seat v at).keeps; claims = (h.each seat v at).claims; records = λ _. (refl, part.1) })
+        (λ j w _ e apart. record {
+          keeps = (h.each j w e).keeps;
+          claims = (h.each j w e).claims;
+          records = λ r. absurd (apart (((h.each j w e).records r).0 ∙ sym part.0));
+        }) in
+        record {
+          keeper_seat = h.keeper_seat;
+          recorder_seat = seat;
+          owner = h.owner;
+          next = h.next;
+          history = h.history;
+          recorded = h.recorded;
+          returned = h.returned;
+          one = h.one;
+          history_length = h.history_length;
+          front = h.front;
+          each = each_set F (set views seat (with_recorder v u)) other nobody
+              (record { keeps = λ k. absurd (off k); claims = λ c. absurd (off c); records = λ r. absurd (off r) })
+              (λ j w apart e. inner j w e apart);
+        }
+
+    -- the recorder's part that the keeper holds sees the whole history
+    reads_at : (seat : ℕ) (v : View A) → get_elem? views seat ≡ some v → v.keeps ≡ true → v.records ≡ true
+        → IsShared (set words 0 (slice_index words 0)) (set views seat (record v { recorded = v.all; read = v.all }))
+    reads_at seat v at may records =
+        let kept = (h.each seat v at).keeps may in
+        let part = (h.each seat v at).records records in
+        let n : ℕ = slice_index words 0 in
+        let F : ℕ → View A → Type 0 = Fits h.keeper_seat h.recorder_seat h.owner h.next h.history h.history h.returned in
+        record {
+          keeper_seat = h.keeper_seat;
+          recorder_seat = h.recorder_seat;
+          owner = h.owner;
+          next = h.next;
+          history = h.history;
+          recorded = h.history;
+          returned = h.returned;
+          one = subst (λ k. 0 < k) (sym (length-set words 0 n)) h.one;
+          history_length = get_or-set_same words 0 n 0 h.one ∙ h.history_length;
+          front = starts_whole h.history h.history refl;
+          each = each_set F views seat (record v { recorded = v.all; read = v.all })
+              (record {
+                keeps = λ _. (kept.0, kept.1, kept.2, kept.3, kept.1);
+                claims = (h.each seat v at).claims;
+                records = λ _. (part.0, kept.1);
+              })
+              (λ j u other e. record {
+                keeps = λ k. absurd (other (((h.each j u e).keeps k).0 ∙ sym kept.0));
+                claims = (h.each j u e).claims;
+                records = λ r. absurd (other (((h.each j u e).records r).0 ∙ sym part.0));
+              });
+        }
+
+    -- what the recorder's part had seen
+    read_before : (seat : ℕ) (v : View A) → get_elem? views seat ≡ some v → v.keeps ≡ true → v.records ≡ true → IsRead v (record v { recorded = v.all; read = v.all })
+    read_before seat v at may records =
+        let kept = (h.each seat v at).keeps may in
+        let part = (h.each seat v at).records records in
+        record {
+          shown = refl;
+          same = kept.4 ∙ sym part.1;
+          front = subst (λ xs. StartsWith xs v.read) (sym kept.1) (subst (StartsWith h.history) (sym part.1) h.front);
         }
 
   -- the same as steps of a table
@@ -254,6 +386,26 @@ module _ {A : Type 0} where
   pub takes_in_at : {S : Type 0} (seat : ℕ) (v : View A) (other : ℕ) (u : View A) → u.claims ≡ true
       → Joins {S = S} (λ s. IsShared s.words s.views) seat v other u (joined v u) nobody
   takes_in_at seat v other u may s h at two at' = takes_in s.words s.views h seat v other u at two at' may
+
+  pub leaves_at : {S : Type 0} (seat : ℕ) (v : View A) → v.records ≡ true
+      → Splits {S = S} (λ s. IsShared s.words s.views) seat v (unrecorded v) (recorder_of v)
+  leaves_at seat v may s h at = leaves s.words s.views h seat v at may
+
+  pub comes_at : {S : Type 0} (seat : ℕ) (v : View A) (other : ℕ) (u : View A) → u.records ≡ true
+      → Joins {S = S} (λ s. IsShared s.words s.views) seat v other u (with_recorder v u) nobody
+  comes_at seat v other u may s h at two at' = comes s.words s.views h seat v other u at two at' may
+
+  pub reads : {S : Type 0} (slots seat : ℕ) (me : View A × List (ℕ × S)) → me.0.keeps ≡ true → me.0.records ≡ true
+      → Allows {S = S} (λ s. IsShared s.words s.views) slots seat me 0 (λ n. n) (λ _ m. IsRead me.0 m.0 × (m.1 ≡ me.1))
+  reads slots seat me may records s h count at below =
+      let v = me.0 in
+      let after : View A = record v { recorded = v.all; read = v.all } in (
+        after,
+        keeps,
+        tt,
+        reads_at s.words s.views h seat v at may records,
+        (read_before s.words s.views h seat v at may records, refl),
+      )
 
   pub shows : (slots seat : ℕ) (me : View A × List (ℕ × Exchange A)) (core : Exchange A) (before count : ℕ) → me.0.keeps ≡ true → me.0.claims ≡ true
       → before ≡ length me.0.all → count ≡ length core.history → IsGrown me.0.line me.0.all core.history
@@ -278,7 +430,7 @@ module _ {A : Type 0} where
       let v = me.0 in
       let seen = seen_own s.words s.views h seat v at may claims in
       let once = given_back s.words s.views h seat v at may claims in (
-        closing v.next v.all (v.line ∷ v.returned),
+        closing v.next v.all v.recorded (v.line ∷ v.returned),
         keeps,
         tt,
         checks_at s.words s.views h seat v at may claims,

@@ -2,6 +2,7 @@
 -- an exchange is not closed.
 use Rattle.std.specs.Prelude.{◌≡◌, ℕ, zero, suc, ◌+◌, ◌<◌, ◌==◌, ◌||◌, not, Bool, true, false, List, [], ◌∷◌, All, filter, length, slice_index_or, take}
 use mathlib.Core.List.{IsPrefix}
+use Rattle.xp_charge.specs.declared.record.Record.{Record}
 use Rattle.xp_subs.specs.Tables.{Tables}
 use Rattle.xp_core.specs.declared.entry.Entry.{Entry}
 use Rattle.xp_lock.specs.Handed.{handed, is_stall}
@@ -9,10 +10,12 @@ use Rattle.xp_lock.specs.Outgoing.{put_out_to}
 use Rattle.xp_lock.specs.Passes.{Pass, own_entries}
 use Rattle.xp_lock.specs.Views.{StartsWith}
 
--- a closed exchange: its subscriptions, its history, and how many outputs each line took
+-- a closed exchange: its subscriptions, its history, the records that were handed over before the close, and how many outputs each
+-- line took
 pub record Closed (A : Type 0) : Type 0 where
   pub subs : Tables
   pub history : List (Entry A)
+  pub given : List Record
   -- by line
   pub taken : List ℕ
 

@@ -8,5 +8,6 @@ pub mod Opening
 pub mod Outboxes
 pub mod Outgoing
 pub mod Passes
+pub mod Recording
 pub mod Views
 pub mod steps

@@ -1,6 +1,6 @@
 //! The book of a closed exchange.
 
-ghost use Rattle.std.specs.Prelude.{◌≡◌, ◌≤◌, [], All, length};
+ghost use Rattle.std.specs.Prelude.{◌≡◌, ◌≤◌, ◌++◌, All, length};
 ghost use Rattle.xp_charge.specs.Lines.{HasLines as NamesLines};
 ghost use Rattle.xp_subs.specs.Tables.{line_count};
 ghost use Rattle.xp_core.specs.Agreed.{AllHaveTerms};
@@ -34,24 +34,22 @@ pub struct Book<A: Allocator = Global> {
 }
 
 impl<A: Allocator> Model for Book<A> {
-    ghost use Rattle.std.specs.Prelude.{◌≡◌, []};
     ghost use Rattle.xp_lock.specs.Closing.{Closed};
 
     ghost Value = { Closed A };
 
     ghost use Rattle.xp_lock.specs.steps.Closing.{AreWithin};
 
-    ghost view = { λ b. record { subs = b.core.subs; history = b.core.history; taken = b.taken.items } };
+    ghost view = { λ b. record { subs = b.core.subs; history = b.core.history; given = b.core.given; taken = b.taken.items } };
 
-    ghost invariant = { λ b. AreWithin b.taken.items b.core.history × (b.core.given ≡ []) };
+    ghost invariant = { λ b. AreWithin b.taken.items b.core.history };
 }
 
 impl<A: Allocator> Book<A> {
     /// The book of this core, with the counts of the outputs that the lines took, by line.
     pub(crate) fn new(core: Core<A>, taken: Vec<u64, A>) -> Book<A>
-        requires within { AreWithin taken.items core.history }
-        requires given { core.given ≡ [] }
-        ensures { result ≡ record { subs = core.subs; history = core.history; taken = taken.items } }
+        requires { AreWithin taken.items core.history }
+        ensures { result ≡ record { subs = core.subs; history = core.history; given = core.given; taken = taken.items } }
     {
         Book { core, taken }
     }
@@ -72,10 +70,11 @@ impl<A: Allocator> Book<A> {
         self.core.count()
     }
 
-    /// Returns the charging records, in the order in which the calls ended: one for each call that ended, and no other. They
-    /// name lines of the subscriptions.
+    /// Returns the charging records that were not handed over before the close, in the order in which the calls ended. They
+    /// follow those that were: together they are one for each call that ended, and no other. They name lines of the
+    /// subscriptions.
     pub fn records(&self) -> &[Record]
-        ensures records { result.now ≡ records_of self.now.history }
+        ensures each { self.now.given ++ result.now ≡ records_of self.now.history }
         ensures one_each { OneRecordEach self.now.subs self.now.history (world_after self.now.subs self.now.history) }
         ensures lines { All (NamesLines (line_count self.now.subs)) result.now }
     {

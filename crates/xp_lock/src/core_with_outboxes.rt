@@ -1,8 +1,10 @@
 //! The serial exchange with the outboxes of its lines. It enters one event at a time, with the stalls that the event forces.
 
-ghost use Rattle.std.specs.Prelude.{◌≡◌, ◌+◌, ◌<◌, true, false, IfOk, IfErr};
+ghost use Rattle.std.specs.Prelude.{◌≡◌, ◌+◌, ◌<◌, ◌++◌, true, false, [], All, IfOk, IfErr, OnErr, OnOk};
+ghost use Rattle.xp_charge.specs.Lines.{HasLines as NamesLines};
 ghost use Rattle.xp_subs.specs.Tables.{line_count};
 ghost use Rattle.xp_core.specs.Exchange.{IsReadable};
+ghost use Rattle.xp_core.specs.Records.{records_of};
 ghost use Rattle.xp_lock.specs.Outboxes.{HaveCapacity};
 ghost use Rattle.xp_lock.specs.steps.Outboxes.{OutboxesMatch};
 ghost use Rattle.xp_lock.specs.Handed.{is_stall};
@@ -12,9 +14,10 @@ use crate::entering::enter;
 use crate::fault::OfferFault;
 use crate::outboxes::{OutboxPutEnd, has_room};
 use crate::receipt::Receipt;
-use std::alloc::Allocator;
+use std::alloc::{AllocError, Allocator};
 use std::marker::Model;
 use std::sync::Wait;
+use xp_charge::Record;
 use xp_core::{Core, Event, What};
 
 /// How many places of the history must be left: one for the event, and three for the stalls that it may force.
@@ -93,6 +96,21 @@ impl<A: Allocator + Copy> CoreWithOutboxes<A> {
         }
         let done = enter(rt, &mut self.core, &mut self.outboxes, event)?;
         Ok(done)
+    }
+
+    /// Hands over the charging records that wait, in the order in which their calls ended.
+    ///
+    /// # Errors
+    ///
+    /// `AllocError` if an allocation fails. Then no record was handed over.
+    pub fn take_records(&mut self) -> Result<Vec<Record, A>, AllocError>
+        ensures taken { IfOk result (λ taken. taken.items ≡ self.old.waiting) }
+        ensures ok { OnOk result (self.new ≡ record self.old { given = self.old.given ++ self.old.waiting; waiting = [] }) }
+        ensures each { IfOk result (λ taken. self.old.given ++ taken.items ≡ records_of self.old.history) }
+        ensures lines { IfOk result (λ taken. All (NamesLines (line_count self.old.subs)) taken.items) }
+        ensures err { OnErr result (self.new ≡ self.old) }
+    {
+        self.core.take_records()
     }
 
     /// Returns the serial exchange.

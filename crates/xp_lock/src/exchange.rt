@@ -1,12 +1,16 @@
 //! The exchange that threads share.
 
-ghost use Rattle.std.specs.Prelude.{◌≡◌, [], ◌∷◌, ◌++◌, false, IfErr, IfNone, IfOk, IfSome, OnErr, length, replicate};
+ghost use Rattle.std.specs.Prelude.{◌≡◌, [], ◌∷◌, ◌++◌, false, All, IfErr, IfNone, IfOk, IfSome, OnErr, OnOk, length, replicate};
+ghost use Rattle.xp_charge.specs.Lines.{HasLines as NamesLines};
 ghost use Rattle.xp_subs.specs.Tables.{line_count};
 ghost use Rattle.xp_core.specs.Exchange.{IsReadable};
+ghost use Rattle.xp_core.specs.Records.{OneRecordEach, records_of};
+ghost use Rattle.xp_core.specs.Worlds.{world_after};
 ghost use Rattle.xp_lock.specs.Closing.{AreCounted, PassesMatch, HasAll, IsMissing, NoneTwice, all_handed, handed_together, own_entries_together};
 ghost use Rattle.xp_lock.specs.Faults.{event_in};
 ghost use Rattle.xp_lock.specs.Handed.{is_stall};
 ghost use Rattle.xp_lock.specs.Passes.{GainsEvent, IsLegal};
+ghost use Rattle.xp_lock.specs.Views.{StartsWith};
 
 use crate::book::Book;
 use crate::fault::{CloseFault, OfferFault};
@@ -17,12 +21,14 @@ use crate::missing::first_missing;
 use crate::name::Name;
 use crate::pass::LinePass;
 use crate::receipt::Receipt;
-use std::alloc::{Allocator, Global};
+use crate::recorder::Recorder;
+use std::alloc::{AllocError, Allocator, Global};
 use std::marker::Model;
 use std::sync::atomic::AtomicBool;
 use std::sync::atomic::Ordering::SeqCst;
 use std::sync::{Mutex, Wait};
 use std::thread;
+use xp_charge::Record;
 use xp_core::{Event, Outgoing};
 use xp_subs::LineNo;
 
@@ -115,6 +121,30 @@ impl<N: Name, A: Allocator + Copy> Exchange<N, A> {
         pass.next_out(rt)
     }
 
+    /// Takes the lock, and hands over the charging records that wait: those of the calls that ended since the recorder last took
+    /// records, in the order in which they ended. So each record is handed over once. The recorder then has received the records
+    /// of the history as it now knows it, one for each call that ended, and no other. They name lines of the subscriptions. The
+    /// lock is held for the time that it takes to move these records into a new list.
+    ///
+    /// # Errors
+    ///
+    /// `AllocError` if an allocation fails. Then no record was handed over, and the recorder stays as it was.
+    pub fn take_records<R: Wait>(
+        &self,
+        rt: &R,
+        recorder: &mut Recorder<N, A>,
+    ) -> Result<Vec<Record, A>, AllocError>
+        ensures taken { IfOk result (λ taken. recorder.new.received ≡ recorder.old.received ++ taken.items) }
+        ensures each { OnOk result (recorder.new.received ≡ records_of recorder.new.seen) }
+        ensures seen { OnOk result (StartsWith recorder.new.seen recorder.old.seen) }
+        ensures legal { OnOk result (IsLegal N.subs recorder.new.seen) }
+        ensures one_each { OnOk result (OneRecordEach N.subs recorder.new.seen (world_after N.subs recorder.new.seen)) }
+        ensures lines { IfOk result (λ taken. All (NamesLines (line_count N.subs)) taken.items) }
+        ensures err { OnErr result (recorder.new ≡ recorder.old) }
+    {
+        self.lock(rt).take_records(recorder)
+    }
+
     /// Makes the exchange refuse every later offer.
     pub fn halt<R: Wait>(&self, rt: &R) {
         self.lock.lock(rt).halt();
@@ -128,15 +158,16 @@ impl<N: Name, A: Allocator + Copy> Exchange<N, A> {
 
     /// Closes the exchange if the passes of all lines are here, and returns its book. In the book's history each line has
     /// the own entries that its one pass knows. What the pass took are the first outputs to its line, as many as the book
-    /// counts.
+    /// counts. The recorder saw a front of this history, and the records that were handed over are those that it received.
     ///
     /// # Errors
     ///
-    /// `CloseFault` with the lowest line whose pass is not here. The fault gives the exchange and the passes back.
+    /// `CloseFault` with the lowest line whose pass is not here. The fault gives the exchange, the passes and the recorder back.
     pub fn close<R: Wait>(
         self,
         rt: &R,
         passes: Vec<LinePass<N, A>, A>,
+        recorder: Recorder<N, A>,
     ) -> Result<Book<A>, CloseFault<N, A>>
         ensures all { IfOk result (λ _. HasAll (line_count N.subs) passes.items) }
         ensures once { IfOk result (λ _. NoneTwice passes.items) }
@@ -146,14 +177,18 @@ impl<N: Name, A: Allocator + Copy> Exchange<N, A> {
         ensures taken { IfOk result (λ book. AreCounted book passes.items) }
         ensures counted { IfOk result (λ book. length (all_handed book.history) ≡ handed_together (line_count N.subs) book.history) }
         ensures together { IfOk result (λ book. length (all_handed book.history) ≡ own_entries_together passes.items) }
+        ensures recorded { IfOk result (λ book. StartsWith book.history recorder.seen) }
+        ensures given { IfOk result (λ book. book.given ≡ recorder.received) }
         ensures missing { IfErr result (λ fault. IsMissing (line_count N.subs) passes.items fault.line) }
         ensures passes { IfErr result (λ fault. fault.passes.items ≡ passes.items) }
+        ensures recorder { IfErr result (λ fault. fault.recorder ≡ recorder) }
     {
         if let Some(line) = first_missing(self.lines, passes.as_slice()) {
             return Err(CloseFault {
                 line,
                 exchange: self,
                 passes,
+                recorder,
             });
         }
         let Exchange {
@@ -163,7 +198,8 @@ impl<N: Name, A: Allocator + Copy> Exchange<N, A> {
             lines: _,
             taken,
         } = self;
-        let book = lock.into_inner().close(rt, &history_length, passes, taken);
+        let keeper = lock.into_inner();
+        let book = keeper.close(rt, &history_length, passes, recorder, taken);
         let _legal = book.count();
         Ok(book)
     }

@@ -3,6 +3,7 @@
 use crate::exchange::Exchange;
 use crate::name::Name;
 use crate::pass::LinePass;
+use crate::recorder::Recorder;
 use std::alloc::{Allocator, Global};
 use thiserror::Error;
 use xp_core::Event;
@@ -25,7 +26,7 @@ pub enum OfferFault<A: Allocator = Global> {
     Memory(Event<A>),
 }
 
-/// Why an exchange was not closed: the pass of a line is not here. The fault gives the exchange and the passes back.
+/// Why an exchange was not closed: the pass of a line is not here. The fault gives the exchange, the passes and the recorder back.
 #[derive(Drop)]
 pub struct CloseFault<N: Name, A: Allocator = Global> {
     /// The lowest line whose pass is not here.
@@ -34,4 +35,6 @@ pub struct CloseFault<N: Name, A: Allocator = Global> {
     pub exchange: Exchange<N, A>,
     /// The passes that were here.
     pub passes: Vec<LinePass<N, A>, A>,
+    /// The recorder.
+    pub recorder: Recorder<N, A>,
 }

@@ -1,10 +1,15 @@
 //! The exchange while a thread holds its lock.
 
-ghost use Rattle.std.specs.Prelude.{◌≡◌, false, IfErr, IfOk, OnErr};
+ghost use Rattle.std.specs.Prelude.{◌≡◌, ◌++◌, false, All, IfErr, IfOk, OnErr, OnOk};
+ghost use Rattle.xp_charge.specs.Lines.{HasLines as NamesLines};
+ghost use Rattle.xp_subs.specs.Tables.{line_count};
 ghost use Rattle.xp_core.specs.Exchange.{IsReadable};
+ghost use Rattle.xp_core.specs.Records.{OneRecordEach, records_of};
+ghost use Rattle.xp_core.specs.Worlds.{world_after};
 ghost use Rattle.xp_lock.specs.Faults.{event_in};
 ghost use Rattle.xp_lock.specs.Handed.{is_stall};
-ghost use Rattle.xp_lock.specs.Passes.{GainsEvent};
+ghost use Rattle.xp_lock.specs.Passes.{GainsEvent, IsLegal};
+ghost use Rattle.xp_lock.specs.Views.{StartsWith};
 
 use crate::fault::OfferFault;
 use crate::history_length::HistoryLength;
@@ -12,9 +17,11 @@ use crate::keeper::Keeper;
 use crate::name::Name;
 use crate::pass::LinePass;
 use crate::receipt::Receipt;
-use std::alloc::{Allocator, Global};
+use crate::recorder::Recorder;
+use std::alloc::{AllocError, Allocator, Global};
 use std::marker::Model;
 use std::sync::{MutexGuard, Wait};
+use xp_charge::Record;
 use xp_core::Event;
 
 /// The exchange while a thread holds its lock. The thread frees the lock as it drops the guard. A thread that has several
@@ -68,5 +75,27 @@ impl<'a, N: Name, A: Allocator + Copy> ExchangeGuard<'a, N, A> {
         ensures pass { OnErr result (pass.new ≡ pass.old) }
     {
         self.keeper.take(rt, self.history_length, pass, event)
+    }
+
+    /// Hands over the charging records that wait: those of the calls that ended since the recorder last took records, in the
+    /// order in which they ended. So each record is handed over once. The recorder then has received the records of the history
+    /// as it now knows it, one for each call that ended, and no other. They name lines of the subscriptions.
+    ///
+    /// # Errors
+    ///
+    /// `AllocError` if an allocation fails. Then no record was handed over, and the recorder stays as it was.
+    pub fn take_records(
+        &mut self,
+        recorder: &mut Recorder<N, A>,
+    ) -> Result<Vec<Record, A>, AllocError>
+        ensures taken { IfOk result (λ taken. recorder.new.received ≡ recorder.old.received ++ taken.items) }
+        ensures each { OnOk result (recorder.new.received ≡ records_of recorder.new.seen) }
+        ensures seen { OnOk result (StartsWith recorder.new.seen recorder.old.seen) }
+        ensures legal { OnOk result (IsLegal N.subs recorder.new.seen) }
+        ensures one_each { OnOk result (OneRecordEach N.subs recorder.new.seen (world_after N.subs recorder.new.seen)) }
+        ensures lines { IfOk result (λ taken. All (NamesLines (line_count N.subs)) taken.items) }
+        ensures err { OnErr result (recorder.new ≡ recorder.old) }
+    {
+        self.keeper.take_records(self.history_length, recorder)
     }
 }

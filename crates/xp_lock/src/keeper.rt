@@ -1,14 +1,17 @@
 //! What the lock protects.
 
-ghost use Rattle.std.specs.Prelude.{◌≡◌, ◌<◌, ◌^◌, [], ◌∷◌, false, true, IfOk, IfErr, OnErr, OnOk, length, map, replicate};
+ghost use Rattle.std.specs.Prelude.{◌≡◌, ◌<◌, ◌^◌, [], ◌∷◌, ◌++◌, false, true, All, IfOk, IfErr, OnErr, OnOk, length, map, replicate};
 ghost use mathlib.Core.List.{IsPrefix};
+ghost use Rattle.xp_charge.specs.Lines.{HasLines as NamesLines};
 ghost use Rattle.xp_subs.specs.Tables.{line_count};
 ghost use Rattle.xp_core.specs.Exchange.{IsReadable};
+ghost use Rattle.xp_core.specs.Records.{OneRecordEach, records_of};
+ghost use Rattle.xp_core.specs.Worlds.{world_after};
 ghost use Rattle.xp_lock.specs.Outboxes.{HaveCapacity, outbox_at};
 ghost use Rattle.xp_lock.specs.Closing.{AreCounted, PassesMatch, NoneTwice};
 ghost use Rattle.xp_lock.specs.Given.{is_among};
 ghost use Rattle.xp_lock.specs.Handed.{handed, is_stall};
-ghost use Rattle.xp_lock.specs.Passes.{GainsEvent, own_entries};
+ghost use Rattle.xp_lock.specs.Passes.{GainsEvent, IsLegal, own_entries};
 ghost use Rattle.xp_lock.specs.CoreWithOutboxes.{Refuses, Takes};
 ghost use Rattle.xp_lock.specs.Views.{StartsWith, closing, keeping};
 
@@ -20,13 +23,16 @@ use crate::name::Name;
 use crate::outboxes::OutboxPutEnd;
 use crate::pass::LinePass;
 use crate::receipt::Receipt;
-use std::alloc::{Allocator, Global};
+use crate::recorder::Recorder;
+use std::alloc::{AllocError, Allocator, Global};
 use std::marker::{Model, PhantomData};
 use std::sync::Wait;
+use xp_charge::Record;
 use xp_core::Event;
 use xp_outbox::count_untaken;
 
-/// What the lock protects: the exchange with its outboxes, and the seat that knows the whole history.
+/// What the lock protects: the exchange with its outboxes, and the seat that knows the whole history. The records of the front
+/// that the recorder saw were handed over, and no others.
 #[derive(Drop)]
 pub struct Keeper<N: Name, A: Allocator = Global> {
     core_with_outboxes: CoreWithOutboxes<A>,
@@ -35,8 +41,9 @@ pub struct Keeper<N: Name, A: Allocator = Global> {
 }
 
 impl<N: Name, A: Allocator> Model for Keeper<N, A> {
-    ghost use Rattle.std.specs.Prelude.{◌≡◌, [], map};
+    ghost use Rattle.std.specs.Prelude.{◌≡◌, map};
     ghost use Rattle.xp_subs.specs.Tables.{line_count};
+    ghost use Rattle.xp_core.specs.Records.{records_of};
     ghost use Rattle.xp_lock.specs.CoreWithOutboxes.{CoreWithOutboxes as Seen};
 
     ghost Value = { Seen A };
@@ -45,17 +52,17 @@ impl<N: Name, A: Allocator> Model for Keeper<N, A> {
 
     ghost view = { λ k. k.core_with_outboxes };
 
-    ghost invariant = { λ k. (k.history_seat.history_length ≡ N.history_length) × (k.history_seat.knows ≡ keeping (line_count N.subs) k.core_with_outboxes.history) × (k.core_with_outboxes.subs ≡ N.subs) × (map (λ b. b.queue) k.core_with_outboxes.outboxes ≡ N.queues) × (k.core_with_outboxes.given ≡ []) };
+    ghost invariant = { λ k. (k.history_seat.history_length ≡ N.history_length) × (k.history_seat.knows ≡ keeping (line_count N.subs) k.core_with_outboxes.history k.history_seat.knows.recorded) × (k.core_with_outboxes.subs ≡ N.subs) × (map (λ b. b.queue) k.core_with_outboxes.outboxes ≡ N.queues) × (k.core_with_outboxes.given ≡ records_of k.history_seat.knows.recorded) };
 }
 
 impl<N: Name, A: Allocator + Copy> Keeper<N, A> {
-    /// The keeper of this exchange and this seat.
+    /// The keeper of this exchange and this seat. No record was handed over yet.
     pub(crate) fn new(
         core_with_outboxes: CoreWithOutboxes<A>,
         history_seat: HistorySeat<A>,
     ) -> Keeper<N, A>
         requires history_length { history_seat.history_length ≡ N.history_length }
-        requires knows { history_seat.knows ≡ keeping (line_count N.subs) core_with_outboxes.history }
+        requires knows { history_seat.knows ≡ keeping (line_count N.subs) core_with_outboxes.history [] }
         requires subs { core_with_outboxes.subs ≡ N.subs }
         requires queues { map (λ b. b.queue) core_with_outboxes.outboxes ≡ N.queues }
         requires given { core_with_outboxes.given ≡ [] }
@@ -109,13 +116,51 @@ impl<N: Name, A: Allocator + Copy> Keeper<N, A> {
         Ok(done)
     }
 
+    /// Hands over the charging records that wait: those of the calls that ended since the recorder last took records, in the
+    /// order in which they ended. The recorder then has seen the whole history, and has received its records, each once. They name
+    /// lines of the subscriptions.
+    ///
+    /// # Errors
+    ///
+    /// `AllocError` if an allocation fails. Then no record was handed over, and the recorder stays as it was.
+    pub fn take_records(
+        &mut self,
+        history_length: &HistoryLength<A>,
+        recorder: &mut Recorder<N, A>,
+    ) -> Result<Vec<Record, A>, AllocError>
+        requires history_length { history_length.now ≡ N.history_length }
+        ensures ok { OnOk result (self.new ≡ record self.old { given = self.old.given ++ self.old.waiting; waiting = [] }) }
+        ensures waiting { IfOk result (λ taken. taken.items ≡ self.old.waiting) }
+        ensures taken { IfOk result (λ taken. recorder.new.received ≡ recorder.old.received ++ taken.items) }
+        ensures shown { OnOk result (recorder.new.seen ≡ self.old.history) }
+        ensures each { OnOk result (recorder.new.received ≡ records_of recorder.new.seen) }
+        ensures seen { OnOk result (StartsWith recorder.new.seen recorder.old.seen) }
+        ensures legal { OnOk result (IsLegal N.subs recorder.new.seen) }
+        ensures one_each { OnOk result (OneRecordEach N.subs recorder.new.seen (world_after N.subs recorder.new.seen)) }
+        ensures lines { IfOk result (λ taken. All (NamesLines (line_count N.subs)) taken.items) }
+        ensures err { OnErr result (self.new ≡ self.old) }
+        ensures recorder { OnErr result (recorder.new ≡ recorder.old) }
+    {
+        let _count = recorder.count;
+        let taken = self.core_with_outboxes.take_records()?;
+        let core = self.core_with_outboxes.core();
+        let _legal = core.count();
+        let _records = core.records();
+        history_length.refresh_recorder(&mut self.history_seat, &mut recorder.history_seat);
+        recorder.received.extend(taken.as_slice());
+        recorder.count = core.record_count();
+        Ok(taken)
+    }
+
     /// Compares what each pass has seen and taken with the history, counts what it took, and returns the book. No line has
-    /// two passes here. The caller passes a zero for each line, as room for the counts.
+    /// two passes here. What the recorder saw and received is compared too. The caller passes a zero for each line, as room for
+    /// the counts.
     pub fn close<R: Wait>(
         self,
         rt: &R,
         history_length: &HistoryLength<A>,
         passes: Vec<LinePass<N, A>, A>,
+        recorder: Recorder<N, A>,
         zeros: Vec<u64, A>,
     ) -> Book<A>
         requires history_length { history_length.now ≡ N.history_length }
@@ -125,6 +170,8 @@ impl<N: Name, A: Allocator + Copy> Keeper<N, A> {
         ensures told { PassesMatch result.history passes.items }
         ensures taken { AreCounted result passes.items }
         ensures once { NoneTwice passes.items }
+        ensures recorded { StartsWith result.history recorder.seen }
+        ensures given { result.given ≡ recorder.received }
     {
         let Keeper {
             core_with_outboxes,
@@ -133,6 +180,7 @@ impl<N: Name, A: Allocator + Copy> Keeper<N, A> {
         } = self;
         let (core, outboxes) = core_with_outboxes.into_parts();
         let mut history_seat = history_seat;
+        compare_recorder(history_length, &mut history_seat, recorder);
         let mut outboxes = outboxes;
         let mut taken = zeros;
         let _entries = core.count();
@@ -158,6 +206,28 @@ impl<N: Name, A: Allocator + Copy> Keeper<N, A> {
     }
 }
 
+/// Compares what the recorder saw and received with the history.
+fn compare_recorder<N: Name, A: Allocator>(
+    history_length: &HistoryLength<A>,
+    keeper: &mut HistorySeat<A>,
+    recorder: Recorder<N, A>,
+)
+    requires history_length { (history_length.now ≡ N.history_length) × (keeper.old.history_length ≡ N.history_length) }
+    requires keeper { keeper.old.knows ≡ keeping keeper.old.knows.next keeper.old.knows.all keeper.old.knows.recorded }
+    ensures keeper { keeper.new ≡ record keeper.old { knows = keeping keeper.old.knows.next keeper.old.knows.all keeper.old.knows.all } }
+    ensures seen { StartsWith keeper.old.knows.all recorder.seen }
+    ensures received { recorder.received ≡ records_of keeper.old.knows.recorded }
+{
+    let Recorder {
+        history_seat,
+        received: _,
+        count: _,
+        name: _,
+    } = recorder;
+    let mut history_seat = history_seat;
+    history_length.refresh_recorder(keeper, &mut history_seat);
+}
+
 /// Compares what a pass has seen with the history, and what it took with what was put into its outbox. Returns how many
 /// items it took.
 fn compare_pass<N: Name, A: Allocator, R: Wait>(
@@ -168,9 +238,9 @@ fn compare_pass<N: Name, A: Allocator, R: Wait>(
     pass: LinePass<N, A>,
 ) -> u64
     requires history_length { (history_length.now ≡ N.history_length) × (keeper.old.history_length ≡ N.history_length) }
-    requires keeper { keeper.old.knows ≡ closing keeper.old.knows.next keeper.old.knows.all keeper.old.knows.returned }
+    requires keeper { keeper.old.knows ≡ closing keeper.old.knows.next keeper.old.knows.all keeper.old.knows.recorded keeper.old.knows.returned }
     requires outboxes { map (λ b. b.queue) outboxes.old.items ≡ N.queues }
-    ensures keeper { keeper.new ≡ record keeper.old { knows = closing keeper.old.knows.next keeper.old.knows.all (pass.line ∷ keeper.old.knows.returned) } }
+    ensures keeper { keeper.new ≡ record keeper.old { knows = closing keeper.old.knows.next keeper.old.knows.all keeper.old.knows.recorded (pass.line ∷ keeper.old.knows.returned) } }
     ensures once { is_among pass.line keeper.old.knows.returned ≡ false }
     ensures outboxes { outboxes.new.items ≡ outboxes.old.items }
     ensures seen { StartsWith keeper.old.knows.all pass.seen }

@@ -16,6 +16,7 @@ mod outboxes;
 mod pass;
 mod prepared;
 mod receipt;
+mod recorder;
 mod stalling;
 mod start;
 
@@ -29,3 +30,4 @@ pub use name::Name;
 pub use pass::LinePass;
 pub use prepared::{PreparedExchange, prepare};
 pub use receipt::Receipt;
+pub use recorder::Recorder;

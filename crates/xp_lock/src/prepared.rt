@@ -20,6 +20,7 @@ pub struct PreparedExchange<A: Allocator = Global> {
     pub(crate) core: Core<A>,
     pub(crate) history_length: HistoryLength<A>,
     pub(crate) history_seat: HistorySeat<A>,
+    pub(crate) recorder_seat: HistorySeat<A>,
     pub(crate) outboxes: Vec<OutboxPutEnd<A>, A>,
     pub(crate) ends: Vec<TakeEnd<Outgoing<A>, A>, A>,
     pub(crate) taken: Vec<u64, A>,
@@ -34,11 +35,11 @@ impl<A: Allocator> Model for PreparedExchange<A> {
     ghost Value = { Prepared };
 
     ghost use Rattle.xp_lock.specs.steps.Outboxes.{OutboxesMatch};
-    ghost use Rattle.xp_lock.specs.Views.{keeping};
+    ghost use Rattle.xp_lock.specs.Views.{keeping, recording};
 
     ghost view = { λ b. record { subs = b.core.subs; history_length = b.history_length; queues = map (λ box. box.queue) b.outboxes.items } };
 
-    ghost invariant = { λ b. (b.core.history ≡ []) × (b.core.given ≡ []) × (b.history_seat ≡ record { history_length = b.history_length; knows = keeping 0 [] }) × OutboxesMatch b.core.subs [] b.outboxes.items × (map (λ end. end.queue) b.ends.items ≡ map (λ box. box.queue) b.outboxes.items) × All (λ end. end.taken ≡ []) b.ends.items × (b.lines ≡ line_count b.core.subs) × (line_count b.core.subs ≤ 512) × (length b.ends.items ≡ line_count b.core.subs) × (b.taken.items ≡ replicate (line_count b.core.subs) 0) };
+    ghost invariant = { λ b. (b.core.history ≡ []) × (b.core.given ≡ []) × (b.history_seat ≡ record { history_length = b.history_length; knows = keeping 0 [] [] }) × (b.recorder_seat ≡ record { history_length = b.history_length; knows = recording [] }) × OutboxesMatch b.core.subs [] b.outboxes.items × (map (λ end. end.queue) b.ends.items ≡ map (λ box. box.queue) b.outboxes.items) × All (λ end. end.taken ≡ []) b.ends.items × (b.lines ≡ line_count b.core.subs) × (line_count b.core.subs ≤ 512) × (length b.ends.items ≡ line_count b.core.subs) × (b.taken.items ≡ replicate (line_count b.core.subs) 0) };
 }
 
 /// Makes the parts of an exchange of these subscriptions: an exchange with an empty history, and an empty outbox with 64
@@ -52,13 +53,14 @@ pub fn prepare<A: Allocator + Copy>(alloc: A, subs: Subs) -> Result<PreparedExch
 {
     let lines = subs.counts().lines;
     let core = Core::new(alloc, subs)?;
-    let (history_length, history_seat) = HistoryLength::new(alloc)?;
+    let (history_length, history_seat, recorder_seat) = HistoryLength::new(alloc)?;
     let (outboxes, ends) = new_outboxes(alloc, lines)?;
     let taken = vec![in alloc; 0; lines]?;
     Ok(PreparedExchange {
         core,
         history_length,
         history_seat,
+        recorder_seat,
         outboxes,
         ends,
         taken,

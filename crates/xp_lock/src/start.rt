@@ -12,31 +12,35 @@ use crate::keeper::Keeper;
 use crate::name::Name;
 use crate::pass::LinePass;
 use crate::prepared::PreparedExchange;
+use crate::recorder::Recorder;
 use std::alloc::{AllocError, Allocator};
 use std::marker::PhantomData;
 use xp_core::Outgoing;
 use xp_outbox::TakeEnd;
 use xp_subs::{LineNo, Subs};
 
+/// An exchange, the passes of its lines, and its recorder.
+type Started<N, A> = (Exchange<N, A>, Vec<LinePass<N, A>, A>, Recorder<N, A>);
+
 impl<N: Name, A: Allocator + Copy> Exchange<N, A> {
-    /// Starts the exchange that `N` names, with an empty history, and returns it with the passes of its lines, in order.
+    /// Starts the exchange that `N` names, with an empty history, and returns it with the passes of its lines, in order, and its
+    /// recorder.
     ///
     /// # Errors
     ///
     /// `AllocError` if an allocation fails.
-    pub fn start(
-        alloc: A,
-        prepared: PreparedExchange<A>,
-    ) -> Result<(Exchange<N, A>, Vec<LinePass<N, A>, A>), AllocError>
+    pub fn start(alloc: A, prepared: PreparedExchange<A>) -> Result<Started<N, A>, AllocError>
         requires subs { N.subs ≡ prepared.subs }
         requires history_length { N.history_length ≡ prepared.history_length }
         requires queues { N.queues ≡ prepared.queues }
-        ensures { IfOk result (λ started. AreFirst (line_count N.subs) started.1.items) }
+        ensures passes { IfOk result (λ started. AreFirst (line_count N.subs) started.1.items) }
+        ensures recorder { IfOk result (λ started. started.2 ≡ record { seen = []; received = [] }) }
     {
         let PreparedExchange {
             core,
             history_length,
             history_seat,
+            recorder_seat,
             outboxes,
             ends,
             taken,
@@ -48,6 +52,7 @@ impl<N: Name, A: Allocator + Copy> Exchange<N, A> {
         Ok((
             Exchange::new(keeper, history_length, lines as LineNo, taken),
             passes,
+            Recorder::new(recorder_seat),
         ))
     }
 }
@@ -62,12 +67,12 @@ fn first_passes<N: Name, A: Allocator>(
 ) -> Result<Vec<LinePass<N, A>, A>, AllocError>
     requires subs { subs.now ≡ N.subs }
     requires history_length { history_length.now ≡ N.history_length }
-    requires keeper { keeper.old ≡ record { history_length = N.history_length; knows = keeping 0 [] } }
+    requires keeper { keeper.old ≡ record { history_length = N.history_length; knows = keeping 0 [] [] } }
     requires queues { map (λ end. end.queue) ends.items ≡ N.queues }
     requires taken { All (λ end. end.taken ≡ []) ends.items }
     requires count { length ends.items ≡ line_count N.subs }
     requires few { line_count N.subs ≤ 512 }
-    ensures keeper { OnOk result (keeper.new ≡ record { history_length = N.history_length; knows = keeping (line_count N.subs) [] }) }
+    ensures keeper { OnOk result (keeper.new ≡ record { history_length = N.history_length; knows = keeping (line_count N.subs) [] [] }) }
     ensures passes { IfOk result (λ passes. AreFirst (line_count N.subs) passes.items) }
 {
     let mut passes = Vec::with_capacity(alloc, ends.len())?;

@@ -5,15 +5,16 @@
 
 use std::alloc::Allocator;
 use std::sync::Wait;
-use xp_lock::{CloseFault, Exchange, LinePass, Name};
+use xp_lock::{CloseFault, Exchange, LinePass, Name, Recorder};
 
 /// How many entries the closed book has.
 pub fn entries_at_close<N: Name, A: Allocator + Copy>(
     rt: &impl Wait,
     exchange: Exchange<N, A>,
     passes: Vec<LinePass<N, A>, A>,
+    recorder: Recorder<N, A>,
 ) -> Option<u64> {
-    if let Ok(book) = exchange.close(rt, passes) {
+    if let Ok(book) = exchange.close(rt, passes, recorder) {
         return Some(book.count());
     }
     None
@@ -25,9 +26,10 @@ pub fn closes_in_two<N: Name>(
     rt: &impl Wait,
     exchange: Exchange<N>,
     passes: Vec<LinePass<N>>,
+    recorder: Recorder<N>,
     last: Option<LinePass<N>>,
 ) -> (Option<u16>, Option<u64>) {
-    if let Err(fault) = exchange.close(rt, passes) {
+    if let Err(fault) = exchange.close(rt, passes, recorder) {
         return closes_after(rt, fault, last);
     }
     (None, None)
@@ -42,9 +44,10 @@ fn closes_after<N: Name>(
         line,
         exchange,
         mut passes,
+        recorder,
     } = fault;
     if passes.extend(last).is_err() {
         return (Some(line), None);
     }
-    (Some(line), entries_at_close(rt, exchange, passes))
+    (Some(line), entries_at_close(rt, exchange, passes, recorder))
 }

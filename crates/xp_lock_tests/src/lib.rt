@@ -8,6 +8,8 @@ mod events;
 #[cfg(test)]
 mod offers;
 #[cfg(test)]
+mod records;
+#[cfg(test)]
 mod refusals;
 #[cfg(test)]
 mod slow;

@@ -67,10 +67,10 @@ fn halts<N: Name>(
     requires history_length { N.history_length ≡ prepared.history_length }
     requires queues { N.queues ≡ prepared.queues }
 {
-    let (exchange, mut passes) = Exchange::<N, Global>::start(alloc, prepared)?;
+    let (exchange, mut passes, recorder) = Exchange::<N, Global>::start(alloc, prepared)?;
     let seen = halts_at(rt, alloc, &exchange, &mut passes);
     let last = passes.pop();
-    let (missing, entries) = closes_in_two(rt, exchange, passes, last);
+    let (missing, entries) = closes_in_two(rt, exchange, passes, recorder, last);
     let mut seen = seen?;
     seen.missing = missing;
     seen.entries = entries;

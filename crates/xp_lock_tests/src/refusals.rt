@@ -1,4 +1,4 @@
-//! Offers of which each request for memory is refused in turn.
+//! Offers, and takings of records, of which each request for memory is refused in turn.
 
 ghost use Rattle.std.specs.Prelude.{◌≡◌, false, IfOk};
 ghost use Rattle.xp_core.specs.Exchange.{IsReadable};
@@ -12,7 +12,7 @@ use std::marker::Brand;
 use std::sync::Wait;
 use std::test::Fail;
 use xp_core::{Event, What};
-use xp_lock::{Exchange, LinePass, Name, OfferFault, PreparedExchange, prepare};
+use xp_lock::{Exchange, LinePass, Name, OfferFault, PreparedExchange, Recorder, prepare};
 use xp_subs::Subs;
 use xp_testing::{Refusing, THREE_STATIONS};
 
@@ -50,6 +50,19 @@ fn what<A: Allocator + Copy>(alloc: A, octets: &[u8]) -> Result<What<A>, Fail>
     Ok(packet(alloc, octets)?)
 }
 
+/// Takes the records that wait, again where memory was wanting: how many there were, and whether that was refused.
+fn take_records<N: Name, A: Allocator + Copy>(
+    rt: &impl Wait,
+    exchange: &Exchange<N, A>,
+    recorder: &mut Recorder<N, A>,
+) -> Option<(usize, bool)> {
+    if let Ok(records) = exchange.take_records(rt, recorder) {
+        return Some((records.len(), false));
+    }
+    let records = exchange.take_records(rt, recorder).ok()?;
+    Some((records.len(), true))
+}
+
 /// What came of the offers of a call.
 #[derive(Debug, Default, Drop, PartialEq)]
 struct Told {
@@ -59,6 +72,8 @@ struct Told {
     in_order: bool,
     /// Whether one of them was refused for memory.
     refused: bool,
+    /// How many records were taken at the end, and whether that was refused before for memory.
+    taken: Option<(usize, bool)>,
     /// How many entries the closed book has.
     entries: u64,
 }
@@ -121,12 +136,14 @@ fn plays<N: Name, A: Allocator + Copy>(
     requires history_length { N.history_length ≡ prepared.history_length }
     requires queues { N.queues ≡ prepared.queues }
 {
-    let Ok((exchange, mut passes)) = Exchange::<N, A>::start(alloc, prepared) else {
+    let Ok((exchange, mut passes, mut recorder)) = Exchange::<N, A>::start(alloc, prepared) else {
         return Ok(None);
     };
     let told = call(rt, alloc, &exchange, &mut passes);
-    let entries = entries_at_close(rt, exchange, passes);
+    let taken = take_records(rt, &exchange, &mut recorder);
+    let entries = entries_at_close(rt, exchange, passes, recorder);
     let mut told = told?;
+    told.taken = taken;
     told.entries = entries.unwrap_or(0);
     Ok(Some(told))
 }
@@ -134,6 +151,7 @@ fn plays<N: Name, A: Allocator + Copy>(
 #[test]
 fn refused_offers_change_nothing(rt: HostRuntime) -> Result<(), Fail> {
     let mut refused = 0usize;
+    let mut refused_takes = 0usize;
     for number in 1..5000u64 {
         let scarce = Refusing::new(rt.alloc(), number);
         let subs = Subs::read(rt.alloc(), THREE_STATIONS)?;
@@ -144,11 +162,15 @@ fn refused_offers_change_nothing(rt: HostRuntime) -> Result<(), Fail> {
             continue;
         };
         assert_eq!(rt; (told.last, told.in_order, told.entries), (85, true, 85));
+        let (records, again) = told.taken.unwrap_or((0, false));
+        assert_eq!(rt; records, 1);
         refused = refused.saturating_add(usize::from(told.refused));
+        refused_takes = refused_takes.saturating_add(usize::from(again));
         if scarce.is_pending() {
             break;
         }
     }
     assert!(rt; refused > 10, "{refused} offers");
+    assert_eq!(rt; refused_takes, 1);
     Ok(())
 }

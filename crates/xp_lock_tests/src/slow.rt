@@ -191,9 +191,9 @@ fn plays<N: Name>(
     requires history_length { N.history_length ≡ prepared.history_length }
     requires queues { N.queues ≡ prepared.queues }
 {
-    let (exchange, mut passes) = Exchange::<N, Global>::start(alloc, prepared)?;
+    let (exchange, mut passes, recorder) = Exchange::<N, Global>::start(alloc, prepared)?;
     let seen = talk(rt, alloc, &exchange, &mut passes, at_once);
-    let book = exchange.close(rt, passes);
+    let book = exchange.close(rt, passes, recorder);
     let mut seen = seen?;
     if let Ok(book) = book {
         note_book(&mut seen, &book);

@@ -87,12 +87,12 @@ fn both<N: Name + Send + Sync>(
     requires history_length { N.history_length ≡ prepared.history_length }
     requires queues { N.queues ≡ prepared.queues }
 {
-    let (exchange, mut passes) = Exchange::<N, Global>::start(alloc, prepared)?;
+    let (exchange, mut passes, recorder) = Exchange::<N, Global>::start(alloc, prepared)?;
     let mut counts = Counts {
         offered: offer_both(rt, alloc, &exchange, &mut passes),
         ..Counts::default()
     };
-    if let Ok(book) = exchange.close(rt, passes) {
+    if let Ok(book) = exchange.close(rt, passes, recorder) {
         counts.entries = book.count();
         counts.taken = (book.taken(0), book.taken(1));
     }

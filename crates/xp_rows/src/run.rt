@@ -35,7 +35,8 @@ impl Outcome {
 /// Does what the row asks for, with memory for the exchange from this allocator.
 pub fn run<R: AllocGlobal + Files, A: Allocator + Copy>(rt: &R, row: &Row, memory: A) -> Outcome {
     let mut text = Vec::new(rt.alloc());
-    let ended = match subscriptions(rt.alloc(), fs::read_to_string(rt, row.file.as_str())) {
+    let file = fs::read_to_string(rt, row.file.as_str());
+    let ended = match subscriptions(rt.alloc(), &file) {
         Ok(subs) => perform(memory, row.task, subs, row.script.as_slice(), &mut text),
         Err(failure) => Err(failure),
     };

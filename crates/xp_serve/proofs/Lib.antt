@@ -2,4 +2,5 @@ mod EarlyEnds
 mod Fronts
 mod Passes
 mod Ports
+mod Printed
 mod Told

@@ -7,12 +7,13 @@ use Rattle.std.specs.declared.alloc.Global.{Global as Alloc}
 use Rattle.xp_lock.specs.Closing.{IsMissing, has_line}
 use Rattle.xp_lock.specs.Opening.{AreFirst, first_pass}
 use Rattle.xp_lock.specs.Passes.{Pass}
-use Rattle.xp_subs.specs.Tables.{Tables}
+use Rattle.xp_subs.specs.Tables.{Tables, line_count}
 use Rattle.std.specs.List.{AllByRecursion}
 use Rattle.xp_lines.specs.Pairs.{AreEach}
 use Rattle.xp_lines.specs.Sessions.{IsAnyLink, IsLineServed}
 use Rattle.xp_lines.proofs.Sessions.{served_less}
 use Rattle.xp_serve.specs.Served.{AreInOrder, IsBrought}
+use Rattle.xp_serve.specs.steps.Serving.{WereServed}
 
 abbrev is_among : ℕ → List ℕ → Bool
 is_among line [] = false
@@ -38,18 +39,14 @@ module _ {A : Type 0} where
   got (first ∷ passes) zero pass is = ap (λ b. b || has_line pass.line passes) (eq-eqb first.line pass.line (some_line first pass is))
   got (first ∷ passes) (suc place) pass is = ap (λ b. (first.line == pass.line) || b) (got passes place pass is) ∙ or_true (first.line == pass.line)
 
-  pub never_missing : (lines : ℕ) (firsts passes : List (Pass A)) (line : ℕ) → AreFirst lines firsts
+  never_missing : (lines : ℕ) (firsts passes : List (Pass A)) (line : ℕ) → AreFirst lines firsts
       → map (λ pass. pass.line) passes ≡ map (λ pass. pass.line) firsts → IsMissing lines passes line → ⊥
   never_missing lines firsts passes line first same missing =
       let here = got firsts line (first_pass line) (first.each line missing.within) in
       true≢false (sym here ∙ is_among_lines line firsts ∙ ap (is_among line) (sym same) ∙ sym (is_among_lines line passes) ∙ missing.missing)
 
--- as many lines ended as were given a pass
-pub as_many : {X : Type 0} (line : X → ℕ) (ends : List X) (passes : List (Pass Alloc)) → map line ends ≡ map (λ pass. pass.line) passes → length ends ≡ length passes
-as_many line ends passes same = sym (length-map ends line) ∙ ap length same ∙ length-map passes (λ pass. pass.line)
-
 -- the passes that come back are of all lines in order, as those that were given out
-pub in_order : (lines : ℕ) (firsts passes : List (Pass Alloc)) → AreFirst lines firsts
+in_order : (lines : ℕ) (firsts passes : List (Pass Alloc)) → AreFirst lines firsts
     → map (λ pass. pass.line) passes ≡ map (λ pass. pass.line) firsts → AreInOrder lines passes
 in_order lines firsts passes first same = record {
   count = sym (length-map passes (λ pass. pass.line)) ∙ ap length same ∙ length-map firsts (λ pass. pass.line) ∙ first.count;
@@ -57,10 +54,6 @@ in_order lines firsts passes first same = record {
       ap (λ lines. slice_get lines line) same ∙ slice_get-map (λ pass. pass.line) firsts line
       ∙ ap (option_map (λ pass. pass.line)) (first.each line within);
 }
-
--- the lines of passes that stand in other records
-pub by_lines : {X : Type 0} (pass_of : X → Pass Alloc) (xs : List X) (passes : List (Pass Alloc)) → map pass_of xs ≡ passes → map (λ x. (pass_of x).line) xs ≡ map (λ pass. pass.line) passes
-by_lines pass_of xs passes is = sym (map-map (λ pass. pass.line) pass_of xs) ∙ ap (map (λ pass. pass.line)) is
 
 -- each of these is the first pass of its line
 are_firsts : (start : ℕ) (firsts : List (Pass Alloc)) → ((line : ℕ) → line < length firsts → slice_get firsts line ≡ Some (first_pass (start + line)))
@@ -72,28 +65,57 @@ are_firsts start (first ∷ firsts) each =
       are_firsts (suc start) firsts (λ line within. each (suc line) (omega (arith, within)) ∙ ap (λ n. Some (first_pass n)) (omega arith)),
     )
 
-module _ (tables : Tables) (of_link : Option (List ℕ) → Option (List ℕ) → Type 0) where
-  brought_each : (firsts passes : List (Pass Alloc)) → AllByRecursion (λ pass. pass ≡ first_pass pass.line) firsts → AreEach (IsLineServed tables of_link) firsts passes
+each_length : {X Y : Type 0} (R : X → Y → Type 0) (xs : List X) (ys : List Y) → AreEach R xs ys → length xs ≡ length ys
+each_length R [] [] each = refl
+each_length R [] (y ∷ ys) each = absurd each
+each_length R (x ∷ xs) [] each = absurd each
+each_length R (x ∷ xs) (y ∷ ys) each = ap suc (each_length R xs ys each.1)
+
+module _ (tables : Tables) where
+  same_lines : (firsts passes : List (Pass Alloc)) → AreEach (IsLineServed tables IsAnyLink) firsts passes → map (λ pass. pass.line) passes ≡ map (λ pass. pass.line) firsts
+  same_lines [] [] each = refl
+  same_lines [] (pass ∷ passes) each = absurd each
+  same_lines (first ∷ firsts) [] each = absurd each
+  same_lines (first ∷ firsts) (pass ∷ passes) each =
+      ap (λ line. line ∷ map (λ pass. pass.line) passes) each.0.0 ∙ ap (λ lines. first.line ∷ lines) (same_lines firsts passes each.1)
+
+  brought_each : (firsts passes : List (Pass Alloc)) → AllByRecursion (λ pass. pass ≡ first_pass pass.line) firsts → AreEach (IsLineServed tables IsAnyLink) firsts passes
       → AllByRecursion (IsBrought tables) passes
   brought_each [] [] all each = tt
   brought_each [] (pass ∷ passes) all each = absurd each
   brought_each (first ∷ firsts) [] all each = absurd each
   brought_each (first ∷ firsts) (pass ∷ passes) all each = (
-    served_less tables of_link IsAnyLink (λ _ _ _. tt) (first_pass pass.line) pass
-        (subst (λ p. IsLineServed tables of_link p pass) (all.0 ∙ ap first_pass (sym each.0.0)) each.0),
+    subst (λ p. IsLineServed tables IsAnyLink p pass) (all.0 ∙ ap first_pass (sym each.0.0)) each.0,
     brought_each firsts passes all.1 each.1,
   )
 
-  -- each line had what its links brought
-  all_brought : (lines : ℕ) (firsts passes : List (Pass Alloc)) → AreFirst lines firsts → AreEach (IsLineServed tables of_link) firsts passes → AllByRecursion (IsBrought tables) passes
-  all_brought lines firsts passes first each =
-      let count = first.count in
-      brought_each firsts passes
-      (are_firsts 0 firsts (λ line within. first.each line (omega (arith, within, count)) ∙ ap (λ n. Some (first_pass n)) (omega arith))) each
+  each_by_any : (of_link : Option (List ℕ) → Option (List ℕ) → Type 0) (firsts passes : List (Pass Alloc)) → AreEach (IsLineServed tables of_link) firsts passes
+      → AreEach (IsLineServed tables IsAnyLink) firsts passes
+  each_by_any of_link [] [] each = tt
+  each_by_any of_link [] (pass ∷ passes) each = absurd each
+  each_by_any of_link (first ∷ firsts) [] each = absurd each
+  each_by_any of_link (first ∷ firsts) (pass ∷ passes) each =
+      (served_less tables of_link IsAnyLink (λ _ _ _. tt) first pass each.0, each_by_any of_link firsts passes each.1)
 
-  -- the same, where the first passes and the last stood in other records
-  pub all_brought_by : (lines : ℕ) (firsts given passes back : List (Pass Alloc)) → AreFirst lines firsts → given ≡ firsts → passes ≡ back → AreEach (IsLineServed tables of_link) given back
-      → AllByRecursion (IsBrought tables) passes
-  all_brought_by lines firsts given passes back first given_are passes_are each =
-      all_brought lines firsts passes first
-      (subst (λ firsts. AreEach (IsLineServed tables of_link) firsts passes) given_are (subst (λ lasts. AreEach (IsLineServed tables of_link) given lasts) (sym passes_are) each))
+  -- the lines were served from their first passes on
+  pub were_served : (of_link : Option (List ℕ) → Option (List ℕ) → Type 0) (firsts passes : List (Pass Alloc)) → AreFirst (line_count tables) firsts
+      → AreEach (IsLineServed tables of_link) firsts passes → WereServed tables passes
+  were_served of_link firsts passes are_first each = record { firsts = firsts; are_first = are_first; each = each_by_any of_link firsts passes each }
+
+  module _ (passes : List (Pass Alloc)) (served : WereServed tables passes) where
+    -- as many passes come back as there are lines
+    pub served_count : length passes ≡ line_count tables
+    served_count = sym (each_length (IsLineServed tables IsAnyLink) served.firsts passes served.each) ∙ served.are_first.count
+
+    pub served_in_order : AreInOrder (line_count tables) passes
+    served_in_order = in_order (line_count tables) served.firsts passes served.are_first (same_lines served.firsts passes served.each)
+
+    pub served_none_missing : (line : ℕ) → IsMissing (line_count tables) passes line → ⊥
+    served_none_missing line = never_missing (line_count tables) served.firsts passes line served.are_first (same_lines served.firsts passes served.each)
+
+    -- each line had what its links brought
+    pub served_brought : AllByRecursion (IsBrought tables) passes
+    served_brought =
+        let count = served.are_first.count in
+        brought_each served.firsts passes
+        (are_firsts 0 served.firsts (λ line within. served.are_first.each line (omega (arith, within, count)) ∙ ap (λ n. Some (first_pass n)) (omega arith))) served.each

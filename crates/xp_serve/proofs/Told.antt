@@ -1,5 +1,5 @@
 -- What is told of what was served.
-use Rattle.std.proofs.Common.{◌≡◌, ◌⊎◌, ◌↔◌, ℕ, ◌<◌, List, IfSome, Option, Some, None, Result, Err, ap, flat_map, inl, inr, length, refl, subst, sym, zero-add, ◌∙◌}
+use Rattle.std.proofs.Common.{◌≡◌, ◌⊎◌, ◌↔◌, ℕ, ◌<◌, List, IfSome, Option, Some, None, Result, Err, Ok, ap, flat_map, inl, inr, length, refl, subst, sym, zero-add, ◌∙◌}
 use Rattle.std.specs.Io.KnownBytes.{Appends}
 use Rattle.std.specs.declared.net.ip_addr.IpAddr.{IpAddr}
 use Rattle.xp_charge.specs.Text.{record_text}
@@ -9,9 +9,9 @@ use Rattle.xp_core.specs.Worlds.{world_after}
 use Rattle.xp_exchange.proofs.Bytes.{keeps_itself}
 use Rattle.xp_serve.proofs.EarlyEnds.{early_within}
 use Rattle.xp_serve.specs.Ends.{failure_by}
+use Rattle.xp_serve.specs.steps.Failures.{told_fault}
 use Rattle.xp_serve.specs.Hosts.{IsHost, IsNoHost}
-use Rattle.xp_serve.specs.Printing.{IsFront}
-use Rattle.xp_serve.specs.steps.Printing.{Prints}
+use Rattle.xp_serve.specs.Printing.{IsFront, IsPrinted, Printer, Prints}
 use Rattle.xp_serve.specs.Served.{IsServed}
 use Rattle.xp_serve.specs.Serving.{IsTold, Serves, Tells, outcome}
 use Rattle.xp_serve.specs.declared.ends.EarlyEndCause.{EarlyEndCause}
@@ -19,6 +19,8 @@ use Rattle.xp_serve.specs.declared.ends.EarlyEndCause.TheVariants as causes
 use Rattle.xp_serve.specs.declared.ends.EarlyEnd.{EarlyEnd}
 use Rattle.xp_serve.specs.declared.failure.ServeFailure.{ServeFailure}
 use Rattle.xp_serve.specs.declared.failure.ServeFailure.TheVariants.{Host, Memory, Output}
+use Rattle.xp_serve.specs.declared.print_fault.PrintFault.{PrintFault}
+use Rattle.xp_serve.specs.declared.print_fault.PrintFault.TheVariants as faults
 use Rattle.xp_serve.specs.declared.served.Served.{Served}
 use Rattle.xp_subs.specs.Tables.{Tables, line_count}
 
@@ -64,34 +66,3 @@ pub not_of_host : (tables : Tables) (before after : Option (List ℕ)) (result :
     → IsHost tables.host address → Serves tables before after result → (result ≡ Err Host) ↔ IsNoHost tables.host
 not_of_host tables before after result address is served =
     (λ told. told_of_host tables before after (subst (Serves tables before after) told served), λ none. absurd (none address is))
-
-fault : (failure : ServeFailure) → (failure ≡ Memory) ⊎ (failure ≡ Output) → (failed failure ≡ failed Memory) ⊎ (failed failure ≡ failed Output)
-fault failure (inl is) = inl (ap failed is)
-fault failure (inr is) = inr (ap failed is)
-
-module _ (served : Served) (shown : Tables) (records : List Record) (shown_is : shown ≡ served.book.subs) (records_are : records ≡ records_of served.book.history)
-    (one_each : OneRecordEach served.book.subs served.book.history (world_after served.book.subs served.book.history)) (old new : Option (List ℕ)) where
-  whole_is : flat_map (record_text shown) records ≡ flat_map (record_text served.book.subs) (records_of served.book.history)
-  whole_is = ap (λ tables. flat_map (record_text tables) records) shown_is ∙ ap (flat_map (record_text served.book.subs)) records_are
-
-  -- all records are written
-  pub to_the_end : (result : Result (Unit {0}) ServeFailure) → result ≡ outcome served.book.subs served.early_end
-      → Appends old new (flat_map (record_text shown) records) → Tells served old new result
-  to_the_end result told written = record {
-    one_each = one_each;
-    text = flat_map (record_text served.book.subs) (records_of served.book.history);
-    written = subst (Appends old new) whole_is written;
-    told = inl (refl, told);
-  }
-
-  -- a front of them is written
-  pub in_part : (result : Result (Unit {0}) ServeFailure) (failure : ServeFailure) → result ≡ Err failure
-      → Prints old new (flat_map (record_text shown) records) (Err failure) → Tells served old new result
-  in_part result failure is printed =
-      subst (Tells served old new) (sym is)
-      (record {
-        one_each = one_each;
-        text = printed.1.0;
-        written = printed.1.1;
-        told = inr (subst (IsFront printed.1.0) whole_is printed.1.2, fault failure printed.0);
-      })

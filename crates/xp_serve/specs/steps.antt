@@ -1,2 +1,4 @@
 -- What only private steps tell one another: no public contract cites it.
+pub mod Failures
 pub mod Printing
+pub mod Serving

@@ -3,8 +3,10 @@
 ghost use Rattle.std.specs.Prelude.{◌≡◌, ◌<◌};
 ghost use Rattle.xp_serve.specs.Failures.{name_at, status_of};
 ghost use Rattle.xp_serve.specs.declared.failure.ServeFailure.TheVariants.{Memory as OutOfMemory, Port as OfPort};
+ghost use Rattle.xp_serve.specs.steps.Failures.{told_fault};
 ghost use Rattle.xp_subs.specs.Tables.{line_count};
 
+use crate::print_fault::PrintFault;
 use std::alloc::AllocError;
 use thiserror::Error;
 use xp_file::Name;
@@ -57,5 +59,16 @@ impl From<AllocError> for ServeFailure {
 
     fn from(_refused: AllocError) -> ServeFailure {
         ServeFailure::Memory
+    }
+}
+
+impl From<PrintFault> for ServeFailure {
+    ghost from_gives = { λ fault failure. failure ≡ told_fault fault };
+
+    fn from(fault: PrintFault) -> ServeFailure {
+        match fault {
+            PrintFault::Memory => ServeFailure::Memory,
+            PrintFault::Output => ServeFailure::Output,
+        }
     }
 }

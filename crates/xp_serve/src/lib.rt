@@ -1,4 +1,5 @@
-//! Serving lines over TCP: the exchange listens on each line's port, serves them all, and prints the charging records.
+//! Serving lines over TCP: the exchange listens on each line's port, serves them all, and prints each charging record as its
+//! call ends.
 #![tactic(auto)]
 
 mod ends;
@@ -6,13 +7,17 @@ mod failure;
 mod host;
 mod limits;
 mod listening;
+mod print_fault;
 mod printing;
 mod served;
 mod serving;
+mod telling;
 
 pub use ends::{EarlyEnd, EarlyEndCause};
 pub use failure::ServeFailure;
 pub use limits::Limits;
 pub use listening::listen_all;
-pub use served::Served;
-pub use serving::{TcpThreadInputs, serve, serve_on, thread_inputs};
+pub use print_fault::PrintFault;
+pub use printing::RecordPrinter;
+pub use served::{NotServed, Recorded, Served};
+pub use serving::{ServeEnd, TcpThreadInputs, serve, serve_on, thread_inputs};

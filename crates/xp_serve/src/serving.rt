@@ -1,10 +1,11 @@
 //! The exchange that is served: its lines' ports, threads and records.
 
-ghost use Rattle.std.specs.Prelude.{◌≡◌, ◌≤◌, ◌↔◌, Err, IfOk, length, map, vec_len};
+ghost use Rattle.std.specs.Prelude.{◌≡◌, ◌<◌, ◌≤◌, ◌++◌, ◌↔◌, [], Err, IfErr, IfOk, IfSome, length, map, vec_capacity, vec_len};
 ghost use Rattle.xp_serve.specs.Hosts.{IsNoHost};
 ghost use Rattle.xp_serve.specs.Served.{IsServed};
-ghost use Rattle.xp_serve.specs.Serving.{Serves};
+ghost use Rattle.xp_serve.specs.Serving.{Serves, Tells};
 ghost use Rattle.xp_serve.specs.declared.failure.ServeFailure.TheVariants.{Host as NoHost};
+ghost use Rattle.xp_serve.specs.steps.Serving.{AreReady, WereServed};
 ghost use Rattle.xp_subs.specs.Tables.{line_count};
 
 use crate::ends::{end_reasons_of, first_early_end, passes_of};
@@ -12,99 +13,245 @@ use crate::failure::ServeFailure;
 use crate::host::host_address;
 use crate::limits::Limits;
 use crate::listening::listen_all;
-use crate::printing::tell;
-use crate::served::Served;
+use crate::printing::RecordPrinter;
+use crate::served::{NotServed, Recorded, Served};
+use crate::telling::tell;
 use std::alloc::{AllocError, Global};
 use std::io::Write;
 use std::marker::Brand;
-use std::net::Net;
+use std::net::{IpAddr, Net};
 use std::sync::Wait;
 use std::thread::Threads;
-use xp_lines::{ThreadInputs, serve_all};
-use xp_lock::{Exchange, LinePass, Name, PreparedExchange, prepare};
+use xp_lines::{EndReason, LinesServed, RecordSink, ThreadInputs, serve_all};
+use xp_lock::{Exchange, LinePass, Name, PreparedExchange, Recorder, prepare};
 use xp_subs::Subs;
 use xp_tcp::{OpenGate, Sockets, TcpClock, TcpPort};
 
-/// Listens on the port of each line, serves all lines by [`serve_on`] until they have ended, and then writes the charging
-/// records in the order in which their calls ended.
+/// What serving came to.
+#[derive(Drop)]
+pub struct ServeEnd<W: Write> {
+    /// The writer, on which the charging records are written.
+    pub writer: W,
+    /// Whether the lines were served to the end.
+    pub outcome: Result<(), ServeFailure>,
+}
+
+/// Listens on the port of each line, and serves all lines by [`serve_on`] until they have ended. Each charging record is written
+/// and flushed as its call ends, in the order in which the calls end. `names` are the same subscriptions once more, from which the
+/// written lines have their names: those of the exchange stand under its lock.
 ///
 /// # Errors
 ///
 /// Before any line is served: `Host` where the host of the subscription file is neither `localhost` nor an IP address, before
 /// any port is listened on; `Port` with the lowest line whose port can't be had, `Memory`. After the records are written:
 /// what the lowest line told that ended before its time, as `Port`, `Journal` or `Thread`. `Memory` and `Output` where not
-/// all records could be written.
-pub fn serve<R: Net + Threads + Wait + Sync, W: Write>(
+/// all records could be written; then serving ends too.
+pub fn serve<R: Net + Threads + Wait + Sync, W: Write + Drop>(
     rt: &R,
     alloc: Global,
     subs: Subs,
+    names: Subs,
     limits: Limits,
-    writer: &mut W,
-) -> Result<(), ServeFailure>
-    ensures host { (result ≡ Err NoHost) ↔ IsNoHost subs.host }
-    ensures serves { Serves subs (W.contents writer.old) (W.contents writer.new) result }
+    writer: W,
+) -> ServeEnd<W>
+    requires { names ≡ subs }
+    ensures host { (result.outcome ≡ Err NoHost) ↔ IsNoHost subs.host }
+    ensures serves { Serves subs (W.contents writer) (W.contents result.writer) result.outcome }
 {
     let Some(host) = host_address(subs.host()) else {
-        return Err(ServeFailure::Host);
+        return ServeEnd {
+            writer,
+            outcome: Err(ServeFailure::Host),
+        };
     };
-    let sockets = listen_all(rt, alloc, &subs, host)?;
-    let served = serve_on(rt, alloc, subs, sockets, limits)?;
-    tell(alloc, &served, writer)
+    serve_at(rt, alloc, subs, names, host, limits, writer)
+}
+
+/// Serves all lines at an address of the machine.
+fn serve_at<R: Net + Threads + Wait + Sync, W: Write + Drop>(
+    rt: &R,
+    alloc: Global,
+    subs: Subs,
+    names: Subs,
+    host: IpAddr,
+    limits: Limits,
+    writer: W,
+) -> ServeEnd<W>
+    requires { names ≡ subs }
+    ensures { Serves subs (W.contents writer) (W.contents result.writer) result.outcome }
+{
+    let sockets = match listen_all(rt, alloc, &subs, host) {
+        Ok(sockets) => sockets,
+        Err(failure) => {
+            return ServeEnd {
+                writer,
+                outcome: Err(failure),
+            };
+        }
+    };
+    let printer = RecordPrinter::new(alloc, names, writer);
+    match serve_on(rt, alloc, subs, sockets, limits, printer) {
+        Ok(recorded) => end(recorded),
+        Err(fault) => ServeEnd {
+            writer: fault.sink.into_writer(),
+            outcome: Err(ServeFailure::Memory),
+        },
+    }
+}
+
+/// Writes the records that are left, and tells how the lines ended.
+fn end<W: Write + Drop>(recorded: Recorded<RecordPrinter<W>>) -> ServeEnd<W>
+    requires early_end { IfSome recorded.served.early_end (λ early_end. early_end.line < line_count recorded.served.book.subs) }
+    requires subs { recorded.sink.subs ≡ recorded.served.book.subs }
+    requires given { recorded.sink.given ≡ recorded.served.book.given }
+    ensures { Tells recorded.served recorded.sink.before (W.contents result.writer) result.outcome }
+{
+    let Recorded { served, sink } = recorded;
+    let mut printer = sink;
+    let outcome = tell(&served, &mut printer);
+    ServeEnd {
+        writer: printer.into_writer(),
+        outcome,
+    }
 }
 
 /// Serves each line on its socket, which listens already, on a thread of its own, until all lines have ended. The sockets are
-/// in the order of lines.
+/// in the order of lines. The sink is given the charging records as their calls end. Where it can do nothing with further
+/// records, serving ends. Those that could not be handed over for want of memory are in the book.
 ///
 /// # Errors
 ///
-/// `AllocError` if an allocation fails. Then no line was served.
-pub fn serve_on<R: Threads + Wait + Sync>(
+/// `NotServed` if an allocation fails. Then no line was served, and the sink comes back.
+pub fn serve_on<R: Threads + Wait + Sync, S: RecordSink>(
     rt: &R,
     alloc: Global,
     subs: Subs,
     sockets: Sockets,
     limits: Limits,
-) -> Result<Served, AllocError>
-    requires { length sockets ≡ line_count subs }
-    ensures { IfOk result (IsServed subs) }
+    sink: S,
+) -> Result<Recorded<S>, NotServed<S>>
+    requires sockets { length sockets ≡ line_count subs }
+    requires lines { S.lines sink ≡ line_count subs }
+    ensures served { IfOk result (λ recorded. IsServed subs recorded.served) }
+    ensures received { IfOk result (λ recorded. S.received recorded.sink ≡ S.received sink ++ recorded.served.book.given) }
+    ensures keeps { IfOk result (λ recorded. S.keeps sink recorded.sink) }
+    ensures err { IfErr result (λ fault. fault.sink ≡ sink) }
 {
     // There are at most 512 lines.
     let _counts = subs.counts();
-    let prepared = prepare(alloc, subs)?;
-    serve_named::<Brand, R>(rt, alloc, prepared, sockets, limits)
+    match prepare(alloc, subs) {
+        Ok(prepared) => serve_named::<Brand, R, S>(rt, alloc, prepared, sockets, limits, sink),
+        Err(_) => Err(NotServed { sink }),
+    }
 }
 
 /// Serves the lines of the exchange that N names.
-fn serve_named<N: Name + Send + Sync, R: Threads + Wait + Sync>(
+fn serve_named<N: Name + Send + Sync, R: Threads + Wait + Sync, S: RecordSink>(
     rt: &R,
     alloc: Global,
     prepared: PreparedExchange,
     sockets: Sockets,
     limits: Limits,
-) -> Result<Served, AllocError>
+    sink: S,
+) -> Result<Recorded<S>, NotServed<S>>
     requires subs { N.subs ≡ prepared.subs }
     requires history_length { N.history_length ≡ prepared.history_length }
     requires queues { N.queues ≡ prepared.queues }
     requires sockets { length sockets ≡ line_count prepared.subs }
     requires few { line_count prepared.subs ≤ 512 }
-    ensures { IfOk result (IsServed prepared.subs) }
+    requires lines { S.lines sink ≡ line_count prepared.subs }
+    ensures served { IfOk result (λ recorded. IsServed prepared.subs recorded.served) }
+    ensures received { IfOk result (λ recorded. S.received recorded.sink ≡ S.received sink ++ recorded.served.book.given) }
+    ensures keeps { IfOk result (λ recorded. S.keeps sink recorded.sink) }
+    ensures err { IfErr result (λ fault. fault.sink ≡ sink) }
 {
-    let (exchange, passes) = Exchange::<N>::start(alloc, prepared)?;
+    let Ok(ready) = make_ready::<N>(alloc, prepared, sockets) else {
+        return Err(NotServed { sink });
+    };
+    let Ready {
+        exchange,
+        parts,
+        recorder,
+        room,
+        room_of_reasons,
+    } = ready;
+    let (turns, records) = (limits.turns, limits.records);
+    match serve_all(rt, alloc, &exchange, parts, recorder, sink, turns, records) {
+        Ok(lines) => Ok(close(rt, exchange, lines, room, room_of_reasons)),
+        Err(fault) => Err(NotServed { sink: fault.sink }),
+    }
+}
+
+/// Closes the exchange as all lines have ended. The passes and the reasons of the ends go where there is room for them.
+fn close<N: Name, S: RecordSink, R: Wait>(
+    rt: &R,
+    exchange: Exchange<N>,
+    lines: LinesServed<N, S>,
+    room: Vec<LinePass<N>>,
+    room_of_reasons: Vec<EndReason>,
+) -> Recorded<S>
+    requires served { WereServed N.subs (map (λ end. end.pass) lines.ends.items) }
+    requires few { line_count N.subs ≤ 512 }
+    requires room { (room.items ≡ []) × (line_count N.subs ≤ vec_capacity room) }
+    requires room_of_reasons { (room_of_reasons.items ≡ []) × (line_count N.subs ≤ vec_capacity room_of_reasons) }
+    ensures served { IsServed N.subs result.served }
+    ensures given { result.served.book.given ≡ lines.recorder.received }
+    ensures sink { result.sink ≡ lines.sink }
+{
+    let LinesServed {
+        ends,
+        recorder,
+        sink,
+    } = lines;
+    let end_reasons = end_reasons_of(&ends, room_of_reasons);
+    let early_end = first_early_end(&end_reasons);
+    let Ok(book) = exchange.close(rt, passes_of(ends, room), recorder) else {
+        unreachable!()
+    };
+    Recorded {
+        served: Served {
+            book,
+            end_reasons,
+            early_end,
+        },
+        sink,
+    }
+}
+
+/// An exchange that is ready to be served.
+#[derive(Drop)]
+struct Ready<N: Name> {
+    exchange: Exchange<N>,
+    /// What the threads of the lines are given.
+    parts: Vec<TcpThreadInputs<N>>,
+    recorder: Recorder<N>,
+    /// Room for the passes of the lines, and for why they ended.
+    room: Vec<LinePass<N>>,
+    room_of_reasons: Vec<EndReason>,
+}
+
+/// Starts the exchange that N names, and makes what the threads of its lines are given.
+fn make_ready<N: Name>(
+    alloc: Global,
+    prepared: PreparedExchange,
+    sockets: Sockets,
+) -> Result<Ready<N>, AllocError>
+    requires subs { N.subs ≡ prepared.subs }
+    requires history_length { N.history_length ≡ prepared.history_length }
+    requires queues { N.queues ≡ prepared.queues }
+    requires sockets { length sockets ≡ line_count prepared.subs }
+    ensures { IfOk result (AreReady N.subs) }
+{
+    let (exchange, passes, recorder) = Exchange::<N>::start(alloc, prepared)?;
     let room = Vec::with_capacity(alloc, passes.len())?;
     let room_of_reasons = Vec::with_capacity(alloc, passes.len())?;
     let parts = thread_inputs(alloc, passes, sockets)?;
-    let Ok(ends) = serve_all(rt, alloc, &exchange, parts, limits.turns, limits.records) else {
-        return Err(AllocError);
-    };
-    let end_reasons = end_reasons_of(&ends, room_of_reasons);
-    let early_end = first_early_end(&end_reasons);
-    let Ok(book) = exchange.close(rt, passes_of(ends, room)) else {
-        unreachable!()
-    };
-    Ok(Served {
-        book,
-        end_reasons,
-        early_end,
+    Ok(Ready {
+        exchange,
+        parts,
+        recorder,
+        room,
+        room_of_reasons,
     })
 }
 

@@ -2,8 +2,9 @@
 
 use crate::client::Step;
 use crate::frames::{ACCEPTED, CALL, CLEAR, CONFIRMATION, CONNECTED, INCOMING, OUT_OF_ORDER};
-use crate::serving::{Clients, serve};
+use crate::serving::{Clients, ONE_RECORD, Wanted, serve};
 use std::test::Fail;
+use xp_serve::PrintFault;
 
 /// A call that is accepted and cleared.
 pub const CALL_AND_CLEAR: Clients = Clients {
@@ -24,8 +25,9 @@ pub const CALL_AND_CLEAR: Clients = Clients {
 
 #[test]
 fn call_over_sockets(rt: HostRuntime) -> Result<(), Fail> {
-    let served = serve(&rt, rt.alloc(), CALL_AND_CLEAR)?;
+    let served = serve(&rt, rt.alloc(), ONE_RECORD, CALL_AND_CLEAR)?;
     assert_eq!(rt; served.steps, (5, 4));
+    assert_eq!(rt; (served.left, served.outcome), (0, Ok(())));
     // The call is connected for less than a second, which its two moments may yet count as one.
     let record = "HHHHH\nrecord 1 a1 b1 2080020 caller 0 0 00 0 ";
     assert!(rt; served.text.as_str().starts_with(record), "{}", served.text);
@@ -44,11 +46,25 @@ fn client_that_hangs_up(rt: HostRuntime) -> Result<(), Fail> {
         ],
         b1: &[Step::Receives(INCOMING)],
     };
-    let served = serve(&rt, rt.alloc(), clients)?;
+    let served = serve(&rt, rt.alloc(), ONE_RECORD, clients)?;
     assert_eq!(rt; served.steps, (3, 1));
     assert_eq!(rt;
         served.text.as_str(),
         "HHHHH\nrecord 1 a1 b1 2080020 caller 0 0 09 0 0\n"
     );
+    Ok(())
+}
+
+/// The writer takes no record, so serving ends though more records are wanted.
+#[test]
+fn writer_that_fails(rt: HostRuntime) -> Result<(), Fail> {
+    let wanted = Wanted {
+        records: 1_000,
+        writes: 0,
+    };
+    let served = serve(&rt, rt.alloc(), wanted, CALL_AND_CLEAR)?;
+    assert_eq!(rt; served.steps, (5, 4));
+    assert_eq!(rt; (served.left, served.outcome), (0, Err(PrintFault::Output)));
+    assert_eq!(rt; served.text.as_str(), "HHHHH\n");
     Ok(())
 }

@@ -1,14 +1,17 @@
 //! Lines that are served at a host with a name.
 
+ghost use Rattle.std.specs.Prelude.{◌≡◌};
+
 use crate::calls::CALL_AND_CLEAR;
 use crate::serving::{TURNS, meet};
+use crate::twice::read_twice;
 use std::alloc::Global;
 use std::io;
 use std::net::{Ipv4Addr, Net, SocketAddr, SocketAddrV4, TcpListener, TcpStream};
 use std::sync::Wait;
 use std::test::Fail;
 use std::thread::{Threads, join};
-use xp_serve::{Limits, serve};
+use xp_serve::{Limits, ServeEnd, serve};
 use xp_subs::Subs;
 
 /// Two ports at 127.0.0.1 on which nobody listens.
@@ -22,14 +25,21 @@ fn free_ports<R: Net<Listener = TcpListener, Stream = TcpStream>>(
 }
 
 /// What is printed as the lines are served until there is a charging record, if they are served to the end.
-fn printed<R: Net + Threads + Wait + Sync>(rt: &R, alloc: Global, subs: Subs) -> Option<Vec<u8>> {
+fn printed<R: Net + Threads + Wait + Sync>(
+    rt: &R,
+    alloc: Global,
+    subs: Subs,
+    names: Subs,
+) -> Option<Vec<u8>>
+    requires { names ≡ subs }
+{
     let limits = Limits {
         records: 1,
         turns: TURNS,
     };
-    let mut printed = Vec::new(alloc);
-    serve(rt, alloc, subs, limits, &mut printed).ok()?;
-    Some(printed)
+    let ServeEnd { writer, outcome } = serve(rt, alloc, subs, names, limits, Vec::new(alloc));
+    outcome.ok()?;
+    Some(writer)
 }
 
 /// What is printed, and how many steps of the clients were as told.
@@ -37,11 +47,16 @@ fn served<R: Net<Listener = TcpListener, Stream = TcpStream> + Threads + Wait + 
     rt: &R,
     alloc: Global,
     subs: Subs,
+    names: Subs,
     ports: (u16, u16),
-) -> (Option<Vec<u8>>, (usize, usize)) {
+) -> (Option<Vec<u8>>, (usize, usize))
+    requires { names ≡ subs }
+{
     join(
         rt,
-        || printed(rt, alloc, subs),
+        || -> Option<Vec<u8>>
+            requires { names ≡ subs }
+        { printed(rt, alloc, subs, names) },
         || meet(rt, ports, CALL_AND_CLEAR).unwrap_or((0, 0)),
     )
 }
@@ -53,8 +68,8 @@ fn lines_at_localhost(rt: HostRuntime) -> Result<(), Fail> {
     let text = format!(in rt.alloc();
         "host = \"localhost\"\n[[station]]\naddress = \"2080010\"\nline = [{{ name = \"a1\", port = {a1} }}]\n[[station]]\naddress = \"2080020\"\nline = [{{ name = \"b1\", port = {b1} }}]\n"
     )?;
-    let subs = Subs::read(rt.alloc(), text.as_str())?;
-    let (printed, steps) = served(&rt, rt.alloc(), subs, (a1, b1));
+    let (subs, names) = read_twice(rt.alloc(), text.as_str())?;
+    let (printed, steps) = served(&rt, rt.alloc(), subs, names, (a1, b1));
     assert_eq!(rt; steps, (5, 4));
     let Some(printed) = printed else {
         return Err("not served to the end".into());

@@ -10,6 +10,10 @@ mod frames;
 #[cfg(test)]
 mod hosts;
 #[cfg(test)]
+mod paper;
+#[cfg(test)]
 mod ports;
 #[cfg(test)]
 mod serving;
+#[cfg(test)]
+mod twice;

@@ -1,9 +1,9 @@
 //! Hosts and ports that lines can't be served on.
 
+use crate::twice::read_twice;
 use std::net::{Ipv4Addr, SocketAddr, SocketAddrV4, TcpListener};
 use std::test::Fail;
-use xp_serve::{Limits, serve};
-use xp_subs::Subs;
+use xp_serve::{Limits, ServeEnd, serve};
 
 /// A host, and what is told where another socket listens on the port of line a1 at 127.0.0.1.
 const REFUSALS: [(&str, &str); 4] = [
@@ -27,14 +27,21 @@ fn port_in_use(rt: HostRuntime) -> Result<(), Fail> {
         let text = format!(in rt.alloc();
             "host = \"{host}\"\n[[station]]\naddress = \"2080010\"\nline = [{{ name = \"a1\", port = {port} }}]\n"
         )?;
-        let subs = Subs::read(rt.alloc(), text.as_str())?;
-        let mut printed = Vec::new(rt.alloc());
-        let Err(failure) = serve(&rt, rt.alloc(), subs, limits, &mut printed) else {
+        let (subs, names) = read_twice(rt.alloc(), text.as_str())?;
+        let ServeEnd { writer, outcome } = serve(
+            &rt,
+            rt.alloc(),
+            subs,
+            names,
+            limits,
+            Vec::new(rt.alloc()),
+        );
+        let Err(failure) = outcome else {
             return Err("served".into());
         };
         let failure = format!(in rt.alloc(); "{failure}")?;
         assert_eq!(rt; failure.as_str(), told, "at {host}");
-        assert_eq!(rt; printed.len(), 0);
+        assert_eq!(rt; writer.len(), 0);
     }
     Ok(())
 }

@@ -5,14 +5,16 @@ ghost use Rattle.xp_subs.specs.Tables.{line_count};
 
 use crate::client::{Step, connect, play};
 use crate::frames::{CLEAR, CONFIRMATION};
+use crate::paper::Paper;
+use crate::twice::read_twice;
 use std::alloc::{AllocError, Global};
-use std::io;
 use std::net::{IpAddr, Ipv4Addr, Net, TcpListener, TcpStream};
 use std::sync::Wait;
 use std::test::Fail;
 use std::thread::{Threads, join};
+use std::{io, thread};
 use xp_lines::EndReason;
-use xp_serve::{Limits, Served, serve_on};
+use xp_serve::{Limits, PrintFault, RecordPrinter, Recorded, Served, serve_on};
 use xp_subs::Subs;
 use xp_tcp::Sockets;
 use xp_testing::THREE_STATIONS;
@@ -33,9 +35,29 @@ pub struct Clients {
 pub struct Met {
     /// How many steps of a1's and of b1's client were as told.
     pub steps: (usize, usize),
-    /// A letter for each line, H where it has ended because the exchange was halted; and the charging records.
+    /// A letter for each line, H where it has ended because the exchange was halted; and the charging records that were printed
+    /// as they were made.
     pub text: String,
+    /// How many records were not printed then.
+    pub left: usize,
+    /// Whether they could be printed.
+    pub outcome: Result<(), PrintFault>,
 }
+
+/// How the stations are served.
+#[derive(Clone, Copy)]
+pub struct Wanted {
+    /// With how many records serving ends.
+    pub records: u64,
+    /// How many writes the writer takes.
+    pub writes: u64,
+}
+
+/// Until there is a charging record, which can be printed.
+pub const ONE_RECORD: Wanted = Wanted {
+    records: 1,
+    writes: 1_000,
+};
 
 /// A clear where there is no call is confirmed, so the line is up then.
 const COMES_UP: [Step; 2] = [Step::Sends(CLEAR), Step::Receives(CONFIRMATION)];
@@ -73,8 +95,8 @@ fn listen_all<R: Net>(rt: &R, alloc: Global, subs: &Subs) -> Result<Sockets, Fai
     Ok(sockets)
 }
 
-/// A letter for each line, and the charging records.
-fn text_of(alloc: Global, served: &Served) -> Result<Vec<u8>, AllocError> {
+/// A letter for each line, and the text that was printed.
+fn text_of(alloc: Global, served: &Served, printed: &[u8]) -> Result<Vec<u8>, AllocError> {
     let mut text = Vec::new(alloc);
     for why in &served.end_reasons {
         text.push(if *why == EndReason::Halted {
@@ -84,50 +106,73 @@ fn text_of(alloc: Global, served: &Served) -> Result<Vec<u8>, AllocError> {
         })?;
     }
     text.push(b'\n')?;
-    for ended in served.book.records() {
-        ended.write(served.book.subs(), &mut text)?;
-    }
+    text.extend_from_slice(printed)?;
     Ok(text)
 }
 
-/// Serves the lines to the two clients until there is a charging record.
+/// Serves the lines to the two clients until there are so many charging records.
 fn serve_clients<R: Net<Listener = TcpListener, Stream = TcpStream> + Threads + Wait + Sync>(
     rt: &R,
     alloc: Global,
     subs: Subs,
     sockets: Sockets,
+    printer: RecordPrinter<Paper>,
+    records: u64,
     clients: Clients,
-) -> (Option<Served>, (usize, usize))
-    requires { length sockets ≡ line_count subs }
+) -> (Option<Recorded<RecordPrinter<Paper>>>, (usize, usize))
+    requires sockets { length sockets ≡ line_count subs }
+    requires names { printer.subs ≡ subs }
 {
     let ports = (sockets.port(0).unwrap_or(0), sockets.port(1).unwrap_or(0));
     let limits = Limits {
-        records: 1,
+        records,
         turns: TURNS,
     };
-    join(
+    thread::scope(
+        thread::scope_env(),
         rt,
-        || -> Option<Served>
-            requires { length sockets ≡ line_count subs }
-        { serve_on(rt, alloc, subs, sockets, limits).ok() },
-        || meet(rt, ports, clients).unwrap_or((0, 0)),
+        |scope| -> (Option<Recorded<RecordPrinter<Paper>>>, (usize, usize))
+            requires sockets { length sockets ≡ line_count subs }
+            requires names { printer.subs ≡ subs }
+        {
+            let meeting = scope.spawn(|| meet(rt, ports, clients).unwrap_or((0, 0)));
+            let recorded = serve_on(rt, alloc, subs, sockets, limits, printer).ok();
+            match meeting {
+                Ok(meeting) => (recorded, meeting.join(rt)),
+                Err(_) => (recorded, (0, 0)),
+            }
+        },
     )
 }
 
-/// Serves the three stations until there is a charging record.
+/// Serves the three stations as it is wanted.
 pub fn serve<R: Net<Listener = TcpListener, Stream = TcpStream> + Threads + Wait + Sync>(
     rt: &R,
     alloc: Global,
+    wanted: Wanted,
     clients: Clients,
 ) -> Result<Met, Fail> {
-    let subs = Subs::read(alloc, THREE_STATIONS)?;
+    let (subs, names) = read_twice(alloc, THREE_STATIONS)?;
     let sockets = listen_all(rt, alloc, &subs)?;
-    let (served, steps) = serve_clients(rt, alloc, subs, sockets, clients);
-    let Some(served) = served else {
+    let printer = RecordPrinter::new(alloc, names, Paper::new(alloc, wanted.writes));
+    let (recorded, steps) = serve_clients(
+        rt,
+        alloc,
+        subs,
+        sockets,
+        printer,
+        wanted.records,
+        clients,
+    );
+    let Some(Recorded { served, sink }) = recorded else {
         return Err("out of memory".into());
     };
+    let outcome = sink.outcome();
+    let paper = sink.into_writer();
     Ok(Met {
         steps,
-        text: String::from_utf8(text_of(alloc, &served)?)?,
+        text: String::from_utf8(text_of(alloc, &served, &paper.text)?)?,
+        left: served.book.records().len(),
+        outcome,
     })
 }

@@ -26,11 +26,11 @@ use xp_subs::Subs;
 ///
 /// `File` if the file could not be read as text; `Subscriptions` with the first fault of the text; `Memory` if an allocation
 /// failed.
-pub fn subscriptions(alloc: Global, text: io::Result<String>) -> Result<Subs, TaskFailure>
-    ensures { SetsUp (result_map_both string_bytes error_kind text) result }
+pub fn subscriptions(alloc: Global, text: &io::Result<String>) -> Result<Subs, TaskFailure>
+    ensures { SetsUp (result_map_both string_bytes error_kind text.now) result }
 {
     match text {
-        Ok(text) => Ok(Subs::read(alloc, &text)?),
+        Ok(text) => Ok(Subs::read(alloc, text)?),
         Err(error) if error.kind() == ErrorKind::OutOfMemory => Err(TaskFailure::Memory),
         Err(_) => Err(TaskFailure::File),
     }

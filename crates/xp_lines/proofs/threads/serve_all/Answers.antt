@@ -13,9 +13,9 @@ scoped-requires g c =
     record {
       at = λ s. (
         omega (arith, first, many),
-        (omega (arith, second, also), ((begun.items, ends.items), (search rules, search rules, search rules, search rules, search rules, search rules, search rules))),
+        (omega (arith, second, also), ((begun.items, ends.items), (c.requires, (search rules, search rules, search rules, search rules, search rules, search rules, search rules)))),
       );
     }
 
 pub returns-clause-ok : goal.returns-clause-ok
-returns-clause-ok g c = same_lines _ _ (λ part. part.pass) (λ end. end.pass) c.args.parts.items c.scoped.result.items c.scoped.ensures.1
+returns-clause-ok g c = same_lines _ _ (λ part. part.pass) (λ end. end.pass) c.args.parts.items c.scoped.result.ends.items c.scoped.ensures.1.0

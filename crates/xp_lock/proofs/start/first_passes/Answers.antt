@@ -61,7 +61,7 @@ loop-outbox-preserved g c =
       many = omega (arith, left, fewer, many);
       keeper =
           c.next_claim-history_seat.ensures.keeper ∙ ap (λ (k : SeatState _). record k { knows = one_further k.knows }) was.keeper
-          ∙ ap (λ m. record { history_length = g.N.Name.history_length; knows = keeping m [] }) (sym long);
+          ∙ ap (λ m. record { history_length = g.N.Name.history_length; knows = keeping m [] [] }) (sym long);
       passes = subst (λ m. AreFirst m after) (sym long) (subst (AreFirst (n + 1)) (sym pushed) first);
       queues = sym (drop_rest g.N.Name.queues n c.in-Some.outbox.queue _ (sym was.queues ∙ ap (map (λ end. end.queue)) items))
           ∙ ap (λ m. drop m g.N.Name.queues) (let next : suc n ≡ length after = omega (arith, long) in next);

@@ -11,7 +11,7 @@ invariant-loop-outbox g l = record {
   can_next : (goal.iterator-loop-outbox g).can_next l.outbox-iterator;
   is_finite : (goal.iterator-loop-outbox g).is_finite l.outbox-iterator;
   many : length (into_iter_items l.outbox-iterator) ≡ into_iter_len l.outbox-iterator;
-  keeper : l.keeper ≡ record { history_length = g.N.Name.history_length; knows = keeping (length l.passes.items) [] };
+  keeper : l.keeper ≡ record { history_length = g.N.Name.history_length; knows = keeping (length l.passes.items) [] [] };
   passes : AreFirst (length l.passes.items) l.passes.items;
   queues : map (λ end. end.queue) (into_iter_items l.outbox-iterator) ≡ drop (length l.passes.items) g.N.Name.queues;
   taken : All (λ end. end.taken ≡ []) (into_iter_items l.outbox-iterator);

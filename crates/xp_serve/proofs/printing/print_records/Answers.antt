@@ -3,8 +3,7 @@ use Rattle.std.proofs.lemmas.Result.{err_from_is_err_and}
 use Rattle.std.specs.Io.KnownBytes.{Appends}
 use Rattle.xp_charge.specs.Text.{record_text}
 use Rattle.xp_exchange.proofs.Bytes.{appends_both}
-use Rattle.xp_serve.specs.Printing.{IsFront}
-use Rattle.xp_serve.specs.steps.Printing.{Prints}
+use Rattle.xp_serve.specs.Printing.{IsFront, Prints}
 use Rattle.xp_serve.proofs.Fronts.{around, front_behind, one_more}
 use Rattle.xp_serve.proofs.printing.print_records.Goals as goal
 
@@ -16,15 +15,12 @@ returns-in_err-print_record g c =
     let p = err_from_is_err_and c.from_residual.result c.from_residual.ensures.1 in
     let printed = c.in_err-print_record.ensures in
     let first = flat_map text (take i records) in
-    let front = printed.1.0 in
+    let front = printed.0 in
     subst (Prints (g.W.Write.contents c.args.writer.now) (g.W.Write.contents c.print_record.new.writer) (flat_map text records)) (sym (p.1 ∙ ap Err p.2)) (
-      printed.0,
-      (
-        first ++ front,
-        appends_both _ _ _ first front c.loop-ended.invariant printed.1.1,
-        subst (IsFront (first ++ front)) (sym (around text records i c.ended-item.result c.loop-ended-test.true c.ended-item.is))
-            (front_behind first front (text c.ended-item.result) (flat_map text (drop (i + 1) records)) printed.1.2),
-      ),
+      first ++ front,
+      appends_both _ _ _ first front c.loop-ended.invariant printed.1,
+      subst (IsFront (first ++ front)) (sym (around text records i c.ended-item.result c.loop-ended-test.true c.ended-item.is))
+          (front_behind first front (text c.ended-item.result) (flat_map text (drop (i + 1) records)) printed.2),
     )
 
 pub loop-ended-preserved : goal.loop-ended-preserved

@@ -4,8 +4,8 @@ use Rattle.xp_subs.specs.Tables.{line_count}
 use Rattle.xp_lock.proofs.exchange.Exchange.start.Goals as goal
 
 pub first_passes-requires-clause-count : goal.first_passes-requires-clause-count
-first_passes-requires-clause-count g c = c.prepared.invariant.8 ∙ ap line_count (ap (λ b. b.subs) c.prepared.view_is ∙ sym c.requires.subs)
+first_passes-requires-clause-count g c = c.prepared.invariant.9 ∙ ap line_count (ap (λ b. b.subs) c.prepared.view_is ∙ sym c.requires.subs)
 
 pub new-requires-2-clause-taken : goal.new-requires-2-clause-taken
 new-requires-2-clause-taken g c =
-    c.prepared.invariant.9 ∙ ap (λ t. replicate (line_count t) 0) (ap (λ b. b.subs) c.prepared.view_is ∙ sym c.requires.subs)
+    c.prepared.invariant.10 ∙ ap (λ t. replicate (line_count t) 0) (ap (λ b. b.subs) c.prepared.view_is ∙ sym c.requires.subs)

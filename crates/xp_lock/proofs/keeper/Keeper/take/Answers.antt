@@ -1,5 +1,6 @@
 use Rattle.std.proofs.Common.{ap, length, refl, subst, sym, ◌∙◌}
 use Rattle.xp_subs.specs.Tables.{line_count}
+use Rattle.xp_core.specs.Records.{records_of}
 use Rattle.xp_lock.specs.Handed.{handed}
 use Rattle.xp_lock.specs.Passes.{GainsEvent, IsLegal, Pass}
 use Rattle.xp_lock.specs.Views.{StartsWith, keeping}
@@ -12,7 +13,7 @@ pub invariant_of-self : goal.invariant_of-self
 invariant_of-self g c =
     let left = queues_left _ _ _ _ c.in_err-done.ensures.err in
     let was = c.self.invariant in
-    (was.0, was.1 ∙ ap (keeping (line_count g.N.Name.subs)) (sym left.history), left.subs ∙ was.2, left.queues_same ∙ was.3, left.given ∙ was.4)
+    (was.0, was.1 ∙ ap (λ all. keeping (line_count g.N.Name.subs) all c.self.inside.history_seat.knows.recorded) (sym left.history), left.subs ∙ was.2, left.queues_same ∙ was.3, left.given ∙ was.4)
 
 pub refresh-requires-clause-before : goal.refresh-requires-clause-before
 refresh-requires-clause-before g c = c.count-before.ensures.count ∙ ap length (c.core.ensures.history ∙ ap (λ v. v.all) (sym c.self.invariant.1))
@@ -29,8 +30,17 @@ pub invariant_of-self-2 : goal.invariant_of-self-2
 invariant_of-self-2 g c =
     let was = c.self.invariant in
     let takes = c.in_ok-done.ensures.ok in
-    let knows = ap (λ n. keeping n c.core-core.result.now.history) (ap (λ v. v.next) was.1) ∙ ap (keeping (line_count g.N.Name.subs)) c.core-core.ensures.history in
-    (ap (λ s. s.history_length) c.refresh.ensures.keeper ∙ was.0, ap (λ s. s.knows) c.refresh.ensures.keeper ∙ knows, takes.subs ∙ was.2, queues_taken _ _ _ _ takes ∙ was.3, takes.handed_over ∙ was.4)
+    let recorded = c.self.inside.history_seat.knows.recorded in
+    let same = ap (λ s. s.knows.recorded) c.refresh.ensures.keeper in
+    let knows = ap (λ n. keeping n c.core-core.result.now.history recorded) (ap (λ v. v.next) was.1)
+    ∙ ap (λ all. keeping (line_count g.N.Name.subs) all recorded) c.core-core.ensures.history
+    ∙ ap (keeping (line_count g.N.Name.subs) c.take.new.self.history) (sym same) in (
+      ap (λ s. s.history_length) c.refresh.ensures.keeper ∙ was.0,
+      ap (λ s. s.knows) c.refresh.ensures.keeper ∙ knows,
+      takes.subs ∙ was.2,
+      queues_taken _ _ _ _ takes ∙ was.3,
+      takes.handed_over ∙ was.4 ∙ ap records_of (sym same),
+    )
 
 pub returns-clause-fresh : goal.returns-clause-fresh
 returns-clause-fresh g c =

@@ -2,4 +2,7 @@ use Rattle.xp_lines.proofs.Served.{each_ended}
 use Rattle.xp_lines.proofs.threads.fn.serve_all.scope.Goals as goal
 
 pub returns : goal.returns
-returns g c = each_ended _ _ _ _ _ c.begin_all-begun.ensures.begin c.end_all.ensures
+returns g c = record {
+  served = each_ended _ _ _ _ _ c.begin_all-begun.ensures.begin c.end_all.ensures;
+  recorded = c.keep_recording-recorded.ensures;
+}

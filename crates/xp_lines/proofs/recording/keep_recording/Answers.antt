@@ -1,0 +1,18 @@
+use Rattle.std.proofs.Common.{◌∙◌}
+use Rattle.xp_lines.proofs.Recorded.{handed_both, nothing_handed}
+use Rattle.xp_lines.proofs.recording.keep_recording.Goals as goal
+
+pub loop-init : goal.loop-init
+loop-init g c = record {
+  lines = c.requires;
+  hands = nothing_handed _ _ c.args.recorder c.args.sink (g.met.S.RecordSink.keeps_itself c.args.sink);
+}
+
+pub loop-preserved : goal.loop-preserved
+loop-preserved g c = record {
+  lines = c.hand_over.ensures.lines ∙ c.loop.invariant.lines;
+  hands = handed_both _ _ g.met.S.RecordSink.keeps_on _ _ _ _ _ _ c.loop.invariant.hands c.hand_over.ensures.hands;
+}
+
+pub returns-then-ended : goal.returns-then-ended
+returns-then-ended g c = handed_both _ _ g.met.S.RecordSink.keeps_on _ _ _ _ _ _ c.loop.invariant.hands c.hand_over.ensures.hands

@@ -1,0 +1,112 @@
+//! Charging records are taken from the exchange as calls end, and handed to a sink.
+
+ghost use Rattle.std.specs.Prelude.{◌≡◌, ◌++◌, All};
+ghost use Rattle.xp_charge.specs.Lines.{HasLines};
+ghost use Rattle.xp_lines.specs.Recorded.{HandsOn};
+ghost use Rattle.xp_subs.specs.Tables.{line_count};
+
+use crate::recording_signal::RecordingSignal;
+use std::sync::Wait;
+use xp_charge::Record;
+use xp_lock::{Exchange, Name, Recorder};
+
+/// The result of handing records to a sink.
+#[derive(Clone, Copy, Debug, PartialEq)]
+pub enum Received {
+    /// Serving goes on.
+    GoesOn,
+    /// The sink can do nothing with further records: serving stops.
+    Stops,
+}
+
+/// Where charging records go as calls end.
+pub trait RecordSink: Drop {
+    ghost use Rattle.std.specs.Prelude.{ℕ, List};
+    ghost use Rattle.xp_charge.specs.declared.record.Record.{Record};
+
+    // All records that the sink was given so far.
+    ghost received: { Self → List Record };
+
+    // How many lines there are. Each record names lines with lower numbers.
+    ghost lines: { Self → ℕ };
+
+    // What stays the same of a sink from one moment to a later one, whatever it is given in between.
+    ghost keeps: { Self → Self → Type 0 };
+
+    /// Takes these records, which follow those that it was given before. The thread that calls it serves no line and does not
+    /// hold the exchange's lock, so it may wait.
+    fn receive(&mut self, records: Vec<Record>) -> Received
+        requires lines { All (HasLines (lines self.old)) records.items }
+        ensures received { received self.new ≡ received self.old ++ records.items }
+        ensures lines { lines self.new ≡ lines self.old }
+        ensures keeps { keeps self.old self.new };
+
+    ghost keeps_itself: { (sink : Self) → keeps sink sink };
+
+    ghost keeps_on: { (first second third : Self) → keeps first second → keeps second third → keeps first third };
+}
+
+/// The recorder of an exchange, and the sink that its records were handed to.
+#[derive(Drop)]
+pub(crate) struct Recorded<N: Name, S: RecordSink> {
+    pub(crate) recorder: Recorder<N>,
+    pub(crate) sink: S,
+}
+
+/// Hands charging records to the sink as calls end, until all lines have ended. Where the sink can do nothing with further
+/// records, the exchange is halted. Records that no memory could be had for at the end stay with the exchange.
+pub(crate) fn keep_recording<N: Name, S: RecordSink, R: Wait>(
+    rt: &R,
+    exchange: &Exchange<N>,
+    recorder: Recorder<N>,
+    sink: S,
+    signal: &RecordingSignal,
+) -> Recorded<N, S>
+    requires { S.lines sink ≡ line_count N.subs }
+    ensures { HandsOn S.received S.keeps recorder sink result.recorder result.sink }
+{
+    let mut recorder = recorder;
+    let mut sink = sink;
+    for _ in rt.forever() {
+        let ended = signal.all_ended();
+        hand_over(rt, exchange, &mut recorder, &mut sink);
+        if ended {
+            return Recorded { recorder, sink };
+        }
+        signal.wait(rt);
+    }
+    unreachable!()
+}
+
+/// Hands the records of the calls that have ended since to the sink. If no memory can be had for them, they wait.
+fn hand_over<N: Name, S: RecordSink, R: Wait>(
+    rt: &R,
+    exchange: &Exchange<N>,
+    recorder: &mut Recorder<N>,
+    sink: &mut S,
+)
+    requires { S.lines sink.old ≡ line_count N.subs }
+    ensures lines { S.lines sink.new ≡ S.lines sink.old }
+    ensures hands { HandsOn S.received S.keeps recorder.old sink.old recorder.new sink.new }
+{
+    let Ok(records) = exchange.take_records(rt, recorder) else {
+        return;
+    };
+    match give(sink, records) {
+        Received::GoesOn => {}
+        Received::Stops => exchange.halt(rt),
+    }
+}
+
+/// Gives records to the sink, if there are any.
+fn give<S: RecordSink>(sink: &mut S, records: Vec<Record>) -> Received
+    requires { All (HasLines (S.lines sink.old)) records.items }
+    ensures received { S.received sink.new ≡ S.received sink.old ++ records.items }
+    ensures lines { S.lines sink.new ≡ S.lines sink.old }
+    ensures keeps { S.keeps sink.old sink.new }
+{
+    if records.is_empty() {
+        return Received::GoesOn;
+    }
+    sink.receive(records)
+}

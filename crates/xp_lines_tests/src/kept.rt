@@ -1,0 +1,68 @@
+//! A sink that keeps charging records as text.
+
+ghost use Rattle.std.specs.Prelude.{◌≡◌, IfOk};
+
+use crate::account::tell_records;
+use crate::board::Board;
+use std::alloc::{AllocError, Global};
+use std::sync::Arc;
+use std::sync::atomic::Ordering;
+use xp_charge::Record;
+use xp_lines::{Received, RecordSink};
+use xp_past::Past;
+use xp_subs::Subs;
+
+/// A sink that keeps the lines of the records that it is given, and counts the records on a board.
+#[derive(Drop)]
+pub struct Kept {
+    /// The lines of the records.
+    pub text: Vec<u8>,
+    /// The subscriptions, from which the lines have their names.
+    pub subs: Subs,
+    board: Arc<Board>,
+    /// The number of records at which serving stops.
+    most: u64,
+    given: Past<Record>,
+}
+
+impl Kept {
+    /// A sink that is full with so many records.
+    pub fn new(alloc: Global, subs: Subs, board: &Arc<Board>, most: u64) -> Result<Kept, AllocError>
+        ensures { IfOk result (λ kept. kept.subs ≡ subs) }
+    {
+        Ok(Kept {
+            text: Vec::new(alloc),
+            subs,
+            board: Arc::try_clone(board)?,
+            most,
+            given: Past::new(),
+        })
+    }
+}
+
+impl RecordSink for Kept {
+    ghost use Rattle.std.specs.Prelude.{⊤};
+    ghost use Rattle.xp_subs.specs.Tables.{line_count};
+
+    ghost received = { λ kept. kept.given.items };
+
+    ghost lines = { λ kept. line_count kept.subs };
+
+    ghost keeps = { λ _ _. ⊤ };
+
+    fn receive(&mut self, records: Vec<Record>) -> Received {
+        // A line that there is no memory for is missing in the text.
+        let _ = tell_records(&records, &self.subs, &mut self.text);
+        self.given.extend(&records);
+        let count = records.len() as u64;
+        let before = self.board.recorded.fetch_add(count, Ordering::SeqCst);
+        if before.saturating_add(count) >= self.most {
+            return Received::Stops;
+        }
+        Received::GoesOn
+    }
+
+    ghost keeps_itself = { λ _. tt };
+
+    ghost keeps_on = { λ _ _ _ _ _. tt };
+}
