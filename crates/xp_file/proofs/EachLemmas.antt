@@ -6,10 +6,10 @@ use Rattle.std.proofs.lemmas.List.{map-append}
 use Rattle.toml.specs.declared.value.Value.{Value}
 use Rattle.std.proofs.lemmas.Bool.{cases_Bool}
 use Rattle.std.proofs.lemmas.List.Elements.{All-nil, All-cons}
-use Rattle.toml.specs.Data.{Data, Members, as_str, as_table, get_member}
+use Rattle.toml.specs.Data.{Data, Members, as_str, get_member}
 use Rattle.toml.specs.View.{view, items_view}
 use Rattle.xp_file.specs.declared.fault.SubscriptionFault.{SubscriptionFault}
-use Rattle.xp_file.specs.Reading.{◌>>=◌, each, examined, tables_among, required, line_name_in, ok_at}
+use Rattle.xp_file.specs.Reading.{◌>>=◌, each, examined, each_item, required, line_name_in, ok_at}
 use Rattle.xp_file.specs.declared.fault.SubscriptionFault.TheVariants as faults
 use Rattle.xp_file.specs.declared.key.Key.TheVariants as keys
 use Rattle.xp_file.specs.Keys.{key_text}
@@ -77,48 +77,49 @@ module _ {A X : Type 0} (read : Members → Result A SubscriptionFault) (shown :
       → examined read (map shown (drop i xs)) ≡ Err fault
   examined_refused fault within here read_here = ap (λ l. examined read (map shown l)) (rest_at xs i x within here) ∙ rw read_here
 
--- one more table of an array
-push_table : (t : Option Members) (ts more : Option (List Members)) (tables : List Members) (table : Members)
-    → option_and_then (λ first. option_map (λ l. first ∷ l) ts) t ≡ Some tables
-    → ((l : List Members) → ts ≡ Some l → more ≡ Some (l ++ table ∷ []))
-    → option_and_then (λ first. option_map (λ l. first ∷ l) more) t ≡ Some (tables ++ table ∷ [])
-push_table None ts more tables table before next = let never : None ≡ Some tables = before in cc
-push_table (Some first) None more tables table before next = let never : None ≡ Some tables = before in cc
-push_table (Some first) (Some l) more tables table before next =
-    let all : Some (first ∷ l) ≡ Some tables = before in
-    let same_list : first ∷ l ≡ tables = cc in
+-- one more value of an array
+push_value : {A : Type 0} (t : Option A) (ts more : Option (List A)) (xs : List A) (x : A)
+    → option_and_then (λ first. option_map (λ l. first ∷ l) ts) t ≡ Some xs
+    → ((l : List A) → ts ≡ Some l → more ≡ Some (l ++ x ∷ []))
+    → option_and_then (λ first. option_map (λ l. first ∷ l) more) t ≡ Some (xs ++ x ∷ [])
+push_value None ts more xs x before next = let never : None ≡ Some xs = before in cc
+push_value (Some first) None more xs x before next = let never : None ≡ Some xs = before in cc
+push_value (Some first) (Some l) more xs x before next =
+    let all : Some (first ∷ l) ≡ Some xs = before in
+    let same_list : first ∷ l ≡ xs = cc in
     rw (next l refl, ← same_list)
 
-no_table : (t : Option Members) (more : Option (List Members)) → more ≡ None → option_and_then (λ first. option_map (λ l. first ∷ l) more) t ≡ None
-no_table None more none = refl
-no_table (Some first) more none = rw none
+no_value : {A : Type 0} (t : Option A) (more : Option (List A)) → more ≡ None → option_and_then (λ first. option_map (λ l. first ∷ l) more) t ≡ None
+no_value None more none = refl
+no_value (Some first) more none = rw none
 
-tables_among-push : (values : List Value) (value : Value) (tables : List Members) (table : Members)
-    → tables_among (items_view values) ≡ Some tables → as_table (view value) ≡ Some table
-    → tables_among (items_view (values ++ value ∷ [])) ≡ Some (tables ++ table ∷ [])
-tables_among-push [] value tables table before here = let none : [] ≡ tables = cc in rw (here, ← none)
-tables_among-push (first ∷ values) value tables table before here =
-    push_table (as_table (view first)) (tables_among (items_view values)) (tables_among (items_view (values ++ value ∷ []))) tables table before
-    (λ l these. tables_among-push values value l table these here)
+module _ {A : Type 0} (read : Data → Option A) where
+  each_item-push : (values : List Value) (value : Value) (xs : List A) (x : A)
+      → each_item read (items_view values) ≡ Some xs → read (view value) ≡ Some x
+      → each_item read (items_view (values ++ value ∷ [])) ≡ Some (xs ++ x ∷ [])
+  each_item-push [] value xs x before here = let none : [] ≡ xs = cc in rw (here, ← none)
+  each_item-push (first ∷ values) value xs x before here =
+      push_value (read (view first)) (each_item read (items_view values)) (each_item read (items_view (values ++ value ∷ []))) xs x before
+      (λ l these. each_item-push values value l x these here)
 
-tables_among-refused : (values : List Value) (value : Value) (more : List Value)
-    → as_table (view value) ≡ None → tables_among (items_view (values ++ value ∷ more)) ≡ None
-tables_among-refused [] value more here = rw here
-tables_among-refused (first ∷ values) value more here =
-    no_table (as_table (view first)) _ (tables_among-refused values value more here)
+  each_item-refused : (values : List Value) (value : Value) (more : List Value)
+      → read (view value) ≡ None → each_item read (items_view (values ++ value ∷ more)) ≡ None
+  each_item-refused [] value more here = rw here
+  each_item-refused (first ∷ values) value more here =
+      no_value (read (view first)) _ (each_item-refused values value more here)
 
-module _ (values : List Value) (i : ℕ) (value : Value) where
-  pub tables_more : (tables : List Members) (table : Members) → i < length values → value ≡ get_or values i value
-      → tables_among (items_view (take i values)) ≡ Some tables → as_table (view value) ≡ Some table
-      → tables_among (items_view (take (i + 1) values)) ≡ Some (tables ++ table ∷ [])
-  tables_more tables table within here before shown =
-      ap (λ l. tables_among (items_view l)) (front_more values i value within here)
-      ∙ tables_among-push (take i values) value tables table before shown
+  module _ (values : List Value) (i : ℕ) (value : Value) where
+    pub items_more : (xs : List A) (x : A) → i < length values → value ≡ get_or values i value
+        → each_item read (items_view (take i values)) ≡ Some xs → read (view value) ≡ Some x
+        → each_item read (items_view (take (i + 1) values)) ≡ Some (xs ++ x ∷ [])
+    items_more xs x within here before shown =
+        ap (λ l. each_item read (items_view l)) (front_more values i value within here)
+        ∙ each_item-push (take i values) value xs x before shown
 
-  pub tables_refused : i < length values → value ≡ get_or values i value → as_table (view value) ≡ None → tables_among (items_view values) ≡ None
-  tables_refused within here shown =
-      ap (λ l. tables_among (items_view l)) (cut values i value within here)
-      ∙ tables_among-refused (take i values) value (drop (i + 1) values) shown
+    pub items_refused : i < length values → value ≡ get_or values i value → read (view value) ≡ None → each_item read (items_view values) ≡ None
+    items_refused within here shown =
+        ap (λ l. each_item read (items_view l)) (cut values i value within here)
+        ∙ each_item-refused (take i values) value (drop (i + 1) values) shown
 
 -- a test of each table, as it is shown
 pub list_all_shown : {X Y : Type 0} (p : Y → Bool) (shown : X → Y) (xs : List X) → list_all p (map shown xs) ≡ list_all (λ x. p (shown x)) xs
@@ -153,7 +154,7 @@ All-each P read holds [] xs all = let none : [] ≡ xs = cc in subst (All P) non
 All-each P read holds (table ∷ tables) xs all =
     all_step P (read table) (each read tables) xs all (holds table) (λ ys these. All-each P read holds tables ys these)
 
-form_of : (form : List ℕ → Bool) (text : Option (List ℕ)) (x : List ℕ) → option_and_then (λ t. cond (form t) (Some t) None) text ≡ Some x → form x ≡ true
+pub form_of : (form : List ℕ → Bool) (text : Option (List ℕ)) (x : List ℕ) → option_and_then (λ t. cond (form t) (Some t) None) text ≡ Some x → form x ≡ true
 form_of form None x e = let never : None ≡ Some x = e in absurd (none_is_some never)
 form_of form (Some text) x e =
     elim (cases_Bool (form text)) [

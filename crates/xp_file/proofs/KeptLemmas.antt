@@ -1,5 +1,5 @@
 -- What holds of all lines and groups that are read of a file.
-use Rattle.std.proofs.Common.{◌≡◌, ℕ, ◌<◌, List, Bool, Option, Result, Ok, Err, All, length, map, ap, arith}
+use Rattle.std.proofs.Common.{◌≡◌, ℕ, ◌<◌, List, [], Bool, Option, Result, Ok, Err, All, length, map, ap, arith}
 use Rattle.std.proofs.lemmas.List.{length-map}
 use Rattle.toml.specs.Data.{Members}
 use Rattle.xp_file.specs.declared.entry.LineEntry.{LineEntry}
@@ -8,31 +8,37 @@ use Rattle.xp_file.specs.declared.fault.SubscriptionFault.{SubscriptionFault}
 use Rattle.xp_file.specs.declared.key.Key.TheVariants as keys
 use Rattle.xp_file.specs.Entries.{IsLineEntry, IsGroupEntry}
 use Rattle.xp_file.specs.SubscriptionFile.{line_of, group_of, lines_of, groups_of}
-use Rattle.xp_file.specs.Reading.{◌>>=◌, line_name_in, group_name_in, number_in, address_in, modulus_in, required, optional, defaulted, flag, each, examined}
+use Rattle.xp_file.specs.Reading.{◌>>=◌, line_name_in, group_name_in, number_in, address_in, modulus_in, sources_in, required, optional, defaulted, flag, each, examined}
 use Rattle.xp_packets.specs.declared.modulus.Modulus.{Modulus}
 use Rattle.xp_packets.specs.declared.modulus.Modulus.TheVariants.{Eight}
 use Rattle.xp_file.proofs.Choices.{err_is_ok}
 use Rattle.xp_file.proofs.EachLemmas.{All-each, length-each, line_name_form}
 use Rattle.xp_file.proofs.Ranges.{required_range}
+use Rattle.xp_file.proofs.SourceLemmas.{sources_form}
 
-line_parts : (name : Result (List ℕ) SubscriptionFault) (port : Result ℕ SubscriptionFault) (address : Result (Option (List ℕ)) SubscriptionFault) (modulus : Result Modulus SubscriptionFault) (line : LineEntry)
-    → (name >>= λ n. port >>= λ p. address >>= λ a. modulus >>= λ m. Ok (record { name = n; port = p; address = a; modulus = m })) ≡ Ok line
-    → (name ≡ Ok line.name) × (port ≡ Ok line.port)
-line_parts (Ok n) (Ok p) (Ok a) (Ok m) line e =
-    let is : record { name = n; port = p; address = a; modulus = m } ≡ line = cc in
-    (ap (λ (l : LineEntry). let r : Result (List ℕ) SubscriptionFault = Ok l.name in r) is, ap (λ (l : LineEntry). let r : Result ℕ SubscriptionFault = Ok l.port in r) is)
-line_parts (Ok n) (Ok p) (Ok a) (Err fault) line e = absurd (err_is_ok e)
-line_parts (Ok n) (Ok p) (Err fault) modulus line e = absurd (err_is_ok e)
-line_parts (Ok n) (Err fault) address modulus line e = absurd (err_is_ok e)
-line_parts (Err fault) port address modulus line e = absurd (err_is_ok e)
+line_parts : (name : Result (List ℕ) SubscriptionFault) (port : Result ℕ SubscriptionFault) (address : Result (Option (List ℕ)) SubscriptionFault)
+    (modulus : Result Modulus SubscriptionFault) (from : Result (List (List ℕ)) SubscriptionFault) (line : LineEntry)
+    → (name >>= λ n. port >>= λ p. address >>= λ a. modulus >>= λ m. from >>= λ f. Ok (record { name = n; port = p; address = a; modulus = m; from = f })) ≡ Ok line
+    → (name ≡ Ok line.name) × (port ≡ Ok line.port) × (from ≡ Ok line.from)
+line_parts (Ok n) (Ok p) (Ok a) (Ok m) (Ok f) line e =
+    let is : record { name = n; port = p; address = a; modulus = m; from = f } ≡ line = cc in (
+      ap (λ (l : LineEntry). let r : Result (List ℕ) SubscriptionFault = Ok l.name in r) is,
+      ap (λ (l : LineEntry). let r : Result ℕ SubscriptionFault = Ok l.port in r) is,
+      ap (λ (l : LineEntry). let r : Result (List (List ℕ)) SubscriptionFault = Ok l.from in r) is,
+    )
+line_parts (Ok n) (Ok p) (Ok a) (Ok m) (Err fault) line e = absurd (err_is_ok e)
+line_parts (Ok n) (Ok p) (Ok a) (Err fault) from line e = absurd (err_is_ok e)
+line_parts (Ok n) (Ok p) (Err fault) modulus from line e = absurd (err_is_ok e)
+line_parts (Ok n) (Err fault) address modulus from line e = absurd (err_is_ok e)
+line_parts (Err fault) port address modulus from line e = absurd (err_is_ok e)
 
 line_kept : (table : Members) (line : LineEntry) → line_of table ≡ Ok line → IsLineEntry line
 unfolding line_of
 line_kept table line e =
-    let (named, ported) = line_parts (required line_name_in keys.Name table) (required (number_in 1 65535) keys.Port table)
-    (optional address_in keys.Address table) (defaulted modulus_in Eight keys.Modulus table) line e in
+    let (named, ported, sourced) = line_parts (required line_name_in keys.Name table) (required (number_in 1 65535) keys.Port table)
+    (optional address_in keys.Address table) (defaulted modulus_in Eight keys.Modulus table) (defaulted sources_in [] keys.From table) line e in
     let range = required_range 1 65535 keys.Port table line.port ported in
-    record { spelled = line_name_form table line.name named; least_port = range.0; most_port = range.1 }
+    record { spelled = line_name_form table line.name named; least_port = range.0; most_port = range.1; sources = sources_form table line.from sourced }
 
 group_parts : (name : Result (List ℕ) SubscriptionFault) (index : Result ℕ SubscriptionFault) (outgoing incoming : Result Bool SubscriptionFault) (group : GroupEntry)
     → (name >>= λ n. index >>= λ i. outgoing >>= λ o. incoming >>= λ p. Ok (record { name = n; index = i; outgoing_barred = o; incoming_barred = p })) ≡ Ok group
@@ -62,9 +68,10 @@ unfolding lines_of
 lines_kept tables lines e =
     let ports = examined (required (number_in 1 65535) keys.Port) tables in
     let addresses = examined (optional address_in keys.Address) tables in
-    let addressed = after ports (addresses >>= λ a. each line_of tables) lines
+    let moduli = examined (defaulted modulus_in Eight keys.Modulus) tables in
+    let addressed = after ports (addresses >>= λ a. moduli >>= λ m. each line_of tables) lines
     (after (examined (required line_name_in keys.Name) tables) _ lines e) in
-    let read = after addresses (each line_of tables) lines addressed in
+    let read = after moduli (each line_of tables) lines (after addresses (moduli >>= λ m. each line_of tables) lines addressed) in
     (length-each line_of tables lines read, All-each IsLineEntry line_of line_kept tables lines read)
 
 pub groups_kept : (tables : List Members) (groups : List GroupEntry) → groups_of tables ≡ Ok groups → All IsGroupEntry groups

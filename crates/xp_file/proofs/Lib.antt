@@ -2,4 +2,5 @@ pub mod Choices
 pub mod Lists
 pub mod Ranges
 pub mod EachLemmas
+pub mod SourceLemmas
 pub mod KeptLemmas

@@ -5,6 +5,7 @@ use Rattle.xp_file.specs.declared.entry.GroupEntry.{GroupEntry}
 use Rattle.xp_file.specs.declared.entry.LineEntry.{LineEntry}
 use Rattle.xp_file.specs.declared.entry.Redirection.{Redirection}
 use Rattle.xp_file.specs.Name.{is_line_name}
+use Rattle.xp_file.specs.Sources.{AreSources}
 
 -- a station
 pub record StationData : Type 0 where
@@ -15,11 +16,12 @@ pub record StationData : Type 0 where
   pub groups : List GroupEntry
   pub redirect : Option Redirection
 
--- the line has a valid name and a valid port
+-- the line has a valid name, a valid port, and at most 8 valid sources
 pub record IsLineEntry (line : LineEntry) : Type 0 where
   pub spelled : IsTrue (is_line_name line.name)
   pub least_port : 1 ≤ line.port
   pub most_port : line.port ≤ 65_535
+  pub sources : AreSources line.from
 
 -- the index has at most four digits
 abbrev pub IsGroupEntry : GroupEntry → Type 0

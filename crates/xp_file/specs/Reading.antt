@@ -1,5 +1,5 @@
 -- How the values of the keys are read from the tables of a TOML document.
-use Rattle.std.specs.Prelude.{ℕ, ℤ, pos, List, [], ◌∷◌, Bool, true, false, ◌&&◌, Option, None, Some, Result, Ok, Err, option_and_then, option_map, map, nat_le, nat_eq, if◌then◌else◌}
+use Rattle.std.specs.Prelude.{ℕ, ℤ, pos, List, [], ◌∷◌, Bool, true, false, ◌&&◌, Option, None, Some, Result, Ok, Err, option_and_then, option_map, map, length, nat_le, nat_eq, if◌then◌else◌}
 use Rattle.std.specs.List.{list_any}
 use Rattle.toml.specs.Data.{Data, Items, no_items, item, Members, no_members, member, get_member, as_str, as_integer, as_bool, as_array, as_table}
 use Rattle.xp_file.specs.declared.fault.SubscriptionFault.{SubscriptionFault}
@@ -9,6 +9,7 @@ use Rattle.xp_file.specs.Address.{is_address, digit_of}
 use Rattle.xp_file.specs.Keys.{key_text}
 use Rattle.xp_file.specs.Name.{is_line_name, is_group_name}
 use Rattle.xp_file.specs.Name.{same}
+use Rattle.xp_file.specs.Sources.{is_source, are_few}
 use Rattle.xp_packets.specs.declared.modulus.Modulus.{Modulus}
 use Rattle.xp_packets.specs.declared.modulus.Modulus.TheVariants.{Eight, Long}
 
@@ -46,10 +47,14 @@ group_name_in = text_of is_group_name
 abbrev pub address_in : Data → Option (List ℕ)
 address_in value = option_map (map digit_of) (text_of is_address value)
 
+-- what is read of each value of an array; none if one of them cannot be read
+abbrev pub each_item : {A : Type 0} → (Data → Option A) → Items → Option (List A)
+each_item read no_items = Some []
+each_item read (item value more) = option_and_then (λ x. option_map (λ xs. x ∷ xs) (each_item read more)) (read value)
+
 -- the values as tables; none if one of them is not a table
 abbrev pub tables_among : Items → Option (List Members)
-tables_among no_items = Some []
-tables_among (item value more) = option_and_then (λ table. option_map (λ tables. table ∷ tables) (tables_among more)) (as_table value)
+tables_among = each_item as_table
 
 abbrev pub tables_in : Data → Option (List Members)
 tables_in value = option_and_then tables_among (as_array value)
@@ -60,6 +65,22 @@ some_tables_in value = option_and_then some (tables_in value) where
   some : List Members → Option (List Members)
   some [] = None
   some (table ∷ tables) = Some (table ∷ tables)
+
+abbrev pub source_in : Data → Option (List ℕ)
+source_in = text_of is_source
+
+-- 1 to 8 texts, each of the form of an address
+abbrev pub sources_among : Items → Option (List (List ℕ))
+sources_among values = option_and_then few (each_item source_in values) where
+  few : List (List ℕ) → Option (List (List ℕ))
+  few texts = if are_few (length texts) then Some texts else None
+
+-- an array of such texts, or one alone
+abbrev pub sources_in : Data → Option (List (List ℕ))
+sources_in value = sources_among (values (as_array value)) where
+  values : Option Items → Items
+  values None = item value no_items
+  values (Some more) = more
 
 -- the value, or the fault of its key
 abbrev pub ok_at : {A : Type 0} → Key → Option A → Result A SubscriptionFault

@@ -13,7 +13,7 @@ use Rattle.xp_file.specs.declared.key.Key.TheVariants as keys
 use Rattle.xp_file.specs.declared.entry.Redirection.{Redirection}
 use Rattle.xp_file.specs.Entries.{StationData, no_journal_limit}
 use Rattle.xp_packets.specs.declared.modulus.Modulus.TheVariants.{Eight}
-use Rattle.xp_file.specs.Reading.{◌>>=◌, number_in, line_name_in, group_name_in, address_in, modulus_in, tables_in, some_tables_in, required, defaulted, optional, flag, each, examined, has_only, checked}
+use Rattle.xp_file.specs.Reading.{◌>>=◌, number_in, line_name_in, group_name_in, address_in, modulus_in, sources_in, tables_in, some_tables_in, required, defaulted, optional, flag, each, examined, has_only, checked}
 
 -- the keys that each table may have
 abbrev pub top_keys : List Key
@@ -25,7 +25,7 @@ station_keys =
     keys.OutgoingAccess ∷ keys.IncomingAccess ∷ keys.Preferential ∷ keys.Group ∷ keys.Redirect ∷ []
 
 abbrev pub line_keys : List Key
-line_keys = keys.Name ∷ keys.Port ∷ keys.Address ∷ keys.Modulus ∷ []
+line_keys = keys.Name ∷ keys.Port ∷ keys.Address ∷ keys.Modulus ∷ keys.From ∷ []
 
 abbrev pub group_keys : List Key
 group_keys = keys.Name ∷ keys.Index ∷ keys.OutgoingBarred ∷ keys.IncomingBarred ∷ []
@@ -57,7 +57,8 @@ line_of table = do
   port ← required (number_in 1 65535) keys.Port table
   address ← optional address_in keys.Address table
   modulus ← defaulted modulus_in Eight keys.Modulus table
-  Ok (record { name = name; port = port; address = address; modulus = modulus })
+  from ← defaulted sources_in [] keys.From table
+  Ok (record { name = name; port = port; address = address; modulus = modulus; from = from })
 
 unfoldable pub group_of : Members → Result GroupEntry SubscriptionFault
 group_of table = do
@@ -74,6 +75,7 @@ lines_of tables = do
   names ← examined (required line_name_in keys.Name) tables
   ports ← examined (required (number_in 1 65535) keys.Port) tables
   addresses ← examined (optional address_in keys.Address) tables
+  moduli ← examined (defaulted modulus_in Eight keys.Modulus) tables
   each line_of tables
 
 -- all groups

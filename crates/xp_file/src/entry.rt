@@ -2,6 +2,7 @@
 ghost use Rattle.std.specs.Prelude.{◌≡◌};
 
 use crate::name::Name;
+use crate::sources::Sources;
 use std::marker::Model;
 use xp_packets::{Digits, Modulus};
 
@@ -59,6 +60,8 @@ pub struct LineEntry {
     pub address: Option<Digits>,
     /// The modulus of its packet numbers (X.25 clause 4.4.1.1).
     pub modulus: Modulus,
+    /// The addresses from which its connections may come, 1 to 8; none where any address may.
+    pub from: Sources,
 }
 
 /// A station's membership of a closed user group.

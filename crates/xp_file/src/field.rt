@@ -3,16 +3,19 @@ ghost use Rattle.std.specs.Prelude.{◌≡◌, ◌≤◌, Ok, Err, IfOk, IfErr, 
 ghost use Rattle.std.specs.Fn.{FnReturnsAt};
 ghost use Rattle.std.specs.List.{list_any};
 ghost use Rattle.toml.specs.Data.{get_member, as_str, as_table};
-ghost use Rattle.toml.specs.View.{view, table_view};
+ghost use Rattle.toml.specs.View.{view, items_view, table_view};
 ghost use Rattle.xp_file.specs.Keys.{key_text};
-ghost use Rattle.xp_file.specs.Reading.{number_in, line_name_in, group_name_in, address_in, modulus_in, required, optional, defaulted, flag, has_only};
+ghost use Rattle.xp_file.specs.Reading.{number_in, line_name_in, group_name_in, address_in, modulus_in, sources_among, sources_in, required, optional, defaulted, flag, has_only};
 ghost use Rattle.xp_file.specs.steps.Reading.{Reads};
 ghost use Rattle.xp_file.specs.Name.{same};
+ghost use Rattle.xp_file.specs.Sources.{are_few};
 
 use crate::digits::read_digits;
 use crate::fault::SubscriptionFault;
 use crate::key::Key;
 use crate::name::Name;
+use crate::sources::Sources;
+use std::slice;
 use toml::{Table, Value};
 use xp_packets::{Digits, Modulus};
 
@@ -146,6 +149,35 @@ pub(crate) fn modulus(value: &Value) -> Option<Modulus>
         128 => Some(Modulus::Long),
         _ => None,
     }
+}
+
+/// The addresses from which the connections of a line may come: an array of texts, or one text alone.
+pub(crate) fn sources(value: &Value) -> Option<Sources>
+    ensures { result ≡ sources_in (view value.now) }
+{
+    match value.as_array() {
+        Some(values) => sources_among(values),
+        None => sources_among(slice::from_ref(value)),
+    }
+}
+
+fn sources_among(values: &[Value]) -> Option<Sources>
+    ensures { result ≡ sources_among (items_view values.now) }
+{
+    if !are_few(values.len()) {
+        return None;
+    }
+    let mut sources = Sources::new();
+    for value in values {
+        sources.push(value.as_str()?)?;
+    }
+    Some(sources)
+}
+
+fn are_few(count: usize) -> bool
+    ensures { result ≡ are_few count }
+{
+    matches!(count, 1..=Sources::MOST)
 }
 
 /// A line's name.

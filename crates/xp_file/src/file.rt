@@ -1,5 +1,5 @@
 //! The first pass over the subscription file. It reads the value of every key.
-ghost use Rattle.std.specs.Prelude.{◌≡◌, ◌≢◌, ◌<◌, length, All, Ok, Err, None, Some, IfOk, IfErr, option_map, map, codes, string_bytes};
+ghost use Rattle.std.specs.Prelude.{◌≡◌, ◌≢◌, ◌<◌, [], length, All, Ok, Err, None, Some, IfOk, IfErr, option_map, map, codes, string_bytes};
 ghost use Rattle.std.specs.List.{list_all};
 ghost use Rattle.toml.specs.Data.{as_str};
 ghost use Rattle.toml.specs.View.{table_view};
@@ -8,16 +8,17 @@ ghost use Rattle.xp_file.specs.declared.key.Key.TheVariants as keys;
 ghost use Rattle.xp_packets.specs.declared.modulus.Modulus.TheVariants.{Eight};
 ghost use Rattle.xp_file.specs.Entries.{AreLimits, IsStationEntry, no_journal_limit};
 ghost use Rattle.xp_file.specs.SubscriptionFile.{facilities_of, line_of, lines_of, group_of, groups_of, redirection_of, are_listed, entry_of, file_of, file_in};
-ghost use Rattle.xp_file.specs.Reading.{each, has_only, required, optional, defaulted, number_in, address_in, modulus_in, line_name_in, group_name_in};
+ghost use Rattle.xp_file.specs.Reading.{each, has_only, required, optional, defaulted, number_in, address_in, modulus_in, sources_in, line_name_in, group_name_in};
 
 use crate::entry::{Facilities, GroupEntry, LineEntry, Redirection, StationEntry};
 use crate::fault::SubscriptionFault;
 use crate::field::{
     address, defaulted, flag, group_name, has_only, line_name, modulus, number, optional,
-    optional_table, required, short, value_at,
+    optional_table, required, short, sources, value_at,
 };
 use crate::key::Key;
 use crate::name::Name;
+use crate::sources::Sources;
 use crate::tables::{each, examine, some_tables_at, tables_at};
 use std::alloc::Global;
 use std::marker::Model;
@@ -87,7 +88,7 @@ const STATION_KEYS: [Key; 11] = [
     Key::Redirect,
 ];
 
-const LINE_KEYS: [Key; 4] = [Key::Name, Key::Port, Key::Address, Key::Modulus];
+const LINE_KEYS: [Key; 5] = [Key::Name, Key::Port, Key::Address, Key::Modulus, Key::From];
 
 const GROUP_KEYS: [Key; 4] = [
     Key::Name,
@@ -154,6 +155,12 @@ fn modulus_of(table: &Table) -> Result<Modulus, SubscriptionFault>
     defaulted(table, Key::Modulus, Modulus::Eight, modulus)
 }
 
+fn sources_of(table: &Table) -> Result<Sources, SubscriptionFault>
+    ensures { result ≡ defaulted sources_in [] keys.From (table_view table.now) }
+{
+    defaulted(table, Key::From, Sources::new(), sources)
+}
+
 #[tactic(auto, unfolding(crate::specs::SubscriptionFile::line_of))]
 fn line(table: &Table) -> Result<LineEntry, SubscriptionFault>
     ensures { result ≡ line_of (table_view table.now) }
@@ -163,6 +170,7 @@ fn line(table: &Table) -> Result<LineEntry, SubscriptionFault>
         port: port_of(table)?,
         address: own_address_of(table)?,
         modulus: modulus_of(table)?,
+        from: sources_of(table)?,
     })
 }
 
@@ -174,6 +182,7 @@ fn lines(alloc: Global, tables: &[&Table]) -> Result<Vec<LineEntry>, Subscriptio
     examine(tables, line_name_of)?;
     examine(tables, port_of)?;
     examine(tables, own_address_of)?;
+    examine(tables, modulus_of)?;
     each(alloc, tables, line)
 }
 

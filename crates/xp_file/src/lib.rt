@@ -8,6 +8,7 @@ mod field;
 mod file;
 mod key;
 mod name;
+mod sources;
 mod tables;
 
 pub use entry::{Facilities, GroupEntry, LineEntry, Redirection, StationEntry};
@@ -15,3 +16,4 @@ pub use fault::SubscriptionFault;
 pub use file::SubscriptionFile;
 pub use key::Key;
 pub use name::Name;
+pub use sources::Sources;

@@ -1,5 +1,6 @@
 //! What is told of subscription files.
 
+use crate::sources::SOURCES;
 use crate::texts::{LINES, STATION, TOP, WHOLE};
 use std::alloc::{AllocError, Global};
 use std::process::Abort;
@@ -8,6 +9,10 @@ use xp_subs::Subs;
 
 /// A station with all that it may not lack.
 const STATION_1: &str = "[[station]]\naddress = '1'\nline = [{ name = 'a', port = 1 }]\n";
+
+/// A station with one line, as far as the value of the line's key `from`.
+const LINE_FROM: &str =
+    "[[station]]\naddress = '1'\n[[station.line]]\nname = 'a'\nport = 1\nfrom = ";
 
 /// What is told of a file.
 fn told(alloc: Global, file: &str) -> Result<String, AllocError> {
@@ -44,6 +49,7 @@ fn subscription_files(rt: HostRuntime) -> Result<(), Fail> {
         &LINES,
         "",
     )?;
+    are_told(&rt, alloc, LINE_FROM, &SOURCES, "")?;
     are_told(&rt, alloc, "", &WHOLE, "")?;
     Ok(())
 }

@@ -4,4 +4,6 @@
 #[cfg(test)]
 mod files;
 #[cfg(test)]
+mod sources;
+#[cfg(test)]
 mod texts;

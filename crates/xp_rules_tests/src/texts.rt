@@ -1,7 +1,7 @@
 //! Texts of subscription files, and what is told of them: `ok`, or the first refusal.
 
 /// What stands before a station.
-pub const TOP: [(&str, &str); 23] = [
+pub const TOP: [(&str, &str); 24] = [
     ("journal", "toml"),
     ("journal = 8\njournal = 8", "toml"),
     ("journal = 99999999999999999999", "toml"),
@@ -19,6 +19,7 @@ pub const TOP: [(&str, &str); 23] = [
     ("host = 'exchange.example'", "ok"),
     ("hosts = '127.0.0.1'", "field other"),
     ("modulus = 8", "field other"),
+    ("from = '10.1.2.3'", "field other"),
     ("journal = 3", "field journal"),
     ("journal = 4", "ok"),
     ("journal = 10000000", "ok"),
@@ -28,7 +29,7 @@ pub const TOP: [(&str, &str); 23] = [
 ];
 
 /// What stands behind the address and the line of a station, in its table and behind it.
-pub const STATION: [(&str, &str); 83] = [
+pub const STATION: [(&str, &str); 84] = [
     ("outgoing_barred = 1", "field outgoing_barred"),
     ("incoming_barred = 'true'", "field incoming_barred"),
     ("reverse_charging = 0", "field reverse_charging"),
@@ -38,6 +39,7 @@ pub const STATION: [(&str, &str); 83] = [
     ("incoming_access = false", "ok"),
     ("fast_selects = true", "field other"),
     ("modulus = 8", "field other"),
+    ("from = '10.1.2.3'", "field other"),
     ("preferential = 10000", "field preferential"),
     ("preferential = -1", "field preferential"),
     ("preferential = '1'", "field preferential"),
@@ -238,7 +240,7 @@ pub const STATION: [(&str, &str); 83] = [
 ];
 
 /// The lines of a station.
-pub const LINES: [(&str, &str); 51] = [
+pub const LINES: [(&str, &str); 55] = [
     ("[]", "field line"),
     ("1", "field line"),
     ("[1]", "field line"),
@@ -330,6 +332,22 @@ pub const LINES: [(&str, &str); 51] = [
         "field modulus",
     ),
     (
+        "[{ name = 'a', port = 1, from = 1 }, { name = 'b', port = 2, modulus = 7 }]",
+        "field modulus",
+    ),
+    (
+        "[{ from = 1, modulus = 7, name = 'a', port = 1 }]",
+        "field modulus",
+    ),
+    (
+        "[{ name = 'a', port = 1, other = 1 }, { name = 'b', port = 2, from = [] }]",
+        "field from",
+    ),
+    (
+        "[{ name = 'a', port = 1 }, { name = 'a', port = 2, from = [] }]",
+        "field from",
+    ),
+    (
         "[{ name = 'a', port = 1 }, { name = 'a', port = 2 }]",
         "twice name",
     ),
@@ -353,7 +371,7 @@ pub const LINES: [(&str, &str); 51] = [
 ];
 
 /// Whole files.
-pub const WHOLE: [(&str, &str); 32] = [
+pub const WHOLE: [(&str, &str); 33] = [
     ("", "field station"),
     ("journal = 8", "field station"),
     ("station = []", "field station"),
@@ -409,6 +427,10 @@ pub const WHOLE: [(&str, &str); 32] = [
     (
         "[[station]]\naddress = '1'\nline = [{ name = 'a', port = 1, modulus = 7 }]\ngroup = [{}]",
         "field modulus",
+    ),
+    (
+        "[[station]]\naddress = '1'\nline = [{ name = 'a', port = 1, from = 1 }]\ngroup = [{}]",
+        "field from",
     ),
     ("journal = 3\nsegment_limit = 0", "field segment_limit"),
     ("host = 1\njournal = 3", "field journal"),

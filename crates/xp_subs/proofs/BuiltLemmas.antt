@@ -12,6 +12,7 @@ use Rattle.xp_file.specs.declared.entry.GroupEntry.{GroupEntry}
 use Rattle.xp_file.specs.declared.entry.LineEntry.{LineEntry}
 use Rattle.xp_file.specs.Entries.{AreLimits, StationData, IsLineEntry, IsGroupEntry}
 use Rattle.xp_file.specs.Name.{same, is_line_name}
+use Rattle.xp_file.specs.Sources.{AreSources}
 use Rattle.xp_subs.specs.declared.line.Line.{Line}
 use Rattle.xp_subs.specs.declared.station.Membership.{Membership}
 use Rattle.xp_subs.specs.declared.station.Station.{Station}
@@ -46,7 +47,7 @@ numbers-at first (suc count) (suc i) d within = numbers-at (first + 1) count i d
 
 -- a line that a file may have
 abbrev pub IsLine : Line → Type 0
-IsLine line = IsTrue (is_line_name line.name) × IsPort line.port
+IsLine line = IsTrue (is_line_name line.name) × IsPort line.port × AreSources line.from
 
 -- the lines of one station
 own_of : Line → Own
@@ -192,7 +193,7 @@ all_lines number (entry ∷ entries) each =
     made [] all = All-nil IsLine
     made (line ∷ lines) all =
         let here = All-head IsLineEntry line lines all in
-        All-cons IsLine (line_from number line) (lines_of number lines) (here.spelled, (here.least_port, here.most_port))
+        All-cons IsLine (line_from number line) (lines_of number lines) (here.spelled, (here.least_port, here.most_port), here.sources)
         (made lines (All-tail IsLineEntry line lines all))
 
 -- what holds of each station of a file holds of each that is built
@@ -415,6 +416,7 @@ module _ (file : FileData) (used : Used) (fit : AreWithinLimits file.stations) (
     ports_once = line_ports_once 0 file.stations (all_once file.stations used once);
     limits = limits;
     spelled = λ line within. (built_line line within).0;
+    sources = λ line within. (built_line line within).2;
   }
 
 -- what a `Subs` of such a file keeps

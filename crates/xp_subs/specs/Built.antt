@@ -1,5 +1,5 @@
 -- The tables that are built from a subscription file.
-use Rattle.std.specs.Prelude.{◌≡◌, ◌⊎◌, ℕ, ◌<◌, All, true, false, zero, suc, ◌+◌, List, [], ◌∷◌, ◌++◌, Result, Ok, Err, None, Some, fold, length, map, if◌then◌else◌}
+use Rattle.std.specs.Prelude.{◌≡◌, ◌⊎◌, ℕ, true, false, zero, suc, ◌+◌, List, [], ◌∷◌, ◌++◌, Result, Ok, Err, None, Some, fold, length, map, if◌then◌else◌}
 use Rattle.std.specs.List.{list_any, list_all, position_or_len}
 use Rattle.xp_file.specs.declared.entry.GroupEntry.{GroupEntry}
 use Rattle.xp_file.specs.declared.entry.LineEntry.{LineEntry}
@@ -22,7 +22,8 @@ numbers first (suc count) = first ∷ numbers (first + 1) count
 
 -- a line of the station with this number
 abbrev pub line_from : ℕ → LineEntry → Line
-line_from station line = record { name = line.name; port = line.port; address = line.address; modulus = line.modulus; station = station }
+line_from station line =
+    record { name = line.name; port = line.port; address = line.address; modulus = line.modulus; station = station; from = line.from }
 
 abbrev pub lines_of : ℕ → List LineEntry → List Line
 lines_of station lines = map (line_from station) lines

@@ -1,6 +1,5 @@
 -- The content of a `Subs`: its tables, an index of addresses and an index of names.
-use Rattle.std.specs.Prelude.{◌≡◌, ℕ, List, string_bytes}
-use Rattle.indexmap.specs.IndexMap.{get}
+use Rattle.std.specs.Prelude.{string_bytes}
 use Rattle.xp_subs.specs.declared.subs.Subs.TheInside.{Inside}
 use Rattle.xp_subs.specs.Tables.{Tables}
 

@@ -1,8 +1,7 @@
 -- The checks of stations whose keys have been read: their limits, the values that are used twice, and the indexes of
 -- groups.
-use Rattle.std.specs.Prelude.{ℕ, ◌+◌, List, [], ◌∷◌, ◌++◌, Bool, true, not, ◌&&◌, Option, None, Some, Result, Ok, Err, length, sum_by, nat_eq, nat_lt, is_some, if◌then◌else◌}
+use Rattle.std.specs.Prelude.{ℕ, List, [], ◌∷◌, Bool, true, not, ◌&&◌, Option, None, Some, length, sum_by, nat_eq, nat_lt, if◌then◌else◌}
 use Rattle.std.specs.List.{list_any}
-use Rattle.std.specs.Map.{lookup}
 use Rattle.xp_file.specs.declared.entry.GroupEntry.{GroupEntry}
 use Rattle.xp_file.specs.declared.key.Key.{Key}
 use Rattle.xp_file.specs.declared.key.Key.TheVariants as keys

@@ -6,6 +6,7 @@ use Rattle.xp_subs.specs.declared.station.Membership.{Membership}
 use Rattle.xp_subs.specs.declared.station.Station.{Station}
 use Rattle.xp_subs.specs.declared.target.Target.{Target}
 use Rattle.xp_file.specs.Name.{is_line_name}
+use Rattle.xp_file.specs.Sources.{AreSources}
 use Rattle.xp_subs.specs.Tables.{Tables, station_count, line_count, station_at, line_at, station_of, target_of, line_named_of, group_count}
 use Rattle.xp_subs.specs.UsedValues.{Once}
 
@@ -84,3 +85,5 @@ pub record IsSound (tables : Tables) : Type 0 where
   pub limits : AreLimits tables.segment_limit tables.journal
   -- each line has a valid name
   pub spelled : (line : ℕ) → line < line_count tables → IsTrue (is_line_name (line_at tables line).name)
+  -- each line has at most 8 sources, each of the form of an address
+  pub sources : (line : ℕ) → line < line_count tables → AreSources (line_at tables line).from

@@ -41,7 +41,7 @@ no_station = record {
 }
 
 abbrev pub no_line : Line
-no_line = record { name = []; port = 0; address = None; modulus = Eight; station = 0 }
+no_line = record { name = []; port = 0; address = None; modulus = Eight; station = 0; from = [] }
 
 abbrev pub station_at : Tables → ℕ → Station
 station_at tables number = slice_index_or tables.stations number no_station

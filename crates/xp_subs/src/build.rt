@@ -170,5 +170,6 @@ fn line(station: StationNo, entry: &LineEntry) -> Line
         address: entry.address.as_ref().map(|address| address.copy()),
         modulus: entry.modulus,
         station,
+        from: entry.from.copy(),
     }
 }

@@ -1,5 +1,5 @@
 use crate::StationNo;
-use xp_file::Name;
+use xp_file::{Name, Sources};
 use xp_packets::{Digits, Modulus};
 
 /// One access line of a station.
@@ -13,4 +13,6 @@ pub struct Line {
     /// The modulus of its packet numbers (X.25 clause 4.4.1.1).
     pub modulus: Modulus,
     pub station: StationNo,
+    /// The addresses from which its connections may come, 1 to 8; none where any address may.
+    pub from: Sources,
 }

@@ -8,7 +8,7 @@ use crate::target::{Counts, Target};
 use crate::{LineNo, StationNo};
 use indexmap::{IndexMap, IndexSet};
 use std::marker::Model;
-use xp_file::Name;
+use xp_file::{Name, Sources};
 use xp_packets::{Digits, Modulus};
 
 /// The subscriptions of an exchange: its stations, with their lines, facilities and groups.
@@ -105,6 +105,14 @@ impl Subs {
         ensures { result ≡ (line_at self.now line).port }
     {
         self.line(line).port
+    }
+
+    /// The addresses from which the connections of a line may come, 1 to 8; none where any address may.
+    pub fn sources_of(&self, line: LineNo) -> &Sources
+        requires { line < line_count self.now }
+        ensures { result.now ≡ (line_at self.now line).from }
+    {
+        &self.line(line).from
     }
 
     /// The modulus of a line's packet numbers.

@@ -1,7 +1,5 @@
 -- How the private functions read the values of the keys from the tables of a TOML document.
-use Rattle.std.specs.Prelude.{◌≡◌, ℕ, ℤ, pos, List, [], ◌∷◌, Bool, true, false, ◌&&◌, Option, None, Some, Result, Ok, Err, option_and_then, option_map, map, nat_le, if◌then◌else◌}
-use Rattle.std.specs.List.{list_any}
-use Rattle.toml.specs.Data.{Data, Items, no_items, item, Members, no_members, member, get_member, as_str, as_integer, as_bool, as_array, as_table}
+use Rattle.std.specs.Prelude.{◌≡◌, Result, Ok, Err}
 use Rattle.xp_file.specs.declared.fault.SubscriptionFault.{SubscriptionFault}
 
 infixl 10 ◌>>=◌

@@ -1,6 +1,5 @@
 -- Which groups have a number, as the private functions that build the tables need it.
-use Rattle.std.specs.Prelude.{◌≡◌, ◌⊎◌, ℕ, ◌<◌, All, true, false, zero, suc, ◌+◌, List, [], ◌∷◌, ◌++◌, Result, Ok, Err, None, Some, fold, length, map, if◌then◌else◌}
-use Rattle.std.specs.List.{list_any, list_all, position_or_len}
+use Rattle.std.specs.Prelude.{ℕ, ◌<◌, All, List, length}
 use Rattle.xp_file.specs.declared.entry.GroupEntry.{GroupEntry}
 use Rattle.xp_file.specs.Entries.{StationData}
 use Rattle.xp_subs.specs.Built.{group_number}

@@ -1,5 +1,5 @@
 -- The invariant of a `Subs`: its tables are sound, and its index of addresses and its index of names agree with them.
-use Rattle.std.specs.Prelude.{◌≡◌, ℕ, List, string_bytes}
+use Rattle.std.specs.Prelude.{◌≡◌, ℕ, List}
 use Rattle.indexmap.specs.IndexMap.{get}
 use Rattle.xp_subs.specs.declared.subs.Subs.TheInside.{Inside}
 use Rattle.xp_subs.specs.Sound.{IsSound}

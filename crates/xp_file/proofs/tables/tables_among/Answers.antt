@@ -1,16 +1,17 @@
 use Rattle.std.proofs.Common.{sym, map}
 use Rattle.std.proofs.lemmas.List.{map-append}
+use Rattle.toml.specs.Data.{as_table}
 use Rattle.toml.specs.View.{table_view}
-use Rattle.xp_file.proofs.EachLemmas.{tables_more, tables_refused}
+use Rattle.xp_file.proofs.EachLemmas.{items_more, items_refused}
 use Rattle.xp_file.proofs.tables.tables_among.Goals as goal
 
 pub returns-in_default : goal.returns-in_default
 returns-in_default c =
-    tables_refused c.args.values.now c.loop-value.value-index c.value-item.result c.loop-value-test.true c.value-item.is (sym c.in_default.ensures)
+    items_refused as_table c.args.values.now c.loop-value.value-index c.value-item.result c.loop-value-test.true c.value-item.is (sym c.in_default.ensures)
 
 pub loop-value-preserved : goal.loop-value-preserved
 loop-value-preserved c =
     rw (c.in_ok-push.ensures.items, map-append)
-    (tables_more c.args.values.now c.loop-value.value-index c.value-item.result
+    (items_more as_table c.args.values.now c.loop-value.value-index c.value-item.result
     (map (λ table. table_view table.now) c.loop-value.tables.items) (table_view c.in-Some.inner.now)
     c.loop-value-test.true c.value-item.is c.loop-value.invariant (sym c.in-Some.ensures))

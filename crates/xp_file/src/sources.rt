@@ -1,0 +1,123 @@
+ghost use Rattle.std.specs.Prelude.{◌≡◌, ◌<◌, ◌≤◌, ◌==◌, [], ◌∷◌, ◌++◌, length, slice_get, option_copied, IfSome, IfNone, IsTrue, false};
+ghost use Rattle.std.specs.List.{list_all};
+ghost use Rattle.xp_file.specs.Sources.{is_source, is_source_letter};
+
+use arrayvec::{ArrayString, ArrayVec};
+use std::fmt;
+use std::marker::Model;
+
+/// The most characters of an address.
+const MOST_CHARACTERS: usize = 45;
+
+/// The addresses from which the connections of a line may come, as texts: at most 8. There are none where any address
+/// may.
+#[derive(Drop)]
+pub struct Sources {
+    texts: ArrayVec<ArrayString<MOST_CHARACTERS>, 8>,
+}
+
+impl Model for Sources {
+    ghost use Rattle.std.specs.Prelude.{List, ℕ, map};
+    ghost use Rattle.arrayvec.specs.ArrayString.{ArrayString as Text};
+
+    ghost Value = { List (List ℕ) };
+
+    ghost view = { λ sources. map (λ (text : Text). text.bytes) sources.texts.items };
+}
+
+impl Sources {
+    /// The most addresses of a line.
+    pub(crate) const MOST: usize = 8;
+
+    /// No addresses.
+    pub(crate) fn new() -> Sources
+        ensures { result ≡ [] }
+    {
+        Sources {
+            texts: ArrayVec::new(),
+        }
+    }
+
+    /// Adds an address at the end. Returns `None` if the text does not have the form of one.
+    pub(crate) fn push(&mut self, text: &str) -> Option<()>
+        requires { length self.old < 8 }
+        ensures added { IfSome result (λ _. IsTrue (is_source text.now) × (self.new ≡ self.old ++ text.now ∷ [])) }
+        ensures refused { IfNone result ((is_source text.now ≡ false) × (self.new ≡ self.old)) }
+    {
+        if !is_source(text) {
+            return None;
+        }
+        self.texts.push(ArrayString::from(text).ok()?);
+        Some(())
+    }
+
+    /// The number of addresses, 0 to 8.
+    pub fn len(&self) -> usize
+        ensures count { result ≡ length self.now }
+        ensures most { result ≤ 8 }
+    {
+        self.texts.len()
+    }
+
+    /// Whether there are no addresses, so that connections may come from any.
+    pub fn is_empty(&self) -> bool
+        ensures { result ≡ (length self.now == 0) }
+    {
+        self.texts.is_empty()
+    }
+
+    /// The address at this place, from 0, in the order of the file. Returns `None` behind the last one.
+    pub fn get(&self, place: usize) -> Option<&str>
+        ensures { option_copied result ≡ slice_get self.now place }
+    {
+        Some(self.texts.get(place)?.as_str())
+    }
+
+    /// An equal copy.
+    pub fn copy(&self) -> Sources
+        ensures { result ≡ self.now }
+    {
+        let mut texts = ArrayVec::new();
+        // This cannot fail: both arrays have the same capacity.
+        let _ = texts.try_extend_from_slice(self.texts.as_slice());
+        Sources { texts }
+    }
+}
+
+fn is_source(text: &str) -> bool
+    ensures { result ≡ is_source text.now }
+{
+    matches!(text.len(), 2..=MOST_CHARACTERS) && are_source_letters(text.as_bytes())
+}
+
+fn are_source_letters(octets: &[u8]) -> bool
+    ensures { result ≡ list_all is_source_letter octets.now }
+{
+    octets.iter().all(|octet| is_source_letter(*octet))
+}
+
+fn is_source_letter(octet: u8) -> bool
+    ensures { result ≡ is_source_letter octet }
+{
+    matches!(octet, b'0'..=b':' | b'a'..=b'f' | b'A'..=b'F' | b'.')
+}
+
+impl PartialEq for Sources {
+    ghost use Rattle.std.specs.Prelude.{nat_eq};
+    ghost use Rattle.std.specs.Cmp.{partial_equiv_from_equiv};
+    ghost use Rattle.std.specs.Cmp.Lexicographic.{pointwise, lists_per, nat_list_eq_equiv};
+
+    ghost eq = { λ a b. pointwise (pointwise nat_eq) a b };
+
+    ghost laws = { lists_per (partial_equiv_from_equiv nat_list_eq_equiv) };
+
+    fn eq(&self, other: &Sources) -> bool {
+        self.texts == other.texts
+    }
+}
+
+impl fmt::Debug for Sources {
+    fn fmt<W: fmt::Write>(&self, f: &mut fmt::Formatter<W>) -> fmt::Result {
+        fmt::Debug::fmt(&self.texts, f)
+    }
+}
