@@ -65,7 +65,13 @@ def nonsense(choose):
     return b"".join(made)
 
 
+def yield_to_others():
+    """The hostile ones stand for other machines, so the processors are first for the exchange and the good pair."""
+    os.nice(19)
+
+
 def attack(port, seed, until):
+    yield_to_others()
     choose = random.Random(seed)
     while time.monotonic() < until:
         try:
@@ -99,6 +105,7 @@ def send_all(connection, choose, until):
 
 def flood(port, until):
     """Opens connections as fast as it can, and drops them."""
+    yield_to_others()
     while time.monotonic() < until:
         opened = []
         for _ in range(50):

@@ -1,7 +1,8 @@
 -- What the arguments of a command ask for.
 use Rattle.std.proofs.Common.{◌≡◌, ◌∙◌, [], arith, refl, sym, ap, subst, codes, option_map, Option, Some, None, IfNone, IfSome, List, ℕ, slice_index_or}
 use Rattle.clap.specs.Words.{Row, Text, first_of}
-use Rattle.xp.specs.Commands.{AsksFor, HasLimits, IsSubcommand}
+use Rattle.xp.specs.Commands.{AsksFor, HasLimits, IsOrder, IsSubcommand}
+use Rattle.xp.specs.declared.subcommand.ServeOrder.{ServeOrder}
 use Rattle.xp.specs.declared.subcommand.Subcommand.{Subcommand}
 use Rattle.xp.specs.declared.subcommand.Subcommand.TheVariants.{Do, Serve}
 use Rattle.xp_serve.specs.Limits.{AreLimits}
@@ -26,21 +27,18 @@ pub none_is : {X : Type 0} (o : Option X) (P : Type 0) → o ≡ None → IfNone
 none_is None P none p = p
 none_is (Some x) P none p = absurd (cc)
 
-some_inj : (x y : List ℕ) → Some x ≡ Some y → x ≡ y
-some_inj x y same = cc
+-- the limits of the texts that the arguments have
+module _ (rows : List Row) (records turns : Option (List ℕ)) (records_are : records ≡ first_of (codes "records") rows) (turns_are : turns ≡ first_of (codes "turns") rows) where
+  pub has_limits : (limits : Limits) → AreLimits records turns limits → HasLimits rows limits
+  has_limits limits are = subst (λ text. AreLimits text (first_of (codes "turns") rows) limits) records_are (subst (λ text. AreLimits records text limits) turns_are are)
 
--- no argument says with how many records serving ends
-pub no_records : (rows : List Row) → first_of (codes "records") rows ≡ None → (limits : Limits) → HasLimits rows limits → ⊥
-no_records rows none limits has = let both : None ≡ Some has.wanted = sym none ∙ has.given in absurd (cc)
-
-module _ (rows : List Row) (wanted : List ℕ) (had : Option (List ℕ)) (given : first_of (codes "records") rows ≡ Some wanted) (turns : had ≡ first_of (codes "turns") rows) where
-  pub has_limits : (limits : Limits) → AreLimits wanted had limits → HasLimits rows limits
-  has_limits limits are = record { wanted = wanted; given = given; limits_are = subst (λ had. AreLimits wanted had limits) turns are }
-
-  pub are_limits : (limits : Limits) → HasLimits rows limits → AreLimits wanted had limits
+  pub are_limits : (limits : Limits) → HasLimits rows limits → AreLimits records turns limits
   are_limits limits has =
-      subst (λ wanted. AreLimits wanted had limits) (some_inj has.wanted wanted (sym has.given ∙ given))
-      (subst (λ had. AreLimits has.wanted had limits) (sym turns) has.limits_are)
+      subst (λ text. AreLimits text turns limits) (sym records_are) (subst (λ text. AreLimits (first_of (codes "records") rows) text limits) (sym turns_are) has)
+
+-- without limits nothing is ordered
+pub no_order : (rows : List Row) → ((limits : Limits) → HasLimits rows limits → ⊥) → (order : ServeOrder) → IsOrder rows order → ⊥
+no_order rows none order is = none order.limits is.limits
 
 abbrev first_letter : List ℕ → ℕ
 first_letter word = slice_index_or word 0 0
@@ -55,10 +53,10 @@ no_task : (task : Task) → codes "serve" ≡ word_of task → ⊥
 no_task Check same = unlike_check (ap first_letter same)
 no_task Replay same = unlike_replay (ap first_letter same)
 
--- a command that asks for the lines to be served, and does not say when this ends
-pub serves_not : (word : Text) (rows : List Row) → word ≡ codes "serve" → ((limits : Limits) → HasLimits rows limits → ⊥) → (subcommand : Subcommand) → IsSubcommand word rows subcommand → ⊥
+-- a command that asks for the lines to be served, and does not say how
+pub serves_not : (word : Text) (rows : List Row) → word ≡ codes "serve" → ((order : ServeOrder) → IsOrder rows order → ⊥) → (subcommand : Subcommand) → IsSubcommand word rows subcommand → ⊥
 serves_not word rows serve none (Do task) is = no_task task (sym serve ∙ is)
-serves_not word rows serve none (Serve limits) is = none limits is.1
+serves_not word rows serve none (Serve order) is = none order is.1
 
 -- a pair of which both parts are known
 pub pair_is : {X Y : Type 0} (o : Option (X × Y)) (x : X) (y : Y) → option_map (λ pair. pair.0) o ≡ Some x → option_map (λ pair. pair.1) o ≡ Some y → o ≡ Some (x, y)

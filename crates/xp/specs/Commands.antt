@@ -1,10 +1,13 @@
 -- The command lines that the program takes, as `clap` reads them.
-use Rattle.std.specs.Prelude.{◌≡◌, ℕ, List, [], Option, Some, true, codes}
+use Rattle.std.specs.Prelude.{◌≡◌, ℕ, List, [], Bool, Option, Some, None, true, false, codes, option_map}
 use Rattle.clap.specs.Words.{App, Row, Rule, Text, fault_of, first_of, new_app, new_rule, subcommand_of, with_rule, with_subcommand}
+use Rattle.clap.specs.declared.builder.action.ArgAction.TheVariants.{SetTrue}
+use Rattle.xp.specs.declared.subcommand.ServeOrder.{ServeOrder}
 use Rattle.xp.specs.declared.subcommand.Subcommand.{Subcommand}
 use Rattle.xp.specs.declared.subcommand.Subcommand.TheVariants.{Do, Serve}
 use Rattle.xp_serve.specs.Limits.{AreLimits}
 use Rattle.xp_serve.specs.declared.limits.Limits.{Limits}
+use Rattle.xp_subs.specs.Tables.{same}
 use Rattle.xp_tasks.specs.declared.task.Task.{Task}
 use Rattle.xp_tasks.specs.declared.task.Task.TheVariants.{Check, Replay}
 use Rattle.xp_tasks.specs.Tasks.{word_of}
@@ -13,20 +16,25 @@ use Rattle.xp_tasks.specs.Tasks.{word_of}
 abbrev pub file : Rule
 file = record (new_rule (codes "FILE")) { required = true }
 
--- a number, as `--records N`
-abbrev pub number : Text → Rule
-number name = record (new_rule name) { long = Some name; value_names = 1 }
+-- an argument with a value, as `--records N`
+abbrev pub valued : Text → Rule
+valued name = record (new_rule name) { long = Some name; value_names = 1 }
+
+-- an argument that is there or not, as `--until-eof`
+abbrev pub flag : Text → Rule
+flag name = record (new_rule name) { long = Some name; action = Some SetTrue }
 
 -- the command that asks for a task
 abbrev pub command_of : Task → App
 command_of task = with_rule (new_app (word_of task)) file
 
+-- the command that serves, with the arguments that tell of records
+abbrev pub recording : App
+recording = with_rule (with_rule (with_rule (new_app (codes "serve")) file) (valued (codes "cdr"))) (valued (codes "records"))
+
 -- the command that asks for the lines to be served
 abbrev pub serve : App
-serve =
-    with_rule
-    (with_rule (with_rule (new_app (codes "serve")) file) (record (number (codes "records")) { required = true }))
-    (number (codes "turns"))
+serve = with_rule (with_rule recording (valued (codes "turns"))) (flag (codes "until-eof"))
 
 -- a command of which something has to be asked
 abbrev pub asked : App → App
@@ -43,15 +51,24 @@ abbrev pub program : App
 program = with_subcommand tasks serve.top
 
 -- the arguments say when serving ends
-pub record HasLimits (rows : List Row) (limits : Limits) : Type 0 where
-  pub wanted : List ℕ
-  pub given : first_of (codes "records") rows ≡ Some wanted
-  pub limits_are : AreLimits wanted (first_of (codes "turns") rows) limits
+abbrev pub HasLimits : List Row → Limits → Type 0
+HasLimits rows limits = AreLimits (first_of (codes "records") rows) (first_of (codes "turns") rows) limits
+
+-- an argument that is there or not is there
+abbrev pub says_true : Option Text → Bool
+says_true None = false
+says_true (Some text) = same text (codes "true")
+
+-- the arguments say how the lines are to be served
+pub record IsOrder (rows : List Row) (order : ServeOrder) : Type 0 where
+  pub limits : HasLimits rows order.limits
+  pub details : option_map (λ name. name.now) order.details ≡ first_of (codes "cdr") rows
+  pub until_eof : order.until_eof ≡ says_true (first_of (codes "until-eof") rows)
 
 -- a command of this word, with its arguments as they were found, asks for this
 abbrev pub IsSubcommand : Text → List Row → Subcommand → Type 0
 IsSubcommand word rows (Do task) = word ≡ word_of task
-IsSubcommand word rows (Serve limits) = (word ≡ codes "serve") × HasLimits rows limits
+IsSubcommand word rows (Serve order) = (word ≡ codes "serve") × IsOrder rows order
 
 -- A command, with its arguments as they were found, asks for this with this file.
 pub record AsksFor (found : Option (Text × List Row)) (subcommand : Subcommand) (name : List ℕ) : Type 0 where

@@ -4,11 +4,11 @@ ghost use Rattle.std.specs.Prelude.{◌≡◌, ℕ, List, IfSome, IfNone, IfOk, 
 ghost use Rattle.clap.specs.Words.{app_of, kind_of, rule_of, subcommand_rows_of};
 ghost use Rattle.clap.specs.declared.error.kind.ErrorKind.TheVariants.{OutOfMemory};
 ghost use Rattle.clap.specs.declared.builder.command.Command.TheViews.{out-Command as fields_of};
-ghost use Rattle.xp.specs.Commands.{AreRight, Ask, AsksFor, command_of, file as file_rule, number as number_rule, program, serve, tasks};
+ghost use Rattle.xp.specs.Commands.{AreRight, Ask, AsksFor, command_of, file as file_rule, flag as flag_rule, program, recording, serve, tasks, valued as valued_rule};
 
-use crate::subcommand::{RECORDS, SERVE, Subcommand, TURNS};
+use crate::subcommand::{CDR, RECORDS, SERVE, Subcommand, TURNS, UNTIL_EOF};
 use clap::error::ErrorKind;
-use clap::{Arg, ArgMatches, Command, Error};
+use clap::{Arg, ArgAction, ArgMatches, Command, Error};
 use std::alloc::{AllocError, Global};
 use xp_tasks::Task;
 
@@ -18,7 +18,7 @@ const PROGRAM_DETAILS: &str = "\
 Examples:
   xp check examples/three-stations.toml
   xp replay examples/three-stations.toml < examples/call.script
-  xp serve examples/three-stations.toml --records 1
+  xp serve examples/three-stations.toml --cdr calls.csv
 
 The exit status is 0 when all was done, 2 for wrong arguments or a faulty line
 of a script, 3 for a subscription file that cannot be read or is refused, 4 for
@@ -49,28 +49,36 @@ Prints `out NAME DIGITS` for each frame that the exchange puts out, and
 Example:
   xp replay examples/three-stations.toml < examples/call.script";
 
-const SERVE_ABOUT: &str = "Serves the lines over TCP, and prints the charging records at the end";
+const SERVE_ABOUT: &str =
+    "Serves the lines over TCP, and writes a charging record as each call ends";
 
 const SERVE_DETAILS: &str = "\
 Listens on the port of each line of the FILE, for connections that carry X.25
-packets in TCP (RFC 1613). Numbers are from 1 to 1000000000000.
+packets in TCP (RFC 1613). As each call ends, its record is written: with --cdr
+as a line of CSV at the end of that file, else as `record ..` on standard
+output. Serving goes on until Ctrl-C or SIGTERM: then all calls are ended, and
+their records are written. A second Ctrl-C ends it at once.
 
-Prints `record ..` for each call that ended, when it ends itself: with as many
-records as are wanted, with a full journal, or when a port fails.
+Lines of facts with their moments go to standard error. Where the file of
+--cdr can't be written, the records wait, and are tried again each second.
 
 Example:
-  xp serve examples/three-stations.toml --records 1";
+  xp serve examples/three-stations.toml --cdr calls.csv";
 
-const RECORDS_HELP: &str = "Ends with so many charging records";
+const CDR_HELP: &str = "Writes call detail records at the end of this file (CSV)";
 
-const TURNS_HELP: &str = "Ends each line after so many turns [default: 1000000000]";
+const RECORDS_HELP: &str = "For tests: ends with so many charging records, 1 to 1000000000000";
+
+const TURNS_HELP: &str = "For tests: ends each line after so many turns, 1 to 1000000000000";
+
+const UNTIL_EOF_HELP: &str = "Ends cleanly as standard input ends";
 
 const FILE: &str = "The subscription file (TOML): the stations and their lines";
 
 /// The arguments of the program: a subcommand and a subscription file.
 #[derive(Clone, Copy, Debug, PartialEq, Eq)]
 pub struct Arguments<'a> {
-    pub subcommand: Subcommand,
+    pub subcommand: Subcommand<'a>,
     /// The name of the subscription file.
     pub file: &'a str,
 }
@@ -151,12 +159,22 @@ fn serve_command<'a>(alloc: Global) -> Result<Command<'a>, AllocError>
     ensures shape { IfOk result (λ command. app_of command ≡ serve) }
     ensures local { IfOk result (λ command. (fields_of command).has_globals ≡ false) }
 {
+    recording_command(alloc)?
+        .arg(valued(alloc, TURNS, "M", TURNS_HELP))?
+        .arg(flag(alloc, UNTIL_EOF, UNTIL_EOF_HELP))
+}
+
+/// The same with the arguments that tell of records alone.
+fn recording_command<'a>(alloc: Global) -> Result<Command<'a>, AllocError>
+    ensures shape { IfOk result (λ command. app_of command ≡ recording) }
+    ensures local { IfOk result (λ command. (fields_of command).has_globals ≡ false) }
+{
     Command::new(alloc, SERVE)
         .about(SERVE_ABOUT)
         .after_help(SERVE_DETAILS)
         .arg(file(alloc))?
-        .arg(number(alloc, RECORDS, RECORDS_HELP).required(true))?
-        .arg(number(alloc, TURNS, TURNS_HELP))
+        .arg(valued(alloc, CDR, "PATH", CDR_HELP))?
+        .arg(valued(alloc, RECORDS, "N", RECORDS_HELP))
 }
 
 fn file<'a>(alloc: Global) -> Arg<'a>
@@ -166,10 +184,24 @@ fn file<'a>(alloc: Global) -> Arg<'a>
     Arg::new(alloc, "FILE").required(true).help(FILE)
 }
 
-/// A number, as `--records N`.
-fn number<'a>(alloc: Global, name: &'a str, help: &'a str) -> Arg<'a>
-    ensures rule { rule_of result ≡ number_rule name.now }
+/// An argument with a value, as `--records N`.
+fn valued<'a>(alloc: Global, name: &'a str, value: &'a str, help: &'a str) -> Arg<'a>
+    ensures rule { rule_of result ≡ valued_rule name.now }
     ensures local { result.global ≡ false }
 {
-    Arg::new(alloc, name).long(name).value_name("N").help(help)
+    Arg::new(alloc, name)
+        .long(name)
+        .value_name(value)
+        .help(help)
+}
+
+/// An argument that is there or not, as `--until-eof`.
+fn flag<'a>(alloc: Global, name: &'a str, help: &'a str) -> Arg<'a>
+    ensures rule { rule_of result ≡ flag_rule name.now }
+    ensures local { result.global ≡ false }
+{
+    Arg::new(alloc, name)
+        .long(name)
+        .action(ArgAction::SetTrue)
+        .help(help)
 }

@@ -3,13 +3,14 @@
 ghost use Rattle.std.specs.Prelude.{◌≡◌};
 ghost use Rattle.xp.specs.Failures.{status_of};
 ghost use Rattle.xp.specs.steps.Failures.{IsOfArguments};
-ghost use Rattle.xp.specs.declared.failure.Failure.TheVariants.{Serve as OfServing, Task as OfTask};
+ghost use Rattle.xp.specs.declared.failure.Failure.TheVariants.{Cdr as OfDetails, Serve as OfServing, Task as OfTask};
 ghost use Rattle.xp_tasks.specs.declared.failure.TaskFailure.TheVariants.{Memory as OutOfMemory};
 
 use clap::error::ErrorKind;
 use std::alloc::AllocError;
 use std::io;
 use thiserror::Error;
+use xp_cdr::OpenFault;
 use xp_serve::ServeFailure;
 use xp_tasks::TaskFailure;
 
@@ -22,19 +23,23 @@ pub enum Failure {
     /// The task failed.
     #[error("{0}")]
     Task(TaskFailure),
+    /// The file of call detail records was not opened.
+    #[error("xp: cdr: {0}")]
+    Cdr(OpenFault),
     /// Serving ended before its time.
     #[error("{0}")]
     Serve(ServeFailure),
 }
 
 impl Failure {
-    /// The exit status: 2 for arguments, else that of the task or of serving.
+    /// The exit status: 2 for arguments, 5 for the file of call detail records, else that of the task or of serving.
     pub fn status(&self) -> u8
         ensures { result ≡ status_of self.now }
     {
         match self {
             Failure::Arguments(_) => 2,
             Failure::Task(failure) => failure.status(),
+            Failure::Cdr(_) => 5,
             Failure::Serve(failure) => failure.status(),
         }
     }
@@ -45,6 +50,7 @@ impl Failure {
             // clap ends the last line itself.
             Failure::Arguments(told) => rt.eprint(told),
             Failure::Task(failure) => rt.eprintln(failure),
+            Failure::Cdr(_) => rt.eprintln(self),
             Failure::Serve(failure) => rt.eprintln(failure),
         }
     }
@@ -71,6 +77,14 @@ impl From<ServeFailure> for Failure {
 
     fn from(told: ServeFailure) -> Failure {
         Failure::Serve(told)
+    }
+}
+
+impl From<OpenFault> for Failure {
+    ghost from_gives = { λ told failure. failure ≡ OfDetails told };
+
+    fn from(told: OpenFault) -> Failure {
+        Failure::Cdr(told)
     }
 }
 

@@ -1,7 +1,8 @@
 //! A law of command lines: the contract is the law, and the body is empty.
 
-ghost use Rattle.std.specs.Prelude.{[], ◌∷◌, codes};
+ghost use Rattle.std.specs.Prelude.{◌≡◌, [], ◌∷◌, Some, None, codes, option_map, true, false};
 ghost use Rattle.xp.specs.Commands.{Ask};
+ghost use Rattle.xp.specs.declared.subcommand.ServeOrder.{ServeOrder};
 ghost use Rattle.xp.specs.declared.subcommand.Subcommand.TheVariants.{Do, Serve};
 ghost use Rattle.xp_tasks.specs.declared.task.Task.TheVariants.{Check, Replay};
 
@@ -9,6 +10,7 @@ ghost use Rattle.xp_tasks.specs.declared.task.Task.TheVariants.{Check, Replay};
 pub fn errands_can_be_asked_for()
     ensures check { Ask (codes "xp" ∷ codes "check" ∷ codes "a" ∷ []) (Do Check) (codes "a") }
     ensures replay { Ask (codes "xp" ∷ codes "replay" ∷ codes "a" ∷ []) (Do Replay) (codes "a") }
-    ensures serve { Ask (codes "xp" ∷ codes "serve" ∷ codes "a" ∷ codes "--records" ∷ codes "12" ∷ []) (Serve (record { records = 12; turns = 1000000000 })) (codes "a") }
-    ensures turns { Ask (codes "xp" ∷ codes "serve" ∷ codes "a" ∷ codes "--records" ∷ codes "12" ∷ codes "--turns" ∷ codes "3" ∷ []) (Serve (record { records = 12; turns = 3 })) (codes "a") }
+    ensures serve { Ask (codes "xp" ∷ codes "serve" ∷ codes "a" ∷ []) (Serve (record { limits = record { records = 18446744073709551615; turns = 18446744073709551615 }; details = None; until_eof = false })) (codes "a") }
+    ensures limits { Ask (codes "xp" ∷ codes "serve" ∷ codes "a" ∷ codes "--records" ∷ codes "12" ∷ codes "--turns" ∷ codes "3" ∷ []) (Serve (record { limits = record { records = 12; turns = 3 }; details = None; until_eof = false })) (codes "a") }
+    ensures details { (order : ServeOrder) → option_map (λ name. name.now) order.details ≡ Some (codes "b") → order.limits ≡ record { records = 18446744073709551615; turns = 18446744073709551615 } → order.until_eof ≡ true → Ask (codes "xp" ∷ codes "serve" ∷ codes "a" ∷ codes "--cdr" ∷ codes "b" ∷ codes "--until-eof" ∷ []) (Serve order) (codes "a") }
 {}

@@ -6,19 +6,22 @@ ghost use Rattle.std.specs.Prelude.{◌≡◌};
 mod arguments;
 mod failure;
 mod laws;
+mod serving;
 mod subcommand;
 
 use crate::arguments::Arguments;
 use crate::failure::Failure;
+use crate::serving::serve_lines;
 use crate::subcommand::Subcommand;
+use log::Log;
+use std::fs::{File, Files};
 use std::io::{BufReader, BufWriter, ErrorKind};
 use std::net::Net;
 use std::process::ExitCode;
-use std::rt::{Env, Files};
+use std::rt::Env;
 use std::sync::Wait;
 use std::thread::Threads;
 use std::{env, fs, io};
-use xp_serve::{Limits, serve};
 use xp_subs::Subs;
 use xp_tasks::{Task, TaskFailure, perform, subscriptions};
 
@@ -34,9 +37,9 @@ fn main(rt: HostRuntime) -> ExitCode {
 }
 
 /// Performs the subcommand on the file that the arguments name.
-fn run<R: AllocGlobal + Env + Files + Input + Net + Print + Sync + Threads + Wait>(
-    rt: &R,
-) -> Result<(), Failure> {
+fn run<
+    R: AllocGlobal + Env + Files<File = File> + Input + Log + Net + Print + Sync + Threads + Wait,
+>(rt: &R) -> Result<(), Failure> {
     let alloc = rt.alloc();
     let words = words(rt)?;
     let arguments = Arguments::read(alloc, &words)?;
@@ -44,9 +47,9 @@ fn run<R: AllocGlobal + Env + Files + Input + Net + Print + Sync + Threads + Wai
     let subs = subscriptions(alloc, &text)?;
     match arguments.subcommand {
         Subcommand::Do(task) => do_task(rt, task, subs),
-        Subcommand::Serve(limits) => {
+        Subcommand::Serve(order) => {
             let names = subscriptions(alloc, &text)?;
-            serve_lines(rt, limits, subs, names)
+            serve_lines(rt, &order, subs, names)
         }
     }
 }
@@ -57,21 +60,6 @@ fn do_task<R: AllocGlobal + Input + Print>(rt: &R, task: Task, subs: Subs) -> Re
     let reader = BufReader::new(alloc, rt.reader()).map_err(|_| TaskFailure::Memory)?;
     let mut writer = BufWriter::new(alloc, io::writer(rt)).map_err(|_| TaskFailure::Memory)?;
     perform(alloc, task, subs, reader, &mut writer)?;
-    Ok(())
-}
-
-/// Serves the lines, and prints their charging records. `names` are the same subscriptions once more.
-fn serve_lines<R: AllocGlobal + Net + Print + Sync + Threads + Wait>(
-    rt: &R,
-    limits: Limits,
-    subs: Subs,
-    names: Subs,
-) -> Result<(), Failure>
-    requires { names ≡ subs }
-{
-    let alloc = rt.alloc();
-    let writer = BufWriter::new(alloc, io::writer(rt)).map_err(|_| TaskFailure::Memory)?;
-    serve(rt, alloc, subs, names, limits, writer).outcome?;
     Ok(())
 }
 

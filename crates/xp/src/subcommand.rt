@@ -1,8 +1,8 @@
 //! The subcommands of the program.
 
-ghost use Rattle.std.specs.Prelude.{◌≡◌, IfNone, IfSome};
-ghost use Rattle.clap.specs.Words.{found_of, rows_of};
-ghost use Rattle.xp.specs.Commands.{HasLimits, IsSubcommand};
+ghost use Rattle.std.specs.Prelude.{◌≡◌, IfNone, IfSome, codes};
+ghost use Rattle.clap.specs.Words.{first_of, found_of, rows_of};
+ghost use Rattle.xp.specs.Commands.{HasLimits, IsOrder, IsSubcommand, says_true};
 
 use clap::ArgMatches;
 use xp_serve::Limits;
@@ -11,34 +11,63 @@ use xp_tasks::Task;
 /// The word of the subcommand that serves the lines.
 pub const SERVE: &str = "serve";
 
+/// The argument for the file of call detail records.
+pub const CDR: &str = "cdr";
+
 /// The argument for the number of records after which serving ends.
 pub const RECORDS: &str = "records";
 
 /// The argument for the number of turns after which a line ends.
 pub const TURNS: &str = "turns";
 
+/// The argument by which serving ends cleanly as standard input ends.
+pub const UNTIL_EOF: &str = "until-eof";
+
+/// How the lines are to be served.
+#[derive(Clone, Copy, Debug, PartialEq, Eq)]
+pub struct ServeOrder<'a> {
+    pub limits: Limits,
+    /// The name of the file of call detail records, if there is to be one.
+    pub details: Option<&'a str>,
+    /// Whether serving ends cleanly as standard input ends.
+    pub until_eof: bool,
+}
+
 /// A subcommand of the program.
 #[derive(Clone, Copy, Debug, PartialEq, Eq)]
-pub enum Subcommand {
+pub enum Subcommand<'a> {
     /// Performs a task over the standard streams.
     Do(Task),
     /// Serves the lines over TCP.
-    Serve(Limits),
+    Serve(ServeOrder<'a>),
 }
 
-impl Subcommand {
+impl<'a> Subcommand<'a> {
     /// The subcommand of a word, with its arguments.
-    pub fn named(word: &str, matches: &ArgMatches) -> Option<Subcommand>
+    pub fn named(word: &str, matches: &ArgMatches<'a>) -> Option<Subcommand<'a>>
         ensures found { IfSome result (λ subcommand. IsSubcommand word.now (rows_of (found_of matches.now)) subcommand) }
         ensures none { IfNone result ((subcommand : Subcommand) → IsSubcommand word.now (rows_of (found_of matches.now)) subcommand → ⊥) }
     {
         if word == SERVE {
-            let limits = limits_of(matches)?;
-            return Some(Subcommand::Serve(limits));
+            let order = order_of(matches)?;
+            return Some(Subcommand::Serve(order));
         }
         let task = Task::named(word)?;
         Some(Subcommand::Do(task))
     }
+}
+
+/// How the arguments ask the lines to be served.
+fn order_of<'a>(matches: &ArgMatches<'a>) -> Option<ServeOrder<'a>>
+    ensures found { IfSome result (λ order. IsOrder (rows_of (found_of matches.now)) order) }
+    ensures none { IfNone result ((order : ServeOrder) → IsOrder (rows_of (found_of matches.now)) order → ⊥) }
+{
+    let limits = limits_of(matches)?;
+    Some(ServeOrder {
+        limits,
+        details: matches.get_str(CDR),
+        until_eof: is_true(matches, UNTIL_EOF),
+    })
 }
 
 /// The limits that the arguments set to serving.
@@ -46,6 +75,15 @@ fn limits_of(matches: &ArgMatches) -> Option<Limits>
     ensures found { IfSome result (λ limits. HasLimits (rows_of (found_of matches.now)) limits) }
     ensures none { IfNone result ((limits : Limits) → HasLimits (rows_of (found_of matches.now)) limits → ⊥) }
 {
-    let records = matches.get_str(RECORDS)?;
-    Limits::read(records, matches.get_str(TURNS))
+    Limits::read(matches.get_str(RECORDS), matches.get_str(TURNS))
+}
+
+/// Whether an argument that is there or not is there.
+fn is_true(matches: &ArgMatches, name: &str) -> bool
+    ensures { result ≡ says_true (first_of name.now (rows_of (found_of matches.now))) }
+{
+    match matches.get_str(name) {
+        Some(text) => text == "true",
+        None => false,
+    }
 }

@@ -29,3 +29,15 @@ module _ {A S : Type 0} (received : S → List Record) (keeps : S → S → Type
     );
     kept = on before mid after first.kept second.kept;
   }
+
+  -- the sink was called, and given nothing
+  pub handed_ticked : ((first second third : S) → keeps first second → keeps second third → keeps first third)
+      → (old : Recording A) (before : S) (new : Recording A) (mid after : S)
+      → HandsOn received keeps old before new mid → received after ≡ received mid → keeps mid after → HandsOn received keeps old before new after
+  handed_ticked on old before new mid after handed same kept = record {
+    more = handed.more;
+    taken = handed.taken;
+    given = same ∙ handed.given;
+    seen = handed.seen;
+    kept = on before mid after handed.kept kept;
+  }

@@ -1,13 +1,13 @@
 -- Lists of lines, of which one after the other is moved, begun or ended.
 use Rattle.std.proofs.Common.{◌≡◌, List, [], ◌∷◌, ◌++◌, ℕ, Option, Result, refl, sym, ap, ◌∙◌, append_assoc, append-nil, map, subst}
-use Rattle.std.proofs.lemmas.List.{map-append}
+use Rattle.std.proofs.lemmas.List.{map-append, map-id}
 use Rattle.std.specs.declared.alloc.Global.{Global as Alloc}
 use Rattle.std.specs.declared.thread.PromisedHandle.{PromisedHandle}
 use Rattle.xp_subs.specs.Tables.{Tables}
 use Rattle.xp_lock.specs.Passes.{Pass}
 use Rattle.xp_lines.specs.Pairs.{AreEach}
 use Rattle.xp_lines.specs.Sessions.{IsLineServed}
-use Rattle.xp_lines.specs.steps.Threads.{Begins, Ends}
+use Rattle.xp_lines.specs.steps.Threads.{Begins, Ends, IsDownIfStopped}
 use Rattle.xp_lines.specs.declared.line.LineEnd.{LineEnd}
 use Rattle.xp_lines.specs.declared.threads.OfLine.{OfLine}
 
@@ -77,4 +77,11 @@ module _ {N L : Type 0} (subs : Tables) (of_link : Option (List ℕ) → Option 
   pub each_ended : (firsts : List (Pass Alloc)) (begun : List (Result (PromisedHandle (LineEnd N Alloc) (OfLine N L)) (LineEnd N Alloc))) (ends : List (LineEnd N Alloc))
       → AreEach (Begins subs of_link) firsts begun → AreEach (Ends subs of_link) begun ends → AreEach (IsLineServed subs of_link) firsts (map (λ end. end.pass) ends)
   each_ended firsts begun ends first second =
-      each_through (Begins subs of_link) (Ends subs of_link) (λ end. end.pass) (IsLineServed subs of_link) firsts begun ends (λ pass begun end begins ends. ends pass begins) first second
+      each_through (Begins subs of_link) (Ends subs of_link) (λ end. end.pass) (IsLineServed subs of_link) firsts begun ends (λ pass begun end begins ends. (ends pass begins).0) first second
+
+  -- and each that was stopped is down
+  pub each_down : (firsts : List (Pass Alloc)) (begun : List (Result (PromisedHandle (LineEnd N Alloc) (OfLine N L)) (LineEnd N Alloc))) (ends : List (LineEnd N Alloc))
+      → AreEach (Begins subs of_link) firsts begun → AreEach (Ends subs of_link) begun ends → AreEach (IsDownIfStopped subs of_link) firsts ends
+  each_down firsts begun ends first second =
+      subst (AreEach (IsDownIfStopped subs of_link) firsts) (map-id ends)
+      (each_through (Begins subs of_link) (Ends subs of_link) (λ end. end) (IsDownIfStopped subs of_link) firsts begun ends (λ pass begun end begins ends. (ends pass begins).1) first second)

@@ -1,5 +1,5 @@
 -- The links of a line, one after the other, turn by turn.
-use Rattle.std.proofs.Common.{◌≡◌, ◌⊎◌, ℕ, List, [], ◌∷◌, ◌++◌, refl, sym, ap, ◌∙◌, append_assoc, append-nil, subst, Option, None, Some, inl, inr}
+use Rattle.std.proofs.Common.{◌≡◌, ◌⊎◌, ℕ, List, [], ◌∷◌, ◌++◌, refl, sym, ap, ◌∙◌, append_assoc, append-nil, subst, Option, None, Some, Result, Ok, Err, inl, inr}
 use Rattle.std.specs.List.{AllByRecursion}
 use Rattle.xp_packets.specs.declared.modulus.Modulus.{Modulus}
 use Rattle.xp_subs.specs.Tables.{Tables, modulus_of}
@@ -9,13 +9,16 @@ use Rattle.xp_core.specs.declared.output.Outgoing.{Outgoing}
 use Rattle.xp_lock.specs.Passes.{GainsEvent, Pass}
 use Rattle.xp_lock.specs.declared.receipt.Receipt.{Receipt}
 use Rattle.xp_lines.specs.Offers.{Gains}
-use Rattle.xp_lines.specs.Sessions.{AreSessions, ComesUp, Drops, Goes, IsLineServed, IsSession, PastSession, left_at_last}
+use Rattle.xp_lines.specs.Sessions.{AreSessions, ComesUp, Drops, Goes, IsGone, IsLineDown, IsLineServed, IsSession, PastSession, left_at_last}
 use Rattle.xp_lines.specs.Together.{AreTurns, Left, MayFollow, last_of}
-use Rattle.xp_lines.specs.Turns.{Downs, IsTurn, Seen}
+use Rattle.xp_lines.specs.Turns.{IsTurn, Seen}
 use Rattle.xp_lines.specs.Wire.{Took}
-use Rattle.xp_lines.specs.steps.Offering.{event_on}
-use Rattle.xp_lines.specs.steps.Sessions.{AreOver, Closes, Connects, GoesOn, Here, IsHere, IsOn, IsThere, Leaves, Steps}
+use Rattle.xp_lines.proofs.Written.{took_both}
+use Rattle.xp_lines.specs.steps.Offering.{Tells, event_on}
+use Rattle.xp_lines.specs.steps.Sessions.{AreOver, Closes, Connects, GoesBy, GoesOn, Here, IsHere, IsOn, IsThere, Leaves, Steps}
+use Rattle.xp_lines.specs.declared.offering.Stop.{Stop}
 use Rattle.xp_lines.specs.declared.line.EndReason.{EndReason}
+use Rattle.xp_lines.specs.declared.line.EndReason.TheVariants.{Stopped}
 use Rattle.xp_lines.specs.declared.turning.TurnOutcome.{TurnOutcome}
 use Rattle.xp_lines.specs.declared.turning.TurnOutcome.TheVariants.{Linked, Dropped, DownOwed, Halted, Journal}
 
@@ -34,13 +37,6 @@ none_follows A Halted = refl
 none_follows A Journal = refl
 
 module _ {A : Type 0} where
-  took_both : (old now next : Pass A) (items more : List (Outgoing A)) → Took old items now → Took now more next → Took old (items ++ more) next
-  took_both old now next items more first second = record {
-    line = second.line ∙ first.line;
-    seen = second.seen ∙ first.seen;
-    taken = second.taken ∙ ap (λ xs. xs ++ more) first.taken ∙ append_assoc old.taken items more;
-  }
-
   pub drops_nothing : (pass : Pass A) → Drops pass pass
   drops_nothing pass = ([], record { line = refl; seen = refl; taken = sym (append-nil pass.taken) })
 
@@ -76,13 +72,18 @@ module _ {A : Type 0} where
     connection_is = comes.connection_is;
   }
 
-  -- the Down was accepted, or nothing changed
-  pub down_or_nothing : (old : Pass A) (after : TurnOutcome) (new : Pass A) (held : Option (What A)) → Downs old after new held → Gains old (Down ∷ []) new ⊎ (new ≡ old)
-  down_or_nothing old Linked new held downs = absurd downs
-  down_or_nothing old Dropped new held downs = inl downs
-  down_or_nothing old DownOwed new held downs = inr downs.0
-  down_or_nothing old Halted new held downs = inr downs
-  down_or_nothing old Journal new held downs = inr downs
+  -- the Down was accepted, and then outputs were dropped
+  pub goes_down : (old gone : Pass A) (why : EndReason) (new : Pass A) → Gains old (Down ∷ []) gone → Drops gone new → GoesBy why old new
+  goes_down old gone why new gains drops = record { gone = gone; goes = inl gains; stopped = λ _. gains; drops = drops }
+
+  -- nothing changed, and the line was not stopped
+  pub goes_not : (old : Pass A) (why : EndReason) (new : Pass A) → new ≡ old → (why ≡ Stopped → ⊥) → GoesBy why old new
+  goes_not old why new same not_stopped = record { gone = new; goes = inr same; stopped = λ stopped. absurd (not_stopped stopped); drops = drops_nothing new }
+
+  -- the line ends for another reason, and its Down was offered
+  pub goes_told : (old : Pass A) (result : Result Receipt Stop) (new : Pass A) (why : EndReason) → Tells old Down result new → (why ≡ Stopped → ⊥) → GoesBy why old new
+  goes_told old (Ok done) new why tells not_stopped = goes_down old new why new tells (drops_nothing new)
+  goes_told old (Err stop) new why tells not_stopped = goes_not old why new tells.1 not_stopped
 
   goes_by : (after : TurnOutcome) (last gone : Pass A) → IsThere after → Gains last (Down ∷ []) gone ⊎ (gone ≡ last) → Goes after last gone
   goes_by Linked last gone there goes = goes
@@ -135,6 +136,10 @@ module _ {A : Type 0} (subs : Tables) (of_link : Option (List ℕ) → Option (L
       → AreSessions subs of_link between more new → AreSessions subs of_link old (sessions ++ more) new
   over_then old [] between more new over are = subst (λ p. AreSessions subs of_link p more new) over are
   over_then old (first ∷ sessions) between more new over are = (over.0, inl over.1, over_then first.gone sessions between more new over.2 are)
+
+  over_gone : (old : Pass A) (sessions : List (PastSession A)) (between : Pass A) → AreOver subs of_link old sessions between → AllByRecursion IsGone sessions
+  over_gone old [] between over = tt
+  over_gone old (session ∷ sessions) between over = (inl over.1, over_gone session.gone sessions between over.2)
 
   -- the line has had no turn
   pub on_nothing : (pass : Pass A) → IsOn subs of_link GoesOn pass None pass
@@ -281,23 +286,37 @@ module _ {A : Type 0} (subs : Tables) (of_link : Option (List ℕ) → Option (L
   on_more first (Some (connection, seen)) pass left end new on steps =
       turned first connection pass seen left end new on steps.after steps.now steps.new_seen steps.is_turn steps.moved steps.line steps.leaves
 
+  -- the links of a line that has ended, all of them gone where it was stopped
+  abbrev pub EndsWith : Pass A → EndReason → Pass A → Type 0
+  EndsWith first why new = (sessions : List (PastSession A)) × AreSessions subs of_link first sessions new × (why ≡ Stopped → AllByRecursion IsGone sessions)
+
   -- the line has ended
-  pub served : (first : Pass A) (link : Option (Here A)) (pass new : Pass A) → IsOn subs of_link IsThere first link pass → Closes link pass new
-      → (sessions : List (PastSession A)) × AreSessions subs of_link first sessions new
-  served first None pass new on closes =
-      (on.sessions ++ [], over_then first on.sessions on.between [] new on.over (subst (Drops on.between) (sym closes) on.rest))
-  served first (Some (connection, seen)) pass new on closes =
+  pub ends_with : (first : Pass A) (link : Option (Here A)) (pass : Pass A) (why : EndReason) (new : Pass A) → IsOn subs of_link IsThere first link pass → Closes link why pass new → EndsWith first why new
+  ends_with first None pass why new on closes = (
+    on.sessions,
+    subst (λ sessions. AreSessions subs of_link first sessions new) (append-nil on.sessions)
+        (over_then first on.sessions on.between [] new on.over (subst (Drops on.between) (sym closes) on.rest)),
+    λ _. over_gone first on.sessions on.between on.over,
+  )
+  ends_with first (Some (connection, seen)) pass why new on closes =
       let there = on.rest in
-      let session : PastSession A = record { connection = connection; came = there.came; seen = there.first; turns = there.turns; gone = new } in
+      let session : PastSession A = record { connection = connection; came = there.came; seen = there.first; turns = there.turns; gone = closes.gone } in
       let is : IsSession subs of_link on.between session = record {
         comes = there.comes;
         fresh = there.fresh;
         turns = there.are_turns;
         moved_at_first = there.moved_at_first;
         moved = there.moved;
-        goes = subst (λ (l : Left A). Goes l.after l.pass new) (sym there.last) (goes_by there.after pass new there.may_be closes);
+        goes = subst (λ (l : Left A). Goes l.after l.pass closes.gone) (sym there.last) (goes_by there.after pass closes.gone there.may_be closes.goes);
       } in
-      (on.sessions ++ session ∷ [], over_then first on.sessions on.between (session ∷ []) new on.over (is, inr refl, drops_nothing new))
+      let gone : why ≡ Stopped → IsGone session = λ stopped. inr (subst (λ (l : Left A). Gains l.pass (Down ∷ []) closes.gone) (sym there.last) (closes.stopped stopped)) in (
+        on.sessions ++ session ∷ [],
+        over_then first on.sessions on.between (session ∷ []) new on.over (is, inr refl, closes.drops),
+        λ stopped. all_more IsGone on.sessions session (over_gone first on.sessions on.between on.over) (gone stopped),
+      )
+
+  pub is_down : (first : Pass A) (why : EndReason) (new : Pass A) → EndsWith first why new → why ≡ Stopped → IsLineDown subs of_link first new
+  is_down first why new (sessions, are, gone) stopped = (sessions, are, gone stopped)
 
   -- a link came, after outputs were dropped
   pub connects_later : (old before : Pass A) (left : Option (Here A)) (end : Option EndReason) (new : Pass A) → Drops old before → Connects subs of_link before left end new → Connects subs of_link old left end new
@@ -327,3 +346,6 @@ module _ {A : Type 0} (subs : Tables) (of_link other : Option (List ℕ) → Opt
 
   pub served_less : (first last : Pass A) → IsLineServed subs of_link first last → IsLineServed subs other first last
   served_less first last is = (is.0, is.1, sessions_less first is.1 last is.2)
+
+  pub down_less : (first last : Pass A) → IsLineDown subs of_link first last → IsLineDown subs other first last
+  down_less first last is = (is.0, sessions_less first is.0 last is.1, is.2)

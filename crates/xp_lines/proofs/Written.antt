@@ -8,15 +8,22 @@ use Rattle.xp_lines.specs.steps.Ended.{is_lost}
 use Rattle.xp_lines.specs.Flow.{Leaves}
 use Rattle.xp_lines.specs.AnswerTimer.{since_after_put, since_after_all}
 use Rattle.xp_lines.specs.Wire.{NoneCloses, Took, Writes, carried, closes, wire}
-use Rattle.xp_lines.specs.steps.Wire.{Fills}
+use Rattle.xp_lines.specs.steps.Wire.{Fills, WritesRest}
 use Rattle.xp_lines.specs.declared.answer_timer.AnswerTimer.{AnswerTimer}
 use Rattle.xp_lines.specs.declared.writing.Ended.{Ended}
 use Rattle.xp_lines.specs.declared.writing.Ended.TheVariants as ends
-use Rattle.xp_lines.proofs.Octets.{appends_both}
+use Rattle.xp_lines.proofs.Octets.{appends_both, appends_nothing}
 
 module _ {A : Type 0} where
   took_nothing : (old : Pass A) → Took old [] old
   took_nothing old = record { line = refl; seen = refl; taken = sym (append-nil old.taken) }
+
+  pub took_both : (old now next : Pass A) (items others : List (Outgoing A)) → Took old items now → Took now others next → Took old (items ++ others) next
+  took_both old now next items others first second = record {
+    line = second.line ∙ first.line;
+    seen = second.seen ∙ first.seen;
+    taken = second.taken ∙ ap (λ xs. xs ++ others) first.taken ∙ append_assoc old.taken items others;
+  }
 
   took_more : (old now next : Pass A) (items : List (Outgoing A)) (item : Outgoing A) → Took old items now → next ≡ record now { taken = now.taken ++ item ∷ [] } → Took old (items ++ item ∷ []) next
   took_more old now next items item took same = record {
@@ -211,3 +218,35 @@ module _ {A : Type 0} where
   written_by modulus other connection old unwritten before rest between new filled left after timer later taking ended first none same_modulus taken second same still_open =
       written_all modulus connection old unwritten before rest between new filled left after timer later taking ended first none
       (subst (λ m. TakenOut m connection old rest timer taking new filled later) same_modulus taken) second same still_open
+
+  -- nothing was written yet
+  pub rest_nothing : (modulus : Modulus) (connection : ℕ) (old : Pass A) (unwritten : List ℕ) (before : Option (List ℕ)) → WritesRest modulus connection old unwritten before old unwritten before []
+  rest_nothing modulus connection old unwritten before = record { items = []; took = took_nothing old; pushed = []; grows = appends_nothing before; whole = refl }
+
+  -- one write more
+  pub rest_more : (modulus other : Modulus) (connection : ℕ) (old : Pass A) (unwritten : List ℕ) (before : Option (List ℕ)) (now : Pass A) (left : List ℕ) (between : Option (List ℕ)) (next : Pass A) (rest : List ℕ) (after : Option (List ℕ)) (lost : List ℕ)
+      → WritesRest modulus connection old unwritten before now left between [] → other ≡ modulus → Writes other connection now left between next rest after lost
+      → WritesRest modulus connection old unwritten before next rest after lost
+  rest_more modulus other connection old unwritten before now left between next rest after lost so_far same_modulus more =
+      let wrote : Writes modulus connection now left between next rest after lost = subst (λ m. Writes m connection now left between next rest after lost) same_modulus more in
+      record {
+        items = so_far.items ++ wrote.items;
+        took = took_both old now next so_far.items wrote.items so_far.took wrote.took;
+        pushed = so_far.pushed ++ wrote.pushed;
+        grows = appends_both before between after so_far.pushed wrote.pushed so_far.grows wrote.grows;
+        whole =
+            ap (λ xs. unwritten ++ xs) (flat_map-append (carried modulus connection) so_far.items wrote.items)
+            ∙ sym (append_assoc unwritten (wire modulus connection so_far.items) (wire modulus connection wrote.items))
+            ∙ ap (λ xs. xs ++ wire modulus connection wrote.items) (so_far.whole ∙ append-nil (so_far.pushed ++ left))
+            ∙ append_assoc so_far.pushed left (wire modulus connection wrote.items)
+            ∙ ap (λ xs. so_far.pushed ++ xs) wrote.whole
+            ∙ sym (append_assoc so_far.pushed (wrote.pushed ++ rest) lost)
+            ∙ ap (λ xs. xs ++ lost) (sym (append_assoc so_far.pushed wrote.pushed rest));
+      }
+
+  -- the same, where nothing was lost
+  pub rest_again : (modulus other : Modulus) (connection : ℕ) (old : Pass A) (unwritten : List ℕ) (before : Option (List ℕ)) (now : Pass A) (left : List ℕ) (between : Option (List ℕ)) (next : Pass A) (rest : List ℕ) (after : Option (List ℕ)) (lost : List ℕ)
+      → WritesRest modulus connection old unwritten before now left between [] → other ≡ modulus → Writes other connection now left between next rest after lost → lost ≡ []
+      → WritesRest modulus connection old unwritten before next rest after []
+  rest_again modulus other connection old unwritten before now left between next rest after lost so_far same_modulus more none =
+      subst (WritesRest modulus connection old unwritten before next rest after) none (rest_more modulus other connection old unwritten before now left between next rest after lost so_far same_modulus more)

@@ -74,6 +74,14 @@ module _ {A : Type 0} where
   AreSessions subs of_link old (session ∷ sessions) new =
       IsSession subs of_link old session × (((left_at_last session).after ≡ Dropped) ⊎ (sessions ≡ [])) × AreSessions subs of_link session.gone sessions new
 
+  -- the exchange accepted that the link went
+  abbrev pub IsGone : PastSession A → Type 0
+  IsGone session = ((left_at_last session).after ≡ Dropped) ⊎ Gains (left_at_last session).pass (Down ∷ []) session.gone
+
+  -- the line is down at the end: the exchange accepted of each of its links that it went
+  abbrev pub IsLineDown : Tables → (Option (List ℕ) → Option (List ℕ) → Type 0) → Pass A → Pass A → Type 0
+  IsLineDown subs of_link first last = (sessions : List (PastSession A)) × AreSessions subs of_link first sessions last × AllByRecursion IsGone sessions
+
   -- the line's pass came back from its thread
   abbrev pub IsLineServed : Tables → (Option (List ℕ) → Option (List ℕ) → Type 0) → Pass A → Pass A → Type 0
   IsLineServed subs of_link first last = (last.line ≡ first.line) × (sessions : List (PastSession A)) × AreSessions subs of_link first sessions last

@@ -4,10 +4,12 @@
 //! to the exchange, and it writes to the connection the packets that the exchange puts out to the line.
 //! [`serve_all`] starts one thread for each line, [`serve_line`] is what such a thread runs, and [`turn`] is one turn on a
 //! connection, which is called a link here. The thread that calls [`serve_all`] hands the charging records to a
-//! [`RecordSink`] as calls end.
+//! [`RecordSink`] as calls end. Where the sink asks for a stop, each line offers the Down of its link, writes what still waits
+//! for the link, and ends.
 #![tactic(auto)]
 
 mod answer_timer;
+mod closing;
 mod flow;
 mod gathering;
 mod laws;
@@ -16,8 +18,8 @@ mod link;
 mod offering;
 mod reading;
 mod recording;
-mod recording_signal;
 mod session;
+mod signals;
 mod threads;
 mod turning;
 mod waiting;
@@ -28,8 +30,8 @@ pub use laws::{links_add_up, turns_add_up};
 pub use line::{EndReason, LineEnd, serve_line};
 pub use link::{Arrived, Clock, Gate, Link, Port, Pulled, Pushed};
 pub use recording::{Received, RecordSink};
-pub use recording_signal::RecordingSignal;
 pub use session::Session;
+pub use signals::Signals;
 pub use threads::{LinesServed, ServeFault, ThreadInputs, serve_all};
 pub use turning::{TurnOutcome, Turned, turn};
 pub use waiting::Waiting;

@@ -1,14 +1,15 @@
 //! The thread of one line.
 
 ghost use Rattle.std.specs.Prelude.{◌≡◌, List, None};
-ghost use Rattle.xp_lines.specs.Sessions.{AreMoved, AreSessions, Drops, PastSession};
-ghost use Rattle.xp_lines.specs.steps.Sessions.{Closes, Connects, IsOn, IsThere, Steps, TurnsOn, here, seen_on};
+ghost use Rattle.xp_lines.specs.Sessions.{AreMoved, AreSessions, Drops, IsLineDown, PastSession};
+ghost use Rattle.xp_lines.specs.steps.Sessions.{Connects, IsOn, IsThere, Steps, TurnsOn, here, seen_on};
 
+use crate::closing::close;
 use crate::link::{Arrived, Clock, Gate, Link, Port};
 use crate::offering::{Stop, offer};
-use crate::recording_signal::RecordingSignal;
 use crate::session::Session;
-use crate::turning::{TurnOutcome, go_down, turn};
+use crate::signals::Signals;
+use crate::turning::{TurnOutcome, turn};
 use crate::waiting::Waiting;
 use std::alloc::{Allocator, Global};
 use std::sync::Wait;
@@ -31,6 +32,10 @@ pub enum EndReason {
     Port,
     /// The thread could not be started.
     NotStarted,
+    /// The line was asked to stop. The exchange has accepted the Down of its last link, or it had no link.
+    Stopped,
+    /// The line was asked to stop, but an allocation failed too often: its Down is still owed.
+    Memory,
 }
 
 /// What a line's thread returns as it ends.
@@ -43,8 +48,12 @@ pub struct LineEnd<N: Name, A: Allocator = Global> {
 }
 
 /// Serves a line for at most `turns` turns, with the links that come from its port, one at a time. It halts the exchange where
-/// `records` charging records are made, or the journal is full. At the end it offers the Down of a link that is still there.
-/// It tells the recording thread of the records that were made, and that the line has ended.
+/// `records` charging records are made, or the journal is full. It tells the recording thread of the records that were made, and
+/// that the line has ended.
+///
+/// At the end it offers the Down of a link that is still there. Where an allocation fails, a line that was asked to stop offers it
+/// again, at most 100 times. Once the exchange has accepted the Down, such a line writes what still waits for the link, for at
+/// most 5 seconds, and only then drops it.
 pub fn serve_line<N: Name, P: Port, C: Clock, G: Gate, A: Allocator + Copy, R: Wait>(
     rt: &R,
     alloc: A,
@@ -53,26 +62,34 @@ pub fn serve_line<N: Name, P: Port, C: Clock, G: Gate, A: Allocator + Copy, R: W
     port: P,
     clock: C,
     gate: G,
-    signal: &RecordingSignal,
+    signals: &Signals,
     turns: u64,
     records: u64,
 ) -> LineEnd<N, A>
     ensures line { result.pass.line ≡ pass.line }
     ensures sessions { (sessions : List (PastSession A)) × AreSessions N.subs (AreMoved P.Link.pushed P.Link.pulled) pass sessions result.pass }
+    ensures stopped { result.why ≡ EndReason.Stopped → IsLineDown N.subs (AreMoved P.Link.pushed P.Link.pulled) pass result.pass }
 {
     let mut pass = pass;
     let mut port = port;
     let mut clock = clock;
     let mut gate = gate;
     let last = have_turns(
-        rt, alloc, exchange, &mut pass, &mut port, &mut clock, &mut gate, signal, turns, records,
+        rt, alloc, exchange, &mut pass, &mut port, &mut clock, &mut gate, signals, turns, records,
     );
-    let why = last.why;
-    close(rt, exchange, &mut pass, &mut clock, last.session);
+    let why = close(
+        rt,
+        exchange,
+        &mut pass,
+        &mut clock,
+        signals,
+        last.why,
+        last.session,
+    );
     if why == EndReason::Journal {
         exchange.halt(rt);
     }
-    signal.line_ended();
+    signals.line_ended();
     LineEnd { pass, why }
 }
 
@@ -85,7 +102,7 @@ struct Last<L: Link, A: Allocator> {
     why: EndReason,
 }
 
-/// The turns of a line, until it has had so many, or has ended.
+/// The turns of a line, until it has had so many, is to stop, or has ended.
 fn have_turns<N: Name, P: Port, C: Clock, G: Gate, A: Allocator + Copy, R: Wait>(
     rt: &R,
     alloc: A,
@@ -94,7 +111,7 @@ fn have_turns<N: Name, P: Port, C: Clock, G: Gate, A: Allocator + Copy, R: Wait>
     port: &mut P,
     clock: &mut C,
     gate: &mut G,
-    signal: &RecordingSignal,
+    signals: &Signals,
     turns: u64,
     records: u64,
 ) -> Last<P::Link, A>
@@ -103,8 +120,14 @@ fn have_turns<N: Name, P: Port, C: Clock, G: Gate, A: Allocator + Copy, R: Wait>
 {
     let mut session = None;
     for _turn in 0..turns {
+        if signals.is_stopping() {
+            return Last {
+                session,
+                why: EndReason::Stopped,
+            };
+        }
         let step = have_turn(rt, alloc, exchange, pass, port, clock, gate, session);
-        signal.records_made(step.records);
+        signals.records_made(step.records);
         halt_at(rt, exchange, step.records, records);
         if let Some(why) = step.end {
             return Last {
@@ -285,24 +308,5 @@ fn come_up<N: Name, L: Link, C: Clock, A: Allocator + Copy, R: Wait>(
         Err(Stop::Halted) => unlinked(Some(EndReason::Halted)),
         Err(Stop::Journal) => unlinked(Some(EndReason::Journal)),
         Err(Stop::Memory | Stop::Held) => unlinked(None),
-    }
-}
-
-/// Offers that the line's last link went, and drops it, if there is one.
-fn close<N: Name, L: Link, C: Clock, A: Allocator + Copy, R: Wait>(
-    rt: &R,
-    exchange: &Exchange<N, A>,
-    pass: &mut LinePass<N, A>,
-    clock: &mut C,
-    session: Option<Session<L, A>>,
-)
-    ensures line { pass.new.line ≡ pass.old.line }
-    ensures closes { Closes (here L.pushed L.pulled session) pass.old pass.new }
-{
-    // The link goes even if the exchange refuses the event.
-    if let Some(linked) = session {
-        let mut linked = linked;
-        let moment = clock.now();
-        let _ = go_down(rt, exchange, pass, clock, moment, &mut linked.waiting, 0);
     }
 }

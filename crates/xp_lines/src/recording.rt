@@ -5,17 +5,17 @@ ghost use Rattle.xp_charge.specs.Lines.{HasLines};
 ghost use Rattle.xp_lines.specs.Recorded.{HandsOn};
 ghost use Rattle.xp_subs.specs.Tables.{line_count};
 
-use crate::recording_signal::RecordingSignal;
+use crate::signals::Signals;
 use std::sync::Wait;
 use xp_charge::Record;
 use xp_lock::{Exchange, Name, Recorder};
 
-/// The result of handing records to a sink.
+/// The answer of a sink.
 #[derive(Clone, Copy, Debug, PartialEq)]
 pub enum Received {
     /// Serving goes on.
     GoesOn,
-    /// The sink can do nothing with further records: serving stops.
+    /// Serving stops: the lines are asked to stop. The sink is still given the records of the calls that end by it.
     Stops,
 }
 
@@ -41,6 +41,13 @@ pub trait RecordSink: Drop {
         ensures lines { lines self.new ≡ lines self.old }
         ensures keeps { keeps self.old self.new };
 
+    /// Called by the recording thread at least ten times a second, also while no calls end. It may write what waits, and may
+    /// ask for a stop.
+    fn tick(&mut self) -> Received
+        ensures received { received self.new ≡ received self.old }
+        ensures lines { lines self.new ≡ lines self.old }
+        ensures keeps { keeps self.old self.new };
+
     ghost keeps_itself: { (sink : Self) → keeps sink sink };
 
     ghost keeps_on: { (first second third : Self) → keeps first second → keeps second third → keeps first third };
@@ -53,14 +60,15 @@ pub(crate) struct Recorded<N: Name, S: RecordSink> {
     pub(crate) sink: S,
 }
 
-/// Hands charging records to the sink as calls end, until all lines have ended. Where the sink can do nothing with further
-/// records, the exchange is halted. Records that no memory could be had for at the end stay with the exchange.
+/// Hands charging records to the sink as calls end, until all lines have ended, and lets the sink do what it does from time to
+/// time. Where the sink answers that serving stops, the lines are asked to stop. Records that no memory could be had for at the
+/// end stay with the exchange.
 pub(crate) fn keep_recording<N: Name, S: RecordSink, R: Wait>(
     rt: &R,
     exchange: &Exchange<N>,
     recorder: Recorder<N>,
     sink: S,
-    signal: &RecordingSignal,
+    signals: &Signals,
 ) -> Recorded<N, S>
     requires { S.lines sink ≡ line_count N.subs }
     ensures { HandsOn S.received S.keeps recorder sink result.recorder result.sink }
@@ -68,14 +76,25 @@ pub(crate) fn keep_recording<N: Name, S: RecordSink, R: Wait>(
     let mut recorder = recorder;
     let mut sink = sink;
     for _ in rt.forever() {
-        let ended = signal.all_ended();
-        hand_over(rt, exchange, &mut recorder, &mut sink);
+        let ended = signals.all_ended();
+        let handed = hand_over(rt, exchange, &mut recorder, &mut sink);
+        stop_at(signals, handed);
+        let ticked = sink.tick();
+        stop_at(signals, ticked);
         if ended {
             return Recorded { recorder, sink };
         }
-        signal.wait(rt);
+        signals.wait(rt);
     }
     unreachable!()
+}
+
+/// Asks the lines to stop, where the sink answered that serving stops.
+fn stop_at(signals: &Signals, received: Received) {
+    match received {
+        Received::GoesOn => {}
+        Received::Stops => signals.ask_to_stop(),
+    }
 }
 
 /// Hands the records of the calls that have ended since to the sink. If no memory can be had for them, they wait.
@@ -84,18 +103,15 @@ fn hand_over<N: Name, S: RecordSink, R: Wait>(
     exchange: &Exchange<N>,
     recorder: &mut Recorder<N>,
     sink: &mut S,
-)
+) -> Received
     requires { S.lines sink.old ≡ line_count N.subs }
     ensures lines { S.lines sink.new ≡ S.lines sink.old }
     ensures hands { HandsOn S.received S.keeps recorder.old sink.old recorder.new sink.new }
 {
     let Ok(records) = exchange.take_records(rt, recorder) else {
-        return;
+        return Received::GoesOn;
     };
-    match give(sink, records) {
-        Received::GoesOn => {}
-        Received::Stops => exchange.halt(rt),
-    }
+    give(sink, records)
 }
 
 /// Gives records to the sink, if there are any.

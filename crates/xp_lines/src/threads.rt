@@ -3,14 +3,14 @@
 ghost use Rattle.std.specs.Prelude.{◌≡◌, IfErr, IfOk, [], map, vec_len, vec_capacity, ◌+◌, ◌≤◌};
 ghost use Rattle.xp_lines.specs.Pairs.{AreEach};
 ghost use Rattle.xp_lines.specs.Recorded.{HandsOn};
-ghost use Rattle.xp_lines.specs.Sessions.{AreMoved, IsLineServed};
-ghost use Rattle.xp_lines.specs.steps.Threads.{Begins, Ends};
+ghost use Rattle.xp_lines.specs.Sessions.{AreMoved, IsLineDown, IsLineServed};
+ghost use Rattle.xp_lines.specs.steps.Threads.{Begins, Ends, EndsSo};
 ghost use Rattle.xp_subs.specs.Tables.{line_count};
 
 use crate::line::{EndReason, LineEnd, serve_line};
 use crate::link::{Clock, Gate, Link, Port};
 use crate::recording::{RecordSink, keep_recording};
-use crate::recording_signal::RecordingSignal;
+use crate::signals::Signals;
 use std::alloc::Global;
 use std::marker::PhantomData;
 use std::snapshot::Snapshot;
@@ -55,9 +55,10 @@ struct OfLine<N: Name, L: Link> {
 }
 
 impl<N: Name, L: Link> Promise<LineEnd<N>> for OfLine<N, L> {
-    ghost use Rattle.xp_lines.specs.Sessions.{AreMoved, IsLineServed};
+    ghost use Rattle.xp_lines.specs.Sessions.{AreMoved};
+    ghost use Rattle.xp_lines.specs.steps.Threads.{EndsSo};
 
-    ghost kept_by = { λ promise end. IsLineServed N.subs (AreMoved L.pushed L.pulled) promise.first.value end.pass };
+    ghost kept_by = { λ promise end. EndsSo N.subs (AreMoved L.pushed L.pulled) promise.first.value end };
 }
 
 /// A line whose thread runs, or a line whose thread could not be started.
@@ -68,8 +69,8 @@ type Begun<N, L> = Result<PromisedHandle<LineEnd<N>, OfLine<N, L>>, LineEnd<N>>;
 /// exchange is halted. The ends are in the order of the parts.
 ///
 /// The recorder takes the charging records of calls as they end, and the sink is given them. It is given the rest once all lines
-/// have ended; those that no memory could be had for stay with the exchange. Where the sink can do nothing with further records,
-/// the exchange is halted.
+/// have ended; those that no memory could be had for stay with the exchange. Where the sink answers that serving stops, the lines
+/// are asked to stop.
 ///
 /// # Errors
 ///
@@ -94,6 +95,7 @@ pub fn serve_all<
     requires { S.lines sink ≡ line_count N.subs }
     ensures ok { IfOk result (λ served. map (λ end. end.pass.line) served.ends.items ≡ map (λ part. part.pass.line) parts.items) }
     ensures served { IfOk result (λ served. AreEach (IsLineServed N.subs (AreMoved P.Link.pushed P.Link.pulled)) (map (λ part. part.pass) parts.items) (map (λ end. end.pass) served.ends.items)) }
+    ensures stopped { IfOk result (λ served. AreEach (λ first end. end.why ≡ EndReason.Stopped → IsLineDown N.subs (AreMoved P.Link.pushed P.Link.pulled) first end.pass) (map (λ part. part.pass) parts.items) served.ends.items) }
     ensures recorded { IfOk result (λ served. HandsOn S.received S.keeps recorder sink served.recorder served.sink) }
     ensures err { IfErr result (λ fault. fault.parts ≡ parts) }
     ensures kept { IfErr result (λ fault. (fault.recorder ≡ recorder) × (fault.sink ≡ sink)) }
@@ -112,8 +114,8 @@ pub fn serve_all<
             sink,
         });
     };
-    let signal = RecordingSignal::new(parts.len());
-    let shared = &signal;
+    let signals = Signals::new(parts.len());
+    let shared = &signals;
     Ok(thread::scope(
         thread::scope_env(),
         rt,
@@ -123,6 +125,7 @@ pub fn serve_all<
             requires none { (begun.items ≡ []) × (ends.items ≡ []) }
             requires lines { S.lines sink ≡ line_count N.subs }
             ensures served { AreEach (IsLineServed N.subs (AreMoved P.Link.pushed P.Link.pulled)) (map (λ part. part.pass) parts.items) (map (λ end. end.pass) result.ends.items) }
+            ensures stopped { AreEach (λ first end. end.why ≡ EndReason.Stopped → IsLineDown N.subs (AreMoved P.Link.pushed P.Link.pulled) first end.pass) (map (λ part. part.pass) parts.items) result.ends.items }
             ensures recorded { HandsOn S.received S.keeps recorder sink result.recorder result.sink }
         {
             let begun = begin_all(
@@ -152,7 +155,7 @@ fn begin_all<
     scope: &Scope<'s, E>,
     alloc: Global,
     exchange: &'s Exchange<N>,
-    signal: &'s RecordingSignal,
+    signals: &'s Signals,
     parts: Vec<ThreadInputs<N, P, C, G>>,
     begun: Vec<Begun<N, P::Link>>,
     turns: u64,
@@ -165,7 +168,7 @@ fn begin_all<
 {
     let mut begun = begun;
     for part in parts {
-        begun.push_reserved(begin_one(rt, scope, alloc, exchange, signal, part, turns, records));
+        begun.push_reserved(begin_one(rt, scope, alloc, exchange, signals, part, turns, records));
     }
     begun
 }
@@ -184,7 +187,7 @@ fn begin_one<
     scope: &Scope<'s, E>,
     alloc: Global,
     exchange: &'s Exchange<N>,
-    signal: &'s RecordingSignal,
+    signals: &'s Signals,
     part: ThreadInputs<N, P, C, G>,
     turns: u64,
     records: u64,
@@ -202,10 +205,10 @@ fn begin_one<
         link: PhantomData,
     };
     let run = move || -> LineEnd<N>
-        ensures { IsLineServed N.subs (AreMoved P.Link.pushed P.Link.pulled) pass result.pass }
+        ensures { EndsSo N.subs (AreMoved P.Link.pushed P.Link.pulled) pass result }
     {
         serve_line(
-            rt, alloc, exchange, pass, port, clock, gate, signal, turns, records,
+            rt, alloc, exchange, pass, port, clock, gate, signals, turns, records,
         )
     };
     match scope.spawn_with(promise, run) {

@@ -27,6 +27,8 @@ pub fn why_letter(why: EndReason) -> u8 {
         EndReason::Journal => b'J',
         EndReason::Port => b'P',
         EndReason::NotStarted => b'N',
+        EndReason::Stopped => b'S',
+        EndReason::Memory => b'M',
     }
 }
 

@@ -110,4 +110,14 @@ impl Board {
         }
         true
     }
+
+    /// Whether each line's link took all octets that it is given before a stop.
+    pub fn may_stop(&self, scenario: Scenario) -> bool {
+        for (seen, plan) in self.lines.iter().zip(scenario.plans()) {
+            if seen.got.load(Ordering::SeqCst) < plan.before_stop {
+                return false;
+            }
+        }
+        true
+    }
 }

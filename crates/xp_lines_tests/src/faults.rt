@@ -110,9 +110,9 @@ fn wanted_record(failing: &Failing, number: u64) -> &'static str {
 fn flaws(at_push: bool, number: u64) -> Flaws {
     if at_push {
         Flaws {
-            pull: None,
             push: Some(number),
             most: 1,
+            ..FLAWLESS
         }
     } else {
         Flaws {

@@ -4,6 +4,7 @@ ghost use Rattle.std.specs.Prelude.{◌≡◌, IfOk};
 
 use crate::account::tell_records;
 use crate::board::Board;
+use crate::plan::Scenario;
 use std::alloc::{AllocError, Global};
 use std::sync::Arc;
 use std::sync::atomic::Ordering;
@@ -22,12 +23,20 @@ pub struct Kept {
     board: Arc<Board>,
     /// The number of records at which serving stops.
     most: u64,
+    /// Serving stops too once the links were given what this scenario gives them before.
+    stops: Option<Scenario>,
     given: Past<Record>,
 }
 
 impl Kept {
-    /// A sink that is full with so many records.
-    pub fn new(alloc: Global, subs: Subs, board: &Arc<Board>, most: u64) -> Result<Kept, AllocError>
+    /// A sink that is full with so many records, or stops the lines once the links of this scenario were given enough.
+    pub fn new(
+        alloc: Global,
+        subs: Subs,
+        board: &Arc<Board>,
+        most: u64,
+        stops: Option<Scenario>,
+    ) -> Result<Kept, AllocError>
         ensures { IfOk result (λ kept. kept.subs ≡ subs) }
     {
         Ok(Kept {
@@ -35,6 +44,7 @@ impl Kept {
             subs,
             board: Arc::try_clone(board)?,
             most,
+            stops,
             given: Past::new(),
         })
     }
@@ -62,7 +72,22 @@ impl RecordSink for Kept {
         Received::GoesOn
     }
 
+    fn tick(&mut self) -> Received {
+        match self.stops {
+            Some(scenario) => stop_if(self.board.may_stop(scenario)),
+            None => Received::GoesOn,
+        }
+    }
+
     ghost keeps_itself = { λ _. tt };
 
     ghost keeps_on = { λ _ _ _ _ _. tt };
+}
+
+fn stop_if(stops: bool) -> Received {
+    if stops {
+        Received::Stops
+    } else {
+        Received::GoesOn
+    }
 }

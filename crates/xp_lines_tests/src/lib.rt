@@ -26,6 +26,8 @@ mod serving;
 #[cfg(test)]
 mod slow;
 #[cfg(test)]
+mod stopped;
+#[cfg(test)]
 mod turning;
 #[cfg(test)]
 mod unlike;

@@ -1,6 +1,6 @@
 //! Clocks and gates of the lines.
 
-use crate::board::Board;
+use crate::board::{Board, Seen};
 use crate::plan::Scenario;
 use std::alloc::AllocError;
 use std::sync::Arc;
@@ -106,6 +106,17 @@ fn meet(board: &Board, lines: &[LineNo]) {
 fn comes(word: &AtomicBool) -> bool {
     for _look in 0..MOST_LOOKS {
         if word.load(Ordering::SeqCst) {
+            return true;
+        }
+        thread::yield_now();
+    }
+    false
+}
+
+/// Whether the line was woken so often before the looks are used up.
+pub fn is_woken(seen: &Seen, wakes: u64) -> bool {
+    for _look in 0..MOST_LOOKS {
+        if seen.wakes.load(Ordering::SeqCst) >= wakes {
             return true;
         }
         thread::yield_now();

@@ -7,6 +7,7 @@ use crate::served::{
     BROKEN_PORT, FIVE_AT_ONCE, FULL_JOURNAL, HALTED, LOST_LINK, NO_ANSWER, TWO_CALLS,
 };
 use crate::slow::SLOW;
+use crate::stopped::{BLOCKED, RESETTING, RINGING, TALKING};
 use crate::unlike::{UNLIKE, UNLIKE_STATIONS};
 use xp_subs::LineNo;
 use xp_testing::THREE_STATIONS;
@@ -62,6 +63,10 @@ pub struct Plan {
     pub leave: GateRule,
     /// How it fails, where its line is served on a thread.
     pub flaws: Flaws,
+    /// How many octets it is given before a stop.
+    pub before_stop: usize,
+    /// How often its line is woken, where the other line of its call stops first.
+    pub wakes: u64,
 }
 
 /// A link that gives nothing and is given nothing.
@@ -72,6 +77,8 @@ pub const SILENT: Plan = Plan {
     wants: &[],
     leave: FREELY,
     flaws: FLAWLESS,
+    before_stop: 0,
+    wakes: 0,
 };
 
 /// A port that gives nothing.
@@ -96,6 +103,11 @@ pub enum Scenario {
     Faults,
     Slow,
     Unlike,
+    /// Calls of a1 and b1 that are live as their lines stop, this line after the other.
+    Ringing(LineNo),
+    Talking(LineNo),
+    Resetting(LineNo),
+    Blocked(LineNo),
 }
 
 impl Scenario {
@@ -114,6 +126,27 @@ impl Scenario {
             Scenario::Faults => &FAULTS,
             Scenario::Slow => &SLOW,
             Scenario::Unlike => &UNLIKE,
+            Scenario::Ringing(_) => &RINGING,
+            Scenario::Talking(_) => &TALKING,
+            Scenario::Resetting(_) => &RESETTING,
+            Scenario::Blocked(_) => &BLOCKED,
+        }
+    }
+
+    /// How often a line is woken before it stops, where it stops after the other line of its call.
+    pub fn wakes_before_stop(self, line: LineNo) -> u64 {
+        match self {
+            Scenario::Ringing(last)
+            | Scenario::Talking(last)
+            | Scenario::Resetting(last)
+            | Scenario::Blocked(last) => {
+                if last == line {
+                    self.plan(line).wakes
+                } else {
+                    0
+                }
+            }
+            _ => 0,
         }
     }
 
@@ -147,6 +180,8 @@ pub struct Flaws {
     pub push: Option<u64>,
     /// How many octets a push takes at most.
     pub most: usize,
+    /// How many octets all pushes take together.
+    pub all: usize,
 }
 
 /// It does not fail.
@@ -154,4 +189,5 @@ pub const FLAWLESS: Flaws = Flaws {
     pull: None,
     push: None,
     most: usize::MAX,
+    all: usize::MAX,
 };

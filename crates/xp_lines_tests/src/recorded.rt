@@ -66,7 +66,7 @@ fn records_come_while_lines_are_served(rt: HostRuntime) -> Result<(), Fail> {
 
 /// The sink stops serving with its first record, though more are wanted.
 #[test]
-fn full_sink_halts_the_exchange(rt: HostRuntime) -> Result<(), Fail> {
+fn full_sink_stops_the_lines(rt: HostRuntime) -> Result<(), Fail> {
     let board = Arc::new(rt.alloc(), Board::new())?;
     let serving = Serving {
         scenario: Scenario::Refused,
@@ -77,7 +77,7 @@ fn full_sink_halts_the_exchange(rt: HostRuntime) -> Result<(), Fail> {
     let text = serve(&rt, rt.alloc(), &serving, &board)?;
     assert_eq!(rt;
         text.as_str(),
-        "HHHHH\n2\nrecord 1 a1 - 2080099 caller 0 0 0d 67 0\n"
+        "SSSSS\n3\nrecord 1 a1 - 2080099 caller 0 0 0d 67 0\n"
     );
     Ok(())
 }

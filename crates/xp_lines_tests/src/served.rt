@@ -6,7 +6,9 @@ use crate::frames::{
     CONNECTED, CONNECTED_AND_CONFIRMATION, INCOMING_AND_CLEAR, INCOMING_AND_EXPIRED, INCOMING_AT_B,
     INCOMING_AT_H, INCOMING_WITH_DATA, OUT_OF_ORDER,
 };
-use crate::plan::{Comes, FREELY, Flaws, GateRule, NO_LINK, Piece, Plan, SILENT, Scenario};
+use crate::plan::{
+    Comes, FLAWLESS, FREELY, Flaws, GateRule, NO_LINK, Piece, Plan, SILENT, Scenario,
+};
 use crate::serving::{Serving, USUALLY, serve};
 use std::sync::Arc;
 use std::sync::atomic::Ordering;
@@ -126,9 +128,9 @@ pub static LOST_LINK: [Plan; 5] = [
     Plan {
         wants: &[0x00, 0x00, 0x00, 0x16, 0x10],
         flaws: Flaws {
-            pull: None,
             push: Some(5),
             most: 1,
+            ..FLAWLESS
         },
         ..SILENT
     },

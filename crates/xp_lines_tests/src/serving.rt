@@ -30,6 +30,8 @@ pub struct Serving {
     pub records: u64,
     /// The number of records at which the sink stops serving.
     pub kept: u64,
+    /// Whether the sink stops serving once the links were given what they are given before a stop.
+    pub stops: bool,
 }
 
 /// Two calls, served as most acts are.
@@ -40,6 +42,7 @@ pub const USUALLY: Serving = Serving {
     turns: 5_000_000,
     records: 1,
     kept: 1_000,
+    stops: false,
 };
 
 fn part<N: Name>(
@@ -157,7 +160,8 @@ pub fn serve<R: Threads + Wait + Sync>(
     if named.counts().lines != subs.counts().lines {
         return Err("the subscriptions differ".into());
     }
-    let sink = Kept::new(alloc, named, board, serving.kept)?;
+    let stops = serving.stops.then_some(serving.scenario);
+    let sink = Kept::new(alloc, named, board, serving.kept, stops)?;
     let prepared = prepare(alloc, subs)?;
     let text = serves::<Brand, R>(rt, alloc, prepared, sink, serving, board)?;
     Ok(String::from_utf8(text)?)

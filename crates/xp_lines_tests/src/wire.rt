@@ -4,6 +4,7 @@ ghost use Rattle.std.specs.Prelude.{◌≤◌, length};
 ghost use Rattle.xp_lines.specs.Counts.{pulled_count};
 
 use crate::board::{Board, Seen};
+use crate::pace::is_woken;
 use crate::plan::{Comes, Flaws, Piece, Plan, Scenario};
 use std::alloc::AllocError;
 use std::sync::Arc;
@@ -66,6 +67,14 @@ impl Wire {
         Some(piece)
     }
 
+    /// Waits until the other line of the call has stopped, where this line stops after it.
+    fn hold(&self) {
+        let plan = self.plan();
+        if self.left == 0 && self.seen().got.load(Ordering::SeqCst) >= plan.before_stop {
+            is_woken(self.seen(), self.scenario.wakes_before_stop(self.line));
+        }
+    }
+
     fn fails(&self, at: Option<u64>, number: u64) -> bool {
         let fails = at == Some(number);
         if fails {
@@ -91,6 +100,7 @@ impl Link for Wire {
             return Pulled::Fault;
         }
         let Some(piece) = self.piece() else {
+            self.hold();
             return Pulled::Nothing;
         };
         if piece.octets.is_empty() {
@@ -104,7 +114,11 @@ impl Link for Wire {
         if self.fails(self.flaws.push, number) {
             return Pushed::Fault;
         }
-        let count = from.len().min(self.flaws.most);
+        let room = self
+            .flaws
+            .all
+            .saturating_sub(self.seen().got.load(Ordering::SeqCst));
+        let count = from.len().min(self.flaws.most).min(room);
         for octet in &from[..count] {
             self.seen().take(*octet, self.plan().wants);
         }

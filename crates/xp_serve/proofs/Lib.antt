@@ -1,5 +1,7 @@
+mod Addresses
 mod EarlyEnds
 mod Fronts
+mod Kept
 mod Passes
 mod Ports
 mod Printed

@@ -10,10 +10,13 @@ use Rattle.xp_lock.specs.Passes.{Pass}
 use Rattle.xp_subs.specs.Tables.{Tables, line_count}
 use Rattle.std.specs.List.{AllByRecursion}
 use Rattle.xp_lines.specs.Pairs.{AreEach}
-use Rattle.xp_lines.specs.Sessions.{IsAnyLink, IsLineServed}
-use Rattle.xp_lines.proofs.Sessions.{served_less}
+use Rattle.xp_lines.specs.Sessions.{IsAnyLink, IsLineDown, IsLineServed}
+use Rattle.xp_lines.specs.declared.line.EndReason.{EndReason}
+use Rattle.xp_lines.specs.declared.line.EndReason.TheVariants.{Stopped}
+use Rattle.xp_lines.specs.declared.line.LineEnd.{LineEnd}
+use Rattle.xp_lines.proofs.Sessions.{down_less, served_less}
 use Rattle.xp_serve.specs.Served.{AreInOrder, IsBrought}
-use Rattle.xp_serve.specs.steps.Serving.{WereServed}
+use Rattle.xp_serve.specs.steps.Serving.{WereServed, WereStopped}
 
 abbrev is_among : ℕ → List ℕ → Bool
 is_among line [] = false
@@ -119,3 +122,31 @@ module _ (tables : Tables) where
         let count = served.are_first.count in
         brought_each served.firsts passes
         (are_firsts 0 served.firsts (λ line within. served.are_first.each line (omega (arith, within, count)) ∙ ap (λ n. Some (first_pass n)) (omega arith))) served.each
+
+-- each two of the lines' reasons and passes
+pub each_end : {N : Type 0} (R : EndReason → Pass Alloc → Type 0) (ends : List (LineEnd N Alloc)) → AllByRecursion (λ end. R end.why end.pass) ends
+    → AreEach R (map (λ end. end.why) ends) (map (λ end. end.pass) ends)
+each_end R [] all = tt
+each_end R (end ∷ ends) all = (all.0, each_end R ends all.1)
+
+module _ {N : Type 0} (tables : Tables) (of_link : Option (List ℕ) → Option (List ℕ) → Type 0) where
+  stopped_each : (firsts : List (Pass Alloc)) (ends : List (LineEnd N Alloc)) → AllByRecursion (λ pass. pass ≡ first_pass pass.line) firsts
+      → AreEach (IsLineServed tables of_link) firsts (map (λ end. end.pass) ends)
+      → AreEach (λ first end. end.why ≡ Stopped → IsLineDown tables of_link first end.pass) firsts ends → WereStopped tables ends
+  stopped_each [] [] all served down = tt
+  stopped_each [] (end ∷ ends) all served down = absurd served
+  stopped_each (first ∷ firsts) [] all served down = absurd served
+  stopped_each (first ∷ firsts) (end ∷ ends) all served down = (
+    λ stopped. subst (λ p. IsLineDown tables IsAnyLink p end.pass) (all.0 ∙ ap first_pass (sym served.0.0))
+        (down_less tables of_link IsAnyLink (λ _ _ _. tt) first end.pass (down.0 stopped)),
+    stopped_each firsts ends all.1 served.1 down.1,
+  )
+
+  -- the lines that were stopped are down
+  pub were_stopped : (firsts : List (Pass Alloc)) (ends : List (LineEnd N Alloc)) → AreFirst (line_count tables) firsts
+      → AreEach (IsLineServed tables of_link) firsts (map (λ end. end.pass) ends)
+      → AreEach (λ first end. end.why ≡ Stopped → IsLineDown tables of_link first end.pass) firsts ends → WereStopped tables ends
+  were_stopped firsts ends are_first served down =
+      let count = are_first.count in
+      stopped_each firsts ends
+      (are_firsts 0 firsts (λ line within. are_first.each line (omega (arith, within, count)) ∙ ap (λ n. Some (first_pass n)) (omega arith))) served down

@@ -6,7 +6,7 @@ use Rattle.xp_charge.specs.Text.{record_text}
 use Rattle.xp_charge.specs.declared.record.Record.{Record}
 use Rattle.xp_exchange.proofs.Bytes.{appends_both}
 use Rattle.xp_serve.specs.Printing.{IsFront, Prints}
-use Rattle.xp_serve.specs.declared.print_fault.PrintFault.{PrintFault}
+use Rattle.xp_serve.specs.declared.keep_fault.KeepFault.{KeepFault}
 use Rattle.xp_serve.specs.steps.Printing.{PrintsOn}
 use Rattle.xp_subs.specs.Tables.{Tables}
 
@@ -18,7 +18,7 @@ front_before front first second is = (is.0 ++ second, ap (λ text. text ++ secon
 front_after : (first front second : List ℕ) → IsFront front second → IsFront (first ++ front) (first ++ second)
 front_after first front second is = (is.0, ap (λ text. first ++ text) is.1 ∙ sym (append_assoc first front is.0))
 
-prints_both : (before between after : Option (List ℕ)) (first second : List ℕ) (so_far result : Result (Unit {0}) PrintFault)
+prints_both : (before between after : Option (List ℕ)) (first second : List ℕ) (so_far result : Result (Unit {0}) KeepFault)
     → Prints before between first so_far → PrintsOn so_far between after second result → Prints before after (first ++ second) result
 prints_both before between after first second (Ok done) (Ok also) printed more = appends_both before between after first second printed more
 prints_both before between after first second (Ok done) (Err fault) printed more =
@@ -28,7 +28,7 @@ prints_both before between after first second (Err fault) result printed more =
     (printed.0, subst (λ known. Appends before known printed.0) (sym more.0) printed.1, front_before printed.0 first second printed.2)
 
 -- the records that it was given, and then these
-pub printed_more : (subs : Tables) (given records : List Record) (before between after : Option (List ℕ)) (so_far result : Result (Unit {0}) PrintFault)
+pub printed_more : (subs : Tables) (given records : List Record) (before between after : Option (List ℕ)) (so_far result : Result (Unit {0}) KeepFault)
     → Prints before between (flat_map (record_text subs) given) so_far → PrintsOn so_far between after (flat_map (record_text subs) records) result
     → Prints before after (flat_map (record_text subs) (given ++ records)) result
 printed_more subs given records before between after so_far result printed more =

@@ -17,6 +17,8 @@ early_end_cause why.Halted = None
 early_end_cause why.Journal = Some causes.Journal
 early_end_cause why.Port = Some causes.Port
 early_end_cause why.NotStarted = Some causes.Thread
+early_end_cause why.Stopped = None
+early_end_cause why.Memory = Some causes.Thread
 
 -- that this line ended before its time, or else a later one
 abbrev pub early_end_or : ℕ → Option EarlyEndCause → Option EarlyEnd → Option EarlyEnd

@@ -1,5 +1,5 @@
--- The address that a host is, on whose ports the exchange listens.
-use Rattle.std.specs.Prelude.{◌≡◌, ◌⊎◌, ℕ, List, [], ◌∷◌, codes}
+-- The address that a host is, on whose ports the exchange listens, and the addresses from which lines may be connected to.
+use Rattle.std.specs.Prelude.{◌≡◌, ◌⊎◌, ℕ, List, [], ◌∷◌, Contains, codes}
 use Rattle.std.specs.Net.Addr.{IsV4And, ipv4_octets}
 use Rattle.std.specs.Net.Grammar.{IsIpText}
 use Rattle.std.specs.declared.net.ip_addr.IpAddr.{IpAddr}
@@ -15,3 +15,9 @@ IsHost host address = ((host ≡ codes "localhost") × IsLocal address) ⊎ IsIp
 -- the host is neither `localhost` nor the text of an address
 abbrev pub IsNoHost : List ℕ → Type 0
 IsNoHost host = (address : IpAddr) → IsHost host address → ⊥
+
+-- one of the texts is that of no address
+pub record HasNoAddress (texts : List (List ℕ)) : Type 0 where
+  pub text : List ℕ
+  pub is_among : Contains texts text
+  pub none : (address : IpAddr) → IsIpText text address → ⊥

@@ -1,3 +1,4 @@
+pub mod Details
 pub mod Ends
 pub mod Failures
 pub mod Hosts

@@ -6,9 +6,9 @@ use Rattle.xp_serve.specs.declared.limits.Limits.{Limits}
 abbrev pub greatest : ℕ
 greatest = 1000000000000
 
--- how many turns a line has where it is not said
-abbrev pub usual_turns : ℕ
-usual_turns = 1000000000
+-- a number that is never reached
+abbrev pub no_limit : ℕ
+no_limit = 18446744073709551615
 
 -- a decimal number from 1 to the greatest, before which a plus may stand
 pub record IsNumber (text : List ℕ) (number : ℕ) : Type 0 where
@@ -17,11 +17,12 @@ pub record IsNumber (text : List ℕ) (number : ℕ) : Type 0 where
   pub least : 1 ≤ number
   pub most : number ≤ greatest
 
-abbrev pub AreTurns : Option (List ℕ) → ℕ → Type 0
-AreTurns None turns = turns ≡ usual_turns
-AreTurns (Some text) turns = IsNumber text turns
+-- the limit of a text, which may be absent
+abbrev pub IsLimit : Option (List ℕ) → ℕ → Type 0
+IsLimit None limit = limit ≡ no_limit
+IsLimit (Some text) limit = IsNumber text limit
 
--- the texts of the two numbers, of which that of the turns may be absent
-pub record AreLimits (wanted : List ℕ) (had : Option (List ℕ)) (limits : Limits) : Type 0 where
-  pub wanted_are : IsNumber wanted limits.records
-  pub had_are : AreTurns had limits.turns
+-- the limits of the texts of two numbers, which may be absent
+pub record AreLimits (records turns : Option (List ℕ)) (limits : Limits) : Type 0 where
+  pub records_are : IsLimit records limits.records
+  pub turns_are : IsLimit turns limits.turns

@@ -3,7 +3,7 @@ use Rattle.std.specs.Prelude.{◌≡◌, ℕ, List, ◌++◌, flat_map, Option, 
 use Rattle.std.specs.Io.KnownBytes.{Appends}
 use Rattle.xp_charge.specs.Text.{record_text}
 use Rattle.xp_charge.specs.declared.record.Record.{Record}
-use Rattle.xp_serve.specs.declared.print_fault.PrintFault.{PrintFault}
+use Rattle.xp_serve.specs.declared.keep_fault.KeepFault.{KeepFault}
 use Rattle.xp_subs.specs.Tables.{Tables}
 
 abbrev pub IsFront : List ℕ → List ℕ → Type 0
@@ -14,7 +14,7 @@ abbrev pub AppendsFront : Option (List ℕ) → Option (List ℕ) → List ℕ �
 AppendsFront old new whole = (text : List ℕ) × Appends old new text × IsFront text whole
 
 -- all of the text is written, or a front of it where memory was wanting or the writer failed
-abbrev pub Prints : Option (List ℕ) → Option (List ℕ) → List ℕ → Result (Unit {0}) PrintFault → Type 0
+abbrev pub Prints : Option (List ℕ) → Option (List ℕ) → List ℕ → Result (Unit {0}) KeepFault → Type 0
 Prints old new whole (Ok done) = Appends old new whole
 Prints old new whole (Err fault) = AppendsFront old new whole
 
@@ -28,7 +28,7 @@ pub record Printer : Type 0 where
   pub before : Option (List ℕ)
   pub contents : Option (List ℕ)
   -- whether memory was wanting, or the writer failed
-  pub outcome : Result (Unit {0}) PrintFault
+  pub outcome : Result (Unit {0}) KeepFault
 
 -- The text of all records that the printer was given is written, or a front of it.
 abbrev pub IsPrinted : Printer → Type 0

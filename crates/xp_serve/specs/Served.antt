@@ -5,7 +5,10 @@ use Rattle.std.specs.declared.alloc.Global.{Global as Alloc}
 use Rattle.xp_lock.specs.Closing.{AreCounted, PassesMatch, all_handed, own_entries_together}
 use Rattle.xp_lock.specs.Opening.{first_pass}
 use Rattle.xp_lock.specs.Passes.{IsLegal, Pass}
-use Rattle.xp_lines.specs.Sessions.{IsAnyLink, IsLineServed}
+use Rattle.xp_lines.specs.Pairs.{AreEach}
+use Rattle.xp_lines.specs.Sessions.{IsAnyLink, IsLineDown, IsLineServed}
+use Rattle.xp_lines.specs.declared.line.EndReason.{EndReason}
+use Rattle.xp_lines.specs.declared.line.EndReason.TheVariants.{Stopped}
 use Rattle.xp_subs.specs.Tables.{Tables, line_count}
 use Rattle.xp_serve.specs.Ends.{first_early_end}
 use Rattle.xp_serve.specs.declared.served.Served.{Served}
@@ -19,7 +22,11 @@ pub record AreInOrder (lines : ℕ) (passes : List (Pass Alloc)) : Type 0 where
 abbrev pub IsBrought : Tables → Pass Alloc → Type 0
 IsBrought tables pass = IsLineServed tables IsAnyLink (first_pass pass.line) pass
 
--- Each line gave its pass back as it ended, with what its links brought, and why it ended is told, in the order of lines. The history
+-- A line that tells that it was stopped is down: the exchange accepted of each of its links that it went.
+abbrev pub IsDownIfStopped : Tables → EndReason → Pass Alloc → Type 0
+IsDownIfStopped tables why pass = why ≡ Stopped → IsLineDown tables IsAnyLink (first_pass pass.line) pass
+
+-- Each line gave its pass back as it ended, with what its links brought, and why it ended is told, in the order of lines; one that was stopped is down. The history
 -- is a run of the exchange machine. In it each line has the entries of what it handed in, as its pass knows them, and there are no others but stalls.
 -- What a line took are the first outputs to it, as many as the book counts.
 pub record IsServed (tables : Tables) (served : Served) : Type 0 where
@@ -32,4 +39,5 @@ pub record IsServed (tables : Tables) (served : Served) : Type 0 where
   pub together : length (all_handed served.book.history) ≡ own_entries_together passes
   pub counted : AreCounted served.book passes
   pub each_ended : length served.end_reasons.items ≡ line_count tables
+  pub stopped : AreEach (IsDownIfStopped tables) served.end_reasons.items passes
   pub first : served.early_end ≡ first_early_end 0 served.end_reasons.items

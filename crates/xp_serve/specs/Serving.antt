@@ -1,16 +1,14 @@
 -- What serving the lines of subscriptions comes to.
-use Rattle.std.specs.Prelude.{◌≡◌, ◌⊎◌, ℕ, List, flat_map, Option, None, Some, Result, Ok, Err}
-use Rattle.std.specs.Io.KnownBytes.{Appends, Keeps}
-use Rattle.xp_charge.specs.Text.{record_text}
+use Rattle.std.specs.Prelude.{◌≡◌, ◌⊎◌, List, Option, None, Some, Result, Ok, Err}
+use Rattle.xp_charge.specs.declared.record.Record.{Record}
 use Rattle.xp_core.specs.Records.{OneRecordEach, records_of}
 use Rattle.xp_core.specs.Worlds.{world_after}
 use Rattle.xp_serve.specs.Ends.{failure_of}
-use Rattle.xp_serve.specs.Failures.{IsWanting}
-use Rattle.xp_serve.specs.Printing.{IsFront}
+use Rattle.xp_serve.specs.Failures.{IsWanting, failure_to_keep}
 use Rattle.xp_serve.specs.Served.{IsServed}
 use Rattle.xp_serve.specs.declared.ends.EarlyEnd.{EarlyEnd}
 use Rattle.xp_serve.specs.declared.failure.ServeFailure.{ServeFailure}
-use Rattle.xp_serve.specs.declared.failure.ServeFailure.TheVariants.{Memory, Output}
+use Rattle.xp_serve.specs.declared.keep_fault.KeepFault.{KeepFault}
 use Rattle.xp_serve.specs.declared.served.Served.{Served}
 use Rattle.xp_subs.specs.Tables.{Tables}
 
@@ -19,24 +17,27 @@ abbrev pub outcome : Tables → Option EarlyEnd → Result (Unit {0}) ServeFailu
 outcome tables None = Ok tt
 outcome tables (Some early_end) = Err (failure_of tables early_end)
 
--- The text of the records is written whole, and the lowest line that ended before its time is told. Or memory is wanting or the
--- writer fails, and a front of the text is written.
-abbrev pub IsTold : Tables → Option EarlyEnd → List ℕ → List ℕ → Result (Unit {0}) ServeFailure → Type 0
-IsTold tables early_end whole text result =
-    ((text ≡ whole) × (result ≡ outcome tables early_end)) ⊎ (IsFront text whole × ((result ≡ Err Memory) ⊎ (result ≡ Err Output)))
-
--- One record for each call that ended in the history of the book, and these are written.
-pub record Tells (served : Served) (before after : Option (List ℕ)) (result : Result (Unit {0}) ServeFailure) : Type 0 where
-  pub one_each : OneRecordEach served.book.subs served.book.history (world_after served.book.subs served.book.history)
-  pub text : List ℕ
-  pub written : Appends before after text
-  pub told : IsTold served.book.subs served.early_end (flat_map (record_text served.book.subs) (records_of served.book.history)) text result
+-- what is told once this came of keeping the records
+abbrev pub told : Tables → Option EarlyEnd → Result (Unit {0}) KeepFault → Result (Unit {0}) ServeFailure
+told tables early_end (Ok done) = outcome tables early_end
+told tables early_end (Err fault) = Err (failure_to_keep fault)
 
 abbrev pub IsUnserved : Tables → Result (Unit {0}) ServeFailure → Type 0
 IsUnserved tables (Ok done) = ⊥
 IsUnserved tables (Err failure) = IsWanting tables failure
 
--- no line was served and nothing written, or what the lines' threads left is told
-abbrev pub Serves : Tables → Option (List ℕ) → Option (List ℕ) → Result (Unit {0}) ServeFailure → Type 0
-Serves tables before after result =
-    (Keeps before after × IsUnserved tables result) ⊎ ((served : Served) × IsServed tables served × Tells served before after result)
+-- `kept` is what a keeper keeps of all records of a run, and `keeps` what stays the same of it.
+module _ {K : Type 0} (kept : K → List Record → Result (Unit {0}) KeepFault → Type 0) (keeps : K → K → Type 0) where
+  -- There is one record for each call that ended in the history of the book. The keeper has kept these records, and what came of
+  -- that is told, or else the lowest line that ended before its time.
+  pub record Tells (served : Served) (before after : K) (result : Result (Unit {0}) ServeFailure) : Type 0 where
+    pub one_each : OneRecordEach served.book.subs served.book.history (world_after served.book.subs served.book.history)
+    pub keeping : Result (Unit {0}) KeepFault
+    pub kept_is : kept after (records_of served.book.history) keeping
+    pub keeps_on : keeps before after
+    pub told_is : result ≡ told served.book.subs served.early_end keeping
+
+  -- no line was served and the keeper is as it was, or what the lines' threads left is told
+  abbrev pub Serves : Tables → K → K → Result (Unit {0}) ServeFailure → Type 0
+  Serves tables before after result =
+      ((after ≡ before) × IsUnserved tables result) ⊎ ((served : Served) × IsServed tables served × Tells served before after result)

@@ -16,7 +16,7 @@ pub enum EarlyEndCause {
     Journal,
     /// No connection can come to its port any more.
     Port,
-    /// Its thread could not be started.
+    /// Memory was wanting: its thread could not be started, or its Down was not accepted as it was to stop.
     Thread,
 }
 
@@ -47,10 +47,10 @@ fn cause_of(why: EndReason) -> Option<EarlyEndCause>
     ensures { result ≡ early_end_cause why }
 {
     match why {
-        EndReason::Turns | EndReason::Halted => None,
+        EndReason::Turns | EndReason::Halted | EndReason::Stopped => None,
         EndReason::Journal => Some(EarlyEndCause::Journal),
         EndReason::Port => Some(EarlyEndCause::Port),
-        EndReason::NotStarted => Some(EarlyEndCause::Thread),
+        EndReason::NotStarted | EndReason::Memory => Some(EarlyEndCause::Thread),
     }
 }
 

@@ -1,12 +1,11 @@
 //! Why lines were not served to the end.
 
 ghost use Rattle.std.specs.Prelude.{◌≡◌, ◌<◌};
-ghost use Rattle.xp_serve.specs.Failures.{name_at, status_of};
+ghost use Rattle.xp_serve.specs.Failures.{failure_to_keep, name_at, status_of};
 ghost use Rattle.xp_serve.specs.declared.failure.ServeFailure.TheVariants.{Memory as OutOfMemory, Port as OfPort};
-ghost use Rattle.xp_serve.specs.steps.Failures.{told_fault};
 ghost use Rattle.xp_subs.specs.Tables.{line_count};
 
-use crate::print_fault::PrintFault;
+use crate::keep_fault::KeepFault;
 use std::alloc::AllocError;
 use thiserror::Error;
 use xp_file::Name;
@@ -18,13 +17,16 @@ pub enum ServeFailure {
     /// The host of the subscription file is no address.
     #[error("xp: host")]
     Host,
+    /// A source of the line with this name is no IP address.
+    #[error("xp: from {0}")]
+    From(Name),
     /// The port of the line with this name can't be listened on, or no connection can come to it any more.
     #[error("xp: port {0}")]
     Port(Name),
     /// The history is full.
     #[error("xp: journal full")]
     Journal,
-    /// The thread of a line could not be started.
+    /// The thread of a line could not be started, or the Down of a line that was to stop was not accepted for want of memory.
     #[error("xp: memory")]
     Thread,
     #[error("xp: memory")]
@@ -32,6 +34,9 @@ pub enum ServeFailure {
     /// Standard output cannot be written on.
     #[error("xp: output")]
     Output,
+    /// The file of call detail records can't be written on. What it did not take is written on standard output.
+    #[error("xp: cdr")]
+    Details,
 }
 
 impl ServeFailure {
@@ -41,7 +46,11 @@ impl ServeFailure {
     {
         match self {
             ServeFailure::Journal | ServeFailure::Thread | ServeFailure::Memory => 4,
-            ServeFailure::Host | ServeFailure::Port(_) | ServeFailure::Output => 5,
+            ServeFailure::Host
+            | ServeFailure::From(_)
+            | ServeFailure::Port(_)
+            | ServeFailure::Output
+            | ServeFailure::Details => 5,
         }
     }
 
@@ -62,13 +71,14 @@ impl From<AllocError> for ServeFailure {
     }
 }
 
-impl From<PrintFault> for ServeFailure {
-    ghost from_gives = { λ fault failure. failure ≡ told_fault fault };
+impl From<KeepFault> for ServeFailure {
+    ghost from_gives = { λ fault failure. failure ≡ failure_to_keep fault };
 
-    fn from(fault: PrintFault) -> ServeFailure {
+    fn from(fault: KeepFault) -> ServeFailure {
         match fault {
-            PrintFault::Memory => ServeFailure::Memory,
-            PrintFault::Output => ServeFailure::Output,
+            KeepFault::Memory => ServeFailure::Memory,
+            KeepFault::Output => ServeFailure::Output,
+            KeepFault::Details => ServeFailure::Details,
         }
     }
 }

@@ -1,23 +1,35 @@
-//! Serving lines over TCP: the exchange listens on each line's port, serves them all, and prints each charging record as its
+//! Serving lines over TCP: the exchange listens on each line's port, serves them all, and keeps each charging record as its
 //! call ends.
 #![tactic(auto)]
 
+mod attending;
+mod details;
 mod ends;
 mod failure;
 mod host;
+mod keep_fault;
+mod keeping;
 mod limits;
 mod listening;
-mod print_fault;
+mod operator_log;
 mod printing;
 mod served;
 mod serving;
+mod stop_input;
 mod telling;
+mod watching;
 
+pub use attending::{Attending, Watch};
+pub use details::DetailKeeper;
 pub use ends::{EarlyEnd, EarlyEndCause};
 pub use failure::ServeFailure;
+pub use keep_fault::KeepFault;
+pub use keeping::RecordKeeper;
 pub use limits::Limits;
 pub use listening::listen_all;
-pub use print_fault::PrintFault;
+pub use operator_log::OperatorLog;
 pub use printing::RecordPrinter;
 pub use served::{NotServed, Recorded, Served};
 pub use serving::{ServeEnd, TcpThreadInputs, serve, serve_on, thread_inputs};
+pub use stop_input::StopInput;
+pub use watching::OperatorWatch;

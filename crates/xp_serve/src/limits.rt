@@ -1,35 +1,43 @@
 //! The numbers that serving is asked with.
 
 ghost use Rattle.std.specs.Prelude.{◌≡◌, ℕ, List, IfNone, IfSome, option_map};
-ghost use Rattle.xp_serve.specs.Limits.{AreLimits, IsNumber};
+ghost use Rattle.xp_serve.specs.Limits.{AreLimits, IsLimit, IsNumber};
 
 /// The greatest number that may be asked for.
 const GREATEST: u64 = 1_000_000_000_000;
 
-/// How many turns a line has where it is not said.
-const USUAL_TURNS: u64 = 1_000_000_000;
+/// The number where none is said: it is never reached.
+const NO_LIMIT: u64 = u64::MAX;
 
 /// When serving ends.
 #[derive(Clone, Copy, Debug, PartialEq, Eq)]
 pub struct Limits {
-    /// With so many charging records, 1 to 1,000,000,000,000.
+    /// With so many charging records, 1 to 1,000,000,000,000; 2^64 - 1 where there is no limit.
     pub records: u64,
-    /// For each line after so many turns, 1 to 1,000,000,000,000.
+    /// For each line after so many turns, 1 to 1,000,000,000,000; 2^64 - 1 where there is no limit.
     pub turns: u64,
 }
 
 impl Limits {
-    /// The limits that the texts of two numbers are, of which that of the turns may be absent.
-    pub fn read(records: &str, turns: Option<&str>) -> Option<Limits>
-        ensures right { IfSome result (λ limits. AreLimits records.now (option_map (λ text. text.now) turns.entry) limits) }
-        ensures wrong { IfNone result ((limits : Limits) → AreLimits records.now (option_map (λ text. text.now) turns.entry) limits → ⊥) }
+    /// The limits that the texts of two numbers are. Where a text is absent there is no limit.
+    pub fn read(records: Option<&str>, turns: Option<&str>) -> Option<Limits>
+        ensures right { IfSome result (AreLimits (option_map (λ text. text.now) records.entry) (option_map (λ text. text.now) turns.entry)) }
+        ensures wrong { IfNone result ((limits : Limits) → AreLimits (option_map (λ text. text.now) records.entry) (option_map (λ text. text.now) turns.entry) limits → ⊥) }
     {
-        let records = number(records)?;
-        let turns = match turns {
-            Some(text) => number(text)?,
-            None => USUAL_TURNS,
-        };
+        let records = limit(records)?;
+        let turns = limit(turns)?;
         Some(Limits { records, turns })
+    }
+}
+
+/// The limit that a text is, if it may be asked for.
+fn limit(text: Option<&str>) -> Option<u64>
+    ensures right { IfSome result (IsLimit (option_map (λ text. text.now) text.entry)) }
+    ensures wrong { IfNone result ((number : ℕ) → IsLimit (option_map (λ text. text.now) text.entry) number → ⊥) }
+{
+    match text {
+        Some(text) => number(text),
+        None => Some(NO_LIMIT),
     }
 }
 

@@ -7,7 +7,8 @@ ghost use Rattle.xp_serve.specs.Printing.{IsPrinted, Prints};
 ghost use Rattle.xp_serve.specs.steps.Printing.{PrintsOn};
 ghost use Rattle.xp_subs.specs.Tables.{line_count};
 
-use crate::print_fault::PrintFault;
+use crate::keep_fault::KeepFault;
+use crate::keeping::RecordKeeper;
 use std::alloc::Global;
 use std::io::Write;
 use std::marker::Model;
@@ -27,7 +28,7 @@ pub struct RecordPrinter<W: Write> {
     /// The room for the text of a record.
     text: Vec<u8>,
     /// Whether memory was wanting, or the writer failed.
-    outcome: Result<(), PrintFault>,
+    outcome: Result<(), KeepFault>,
     /// The writer as it was given.
     first: Snapshot<W>,
     /// All records that it was given.
@@ -81,7 +82,7 @@ impl<W: Write> RecordPrinter<W> {
     /// # Errors
     ///
     /// `Memory`, `Output`.
-    pub fn outcome(&self) -> Result<(), PrintFault>
+    pub fn outcome(&self) -> Result<(), KeepFault>
         ensures outcome { result ≡ self.now.outcome }
         ensures printed { IsPrinted self.now }
     {
@@ -123,19 +124,43 @@ impl<W: Write + Drop> RecordSink for RecordPrinter<W> {
         }
     }
 
+    fn tick(&mut self) -> Received {
+        Received::GoesOn
+    }
+
     ghost keeps_itself = { λ p. (refl, refl) };
 
     ghost keeps_on = { λ p q r first second. (second.0 ∙ first.0, second.1 ∙ first.1) };
 }
 
+impl<W: Write + Drop> RecordKeeper for RecordPrinter<W> {
+    ghost use Rattle.std.specs.Prelude.{flat_map};
+    ghost use Rattle.std.proofs.Common.{refl};
+    ghost use Rattle.xp_charge.specs.Text.{record_text};
+    ghost use Rattle.xp_serve.specs.Printing.{Prints};
+
+    ghost named_by = { λ p. p.subs };
+
+    ghost kept = { λ p records result. Prints p.before p.contents (flat_map (record_text p.subs) records) result };
+
+    ghost has_lines = { λ p. refl };
+
+    ghost keeps_names = { λ p q same. same.0 };
+
+    fn finish(&mut self, rest: &[Record]) -> Result<(), KeepFault> {
+        self.print(rest);
+        self.outcome()
+    }
+}
+
 /// Writes the lines of further records, unless there was a fault before.
 fn print_more<W: Write>(
-    before: Result<(), PrintFault>,
+    before: Result<(), KeepFault>,
     subs: &Subs,
     records: &[Record],
     text: &mut Vec<u8>,
     writer: &mut W,
-) -> Result<(), PrintFault>
+) -> Result<(), KeepFault>
     requires { All (HasLines (line_count subs.now)) records.now }
     ensures { PrintsOn before (W.contents writer.old) (W.contents writer.new) (flat_map (record_text subs.now) records.now) result }
 {
@@ -155,7 +180,7 @@ fn print_records<W: Write>(
     records: &[Record],
     text: &mut Vec<u8>,
     writer: &mut W,
-) -> Result<(), PrintFault>
+) -> Result<(), KeepFault>
     requires lines { All (HasLines (line_count subs.now)) records.now }
     ensures { Prints (W.contents writer.old) (W.contents writer.new) (flat_map (record_text subs.now) records.now) result }
 {
@@ -164,7 +189,7 @@ fn print_records<W: Write>(
     }
     match writer.flush() {
         Ok(()) => Ok(()),
-        Err(_) => Err(PrintFault::Output),
+        Err(_) => Err(KeepFault::Output),
     }
 }
 
@@ -174,7 +199,7 @@ fn print_record<W: Write>(
     ended: &Record,
     text: &mut Vec<u8>,
     writer: &mut W,
-) -> Result<(), PrintFault>
+) -> Result<(), KeepFault>
     requires { HasLines (line_count subs.now) ended.now }
     ensures { Prints (W.contents writer.old) (W.contents writer.new) (record_text subs.now ended.now) result }
 {
@@ -182,6 +207,6 @@ fn print_record<W: Write>(
     ended.write(subs, text)?;
     match write_out(writer, text) {
         Ok(()) => Ok(()),
-        Err(_) => Err(PrintFault::Output),
+        Err(_) => Err(KeepFault::Output),
     }
 }

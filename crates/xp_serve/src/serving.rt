@@ -5,114 +5,111 @@ ghost use Rattle.xp_serve.specs.Hosts.{IsNoHost};
 ghost use Rattle.xp_serve.specs.Served.{IsServed};
 ghost use Rattle.xp_serve.specs.Serving.{Serves, Tells};
 ghost use Rattle.xp_serve.specs.declared.failure.ServeFailure.TheVariants.{Host as NoHost};
-ghost use Rattle.xp_serve.specs.steps.Serving.{AreReady, WereServed};
+ghost use Rattle.xp_serve.specs.steps.Serving.{AreReady, WereServed, WereStopped};
 ghost use Rattle.xp_subs.specs.Tables.{line_count};
 
 use crate::ends::{end_reasons_of, first_early_end, passes_of};
 use crate::failure::ServeFailure;
 use crate::host::host_address;
+use crate::keeping::RecordKeeper;
 use crate::limits::Limits;
 use crate::listening::listen_all;
-use crate::printing::RecordPrinter;
 use crate::served::{NotServed, Recorded, Served};
 use crate::telling::tell;
 use std::alloc::{AllocError, Global};
-use std::io::Write;
 use std::marker::Brand;
 use std::net::{IpAddr, Net};
-use std::sync::Wait;
+use std::sync::{Arc, Wait};
 use std::thread::Threads;
 use xp_lines::{EndReason, LinesServed, RecordSink, ThreadInputs, serve_all};
 use xp_lock::{Exchange, LinePass, Name, PreparedExchange, Recorder, prepare};
 use xp_subs::Subs;
-use xp_tcp::{OpenGate, Sockets, TcpClock, TcpPort};
+use xp_tcp::{Notices, OpenGate, Sockets, TcpClock, TcpPort};
 
 /// What serving came to.
 #[derive(Drop)]
-pub struct ServeEnd<W: Write> {
-    /// The writer, on which the charging records are written.
-    pub writer: W,
+pub struct ServeEnd<K: RecordKeeper> {
+    /// The keeper of the charging records.
+    pub keeper: K,
     /// Whether the lines were served to the end.
     pub outcome: Result<(), ServeFailure>,
 }
 
-/// Listens on the port of each line, and serves all lines by [`serve_on`] until they have ended. Each charging record is written
-/// and flushed as its call ends, in the order in which the calls end. `names` are the same subscriptions once more, from which the
-/// written lines have their names: those of the exchange stand under its lock.
+/// Listens on the port of each line, and serves all lines by [`serve_on`] until they have ended. The keeper has each charging
+/// record as its call ends, in the order in which the calls end. What an operator has to see of the lines is told by `notices`.
 ///
 /// # Errors
 ///
 /// Before any line is served: `Host` where the host of the subscription file is neither `localhost` nor an IP address, before
-/// any port is listened on; `Port` with the lowest line whose port can't be had, `Memory`. After the records are written:
-/// what the lowest line told that ended before its time, as `Port`, `Journal` or `Thread`. `Memory` and `Output` where not
-/// all records could be written; then serving ends too.
-pub fn serve<R: Net + Threads + Wait + Sync, W: Write + Drop>(
+/// any port is listened on, and else `From` with the lowest line that has a source which is no IP address; `Port` with the
+/// lowest line whose port can't be had, `Memory`. After the records are kept:
+/// what the lowest line told that ended before its time, as `Port`, `Journal` or `Thread`. Where not all records could be kept,
+/// what the keeper told: `Memory`, `Output` or `Details`.
+pub fn serve<R: Net + Threads + Wait + Sync, K: RecordKeeper>(
     rt: &R,
     alloc: Global,
     subs: Subs,
-    names: Subs,
     limits: Limits,
-    writer: W,
-) -> ServeEnd<W>
-    requires { names ≡ subs }
+    notices: Arc<Notices>,
+    keeper: K,
+) -> ServeEnd<K>
+    requires names { K.named_by keeper ≡ subs }
+    requires new { K.received keeper ≡ [] }
     ensures host { (result.outcome ≡ Err NoHost) ↔ IsNoHost subs.host }
-    ensures serves { Serves subs (W.contents writer) (W.contents result.writer) result.outcome }
+    ensures serves { Serves K.kept K.keeps subs keeper result.keeper result.outcome }
 {
     let Some(host) = host_address(subs.host()) else {
         return ServeEnd {
-            writer,
+            keeper,
             outcome: Err(ServeFailure::Host),
         };
     };
-    serve_at(rt, alloc, subs, names, host, limits, writer)
+    serve_at(rt, alloc, subs, host, limits, notices, keeper)
 }
 
 /// Serves all lines at an address of the machine.
-fn serve_at<R: Net + Threads + Wait + Sync, W: Write + Drop>(
+fn serve_at<R: Net + Threads + Wait + Sync, K: RecordKeeper>(
     rt: &R,
     alloc: Global,
     subs: Subs,
-    names: Subs,
     host: IpAddr,
     limits: Limits,
-    writer: W,
-) -> ServeEnd<W>
-    requires { names ≡ subs }
-    ensures { Serves subs (W.contents writer) (W.contents result.writer) result.outcome }
+    notices: Arc<Notices>,
+    keeper: K,
+) -> ServeEnd<K>
+    requires names { K.named_by keeper ≡ subs }
+    requires new { K.received keeper ≡ [] }
+    ensures { Serves K.kept K.keeps subs keeper result.keeper result.outcome }
 {
-    let sockets = match listen_all(rt, alloc, &subs, host) {
+    let sockets = match listen_all(rt, alloc, &subs, host, notices) {
         Ok(sockets) => sockets,
         Err(failure) => {
             return ServeEnd {
-                writer,
+                keeper,
                 outcome: Err(failure),
             };
         }
     };
-    let printer = RecordPrinter::new(alloc, names, writer);
-    match serve_on(rt, alloc, subs, sockets, limits, printer) {
+    match serve_on(rt, alloc, subs, sockets, limits, keeper) {
         Ok(recorded) => end(recorded),
         Err(fault) => ServeEnd {
-            writer: fault.sink.into_writer(),
+            keeper: fault.sink,
             outcome: Err(ServeFailure::Memory),
         },
     }
 }
 
-/// Writes the records that are left, and tells how the lines ended.
-fn end<W: Write + Drop>(recorded: Recorded<RecordPrinter<W>>) -> ServeEnd<W>
+/// Keeps the records that are left, and tells how the lines ended.
+fn end<K: RecordKeeper>(recorded: Recorded<K>) -> ServeEnd<K>
     requires early_end { IfSome recorded.served.early_end (λ early_end. early_end.line < line_count recorded.served.book.subs) }
-    requires subs { recorded.sink.subs ≡ recorded.served.book.subs }
-    requires given { recorded.sink.given ≡ recorded.served.book.given }
-    ensures { Tells recorded.served recorded.sink.before (W.contents result.writer) result.outcome }
+    requires lines { K.lines recorded.sink ≡ line_count recorded.served.book.subs }
+    requires received { K.received recorded.sink ≡ recorded.served.book.given }
+    ensures { Tells K.kept K.keeps recorded.served recorded.sink result.keeper result.outcome }
 {
     let Recorded { served, sink } = recorded;
-    let mut printer = sink;
-    let outcome = tell(&served, &mut printer);
-    ServeEnd {
-        writer: printer.into_writer(),
-        outcome,
-    }
+    let mut keeper = sink;
+    let outcome = tell(&served, &mut keeper);
+    ServeEnd { keeper, outcome }
 }
 
 /// Serves each line on its socket, which listens already, on a thread of its own, until all lines have ended. The sockets are
@@ -191,6 +188,7 @@ fn close<N: Name, S: RecordSink, R: Wait>(
     room_of_reasons: Vec<EndReason>,
 ) -> Recorded<S>
     requires served { WereServed N.subs (map (λ end. end.pass) lines.ends.items) }
+    requires stopped { WereStopped N.subs lines.ends.items }
     requires few { line_count N.subs ≤ 512 }
     requires room { (room.items ≡ []) × (line_count N.subs ≤ vec_capacity room) }
     requires room_of_reasons { (room_of_reasons.items ≡ []) × (line_count N.subs ≤ vec_capacity room_of_reasons) }

@@ -5,27 +5,22 @@ ghost use Rattle.xp_serve.specs.Serving.{Tells};
 ghost use Rattle.xp_subs.specs.Tables.{line_count};
 
 use crate::failure::ServeFailure;
-use crate::printing::RecordPrinter;
+use crate::keeping::RecordKeeper;
 use crate::served::Served;
-use std::io::Write;
 
-/// Writes the charging records that were not handed over while the lines were served, and tells the lowest line that ended
+/// Keeps the charging records that were not handed over while the lines were served, and tells the lowest line that ended
 /// before its time.
 ///
 /// # Errors
 ///
-/// What that line told. `Memory` and `Output` where not all records could be written.
-pub(crate) fn tell<W: Write>(
-    served: &Served,
-    printer: &mut RecordPrinter<W>,
-) -> Result<(), ServeFailure>
+/// What that line told. Where not all records could be kept, what the keeper told.
+pub(crate) fn tell<K: RecordKeeper>(served: &Served, keeper: &mut K) -> Result<(), ServeFailure>
     requires early_end { IfSome served.now.early_end (λ early_end. early_end.line < line_count served.now.book.subs) }
-    requires subs { printer.old.subs ≡ served.now.book.subs }
-    requires given { printer.old.given ≡ served.now.book.given }
-    ensures { Tells served.now printer.old.before printer.new.contents result }
+    requires lines { K.lines keeper.old ≡ line_count served.now.book.subs }
+    requires received { K.received keeper.old ≡ served.now.book.given }
+    ensures { Tells K.kept K.keeps served.now keeper.old keeper.new result }
 {
-    printer.print(served.book.records());
-    printer.outcome()?;
+    keeper.finish(served.book.records())?;
     match served.early_end {
         Some(early_end) => Err(early_end.failure(served.book.subs())),
         None => Ok(()),

@@ -4,7 +4,7 @@ use crate::client::Step;
 use crate::frames::{ACCEPTED, CALL, CLEAR, CONFIRMATION, CONNECTED, INCOMING, OUT_OF_ORDER};
 use crate::serving::{Clients, ONE_RECORD, Wanted, serve};
 use std::test::Fail;
-use xp_serve::PrintFault;
+use xp_serve::KeepFault;
 
 /// A call that is accepted and cleared.
 pub const CALL_AND_CLEAR: Clients = Clients {
@@ -55,7 +55,7 @@ fn client_that_hangs_up(rt: HostRuntime) -> Result<(), Fail> {
     Ok(())
 }
 
-/// The writer takes no record, so serving ends though more records are wanted.
+/// The writer takes no record, so the lines are stopped though more records are wanted.
 #[test]
 fn writer_that_fails(rt: HostRuntime) -> Result<(), Fail> {
     let wanted = Wanted {
@@ -64,7 +64,7 @@ fn writer_that_fails(rt: HostRuntime) -> Result<(), Fail> {
     };
     let served = serve(&rt, rt.alloc(), wanted, CALL_AND_CLEAR)?;
     assert_eq!(rt; served.steps, (5, 4));
-    assert_eq!(rt; (served.left, served.outcome), (0, Err(PrintFault::Output)));
-    assert_eq!(rt; served.text.as_str(), "HHHHH\n");
+    assert_eq!(rt; (served.left, served.outcome), (0, Err(KeepFault::Output)));
+    assert_eq!(rt; served.text.as_str(), "SSSSS\n");
     Ok(())
 }

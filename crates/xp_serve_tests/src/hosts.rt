@@ -8,11 +8,12 @@ use crate::twice::read_twice;
 use std::alloc::Global;
 use std::io;
 use std::net::{Ipv4Addr, Net, SocketAddr, SocketAddrV4, TcpListener, TcpStream};
-use std::sync::Wait;
+use std::sync::{Arc, Wait};
 use std::test::Fail;
 use std::thread::{Threads, join};
-use xp_serve::{Limits, ServeEnd, serve};
+use xp_serve::{Limits, RecordPrinter, ServeEnd, serve};
 use xp_subs::Subs;
+use xp_tcp::Notices;
 
 /// Two ports at 127.0.0.1 on which nobody listens.
 fn free_ports<R: Net<Listener = TcpListener, Stream = TcpStream>>(
@@ -37,9 +38,11 @@ fn printed<R: Net + Threads + Wait + Sync>(
         records: 1,
         turns: TURNS,
     };
-    let ServeEnd { writer, outcome } = serve(rt, alloc, subs, names, limits, Vec::new(alloc));
+    let notices = Arc::new(alloc, Notices::new(alloc).ok()?).ok()?;
+    let printer = RecordPrinter::new(alloc, names, Vec::new(alloc));
+    let ServeEnd { keeper, outcome } = serve(rt, alloc, subs, limits, notices, printer);
     outcome.ok()?;
-    Some(writer)
+    Some(keeper.into_writer())
 }
 
 /// What is printed, and how many steps of the clients were as told.

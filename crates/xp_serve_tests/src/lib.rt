@@ -2,6 +2,8 @@
 #![tactic(auto)]
 
 #[cfg(test)]
+mod admissions;
+#[cfg(test)]
 mod calls;
 #[cfg(test)]
 mod client;
@@ -10,10 +12,14 @@ mod frames;
 #[cfg(test)]
 mod hosts;
 #[cfg(test)]
+mod notices;
+#[cfg(test)]
 mod paper;
 #[cfg(test)]
 mod ports;
 #[cfg(test)]
 mod serving;
+#[cfg(test)]
+mod strangers;
 #[cfg(test)]
 mod twice;

@@ -2,8 +2,10 @@
 
 use crate::twice::read_twice;
 use std::net::{Ipv4Addr, SocketAddr, SocketAddrV4, TcpListener};
+use std::sync::Arc;
 use std::test::Fail;
-use xp_serve::{Limits, ServeEnd, serve};
+use xp_serve::{Limits, RecordPrinter, ServeEnd, serve};
+use xp_tcp::Notices;
 
 /// A host, and what is told where another socket listens on the port of line a1 at 127.0.0.1.
 const REFUSALS: [(&str, &str); 4] = [
@@ -27,21 +29,17 @@ fn port_in_use(rt: HostRuntime) -> Result<(), Fail> {
         let text = format!(in rt.alloc();
             "host = \"{host}\"\n[[station]]\naddress = \"2080010\"\nline = [{{ name = \"a1\", port = {port} }}]\n"
         )?;
-        let (subs, names) = read_twice(rt.alloc(), text.as_str())?;
-        let ServeEnd { writer, outcome } = serve(
-            &rt,
-            rt.alloc(),
-            subs,
-            names,
-            limits,
-            Vec::new(rt.alloc()),
-        );
+        let alloc = rt.alloc();
+        let (subs, names) = read_twice(alloc, text.as_str())?;
+        let notices = Arc::new(alloc, Notices::new(alloc)?)?;
+        let printer = RecordPrinter::new(alloc, names, Vec::new(alloc));
+        let ServeEnd { keeper, outcome } = serve(&rt, alloc, subs, limits, notices, printer);
         let Err(failure) = outcome else {
             return Err("served".into());
         };
         let failure = format!(in rt.alloc(); "{failure}")?;
         assert_eq!(rt; failure.as_str(), told, "at {host}");
-        assert_eq!(rt; writer.len(), 0);
+        assert_eq!(rt; keeper.into_writer().len(), 0);
     }
     Ok(())
 }

@@ -9,14 +9,14 @@ use crate::paper::Paper;
 use crate::twice::read_twice;
 use std::alloc::{AllocError, Global};
 use std::net::{IpAddr, Ipv4Addr, Net, TcpListener, TcpStream};
-use std::sync::Wait;
+use std::sync::{Arc, Wait};
 use std::test::Fail;
 use std::thread::{Threads, join};
 use std::{io, thread};
 use xp_lines::EndReason;
-use xp_serve::{Limits, PrintFault, RecordPrinter, Recorded, Served, serve_on};
+use xp_serve::{KeepFault, Limits, RecordPrinter, Recorded, Served, serve_on};
 use xp_subs::Subs;
-use xp_tcp::Sockets;
+use xp_tcp::{Admission, Notices, Sockets};
 use xp_testing::THREE_STATIONS;
 
 /// More turns than a line has in these tests. A clock sleeps for half a second at most, so a line that nothing else ends has
@@ -35,13 +35,13 @@ pub struct Clients {
 pub struct Met {
     /// How many steps of a1's and of b1's client were as told.
     pub steps: (usize, usize),
-    /// A letter for each line, H where it has ended because the exchange was halted; and the charging records that were printed
-    /// as they were made.
+    /// A letter for each line, H where it has ended because the exchange was halted, S where it was stopped; and the charging
+    /// records that were printed as they were made.
     pub text: String,
     /// How many records were not printed then.
     pub left: usize,
     /// Whether they could be printed.
-    pub outcome: Result<(), PrintFault>,
+    pub outcome: Result<(), KeepFault>,
 }
 
 /// How the stations are served.
@@ -88,9 +88,10 @@ fn listen_all<R: Net>(rt: &R, alloc: Global, subs: &Subs) -> Result<Sockets, Fai
     ensures { IfOk result (λ sockets. length sockets ≡ line_count subs.now) }
 {
     let lines = subs.counts().lines;
-    let mut sockets = Sockets::new(alloc, lines)?;
+    let notices = Arc::new(alloc, Notices::new(alloc)?)?;
+    let mut sockets = Sockets::new(alloc, lines, notices)?;
     for _line in 0..lines {
-        sockets.listen(rt, IpAddr::V4(Ipv4Addr::LOCALHOST), 0)?;
+        sockets.listen(rt, IpAddr::V4(Ipv4Addr::LOCALHOST), 0, Admission::any())?;
     }
     Ok(sockets)
 }
@@ -99,10 +100,10 @@ fn listen_all<R: Net>(rt: &R, alloc: Global, subs: &Subs) -> Result<Sockets, Fai
 fn text_of(alloc: Global, served: &Served, printed: &[u8]) -> Result<Vec<u8>, AllocError> {
     let mut text = Vec::new(alloc);
     for why in &served.end_reasons {
-        text.push(if *why == EndReason::Halted {
-            b'H'
-        } else {
-            b'o'
+        text.push(match why {
+            EndReason::Halted => b'H',
+            EndReason::Stopped => b'S',
+            _ => b'o',
         })?;
     }
     text.push(b'\n')?;

@@ -1,1 +1,4 @@
+pub mod Admissions
+pub mod Notices
 pub mod Ports
+pub mod steps

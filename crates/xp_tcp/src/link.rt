@@ -4,45 +4,51 @@ ghost use Rattle.std.specs.Prelude.{◌≡◌, ◌≢◌, ◌≤◌, ◌↔◌, 
 ghost use Rattle.std.specs.IoError.{error_kind};
 ghost use Rattle.xp_lines.specs.Counts.{pulled_count};
 
-use crate::wakers::LineWaker;
+use crate::notices::Notice;
+use crate::options::notice_dead_peer;
+use crate::share::LineShare;
 use mio::net::TcpStream;
 use mio::{Interest, Registry, Token};
 use std::io;
 use std::io::{ErrorKind, Read, Write};
-use std::sync::Arc;
+use std::net::SocketAddr;
 use xp_lines::{Link, Pulled, Pushed};
 
 /// Names a line's connection among what its thread waits for.
 const STREAM: Token = Token(2);
 
-/// A TCP connection of a line. It leaves what the line's thread waits for when it is dropped.
-#[derive(Drop)]
+/// A TCP connection of a line. It leaves what the line's thread waits for when it is dropped. It tells the notice that the line is
+/// up as it is made, and that the line is down as it is dropped. A peer that is gone ends it within some 90 seconds.
 pub struct TcpLink {
     stream: TcpStream,
-    wakers: Arc<Vec<LineWaker>>,
-    /// The line's own place among the wakers.
-    line: usize,
+    share: LineShare,
+}
+
+impl Drop for TcpLink {
+    fn drop(self) {
+        let TcpLink { stream: _, share } = self;
+        share.tell(Notice::Down { line: share.line });
+    }
 }
 
 impl TcpLink {
     /// The link of a connection, for which the line's thread waits from now on.
     pub(crate) fn new(
         mut stream: TcpStream,
+        peer: SocketAddr,
         waits: &Registry,
-        wakers: Arc<Vec<LineWaker>>,
-        line: usize,
+        share: LineShare,
     ) -> io::Result<TcpLink> {
         // A packet is to go at once, however short it is.
         stream.set_nodelay(true)?;
+        notice_dead_peer(&stream)?;
         waits.register(&mut stream, STREAM, Interest::READABLE | Interest::WRITABLE)?;
-        if let Some(waker) = wakers.get(line) {
+        if let Some(waker) = share.waker() {
             waker.refill();
         }
-        Ok(TcpLink {
-            stream,
-            wakers,
-            line,
-        })
+        let line = share.line;
+        share.tell(Notice::Up { line, peer });
+        Ok(TcpLink { stream, share })
     }
 }
 
@@ -62,7 +68,7 @@ impl Link for TcpLink {
         if into.is_empty() {
             return Pulled::Nothing;
         }
-        let Some(waker) = self.wakers.get(self.line) else {
+        let Some(waker) = self.share.waker() else {
             return Pulled::Fault;
         };
         if waker.is_emptied() {

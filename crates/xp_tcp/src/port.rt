@@ -1,31 +1,41 @@
 //! Where a line's connections come from.
 
-ghost use Rattle.std.specs.Prelude.{◌≡◌, ◌↔◌, ◌⊎◌, IsNone};
+ghost use Rattle.std.specs.Prelude.{◌≡◌, ◌↔◌, ◌⊎◌, IsNone, IsSome};
 ghost use Rattle.std.specs.IoError.{error_kind};
+ghost use Rattle.std.specs.Net.Socket.{socket_ip};
+ghost use Rattle.xp_tcp.specs.Admissions.{Admits};
 
+use crate::admission::Admission;
 use crate::link::TcpLink;
-use crate::wakers::LineWaker;
+use crate::notices::Notice;
+use crate::share::LineShare;
 use mio::Registry;
-use mio::net::TcpListener;
+use mio::net::{TcpListener, TcpStream};
 use std::io;
 use std::io::ErrorKind;
 use std::marker::Model;
-use std::sync::Arc;
+use std::net::SocketAddr;
 use xp_lines::{Arrived, Port};
 
-/// How many connections are taken at most in one call, where those before failed.
+/// How many connections are taken at most in one call, where those before failed or were refused.
 const MOST_TAKEN: usize = 16;
 
-/// The listening socket of a line. Contracts see it as its port.
+/// The errors of Linux that the system has no descriptors, or no room for buffers.
+const ENFILE: i32 = 23;
+
+const ENOBUFS: i32 = 105;
+
+/// The listening socket of a line, and from where its connections may come. Contracts see it as its port.
 #[derive(Drop)]
 pub struct TcpPort {
     port: u16,
     listener: TcpListener,
+    admission: Admission,
     /// What the line's thread waits for.
     waits: Registry,
-    wakers: Arc<Vec<LineWaker>>,
-    /// The line's own place among the wakers.
-    line: usize,
+    share: LineShare,
+    /// No connection could be accepted, for want of descriptors or of memory, and none was since.
+    is_failing: bool,
 }
 
 impl Model for TcpPort {
@@ -40,31 +50,55 @@ impl TcpPort {
     pub(crate) fn new(
         port: u16,
         listener: TcpListener,
+        admission: Admission,
         waits: Registry,
-        wakers: Arc<Vec<LineWaker>>,
-        line: usize,
+        share: LineShare,
     ) -> TcpPort
         ensures { result ≡ port }
     {
         TcpPort {
             port,
             listener,
+            admission,
             waits,
-            wakers,
-            line,
+            share,
+            is_failing: false,
         }
     }
 
-    /// Takes a connection: none where it has failed, so that there may be another behind it.
-    fn take_one(&self) -> Option<Arrived<TcpLink>> {
+    /// Takes a connection: none where it has failed or was refused, so that there may be another behind it.
+    fn take_one(&mut self) -> Option<Arrived<TcpLink>>
+        ensures { self.new ≡ self.old }
+    {
         match self.listener.accept() {
-            Ok((stream, _from)) => {
-                let wakers = Arc::try_clone(&self.wakers).ok()?;
-                let link = TcpLink::new(stream, &self.waits, wakers, self.line).ok()?;
+            Ok((stream, peer)) => {
+                self.note(false);
+                let link = admit(stream, peer, &self.admission, &self.waits, &self.share)?;
                 Some(Arrived::Came(link))
             }
-            Err(error) => without(&error),
+            Err(error) => {
+                if let Some(fails) = is_in_want(&error) {
+                    self.note(fails);
+                }
+                without(&error)
+            }
         }
+    }
+
+    /// Notes whether connections can be accepted, and tells where that has changed.
+    fn note(&mut self, fails: bool)
+        ensures { self.new ≡ self.old }
+    {
+        if fails == self.is_failing {
+            return;
+        }
+        self.is_failing = fails;
+        let line = self.share.line;
+        self.share.tell(if fails {
+            Notice::PortFailing { line }
+        } else {
+            Notice::PortWorks { line }
+        });
     }
 }
 
@@ -79,11 +113,37 @@ impl Port for TcpPort {
                 return arrived;
             }
         }
+        // More may wait, of which the system tells only once: the thread is not to sleep before it has looked again.
+        if let Some(waker) = self.share.waker() {
+            waker.mark_work();
+        }
         Arrived::Nothing
     }
 }
 
-/// What came where no connection could be taken. None where that was the fault of one connection alone.
+/// The link of a connection from a peer. `None` where connections may not come from there, which is told, or where the connection
+/// has failed already. The connection is closed then.
+fn admit(
+    stream: TcpStream,
+    peer: SocketAddr,
+    admission: &Admission,
+    waits: &Registry,
+    share: &LineShare,
+) -> Option<TcpLink>
+    ensures { IsSome result → Admits admission.now (socket_ip peer) }
+{
+    if !admission.admits(peer.ip()) {
+        let line = share.line;
+        share.tell(Notice::Refused { line, peer });
+        return None;
+    }
+    let share = share.try_clone().ok()?;
+    TcpLink::new(stream, peer, waits, share).ok()
+}
+
+/// What came where no connection could be taken. None where that was the fault of one connection alone. The system tells of
+/// connections that wait as they come, and not again: after a want that may pass, the thread sleeps for half a second at most, and
+/// looks again.
 fn without(error: &io::Error) -> Option<Arrived<TcpLink>>
     ensures { IsNone result ↔ (error_kind error.now ≡ ErrorKind.ConnectionAborted) ⊎ (error_kind error.now ≡ ErrorKind.Interrupted) }
 {
@@ -100,4 +160,13 @@ fn is_lasting(error: &io::Error) -> bool {
         error.raw_os_error(),
         Some(libc::EBADF | libc::EINVAL | libc::ENOTSOCK)
     )
+}
+
+/// Whether no connection can be accepted for want of descriptors or of memory. `None` where the error does not tell.
+fn is_in_want(error: &io::Error) -> Option<bool> {
+    match error.raw_os_error() {
+        Some(libc::EMFILE | ENFILE | ENOBUFS | libc::ENOMEM) => Some(true),
+        _ if error.kind() == ErrorKind::WouldBlock => Some(false),
+        _ => None,
+    }
 }

@@ -1,11 +1,15 @@
 //! The listening sockets of an exchange's lines.
 
 ghost use Rattle.std.specs.Prelude.{◌≡◌, ◌<◌, [], IfOk, OnErr, OnOk, map, slice_get};
+ghost use Rattle.std.specs.Net.Socket.{socket_port};
 ghost use Rattle.xp_tcp.specs.Ports.{Listens};
 ghost use Rattle.xp_tcp.specs.declared.sockets.ListenFault.TheVariants.{Memory as OutOfMemory, Port as NoPort};
 
+use crate::admission::Admission;
 use crate::clock::TcpClock;
+use crate::notices::Notices;
 use crate::port::TcpPort;
+use crate::share::LineShare;
 use crate::start::Start;
 use crate::wakers::LineWaker;
 use mio::net::TcpListener;
@@ -56,7 +60,9 @@ impl From<io::Error> for ListenFault {
 /// The listening socket of one line, with what its thread waits on.
 #[derive(Drop)]
 struct Listening {
+    line: LineNo,
     listener: TcpListener,
+    admission: Admission,
     waits: Registry,
     poll: Poll,
     events: Events,
@@ -68,6 +74,7 @@ struct Listening {
 pub struct Sockets {
     lines: Vec<Listening>,
     wakers: Vec<LineWaker>,
+    notices: Arc<Notices>,
 }
 
 impl Model for Sockets {
@@ -79,29 +86,40 @@ impl Model for Sockets {
 }
 
 impl Sockets {
-    /// No sockets yet, with room for so many.
-    pub fn new(alloc: Global, count: usize) -> Result<Sockets, AllocError>
+    /// No sockets yet, with room for so many. What becomes of their connections is told to the notices.
+    pub fn new(alloc: Global, count: usize, notices: Arc<Notices>) -> Result<Sockets, AllocError>
         ensures { IfOk result (λ sockets. sockets ≡ []) }
     {
         Ok(Sockets {
             lines: Vec::with_capacity(alloc, count)?,
             wakers: Vec::with_capacity(alloc, count)?,
+            notices,
         })
     }
 
-    /// Listens on a port for the next line, at an address of the machine. At port 0 the system picks one.
+    /// Listens on a port for the next line, at an address of the machine. At port 0 the system picks one. A connection from an
+    /// address that is not admitted is closed as it comes.
     ///
     /// # Errors
     ///
-    /// `Port` where the port can't be had, `Memory`. No line is added then.
-    pub fn listen<R: Net>(&mut self, rt: &R, host: IpAddr, port: u16) -> Result<(), ListenFault>
+    /// `Port` where the port can't be had, or where there are 65,536 lines already, `Memory`. No line is added then.
+    pub fn listen<R: Net>(
+        &mut self,
+        rt: &R,
+        host: IpAddr,
+        port: u16,
+        admission: Admission,
+    ) -> Result<(), ListenFault>
         ensures ok { OnOk result (Listens self.old port self.new) }
         ensures err { OnErr result (self.new ≡ self.old) }
     {
+        let Ok(number) = LineNo::try_from(self.lines.len()) else {
+            return Err(ListenFault::Port);
+        };
         let alloc = *self.lines.allocator();
         self.lines.reserve(1)?;
         let events = Events::with_capacity(alloc, MOST_EVENTS)?;
-        let (line, waker) = open(rt, host, port, events)?;
+        let (line, waker) = open(rt, SocketAddr::new(host, port), number, admission, events)?;
         self.wakers.reserve(1)?;
         self.wakers.push_reserved(LineWaker::new(waker));
         self.lines.push_reserved(line);
@@ -120,48 +138,54 @@ impl Sockets {
     pub fn into_ends(self, alloc: Global) -> Result<Vec<(TcpPort, TcpClock)>, AllocError>
         ensures { IfOk result (λ ends. map (λ end. end.0) ends.items ≡ self) }
     {
-        let Sockets { lines, wakers } = self;
+        let Sockets {
+            lines,
+            wakers,
+            notices,
+        } = self;
         let wakers = Arc::new(alloc, wakers)?;
         let mut ends = Vec::with_capacity(alloc, lines.len())?;
         let start = Start::read();
         for line in lines {
-            let place = ends.len();
-            let port = TcpPort::new(
-                line.port,
-                line.listener,
-                line.waits,
-                Arc::try_clone(&wakers)?,
-                place,
-            );
+            let share = LineShare::new(line.line, &wakers, &notices)?;
             let clock = TcpClock::new(
                 line.poll,
                 line.events,
                 Arc::try_clone(&wakers)?,
-                place,
+                line.line as usize,
                 start,
             );
+            let port = TcpPort::new(line.port, line.listener, line.admission, line.waits, share);
             ends.push((port, clock))?;
         }
         Ok(ends)
     }
 }
 
-/// Listens on a port at an address: the socket, and what wakes the thread that waits on it. At port 0 the system picks one.
-fn open<R: Net>(rt: &R, host: IpAddr, port: u16, events: Events) -> io::Result<(Listening, Waker)>
-    ensures { IfOk result (λ opened. 0 < port → opened.0.port ≡ port) }
+/// Listens at an address for a line: the socket, and what wakes the thread that waits on it. At port 0 the system picks one.
+fn open<R: Net>(
+    rt: &R,
+    address: SocketAddr,
+    line: LineNo,
+    admission: Admission,
+    events: Events,
+) -> io::Result<(Listening, Waker)>
+    ensures { IfOk result (λ opened. 0 < socket_port address → opened.0.port ≡ socket_port address) }
 {
     let poll = Poll::new(rt)?;
-    let mut listener = TcpListener::bind(rt, SocketAddr::new(host, port))?;
-    let port = match port {
+    let mut listener = TcpListener::bind(rt, address)?;
+    let port = match address.port() {
         0 => listener.local_addr()?.port(),
-        _ => port,
+        port => port,
     };
     poll.registry()
         .register(&mut listener, LISTENER, Interest::READABLE)?;
     let waker = Waker::new(poll.registry(), WAKER)?;
     let waits = poll.registry().try_clone()?;
     let line = Listening {
+        line,
         listener,
+        admission,
         waits,
         poll,
         events,

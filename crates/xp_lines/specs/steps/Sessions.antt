@@ -9,6 +9,7 @@ use Rattle.xp_lines.specs.Sessions.{ComesUp, Drops, IsSession, PastSession, left
 use Rattle.xp_lines.specs.Together.{AreTurns, IsFresh, Left, last_of}
 use Rattle.xp_lines.specs.Turns.{IsTurn, Seen}
 use Rattle.xp_lines.specs.declared.line.EndReason.{EndReason}
+use Rattle.xp_lines.specs.declared.line.EndReason.TheVariants.{Stopped}
 use Rattle.xp_lines.specs.declared.session.Session.{Session}
 use Rattle.xp_lines.specs.declared.turning.TurnOutcome.{TurnOutcome}
 use Rattle.xp_lines.specs.declared.turning.TurnOutcome.TheVariants.{Linked, Dropped, DownOwed, Halted, Journal}
@@ -60,10 +61,18 @@ module _ {A : Type 0} where
   Leaves Halted now left end = (left ≡ Some now) × ((end ≡ None) → ⊥)
   Leaves Journal now left end = (left ≡ Some now) × ((end ≡ None) → ⊥)
 
+  -- How a link that is still there at the end goes: the exchange accepted its Down, as always where the line was stopped, or
+  -- refused it. Then outputs were dropped.
+  pub record GoesBy (why : EndReason) (old new : Pass A) : Type 0 where
+    pub gone : Pass A
+    pub goes : Gains old (Down ∷ []) gone ⊎ (gone ≡ old)
+    pub stopped : why ≡ Stopped → Gains old (Down ∷ []) gone
+    pub drops : Drops gone new
+
   -- the link that is still there at the end goes
-  abbrev pub Closes : Option (Here A) → Pass A → Pass A → Type 0
-  Closes None old new = new ≡ old
-  Closes (Some link) old new = Gains old (Down ∷ []) new ⊎ (new ≡ old)
+  abbrev pub Closes : Option (Here A) → EndReason → Pass A → Pass A → Type 0
+  Closes None why old new = new ≡ old
+  Closes (Some link) why old new = GoesBy why old new
 
 module _ {A : Type 0} (subs : Tables) (of_link : Option (List ℕ) → Option (List ℕ) → Type 0) where
   -- the links that the exchange has accepted as gone

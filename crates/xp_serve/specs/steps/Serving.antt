@@ -1,11 +1,14 @@
 -- For private steps. An exchange that is ready to be served (`AreReady`), and its lines as all have ended (`WereServed`).
 use Rattle.std.specs.Prelude.{◌≡◌, ◌≤◌, List, [], map, vec_capacity}
 use Rattle.std.specs.declared.alloc.Global.{Global as Alloc}
+use Rattle.std.specs.List.{AllByRecursion}
 use Rattle.xp_lines.specs.Pairs.{AreEach}
 use Rattle.xp_lines.specs.Sessions.{IsAnyLink, IsLineServed}
+use Rattle.xp_lines.specs.declared.line.LineEnd.{LineEnd}
 use Rattle.xp_lock.specs.Opening.{AreFirst}
 use Rattle.xp_lock.specs.Passes.{Pass}
 use Rattle.xp_subs.specs.Tables.{Tables, line_count}
+use Rattle.xp_serve.specs.Served.{IsDownIfStopped}
 use Rattle.xp_serve.specs.declared.serving.Ready.{Ready}
 
 -- The threads are given the first passes of all lines, the recorder has taken nothing, and there is room for what comes back.
@@ -20,3 +23,7 @@ pub record WereServed (subs : Tables) (passes : List (Pass Alloc)) : Type 0 wher
   pub firsts : List (Pass Alloc)
   pub are_first : AreFirst (line_count subs) firsts
   pub each : AreEach (IsLineServed subs IsAnyLink) firsts passes
+
+-- the lines that tell that they were stopped are down
+abbrev pub WereStopped : {N : Type 0} → Tables → List (LineEnd N Alloc) → Type 0
+WereStopped subs ends = AllByRecursion (λ end. IsDownIfStopped subs end.why end.pass) ends

@@ -26,21 +26,35 @@ returns-clause-serve c =
         word = _;
         rows = _;
         found_is = refl;
-        subcommand_is = (refl, record { wanted = codes "12"; given = refl; limits_are = record { wanted_are = twelve; had_are = refl } });
+        subcommand_is = (refl, record { limits = record { records_are = refl; turns_are = refl }; details = refl; until_eof = refl });
         named = refl;
       };
     }
 
-pub returns-clause-turns : goal.returns-clause-turns
+pub returns-clause-limits : goal.returns-clause-limits
 unfolding clap_on_literals
-returns-clause-turns c =
+returns-clause-limits c =
     record {
       faultless = refl;
       asked = record {
         word = _;
         rows = _;
         found_is = refl;
-        subcommand_is = (refl, record { wanted = codes "12"; given = refl; limits_are = record { wanted_are = twelve; had_are = three } });
+        subcommand_is = (refl, record { limits = record { records_are = twelve; turns_are = three }; details = refl; until_eof = refl });
+        named = refl;
+      };
+    }
+
+pub returns-clause-details : goal.returns-clause-details
+unfolding clap_on_literals
+returns-clause-details c =
+    λ order details limits until_eof. record {
+      faultless = refl;
+      asked = record {
+        word = _;
+        rows = _;
+        found_is = refl;
+        subcommand_is = (refl, record { limits = rw (limits) (record { records_are = refl; turns_are = refl }); details = details; until_eof = until_eof });
         named = refl;
       };
     }

@@ -1,5 +1,5 @@
 use Rattle.std.proofs.Common.{◌∙◌}
-use Rattle.xp_lines.proofs.Recorded.{handed_both, nothing_handed}
+use Rattle.xp_lines.proofs.Recorded.{handed_both, handed_ticked, nothing_handed}
 use Rattle.xp_lines.proofs.recording.keep_recording.Goals as goal
 
 pub loop-init : goal.loop-init
@@ -10,9 +10,13 @@ loop-init g c = record {
 
 pub loop-preserved : goal.loop-preserved
 loop-preserved g c = record {
-  lines = c.hand_over.ensures.lines ∙ c.loop.invariant.lines;
-  hands = handed_both _ _ g.met.S.RecordSink.keeps_on _ _ _ _ _ _ c.loop.invariant.hands c.hand_over.ensures.hands;
+  lines = c.tick-ticked.ensures.lines ∙ c.hand_over-handed.ensures.lines ∙ c.loop.invariant.lines;
+  hands =
+      handed_ticked _ _ g.met.S.RecordSink.keeps_on _ _ _ _ _
+      (handed_both _ _ g.met.S.RecordSink.keeps_on _ _ _ _ _ _ c.loop.invariant.hands c.hand_over-handed.ensures.hands) c.tick-ticked.ensures.received c.tick-ticked.ensures.keeps;
 }
 
 pub returns-then-ended : goal.returns-then-ended
-returns-then-ended g c = handed_both _ _ g.met.S.RecordSink.keeps_on _ _ _ _ _ _ c.loop.invariant.hands c.hand_over.ensures.hands
+returns-then-ended g c =
+    handed_ticked _ _ g.met.S.RecordSink.keeps_on _ _ _ _ _
+    (handed_both _ _ g.met.S.RecordSink.keeps_on _ _ _ _ _ _ c.loop.invariant.hands c.hand_over-handed.ensures.hands) c.tick-ticked.ensures.received c.tick-ticked.ensures.keeps

@@ -3,7 +3,9 @@ use Rattle.std.proofs.lemmas.List.{length-map}
 use Rattle.xp_lock.specs.Passes.{IsLegal}
 use Rattle.xp_serve.specs.Ends.{first_early_end}
 use Rattle.xp_serve.specs.steps.Serving.{WereServed}
-use Rattle.xp_serve.proofs.Passes.{served_brought, served_count, served_in_order, served_none_missing}
+use Rattle.xp_lines.specs.Pairs.{AreEach}
+use Rattle.xp_serve.specs.Served.{IsDownIfStopped}
+use Rattle.xp_serve.proofs.Passes.{each_end, served_brought, served_count, served_in_order, served_none_missing}
 use Rattle.xp_serve.proofs.serving.close.Goals as goal
 
 pub end_reasons_of-end_reasons-requires-clause-room : goal.end_reasons_of-end_reasons-requires-clause-room
@@ -63,5 +65,9 @@ returns-clause-served g c =
       each_ended =
           ap length c.end_reasons_of-end_reasons.ensures ∙ length-map c.deref.result.now (λ end. end.why) ∙ ap length c.deref.ensures.value
           ∙ sym (length-map ends (λ end. end.pass)) ∙ served_count subs (map (λ end. end.pass) ends) c.requires.served;
+      stopped =
+          subst (λ passes. AreEach (IsDownIfStopped subs) c.end_reasons_of-end_reasons.result.items passes) (sym c.passes_of.ensures)
+          (subst (λ reasons. AreEach (IsDownIfStopped subs) reasons (map (λ end. end.pass) ends)) (sym (c.end_reasons_of-end_reasons.ensures ∙ ap (map (λ end. end.why)) c.deref.ensures.value))
+          (each_end (IsDownIfStopped subs) ends c.requires.stopped));
       first = c.first_early_end-early_end.ensures ∙ ap (first_early_end 0) c.deref-2.ensures.value;
     }

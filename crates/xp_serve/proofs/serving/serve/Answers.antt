@@ -1,12 +1,11 @@
 use Rattle.std.proofs.Common.{inl, refl, subst}
-use Rattle.xp_exchange.proofs.Bytes.{keeps_itself}
 use Rattle.xp_serve.specs.Hosts.{IsHost, IsNoHost}
 use Rattle.xp_serve.proofs.Told.{not_of_host}
 use Rattle.xp_serve.proofs.serving.serve.Goals as goal
 
 pub returns-clause-host : goal.returns-clause-host
 returns-clause-host g c =
-    not_of_host c.args.subs (g.W.Write.contents c.args.writer) (g.W.Write.contents c.serve_at.result.writer) c.serve_at.result.outcome c.in-Some.host
+    not_of_host _ _ c.args.subs c.args.keeper c.serve_at.result.keeper c.serve_at.result.outcome c.in-Some.host
     (subst (λ host. IsHost host c.in-Some.host) c.host.ensures c.in-Some.ensures.some)
     c.serve_at.ensures
 
@@ -21,4 +20,4 @@ returns-in_default-clause-host g c =
 pub returns-in_default-clause-serves : goal.returns-in_default-clause-serves
 returns-in_default-clause-serves g c =
     let none = subst IsNoHost c.host.ensures c.in_default.ensures.none in
-    inl (keeps_itself (g.W.Write.contents c.args.writer), none)
+    inl (refl, none)

@@ -1,30 +1,42 @@
-use Rattle.std.proofs.Common.{Err, ap, inl, inr, subst, sym, refl, ◌∙◌}
-use Rattle.xp_exchange.proofs.Bytes.{keeps_itself}
-use Rattle.xp_serve.specs.Serving.{Serves, Tells}
-use Rattle.xp_serve.specs.declared.failure.ServeFailure.TheVariants.{Memory}
-use Rattle.xp_serve.specs.Printing.{Printer}
+use Rattle.std.proofs.Common.{[], ◌++◌, ap, inl, inr, refl, sym, ◌∙◌}
+use Rattle.xp_subs.specs.Tables.{line_count}
 use Rattle.xp_serve.proofs.Told.{early_line, wants_memory}
 use Rattle.xp_serve.proofs.serving.serve_at.Goals as goal
 
 pub returns-in-Err : goal.returns-in-Err
-returns-in-Err g c = inl (keeps_itself (g.W.Write.contents c.args.writer), c.in-Err.ensures.wanting)
+returns-in-Err g c = inl (refl, c.in-Err.ensures.wanting)
+
+pub serve_on-requires-clause-lines : goal.serve_on-requires-clause-lines
+serve_on-requires-clause-lines g c κs within = g.met.K.RecordKeeper.has_lines c.args.keeper ∙ ap line_count c.requires.names
 
 pub end-requires-clause-early_end : goal.end-requires-clause-early_end
 end-requires-clause-early_end g c = early_line c.args.subs c.in-Ok-serve_on.recorded.served c.in-Ok-serve_on.ensures.served
 
+pub end-requires-clause-lines : goal.end-requires-clause-lines
+end-requires-clause-lines g c =
+    let sink = c.in-Ok-serve_on.recorded.sink in
+    let names = g.met.K.RecordKeeper.keeps_names c.args.keeper sink c.in-Ok-serve_on.ensures.keeps in
+    g.met.K.RecordKeeper.has_lines sink ∙ ap line_count (names ∙ c.requires.names ∙ sym c.in-Ok-serve_on.ensures.served.subs)
+
+pub end-requires-clause-received : goal.end-requires-clause-received
+end-requires-clause-received g c =
+    c.in-Ok-serve_on.ensures.received ∙ ap (λ records. records ++ c.in-Ok-serve_on.recorded.served.book.given) c.requires.new
+
 pub returns-in-Ok-serve_on : goal.returns-in-Ok-serve_on
 returns-in-Ok-serve_on g c =
-    let served = c.in-Ok-serve_on.recorded.served in
-    let end = c.end.result in
-    let before = c.in-Ok-serve_on.ensures.keeps.1 ∙ ap (λ (p : Printer). p.before) c.new-printer.ensures in
+    let sink = c.in-Ok-serve_on.recorded.sink in
+    let tells = c.end.ensures in
     inr (
-      served,
+      c.in-Ok-serve_on.recorded.served,
       c.in-Ok-serve_on.ensures.served,
-      subst (λ known. Tells served known (g.W.Write.contents end.writer) end.outcome) before c.end.ensures,
+      record {
+        one_each = tells.one_each;
+        keeping = tells.keeping;
+        kept_is = tells.kept_is;
+        keeps_on = g.met.K.RecordSink.keeps_on c.args.keeper sink c.end.result.keeper c.in-Ok-serve_on.ensures.keeps tells.keeps_on;
+        told_is = tells.told_is;
+      },
     )
 
 pub returns-in-Err-serve_on : goal.returns-in-Err-serve_on
-returns-in-Err-serve_on g c =
-    let known = g.W.Write.contents c.args.writer in
-    let same = c.into_writer.ensures ∙ ap (λ (p : Printer). p.contents) (c.in-Err-serve_on.ensures.err ∙ c.new-printer.ensures) in
-    subst (λ after. Serves c.args.subs known after (Err Memory)) (sym same) (wants_memory c.args.subs known (Err Memory) refl)
+returns-in-Err-serve_on g c = wants_memory _ _ c.args.subs c.args.keeper c.in-Err-serve_on.fault.sink c.in-Err-serve_on.ensures.err

@@ -1,0 +1,5 @@
+mod BatchLemmas
+mod DigitLemmas
+mod MomentLemmas
+mod PlainLemmas
+mod WriterLemmas

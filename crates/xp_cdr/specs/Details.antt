@@ -1,0 +1,84 @@
+-- The text of call detail records: a line of CSV for each charging record.
+use Rattle.std.specs.Prelude.{◌≡◌, ℕ, codes, decimal, List, [], ◌∷◌, ◌++◌, Option, None, Some}
+use Rattle.std.specs.List.{join_with_byte}
+use Rattle.csv.specs.Machine.{next_record}
+use Rattle.csv.specs.Reading.{default_config}
+use Rattle.csv.specs.Writing.{default_writer, row_text}
+use Rattle.csv.specs.declared.parser.State.TheVariants.{StartRecord}
+use Rattle.hex.specs.Hex.{encode_lower}
+use Rattle.xp_packets.specs.Digits.{text_of}
+use Rattle.xp_subs.specs.Sound.{IsSound}
+use Rattle.xp_subs.specs.Tables.{Tables, address_of, line_count}
+use Rattle.xp_charge.specs.declared.record.Record.{Record}
+use Rattle.xp_charge.specs.Duration.{seconds_of}
+use Rattle.xp_charge.specs.Lines.{HasLines}
+use Rattle.xp_charge.specs.Text.{name_of, payer_text}
+use Rattle.xp_cdr.specs.Moments.{moment_text}
+
+-- the names of the fields, as the first line of a file
+abbrev pub header_text : List ℕ
+header_text =
+    codes "started,number,caller_line,caller_address,called_line,called_address,dialled,payer,segments_from_caller,segments_from_called,requested,connected,ended,seconds,cause,diagnostic\n"
+
+-- the name and the address of a line
+abbrev pub line_fields : Tables → ℕ → List (List ℕ)
+line_fields tables line = name_of tables line ∷ text_of (address_of tables line) ∷ []
+
+-- both are empty if there is no line
+abbrev pub called_fields : Tables → Option ℕ → List (List ℕ)
+called_fields tables None = [] ∷ [] ∷ []
+called_fields tables (Some line) = line_fields tables line
+
+-- empty if there is no moment
+abbrev pub connected_text : Option ℕ → List ℕ
+connected_text None = []
+connected_text (Some moment) = moment_text moment
+
+-- which call it was
+abbrev pub call_fields : Tables → ℕ → Record → List (List ℕ)
+call_fields tables started ended =
+    moment_text started
+    ∷ decimal ended.number
+    ∷ line_fields tables ended.caller
+    ++ called_fields tables ended.called
+    ++ text_of ended.dialled
+    ∷ []
+
+-- who pays, and for how much
+abbrev pub charge_fields : Record → List (List ℕ)
+charge_fields ended = payer_text ended.payer ∷ decimal ended.from_caller ∷ decimal ended.from_called ∷ []
+
+-- its moments, and for how many seconds it was connected
+abbrev pub moment_fields : Record → List (List ℕ)
+moment_fields ended =
+    moment_text ended.requested
+    ∷ connected_text ended.connected
+    ∷ moment_text ended.ended
+    ∷ decimal (seconds_of ended)
+    ∷ []
+
+-- how it ended
+abbrev pub end_fields : Record → List (List ℕ)
+end_fields ended = encode_lower (ended.cause ∷ []) ∷ decimal ended.diagnostic ∷ []
+
+-- the sixteen fields of a call detail record
+abbrev pub detail_fields : Tables → ℕ → Record → List (List ℕ)
+detail_fields tables started ended =
+    call_fields tables started ended ++ charge_fields ended ++ moment_fields ended ++ end_fields ended
+
+-- The call detail record of an ended call, of an exchange that began at `started`: its fields as a line of CSV.
+unfoldable pub detail_text : Tables → ℕ → Record → List ℕ
+detail_text tables started ended = row_text default_writer (detail_fields tables started ended)
+
+-- A reader of CSV reads the sixteen fields back, whatever follows the line.
+abbrev pub AreReadBack : Type 0
+AreReadBack =
+    (tables : Tables) (started : ℕ) (ended : Record) (rest : List ℕ)
+    → next_record default_config StartRecord [] [] (detail_text tables started ended ++ rest)
+    ≡ Some (detail_fields tables started ended, StartRecord, rest)
+
+-- No field needs quotes: the line is the sixteen fields with commas between them, and then a line feed.
+abbrev pub AreJoined : Type 0
+AreJoined =
+    (tables : Tables) (started : ℕ) (ended : Record) → IsSound tables → HasLines (line_count tables) ended
+    → detail_text tables started ended ≡ join_with_byte 44 (detail_fields tables started ended) ++ 10 ∷ []

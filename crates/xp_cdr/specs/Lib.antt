@@ -1,0 +1,5 @@
+pub mod Details
+pub mod Files
+pub mod Ledger
+pub mod Moments
+pub mod steps

@@ -1,0 +1,86 @@
+//! Call detail records as lines of CSV.
+
+ghost use Rattle.std.specs.Prelude.{◌≡◌, ◌++◌, IfOk, OnErr, OnOk};
+ghost use Rattle.csv.specs.Records.{fields_of, partial_of};
+ghost use Rattle.csv.specs.Writing.{default_writer, row_text};
+ghost use Rattle.xp_charge.specs.Lines.{HasLines};
+ghost use Rattle.xp_subs.specs.Tables.{line_count};
+ghost use Rattle.xp_cdr.specs.Details.{detail_fields, detail_text, header_text};
+
+use crate::fields::{push_call, push_charge, push_end, push_moments};
+use csv::{ByteRecord, Writer};
+use std::alloc::{AllocError, Allocator, Global};
+use xp_charge::Record;
+use xp_subs::Subs;
+
+/// The first line of a file of call detail records: the names of the fields.
+pub const HEADER: &str =
+    "started,number,caller_line,caller_address,called_line,called_address,dialled,payer,segments_from_caller,segments_from_called,requested,connected,ended,seconds,cause,diagnostic\n";
+
+/// Appends the names of the fields to `text`, as one line.
+///
+/// # Errors
+///
+/// If an allocation fails, `text` is unchanged.
+pub fn write_header<A: Allocator>(text: &mut Vec<u8, A>) -> Result<(), AllocError>
+    ensures ok { OnOk result (text.new.items ≡ text.old.items ++ header_text) }
+    ensures err { OnErr result (text.new.items ≡ text.old.items) }
+{
+    text.extend_from_slice(HEADER.as_bytes())
+}
+
+/// Appends the call detail record of an ended call to `text`, as one line of CSV. The exchange began at `started`, in seconds
+/// since 1970.
+///
+/// # Errors
+///
+/// If an allocation fails, `text` is unchanged.
+#[tactic(auto, unfolding(crate::specs::Details::detail_text))]
+pub fn write_detail<A: Allocator>(
+    alloc: Global,
+    subs: &Subs,
+    started: u64,
+    ended: &Record,
+    text: &mut Vec<u8, A>,
+) -> Result<(), AllocError>
+    requires { HasLines (line_count subs.now) ended.now }
+    ensures ok { OnOk result (text.new.items ≡ text.old.items ++ detail_text subs.now started ended.now) }
+    ensures err { OnErr result (text.new.items ≡ text.old.items) }
+{
+    let row = row_of(alloc, subs, started, ended)?;
+    let line = line_of(alloc, &row)?;
+    text.extend_from_slice(line.as_slice())
+}
+
+/// The fields of a call detail record.
+fn row_of(
+    alloc: Global,
+    subs: &Subs,
+    started: u64,
+    ended: &Record,
+) -> Result<ByteRecord, AllocError>
+    requires { HasLines (line_count subs.now) ended.now }
+    ensures { IfOk result (λ row. fields_of row ≡ detail_fields subs.now started ended.now) }
+{
+    let mut row = ByteRecord::new(alloc);
+    push_call(&mut row, subs, started, ended)?;
+    push_charge(&mut row, ended)?;
+    push_moments(&mut row, ended)?;
+    push_end(&mut row, ended)?;
+    Ok(row)
+}
+
+/// The fields as a line of CSV. A writer into memory fails for memory alone.
+fn line_of(alloc: Global, row: &ByteRecord) -> Result<Vec<u8>, AllocError>
+    ensures { IfOk result (λ line. line.items ≡ row_text default_writer (fields_of row.now)) }
+{
+    let mut writer = Writer::from_writer(Vec::new(alloc));
+    match writer.write_byte_record(row) {
+        Ok(()) => {}
+        Err(_) => return Err(AllocError),
+    }
+    match writer.into_inner() {
+        Ok(line) => Ok(line),
+        Err(_) => Err(AllocError),
+    }
+}

@@ -1,0 +1,71 @@
+//! What the threads of lines and the thread that hands on the charging records tell each other.
+
+use std::sync::Wait;
+use std::sync::atomic::{AtomicBool, AtomicU64, AtomicUsize, Ordering};
+use std::thread::Parker;
+use std::time::Duration;
+
+/// For how long the recording thread waits at most, in milliseconds.
+const PATIENCE: u64 = 50;
+
+/// Tells the recording thread that charging records were made, and that lines have ended. Tells the lines that they are to
+/// stop.
+#[derive(Drop)]
+pub struct Signals {
+    /// How many lines have not ended yet.
+    running: AtomicUsize,
+    /// The number of records that the recording thread was last told of.
+    told: AtomicU64,
+    /// Whether the lines are to stop.
+    stopping: AtomicBool,
+    /// What the recording thread waits on.
+    parker: Parker,
+}
+
+impl Signals {
+    /// The signals of so many lines.
+    pub fn new(lines: usize) -> Signals {
+        Signals {
+            running: AtomicUsize::new(lines),
+            told: AtomicU64::new(0),
+            stopping: AtomicBool::new(false),
+            parker: Parker::new(),
+        }
+    }
+
+    /// Tells that the exchange has made so many records. It wakes the recording thread if there are more than it was told of,
+    /// and does not wait.
+    pub fn records_made(&self, count: u64) {
+        if count > self.told.load(Ordering::SeqCst) {
+            self.told.store(count, Ordering::SeqCst);
+            self.parker.unpark();
+        }
+    }
+
+    /// Tells that a line has ended.
+    pub fn line_ended(&self) {
+        self.running.fetch_sub(1, Ordering::SeqCst);
+        self.parker.unpark();
+    }
+
+    /// Asks all lines to stop. It wakes none: each sees it before its next turn.
+    pub fn ask_to_stop(&self) {
+        self.stopping.store(true, Ordering::SeqCst);
+    }
+
+    /// Whether the lines are to stop.
+    pub fn is_stopping(&self) -> bool {
+        self.stopping.load(Ordering::SeqCst)
+    }
+
+    /// Whether all lines have ended.
+    pub(crate) fn all_ended(&self) -> bool {
+        self.running.load(Ordering::SeqCst) == 0
+    }
+
+    /// Waits until a thread tells something, for a twentieth of a second at most.
+    pub(crate) fn wait<R: Wait>(&self, rt: &R) {
+        self.parker
+            .park_timeout(rt, Duration::from_millis(PATIENCE));
+    }
+}

@@ -1,0 +1,56 @@
+//! What goes on beside the lines while they are served.
+
+use crate::keep_fault::KeepFault;
+use crate::keeping::RecordKeeper;
+use xp_charge::Record;
+use xp_lines::{Received, RecordSink};
+
+/// What is looked at again and again while the lines are served.
+pub trait Watch: Drop {
+    /// Looks once, and does not wait. It is called at least ten times a second.
+    fn look(&mut self) -> Received;
+}
+
+/// A keeper of charging records, and what is looked at beside it.
+#[derive(Drop)]
+pub struct Attending<K: RecordKeeper, W: Watch> {
+    pub keeper: K,
+    pub watch: W,
+}
+
+impl<K: RecordKeeper, W: Watch> RecordSink for Attending<K, W> {
+    ghost received = { λ a. K.received a.keeper };
+
+    ghost lines = { λ a. K.lines a.keeper };
+
+    ghost keeps = { λ a b. K.keeps a.keeper b.keeper };
+
+    fn receive(&mut self, records: Vec<Record>) -> Received {
+        self.keeper.receive(records)
+    }
+
+    fn tick(&mut self) -> Received {
+        match self.keeper.tick() {
+            Received::GoesOn => self.watch.look(),
+            Received::Stops => Received::Stops,
+        }
+    }
+
+    ghost keeps_itself = { λ a. K.keeps_itself a.keeper };
+
+    ghost keeps_on = { λ a b c first second. K.keeps_on a.keeper b.keeper c.keeper first second };
+}
+
+impl<K: RecordKeeper, W: Watch> RecordKeeper for Attending<K, W> {
+    ghost named_by = { λ a. K.named_by a.keeper };
+
+    ghost kept = { λ a records result. K.kept a.keeper records result };
+
+    ghost has_lines = { λ a. K.has_lines a.keeper };
+
+    ghost keeps_names = { λ a b same. K.keeps_names a.keeper b.keeper same };
+
+    fn finish(&mut self, rest: &[Record]) -> Result<(), KeepFault> {
+        self.keeper.finish(rest)
+    }
+}
