@@ -16,7 +16,7 @@ use crate::subcommand::Subcommand;
 use log::Log;
 use std::fs::{File, Files};
 use std::io::{BufReader, BufWriter, ErrorKind};
-use std::net::Net;
+use std::net::{Net, TcpListener, TcpStream};
 use std::process::ExitCode;
 use std::rt::Env;
 use std::sync::Wait;
@@ -38,7 +38,16 @@ fn main(rt: HostRuntime) -> ExitCode {
 
 /// Performs the subcommand on the file that the arguments name.
 fn run<
-    R: AllocGlobal + Env + Files<File = File> + Input + Log + Net + Print + Sync + Threads + Wait,
+    R: AllocGlobal
+        + Env
+        + Files<File = File>
+        + Input
+        + Log
+        + Net<Listener = TcpListener, Stream = TcpStream>
+        + Print
+        + Sync
+        + Threads
+        + Wait,
 >(rt: &R) -> Result<(), Failure> {
     let alloc = rt.alloc();
     let words = words(rt)?;

@@ -9,13 +9,13 @@ use std::alloc::AllocGlobal;
 use std::fs::{File, Files};
 use std::io;
 use std::io::BufWriter;
-use std::net::Net;
+use std::net::{Net, TcpListener, TcpStream};
 use std::sync::{Arc, Wait};
 use std::thread::Threads;
 use xp_cdr::{DetailFile, Opened};
 use xp_serve::{
-    Attending, DetailKeeper, OperatorLog, OperatorWatch, RecordKeeper, RecordPrinter, StopInput,
-    serve,
+    Attending, DetailKeeper, NoConsole, OperatorLog, OperatorWatch, RecordKeeper, RecordPrinter,
+    StopInput, serve,
 };
 use xp_subs::Subs;
 use xp_tasks::TaskFailure;
@@ -24,7 +24,14 @@ use xp_tcp::{Notices, WallClock};
 /// Serves the lines as they were ordered. Their charging records are kept in the file of call detail records if there is one, and
 /// are otherwise printed. `names` are the same subscriptions once more.
 pub(crate) fn serve_lines<
-    R: AllocGlobal + Files<File = File> + Log + Net + Print + Sync + Threads + Wait,
+    R: AllocGlobal
+        + Files<File = File>
+        + Log
+        + Net<Listener = TcpListener, Stream = TcpStream>
+        + Print
+        + Sync
+        + Threads
+        + Wait,
 >(rt: &R, order: &ServeOrder<'_>, subs: Subs, names: Subs) -> Result<(), Failure>
     requires { names ≡ subs }
 {
@@ -41,7 +48,7 @@ pub(crate) fn serve_lines<
                 names,
                 clock.seconds(),
                 clock,
-                OperatorLog::new(rt),
+                OperatorLog::new(rt, false),
                 output,
             );
             attend(rt, order, clock, subs, keeper)
@@ -55,21 +62,19 @@ pub(crate) fn serve_lines<
 }
 
 /// Serves the lines with this keeper of their charging records, tells what the operator has to know, and looks whether to stop.
-fn attend<R: AllocGlobal + Log + Net + Sync + Threads + Wait, K: RecordKeeper>(
-    rt: &R,
-    order: &ServeOrder<'_>,
-    clock: WallClock,
-    subs: Subs,
-    keeper: K,
-) -> Result<(), Failure>
+fn attend<
+    R: AllocGlobal + Log + Net<Listener = TcpListener, Stream = TcpStream> + Sync + Threads + Wait,
+    K: RecordKeeper,
+>(rt: &R, order: &ServeOrder<'_>, clock: WallClock, subs: Subs, keeper: K) -> Result<(), Failure>
     requires names { K.named_by keeper ≡ subs }
     requires new { K.received keeper ≡ [] }
 {
     let alloc = rt.alloc();
     let notices = Arc::new(alloc, Notices::new(alloc)?).map_err(|_| TaskFailure::Memory)?;
     let stop = order.until_eof.then_some(StopInput::default());
-    let log = OperatorLog::new(rt);
-    let watch = OperatorWatch::new(alloc, &subs, Arc::try_clone(&notices)?, stop, clock, log)?;
+    let log = OperatorLog::new(rt, false);
+    let told = Arc::try_clone(&notices)?;
+    let watch = OperatorWatch::new(alloc, &subs, told, stop, NoConsole, clock, log)?;
     let attending = Attending { keeper, watch };
     serve(rt, alloc, subs, order.limits, notices, attending).outcome?;
     Ok(())
@@ -78,7 +83,7 @@ fn attend<R: AllocGlobal + Log + Net + Sync + Threads + Wait, K: RecordKeeper>(
 /// Tells that the torn last line of a file of call detail records was cut off.
 fn tell_torn<R: Log>(rt: &R, clock: WallClock, opened: &Opened) {
     if opened.torn > 0 {
-        OperatorLog::new(rt).warn(
+        OperatorLog::new(rt, false).warn(
             clock.seconds(),
             format_args!(
                 "cdr: a torn last line of {} octets was cut off",

@@ -75,7 +75,7 @@ Flushes old (Err fault) new = Takes old new × (new.failures ≡ old.failures + 
 
 -- the subscriptions of an exchange without lines
 abbrev pub no_tables : Tables
-no_tables = record { stations = []; lines = []; groups = []; segment_limit = 0; journal = 0; host = [] }
+no_tables = record { stations = []; lines = []; groups = []; segment_limit = 0; journal = 0; host = []; xot_port = 0 }
 
 -- the subscriptions that a writer began with
 abbrev pub first_tables : List Tables → Tables

@@ -30,6 +30,7 @@ pub mod RecordCounts
 pub mod Relaying
 pub mod Requests
 pub mod RunLemmas
+pub mod Seen
 pub mod Shapes
 pub mod Showing
 pub mod Sounds

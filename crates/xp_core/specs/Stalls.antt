@@ -1,5 +1,6 @@
 -- Stalls: a line that takes its packets too slowly is given up.
-use Rattle.std.specs.Prelude.{ℕ, ◌-◌, Bool, true, false}
+use Rattle.std.specs.Prelude.{ℕ, ◌-◌, Bool, true, false, List, count_by}
+use Rattle.xp_core.specs.declared.entry.Entry.{Entry}
 use Rattle.xp_core.specs.declared.event.What.{What}
 use Rattle.xp_core.specs.declared.event.What.TheVariants.{Stall}
 
@@ -18,3 +19,7 @@ module _ {A : Type 0} where
   abbrev pub left_after : What A → ℕ → ℕ
   left_after Stall stalls = stalls - 1
   left_after what stalls = stalls
+
+  -- how many entries of a history are stalls
+  abbrev pub stalls_in : List (Entry A) → ℕ
+  stalls_in history = count_by (λ entry. is_stall entry.event.what) history

@@ -6,11 +6,12 @@ ghost use Rattle.xp_charge.specs.Lines.{HasLines as NamesLines};
 ghost use Rattle.xp_subs.specs.Tables.{line_count};
 ghost use Rattle.xp_machine.specs.Channel.{is_off as is_off_in};
 ghost use Rattle.xp_core.specs.Exchange.{world_of};
-ghost use Rattle.xp_core.specs.View.{flow_at};
+ghost use Rattle.xp_core.specs.View.{call_seen_on, flow_at};
 ghost use Rattle.xp_machine.specs.View.{view_of};
 ghost use Rattle.xp_machine.specs.World.{line_at, state_at};
 
 use crate::advance::advance;
+use crate::call_view::{CallView, see_call};
 use crate::entry::Entry;
 use crate::event::Event;
 use crate::fault::StepFault;
@@ -148,6 +149,7 @@ impl<A: Allocator> Core<A> {
     ghost use Rattle.xp_core.specs.Lines.{HasLines};
     ghost use Rattle.xp_core.specs.Records.{OneRecordEach, records_of};
     ghost use Rattle.xp_core.specs.Run.{Run};
+    ghost use Rattle.xp_core.specs.Stalls.{stalls_in};
     ghost use Rattle.xp_core.specs.Writable.{AreWritable};
 
     /// Returns what can be seen of a line. A line in p2, p3 or p4 is one of the two lines of the live call that it
@@ -158,6 +160,14 @@ impl<A: Allocator> Core<A> {
         ensures coupled { AreCoupled self.now.subs (world_of self.now) }
     {
         self.machine.line(line).view(self.flow(line))
+    }
+
+    /// Returns what can be seen of the live call that a line is in, if it is in one.
+    pub fn call_on(&self, line: LineNo) -> Option<CallView>
+        ensures { result ≡ call_seen_on self.now.subs self.now.history (world_of self.now) line }
+    {
+        let before = self.journal.history();
+        see_call(&self.subs, &self.machine, &self.relays, before, line)
     }
 
     /// Returns whether a line is out of service, as `line` shows it. It looks at nothing else of the line.
@@ -211,6 +221,13 @@ impl<A: Allocator> Core<A> {
         ensures delivered { AreDelivered self.now.subs self.now.history (world_of self.now) }
     {
         self.journal.count()
+    }
+
+    /// Returns how many entries of the history are stalls.
+    pub fn stall_count(&self) -> u64
+        ensures { result ≡ stalls_in self.now.history }
+    {
+        self.journal.stall_count()
     }
 
     /// Keeps the memory of outputs that are done with. The next step may use it, and then it allocates less.

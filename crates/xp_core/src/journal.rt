@@ -1,12 +1,13 @@
 //! The journal: the history, and the records of the ended calls.
 
 ghost use Rattle.std.specs.Prelude.{◌≡◌, ◌+◌, ◌<◌, ◌≤◌, ◌^◌, [], ◌∷◌, ◌++◌, IfNone, IfOk, IfSome, OnErr, OnOk, length, vec_len, vec_capacity};
+ghost use Rattle.xp_core.specs.Stalls.{is_stall, stalls_in};
 ghost use Rattle.xp_core.specs.steps.Journal.{AreSame, HasHandedOver, IsSpent, next_entry};
 ghost use Rattle.xp_core.specs.declared.journal.TheConstants.{MOST_STALLS};
 
 use crate::advance::PreparedEntry;
 use crate::entry::Entry;
-use crate::event::Event;
+use crate::event::{Event, What};
 use crate::stalling::Spare;
 use std::alloc::{AllocError, Allocator};
 use std::marker::Model;
@@ -22,6 +23,8 @@ pub const MOST_STALLS: usize = 3;
 pub struct Journal<A: Allocator> {
     /// How many entries the history has.
     count: u64,
+    /// How many of them are stalls.
+    stall_count: u64,
     history: Past<Entry<A>>,
     /// How many records were handed over.
     given_count: u64,
@@ -32,13 +35,14 @@ pub struct Journal<A: Allocator> {
 
 impl<A: Allocator> Model for Journal<A> {
     ghost use Rattle.std.specs.Prelude.{◌≡◌, ◌+◌, ◌-◌, ◌≤◌, length, vec_len, vec_capacity};
+    ghost use Rattle.xp_core.specs.Stalls.{stalls_in};
     ghost use Rattle.xp_core.specs.steps.Journal.{Journaled};
 
     ghost Value = { Journaled A };
 
     ghost view = { λ j. record { history = j.history.items; given = j.given.items; waiting = j.waiting.items; stalls = vec_len j.spares; record_room = vec_capacity j.waiting - vec_len j.waiting } };
 
-    ghost invariant = { λ j. (j.count ≡ length j.history.items) × (j.given_count ≡ length j.given.items) × (vec_len j.waiting + vec_len j.spares ≤ vec_capacity j.waiting) × (vec_len j.spares ≤ 3) };
+    ghost invariant = { λ j. (j.count ≡ length j.history.items) × (j.stall_count ≡ stalls_in j.history.items) × (j.given_count ≡ length j.given.items) × (vec_len j.waiting + vec_len j.spares ≤ vec_capacity j.waiting) × (vec_len j.spares ≤ 3) };
 }
 
 impl<A: Allocator + Copy> Journal<A> {
@@ -51,6 +55,7 @@ impl<A: Allocator + Copy> Journal<A> {
     {
         Journal {
             count: 0,
+            stall_count: 0,
             history: Past::new(),
             given_count: 0,
             given: Past::new(),
@@ -96,6 +101,13 @@ impl<A: Allocator> Journal<A> {
         ensures { result ≡ length self.now.history }
     {
         self.count
+    }
+
+    /// Returns how many entries of the history are stalls.
+    pub fn stall_count(&self) -> u64
+        ensures { result ≡ stalls_in self.now.history }
+    {
+        self.stall_count
     }
 
     /// Returns the history, which proofs alone can read.
@@ -154,6 +166,9 @@ impl<A: Allocator> Journal<A> {
             records,
         } = work;
         add_all(&mut self.waiting, records.as_slice());
+        if is_stall(&event.what) {
+            self.stall_count += 1;
+        }
         let number = self.count + 1;
         let entry = Entry {
             number,
@@ -177,4 +192,11 @@ fn add_all<A: Allocator>(records: &mut Vec<Record, A>, more: &[Record])
     for record in more {
         records.push_reserved(record.copy());
     }
+}
+
+/// Whether an event is a stall.
+fn is_stall<A: Allocator>(what: &What<A>) -> bool
+    ensures { result ≡ is_stall what.now }
+{
+    matches!(what, What::Stall)
 }

@@ -3,6 +3,7 @@
 #![tactic(auto)]
 
 mod advance;
+mod call_view;
 mod entry;
 mod event;
 mod exchange;
@@ -17,6 +18,7 @@ mod stalling;
 mod table;
 mod workspace;
 
+pub use call_view::CallView;
 pub use entry::Entry;
 pub use event::{Event, What};
 pub use exchange::Core;

@@ -18,7 +18,7 @@ use crate::outcome::Outcome;
 use crate::output::Buffer;
 use crate::records::Records;
 pub use event::plan_of;
-pub use event_line::{EventLine, charged_on};
+pub use event_line::{EventLine, MeteredCall, charged_on};
 pub use send::close;
 use std::alloc::{Allocator, Global};
 use xp_machine::{Change, RelayUpdate};

@@ -1,10 +1,13 @@
 -- The content of the subscription file, table by table.
 use Rattle.std.specs.Prelude.{ℕ, ◌<◌, ◌≤◌, List, Option, All, IsTrue, length}
+use Rattle.xp_file.specs.declared.entry.Access.{Access}
+use Rattle.xp_file.specs.declared.entry.Access.TheVariants.{Port, Router}
 use Rattle.xp_file.specs.declared.entry.Facilities.{Facilities}
 use Rattle.xp_file.specs.declared.entry.GroupEntry.{GroupEntry}
 use Rattle.xp_file.specs.declared.entry.LineEntry.{LineEntry}
 use Rattle.xp_file.specs.declared.entry.Redirection.{Redirection}
 use Rattle.xp_file.specs.Name.{is_line_name}
+use Rattle.xp_file.specs.Routers.{IsPort, IsRouter}
 use Rattle.xp_file.specs.Sources.{AreSources}
 
 -- a station
@@ -16,11 +19,15 @@ pub record StationData : Type 0 where
   pub groups : List GroupEntry
   pub redirect : Option Redirection
 
--- the line has a valid name, a valid port, and at most 8 valid sources
+-- a valid port, or a valid router
+abbrev pub IsAccess : Access → Type 0
+IsAccess (Port port) = IsPort port
+IsAccess (Router router) = IsRouter router
+
+-- the line has a valid name, a valid port or router, and at most 8 valid sources
 pub record IsLineEntry (line : LineEntry) : Type 0 where
   pub spelled : IsTrue (is_line_name line.name)
-  pub least_port : 1 ≤ line.port
-  pub most_port : line.port ≤ 65_535
+  pub access : IsAccess line.access
   pub sources : AreSources line.from
 
 -- the index has at most four digits

@@ -3,6 +3,7 @@ pub mod Entries
 pub mod Keys
 pub mod Name
 pub mod Reading
+pub mod Routers
 pub mod Sources
 pub mod SubscriptionFile
 pub mod steps

@@ -9,6 +9,7 @@ use Rattle.xp_file.specs.Address.{is_address, digit_of}
 use Rattle.xp_file.specs.Keys.{key_text}
 use Rattle.xp_file.specs.Name.{is_line_name, is_group_name}
 use Rattle.xp_file.specs.Name.{same}
+use Rattle.xp_file.specs.Routers.{RouterData, router_spelled}
 use Rattle.xp_file.specs.Sources.{is_source, are_few}
 use Rattle.xp_packets.specs.declared.modulus.Modulus.{Modulus}
 use Rattle.xp_packets.specs.declared.modulus.Modulus.TheVariants.{Eight, Long}
@@ -46,6 +47,9 @@ group_name_in = text_of is_group_name
 
 abbrev pub address_in : Data → Option (List ℕ)
 address_in value = option_map (map digit_of) (text_of is_address value)
+
+abbrev pub router_in : Data → Option RouterData
+router_in value = option_and_then router_spelled (as_str value)
 
 -- what is read of each value of an array; none if one of them cannot be read
 abbrev pub each_item : {A : Type 0} → (Data → Option A) → Items → Option (List A)

@@ -1,8 +1,11 @@
 -- The first pass over the subscription file: the value of every key.
 use Rattle.std.specs.Prelude.{ℕ, List, [], ◌∷◌, Bool, true, ◌&&◌, Option, None, Some, Result, Ok, Err, codes}
 use Rattle.std.specs.List.{list_all}
-use Rattle.toml.specs.Data.{Members, as_str, as_table}
+use Rattle.std.specs.Option.{is_none}
+use Rattle.toml.specs.Data.{Data, Members, as_str, as_table, get_member}
 use Rattle.toml.specs.Parse.{parse_document}
+use Rattle.xp_file.specs.declared.entry.Access.{Access}
+use Rattle.xp_file.specs.declared.entry.Access.TheVariants as access
 use Rattle.xp_file.specs.declared.entry.Facilities.{Facilities}
 use Rattle.xp_file.specs.declared.entry.GroupEntry.{GroupEntry}
 use Rattle.xp_file.specs.declared.entry.LineEntry.{LineEntry}
@@ -12,12 +15,14 @@ use Rattle.xp_file.specs.declared.key.Key.{Key}
 use Rattle.xp_file.specs.declared.key.Key.TheVariants as keys
 use Rattle.xp_file.specs.declared.entry.Redirection.{Redirection}
 use Rattle.xp_file.specs.Entries.{StationData, no_journal_limit}
+use Rattle.xp_file.specs.Keys.{key_text}
+use Rattle.xp_file.specs.Routers.{registered_port}
 use Rattle.xp_packets.specs.declared.modulus.Modulus.TheVariants.{Eight}
-use Rattle.xp_file.specs.Reading.{◌>>=◌, number_in, line_name_in, group_name_in, address_in, modulus_in, sources_in, tables_in, some_tables_in, required, defaulted, optional, flag, each, examined, has_only, checked}
+use Rattle.xp_file.specs.Reading.{◌>>=◌, number_in, line_name_in, group_name_in, address_in, modulus_in, router_in, sources_in, tables_in, some_tables_in, required, defaulted, optional, flag, each, examined, has_only, checked}
 
 -- the keys that each table may have
 abbrev pub top_keys : List Key
-top_keys = keys.SegmentLimit ∷ keys.Journal ∷ keys.Host ∷ keys.Station ∷ []
+top_keys = keys.SegmentLimit ∷ keys.Journal ∷ keys.Host ∷ keys.XotPort ∷ keys.Station ∷ []
 
 abbrev pub station_keys : List Key
 station_keys =
@@ -25,7 +30,7 @@ station_keys =
     keys.OutgoingAccess ∷ keys.IncomingAccess ∷ keys.Preferential ∷ keys.Group ∷ keys.Redirect ∷ []
 
 abbrev pub line_keys : List Key
-line_keys = keys.Name ∷ keys.Port ∷ keys.Address ∷ keys.Modulus ∷ keys.From ∷ []
+line_keys = keys.Name ∷ keys.Port ∷ keys.Router ∷ keys.Address ∷ keys.Modulus ∷ keys.From ∷ []
 
 abbrev pub group_keys : List Key
 group_keys = keys.Name ∷ keys.Index ∷ keys.OutgoingBarred ∷ keys.IncomingBarred ∷ []
@@ -50,15 +55,32 @@ facilities_of table = do
     incoming_access = incoming_access;
   })
 
+-- the port of a line, which may be missing only where the line has the key `router`
+abbrev pub port_of : Members → Result (Option ℕ) SubscriptionFault
+port_of table = by (get_member (key_text keys.Router) table) where
+  by : Option Data → Result (Option ℕ) SubscriptionFault
+  by None = required (number_in 1 65535) keys.Port table >>= λ port. Ok (Some port)
+  by (Some router) = optional (number_in 1 65535) keys.Port table
+
+-- the router of a line without a port; a line with a port has no router
+abbrev pub access_beside : Members → Option ℕ → Result Access SubscriptionFault
+access_beside table None = required router_in keys.Router table >>= λ router. Ok (access.Router router)
+access_beside table (Some port) =
+    checked (is_none (get_member (key_text keys.Router) table)) (faults.Field keys.Router) (Ok (access.Port port))
+
+-- the port or the router of a line, which has one of them alone
+abbrev pub access_of : Members → Result Access SubscriptionFault
+access_of table = port_of table >>= access_beside table
+
 -- a line, and a group
 unfoldable pub line_of : Members → Result LineEntry SubscriptionFault
 line_of table = do
   name ← required line_name_in keys.Name table
-  port ← required (number_in 1 65535) keys.Port table
+  access ← access_of table
   address ← optional address_in keys.Address table
   modulus ← defaulted modulus_in Eight keys.Modulus table
   from ← defaulted sources_in [] keys.From table
-  Ok (record { name = name; port = port; address = address; modulus = modulus; from = from })
+  Ok (record { name = name; access = access; address = address; modulus = modulus; from = from })
 
 unfoldable pub group_of : Members → Result GroupEntry SubscriptionFault
 group_of table = do
@@ -73,7 +95,8 @@ group_of table = do
 unfoldable pub lines_of : List Members → Result (List LineEntry) SubscriptionFault
 lines_of tables = do
   names ← examined (required line_name_in keys.Name) tables
-  ports ← examined (required (number_in 1 65535) keys.Port) tables
+  ports ← examined port_of tables
+  accesses ← examined access_of tables
   addresses ← examined (optional address_in keys.Address) tables
   moduli ← examined (defaulted modulus_in Eight keys.Modulus) tables
   each line_of tables
@@ -129,6 +152,7 @@ pub record FileData : Type 0 where
   pub segment_limit : ℕ
   pub journal : ℕ
   pub host : List ℕ
+  pub xot_port : ℕ
   pub stations : List StationData
 
 -- The file. Reads its top keys, checks for keys that are not listed, then reads the stations in order.
@@ -137,9 +161,10 @@ file_of table = do
   segment_limit ← defaulted (number_in 1 99999999) 99999999 keys.SegmentLimit table
   journal ← defaulted (number_in 4 10000000) no_journal_limit keys.Journal table
   host ← defaulted as_str (codes "127.0.0.1") keys.Host table
+  xot_port ← defaulted (number_in 1 65535) registered_port keys.XotPort table
   tables ← required some_tables_in keys.Station table
   stations ← checked (has_only top_keys table) (faults.Field keys.Other) (each entry_of tables)
-  Ok (record { segment_limit = segment_limit; journal = journal; host = host; stations = stations })
+  Ok (record { segment_limit = segment_limit; journal = journal; host = host; xot_port = xot_port; stations = stations })
 
 -- the file that a text contains
 abbrev pub file_in : List ℕ → Result FileData SubscriptionFault

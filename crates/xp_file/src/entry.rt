@@ -2,6 +2,7 @@
 ghost use Rattle.std.specs.Prelude.{◌≡◌};
 
 use crate::name::Name;
+use crate::router::RouterAddress;
 use crate::sources::Sources;
 use std::marker::Model;
 use xp_packets::{Digits, Modulus};
@@ -50,12 +51,33 @@ pub struct Facilities {
     pub incoming_access: bool,
 }
 
+/// Where the calls of a line come from and go to.
+#[derive(Debug, Drop, PartialEq)]
+pub enum Access {
+    /// The TCP port of the line alone, 1 to 65,535: the exchange listens there for its one connection.
+    Port(u16),
+    /// The XOT router behind which the line is: each call has a connection of its own (RFC 1613).
+    Router(RouterAddress),
+}
+
+impl Access {
+    /// An equal copy.
+    pub fn copy(&self) -> Access
+        ensures { result ≡ self.now }
+    {
+        match self {
+            Access::Port(port) => Access::Port(*port),
+            Access::Router(router) => Access::Router(router.copy()),
+        }
+    }
+}
+
 /// A line.
 #[derive(Drop)]
 pub struct LineEntry {
     pub name: Name,
-    /// The TCP port, 1 to 65,535.
-    pub port: u16,
+    /// Its port or its router.
+    pub access: Access,
     /// The line's own address, 1 to 15 digits, if it has one in addition to its station's.
     pub address: Option<Digits>,
     /// The modulus of its packet numbers (X.25 clause 4.4.1.1).

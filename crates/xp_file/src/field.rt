@@ -5,7 +5,7 @@ ghost use Rattle.std.specs.List.{list_any};
 ghost use Rattle.toml.specs.Data.{get_member, as_str, as_table};
 ghost use Rattle.toml.specs.View.{view, items_view, table_view};
 ghost use Rattle.xp_file.specs.Keys.{key_text};
-ghost use Rattle.xp_file.specs.Reading.{number_in, line_name_in, group_name_in, address_in, modulus_in, sources_among, sources_in, required, optional, defaulted, flag, has_only};
+ghost use Rattle.xp_file.specs.Reading.{number_in, line_name_in, group_name_in, address_in, modulus_in, router_in, sources_among, sources_in, required, optional, defaulted, flag, has_only};
 ghost use Rattle.xp_file.specs.steps.Reading.{Reads};
 ghost use Rattle.xp_file.specs.Name.{same};
 ghost use Rattle.xp_file.specs.Sources.{are_few};
@@ -14,6 +14,7 @@ use crate::digits::read_digits;
 use crate::fault::SubscriptionFault;
 use crate::key::Key;
 use crate::name::Name;
+use crate::router::RouterAddress;
 use crate::sources::Sources;
 use std::slice;
 use toml::{Table, Value};
@@ -133,6 +134,13 @@ pub(crate) fn short(value: &Value, low: u16, high: u16) -> Option<u16>
     number(value, low.into(), high.into()).map(|number| number as u16)
 }
 
+/// A TCP port.
+pub(crate) fn port(value: &Value) -> Option<u16>
+    ensures { result ≡ number_in 1 65535 (view value.now) }
+{
+    short(value, 1, u16::MAX)
+}
+
 /// An address.
 pub(crate) fn address(value: &Value) -> Option<Digits>
     ensures { result ≡ address_in (view value.now) }
@@ -149,6 +157,13 @@ pub(crate) fn modulus(value: &Value) -> Option<Modulus>
         128 => Some(Modulus::Long),
         _ => None,
     }
+}
+
+/// The address of an XOT router.
+pub(crate) fn router(value: &Value) -> Option<RouterAddress>
+    ensures { result ≡ router_in (view value.now) }
+{
+    RouterAddress::spelled(value.as_str()?)
 }
 
 /// The addresses from which the connections of a line may come: an array of texts, or one text alone.

@@ -5,25 +5,26 @@ ghost use Rattle.toml.specs.Data.{as_str};
 ghost use Rattle.toml.specs.View.{table_view};
 ghost use Rattle.xp_file.specs.declared.fault.SubscriptionFault.TheVariants.{Memory as OutOfMemory};
 ghost use Rattle.xp_file.specs.declared.key.Key.TheVariants as keys;
-ghost use Rattle.xp_packets.specs.declared.modulus.Modulus.TheVariants.{Eight};
 ghost use Rattle.xp_file.specs.Entries.{AreLimits, IsStationEntry, no_journal_limit};
-ghost use Rattle.xp_file.specs.SubscriptionFile.{facilities_of, line_of, lines_of, group_of, groups_of, redirection_of, are_listed, entry_of, file_of, file_in};
-ghost use Rattle.xp_file.specs.Reading.{each, has_only, required, optional, defaulted, number_in, address_in, modulus_in, sources_in, line_name_in, group_name_in};
+ghost use Rattle.xp_file.specs.Routers.{IsPort, registered_port};
+ghost use Rattle.xp_file.specs.SubscriptionFile.{facilities_of, group_of, groups_of, redirection_of, are_listed, entry_of, file_of, file_in};
+ghost use Rattle.xp_file.specs.Reading.{each, has_only, required, optional, defaulted, number_in, address_in, group_name_in};
 
-use crate::entry::{Facilities, GroupEntry, LineEntry, Redirection, StationEntry};
+use crate::entry::{Facilities, GroupEntry, Redirection, StationEntry};
 use crate::fault::SubscriptionFault;
 use crate::field::{
-    address, defaulted, flag, group_name, has_only, line_name, modulus, number, optional,
-    optional_table, required, short, sources, value_at,
+    address, defaulted, flag, group_name, has_only, number, optional, optional_table, port,
+    required, short, value_at,
 };
 use crate::key::Key;
+use crate::line::lines;
 use crate::name::Name;
-use crate::sources::Sources;
+use crate::router::REGISTERED_PORT;
 use crate::tables::{each, examine, some_tables_at, tables_at};
 use std::alloc::Global;
 use std::marker::Model;
 use toml::Table;
-use xp_packets::{Digits, Modulus};
+use xp_packets::Digits;
 
 /// The content of the subscription file, with default values for the keys that it omits.
 #[derive(Drop)]
@@ -35,6 +36,8 @@ pub struct SubscriptionFile {
     pub journal: u64,
     /// The host on whose ports the exchange listens.
     pub host: String,
+    /// The port at which it listens for XOT routers, 1 to 65,535, if a line is behind one.
+    pub xot_port: u16,
     /// The stations in the order of the file, at least one.
     pub stations: Vec<StationEntry>,
 }
@@ -49,6 +52,7 @@ impl Model for SubscriptionFile {
       segment_limit = file.segment_limit;
       journal = file.journal;
       host = string_bytes file.host;
+      xot_port = file.xot_port;
       stations = file.stations.items;
     } };
 }
@@ -72,7 +76,13 @@ const DEFAULT_HOST: &str = "127.0.0.1";
 /// The greatest index of a group: four digits (X.25 clause 6.14.6).
 const MAX_INDEX: u16 = 9_999;
 
-const TOP_KEYS: [Key; 4] = [Key::SegmentLimit, Key::Journal, Key::Host, Key::Station];
+const TOP_KEYS: [Key; 5] = [
+    Key::SegmentLimit,
+    Key::Journal,
+    Key::Host,
+    Key::XotPort,
+    Key::Station,
+];
 
 const STATION_KEYS: [Key; 11] = [
     Key::Address,
@@ -88,7 +98,14 @@ const STATION_KEYS: [Key; 11] = [
     Key::Redirect,
 ];
 
-const LINE_KEYS: [Key; 5] = [Key::Name, Key::Port, Key::Address, Key::Modulus, Key::From];
+const LINE_KEYS: [Key; 6] = [
+    Key::Name,
+    Key::Port,
+    Key::Router,
+    Key::Address,
+    Key::Modulus,
+    Key::From,
+];
 
 const GROUP_KEYS: [Key; 4] = [
     Key::Name,
@@ -129,61 +146,6 @@ fn preferential_of(table: &Table) -> Result<Option<u16>, SubscriptionFault>
     ensures { result ≡ optional (number_in 0 9999) keys.Preferential (table_view table.now) }
 {
     optional(table, Key::Preferential, |value| short(value, 0, MAX_INDEX))
-}
-
-fn line_name_of(table: &Table) -> Result<Name, SubscriptionFault>
-    ensures { result ≡ required line_name_in keys.Name (table_view table.now) }
-{
-    required(table, Key::Name, line_name)
-}
-
-fn port_of(table: &Table) -> Result<u16, SubscriptionFault>
-    ensures { result ≡ required (number_in 1 65535) keys.Port (table_view table.now) }
-{
-    required(table, Key::Port, |value| short(value, 1, u16::MAX))
-}
-
-fn own_address_of(table: &Table) -> Result<Option<Digits>, SubscriptionFault>
-    ensures { result ≡ optional address_in keys.Address (table_view table.now) }
-{
-    optional(table, Key::Address, address)
-}
-
-fn modulus_of(table: &Table) -> Result<Modulus, SubscriptionFault>
-    ensures { result ≡ defaulted modulus_in Eight keys.Modulus (table_view table.now) }
-{
-    defaulted(table, Key::Modulus, Modulus::Eight, modulus)
-}
-
-fn sources_of(table: &Table) -> Result<Sources, SubscriptionFault>
-    ensures { result ≡ defaulted sources_in [] keys.From (table_view table.now) }
-{
-    defaulted(table, Key::From, Sources::new(), sources)
-}
-
-#[tactic(auto, unfolding(crate::specs::SubscriptionFile::line_of))]
-fn line(table: &Table) -> Result<LineEntry, SubscriptionFault>
-    ensures { result ≡ line_of (table_view table.now) }
-{
-    Ok(LineEntry {
-        name: line_name_of(table)?,
-        port: port_of(table)?,
-        address: own_address_of(table)?,
-        modulus: modulus_of(table)?,
-        from: sources_of(table)?,
-    })
-}
-
-#[tactic(auto, unfolding(crate::specs::SubscriptionFile::lines_of))]
-fn lines(alloc: Global, tables: &[&Table]) -> Result<Vec<LineEntry>, SubscriptionFault>
-    ensures ok { IfOk result (λ lines. lines_of (map (λ table. table_view table.now) tables.now) ≡ Ok lines.items) }
-    ensures refused { IfErr result (λ fault. fault ≢ OutOfMemory → lines_of (map (λ table. table_view table.now) tables.now) ≡ Err fault) }
-{
-    examine(tables, line_name_of)?;
-    examine(tables, port_of)?;
-    examine(tables, own_address_of)?;
-    examine(tables, modulus_of)?;
-    each(alloc, tables, line)
 }
 
 fn group_name_of(table: &Table) -> Result<Name, SubscriptionFault>
@@ -305,6 +267,7 @@ fn read_table(alloc: Global, table: &Table) -> Result<SubscriptionFile, Subscrip
     ensures some { IfOk result (λ file. 0 < length file.stations) }
     ensures each { IfOk result (λ file. All IsStationEntry file.stations) }
     ensures limits { IfOk result (λ file. AreLimits file.segment_limit file.journal) }
+    ensures port { IfOk result (λ file. IsPort file.xot_port) }
 {
     let segment_limit = limit(
         table,
@@ -315,6 +278,7 @@ fn read_table(alloc: Global, table: &Table) -> Result<SubscriptionFile, Subscrip
     )?;
     let journal = journal(table)?;
     let host = host(alloc, table)?;
+    let xot_port = xot_port(table)?;
     let tables = some_tables_at(alloc, table, Key::Station)?;
     if !has_only(table, &TOP_KEYS) {
         return Err(SubscriptionFault::Field(Key::Other));
@@ -324,6 +288,7 @@ fn read_table(alloc: Global, table: &Table) -> Result<SubscriptionFile, Subscrip
         segment_limit,
         journal,
         host,
+        xot_port,
         stations,
     })
 }
@@ -349,6 +314,12 @@ fn journal(table: &Table) -> Result<u64, SubscriptionFault>
         NO_JOURNAL_LIMIT,
         |value| number(value, MIN_JOURNAL, MAX_JOURNAL).map(u64::from),
     )
+}
+
+fn xot_port(table: &Table) -> Result<u16, SubscriptionFault>
+    ensures { result ≡ defaulted (number_in 1 65535) registered_port keys.XotPort (table_view table.now) }
+{
+    defaulted(table, Key::XotPort, REGISTERED_PORT, port)
 }
 
 fn host(alloc: Global, table: &Table) -> Result<String, SubscriptionFault>
@@ -377,6 +348,7 @@ impl SubscriptionFile {
         ensures some { IfOk result (λ file. 0 < length file.stations) }
         ensures each { IfOk result (λ file. All IsStationEntry file.stations) }
         ensures limits { IfOk result (λ file. AreLimits file.segment_limit file.journal) }
+        ensures port { IfOk result (λ file. IsPort file.xot_port) }
     {
         match toml::table_from_str(alloc, text) {
             Ok(table) => read_table(alloc, &table),

@@ -7,13 +7,16 @@ mod fault;
 mod field;
 mod file;
 mod key;
+mod line;
 mod name;
+mod router;
 mod sources;
 mod tables;
 
-pub use entry::{Facilities, GroupEntry, LineEntry, Redirection, StationEntry};
+pub use entry::{Access, Facilities, GroupEntry, LineEntry, Redirection, StationEntry};
 pub use fault::SubscriptionFault;
 pub use file::SubscriptionFile;
 pub use key::Key;
 pub use name::Name;
+pub use router::RouterAddress;
 pub use sources::Sources;

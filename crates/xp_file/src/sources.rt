@@ -7,7 +7,7 @@ use std::fmt;
 use std::marker::Model;
 
 /// The most characters of an address.
-const MOST_CHARACTERS: usize = 45;
+pub(crate) const MOST_CHARACTERS: usize = 45;
 
 /// The addresses from which the connections of a line may come, as texts: at most 8. There are none where any address
 /// may.
@@ -84,7 +84,8 @@ impl Sources {
     }
 }
 
-fn is_source(text: &str) -> bool
+/// Whether a text has the form of an IPv4 or IPv6 address.
+pub(crate) fn is_source(text: &str) -> bool
     ensures { result ≡ is_source text.now }
 {
     matches!(text.len(), 2..=MOST_CHARACTERS) && are_source_letters(text.as_bytes())

@@ -2,13 +2,15 @@
 
 ghost use Rattle.std.specs.Prelude.{◌≡◌, ◌++◌, All};
 ghost use Rattle.xp_charge.specs.Lines.{HasLines};
-ghost use Rattle.xp_lines.specs.Recorded.{HandsOn};
+ghost use Rattle.xp_lines.specs.Recorded.{HandsOn, IsSeen};
 ghost use Rattle.xp_subs.specs.Tables.{line_count};
 
 use crate::signals::Signals;
+use std::alloc::Global;
 use std::sync::Wait;
 use xp_charge::Record;
-use xp_lock::{Exchange, Name, Recorder};
+use xp_lock::{Exchange, Look, Name, Recorder};
+use xp_view::ExchangeView;
 
 /// The answer of a sink.
 #[derive(Clone, Copy, Debug, PartialEq)]
@@ -48,6 +50,17 @@ pub trait RecordSink: Drop {
         ensures lines { lines self.new ≡ lines self.old }
         ensures keeps { keeps self.old self.new };
 
+    /// Whether the sink wants to see the exchange now. The recording thread asks at least ten times a second.
+    fn wants_look(&self) -> bool;
+
+    /// Takes what can be seen of the exchange, as it was when the records were taken that the sink received last. It is called only
+    /// where the sink wanted that.
+    fn see(&mut self, view: ExchangeView)
+        requires seen { IsSeen (lines self.old) view }
+        ensures received { received self.new ≡ received self.old }
+        ensures lines { lines self.new ≡ lines self.old }
+        ensures keeps { keeps self.old self.new };
+
     ghost keeps_itself: { (sink : Self) → keeps sink sink };
 
     ghost keeps_on: { (first second third : Self) → keeps first second → keeps second third → keeps first third };
@@ -65,6 +78,7 @@ pub(crate) struct Recorded<N: Name, S: RecordSink> {
 /// end stay with the exchange.
 pub(crate) fn keep_recording<N: Name, S: RecordSink, R: Wait>(
     rt: &R,
+    alloc: Global,
     exchange: &Exchange<N>,
     recorder: Recorder<N>,
     sink: S,
@@ -77,7 +91,7 @@ pub(crate) fn keep_recording<N: Name, S: RecordSink, R: Wait>(
     let mut sink = sink;
     for _ in rt.forever() {
         let ended = signals.all_ended();
-        let handed = hand_over(rt, exchange, &mut recorder, &mut sink);
+        let handed = hand_over(rt, alloc, exchange, &mut recorder, &mut sink);
         stop_at(signals, handed);
         let ticked = sink.tick();
         stop_at(signals, ticked);
@@ -97,8 +111,28 @@ fn stop_at(signals: &Signals, received: Received) {
     }
 }
 
-/// Hands the records of the calls that have ended since to the sink. If no memory can be had for them, they wait.
+/// Hands the records of the calls that have ended since to the sink, and lets it see the exchange where it wants that. If no memory
+/// can be had for the records, they wait.
 fn hand_over<N: Name, S: RecordSink, R: Wait>(
+    rt: &R,
+    alloc: Global,
+    exchange: &Exchange<N>,
+    recorder: &mut Recorder<N>,
+    sink: &mut S,
+) -> Received
+    requires { S.lines sink.old ≡ line_count N.subs }
+    ensures lines { S.lines sink.new ≡ S.lines sink.old }
+    ensures hands { HandsOn S.received S.keeps recorder.old sink.old recorder.new sink.new }
+{
+    if sink.wants_look() {
+        show(rt, alloc, exchange, recorder, sink)
+    } else {
+        hand_records(rt, exchange, recorder, sink)
+    }
+}
+
+/// Hands the records of the calls that have ended since to the sink.
+fn hand_records<N: Name, S: RecordSink, R: Wait>(
     rt: &R,
     exchange: &Exchange<N>,
     recorder: &mut Recorder<N>,
@@ -112,6 +146,27 @@ fn hand_over<N: Name, S: RecordSink, R: Wait>(
         return Received::GoesOn;
     };
     give(sink, records)
+}
+
+/// Hands the records of the calls that have ended since to the sink, with what can be seen of the exchange then.
+fn show<N: Name, S: RecordSink, R: Wait>(
+    rt: &R,
+    alloc: Global,
+    exchange: &Exchange<N>,
+    recorder: &mut Recorder<N>,
+    sink: &mut S,
+) -> Received
+    requires { S.lines sink.old ≡ line_count N.subs }
+    ensures lines { S.lines sink.new ≡ S.lines sink.old }
+    ensures hands { HandsOn S.received S.keeps recorder.old sink.old recorder.new sink.new }
+{
+    let Ok(look) = exchange.look(rt, alloc, recorder) else {
+        return Received::GoesOn;
+    };
+    let Look { records, view } = look;
+    let received = give(sink, records);
+    sink.see(view);
+    received
 }
 
 /// Gives records to the sink, if there are any.

@@ -131,7 +131,7 @@ pub fn serve_all<
             let begun = begin_all(
                 rt, scope, alloc, exchange, shared, parts, begun, turns, records,
             );
-            let recorded = keep_recording(rt, exchange, recorder, sink, shared);
+            let recorded = keep_recording(rt, alloc, exchange, recorder, sink, shared);
             LinesServed {
                 ends: end_all(rt, begun, ends),
                 recorder: recorded.recorder,

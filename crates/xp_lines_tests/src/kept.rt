@@ -10,8 +10,10 @@ use std::sync::Arc;
 use std::sync::atomic::Ordering;
 use xp_charge::Record;
 use xp_lines::{Received, RecordSink};
+use xp_lock::Book;
 use xp_past::Past;
 use xp_subs::Subs;
+use xp_view::ExchangeView;
 
 /// A sink that keeps the lines of the records that it is given, and counts the records on a board.
 #[derive(Drop)]
@@ -25,6 +27,9 @@ pub struct Kept {
     most: u64,
     /// Serving stops too once the links were given what this scenario gives them before.
     stops: Option<Scenario>,
+    /// How many lines and entries it saw last.
+    seen_lines: usize,
+    seen_entries: u64,
     given: Past<Record>,
 }
 
@@ -45,8 +50,15 @@ impl Kept {
             board: Arc::try_clone(board)?,
             most,
             stops,
+            seen_lines: 0,
+            seen_entries: 0,
             given: Past::new(),
         })
+    }
+
+    /// Whether it saw the exchange at last as the book has it.
+    pub fn saw_all(&self, book: &Book) -> bool {
+        self.seen_entries == book.count() && self.seen_lines == book.subs().counts().lines
     }
 }
 
@@ -77,6 +89,15 @@ impl RecordSink for Kept {
             Some(scenario) => stop_if(self.board.may_stop(scenario)),
             None => Received::GoesOn,
         }
+    }
+
+    fn wants_look(&self) -> bool {
+        true
+    }
+
+    fn see(&mut self, view: ExchangeView) {
+        self.seen_lines = view.lines.len();
+        self.seen_entries = view.entries;
     }
 
     ghost keeps_itself = { λ _. tt };

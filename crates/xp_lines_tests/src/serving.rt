@@ -128,7 +128,12 @@ fn close<N: Name, R: Wait>(
     let mut text = Vec::new(alloc);
     let all = passes(alloc, ends, &mut text)?;
     match exchange.close(rt, all, recorder) {
-        Ok(book) => tell_book(alloc, &book, &sink.text, text),
+        Ok(book) => {
+            if !sink.saw_all(&book) {
+                text.extend_from_slice(b"not all seen\n")?;
+            }
+            tell_book(alloc, &book, &sink.text, text)
+        }
         Err(_) => Ok(text),
     }
 }

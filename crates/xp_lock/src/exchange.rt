@@ -11,12 +11,14 @@ ghost use Rattle.xp_lock.specs.Faults.{event_in};
 ghost use Rattle.xp_lock.specs.Handed.{is_stall};
 ghost use Rattle.xp_lock.specs.Passes.{GainsEvent, IsLegal};
 ghost use Rattle.xp_lock.specs.Views.{StartsWith};
+ghost use Rattle.xp_view.specs.Views.{Shows};
 
 use crate::book::Book;
 use crate::fault::{CloseFault, OfferFault};
 use crate::guard::ExchangeGuard;
 use crate::history_length::HistoryLength;
 use crate::keeper::Keeper;
+use crate::look::Look;
 use crate::missing::first_missing;
 use crate::name::Name;
 use crate::pass::LinePass;
@@ -143,6 +145,31 @@ impl<N: Name, A: Allocator + Copy> Exchange<N, A> {
         ensures err { OnErr result (recorder.new ≡ recorder.old) }
     {
         self.lock(rt).take_records(recorder)
+    }
+
+    /// Takes the lock, hands over the charging records that wait, as `take_records` does, and shows the exchange as it is then: each
+    /// line, and the call that it is in, in the state to which the history leads that the recorder now knows. The lock is held for
+    /// the time that it takes to look at each line once.
+    ///
+    /// # Errors
+    ///
+    /// `AllocError` if an allocation fails. Then no record was handed over, and the recorder stays as it was.
+    pub fn look<R: Wait>(
+        &self,
+        rt: &R,
+        alloc: A,
+        recorder: &mut Recorder<N, A>,
+    ) -> Result<Look<A>, AllocError>
+        ensures taken { IfOk result (λ look. recorder.new.received ≡ recorder.old.received ++ look.records.items) }
+        ensures each { OnOk result (recorder.new.received ≡ records_of recorder.new.seen) }
+        ensures seen { OnOk result (StartsWith recorder.new.seen recorder.old.seen) }
+        ensures legal { OnOk result (IsLegal N.subs recorder.new.seen) }
+        ensures one_each { OnOk result (OneRecordEach N.subs recorder.new.seen (world_after N.subs recorder.new.seen)) }
+        ensures lines { IfOk result (λ look. All (NamesLines (line_count N.subs)) look.records.items) }
+        ensures shows { IfOk result (λ look. Shows N.subs recorder.new.seen look.view) }
+        ensures err { OnErr result (recorder.new ≡ recorder.old) }
+    {
+        self.lock(rt).look(alloc, recorder)
     }
 
     /// Makes the exchange refuse every later offer.

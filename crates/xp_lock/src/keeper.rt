@@ -14,6 +14,7 @@ ghost use Rattle.xp_lock.specs.Handed.{handed, is_stall};
 ghost use Rattle.xp_lock.specs.Passes.{GainsEvent, IsLegal, own_entries};
 ghost use Rattle.xp_lock.specs.CoreWithOutboxes.{Refuses, Takes};
 ghost use Rattle.xp_lock.specs.Views.{StartsWith, closing, keeping};
+ghost use Rattle.xp_view.specs.Views.{Shows};
 
 use crate::book::Book;
 use crate::core_with_outboxes::CoreWithOutboxes;
@@ -30,6 +31,7 @@ use std::sync::Wait;
 use xp_charge::Record;
 use xp_core::Event;
 use xp_outbox::count_untaken;
+use xp_view::ExchangeView;
 
 /// What the lock protects: the exchange with its outboxes, and the seat that knows the whole history. The records of the front
 /// that the recorder saw were handed over, and no others.
@@ -150,6 +152,17 @@ impl<N: Name, A: Allocator + Copy> Keeper<N, A> {
         recorder.received.extend(taken.as_slice());
         recorder.count = core.record_count();
         Ok(taken)
+    }
+
+    /// What can be seen of the exchange now.
+    ///
+    /// # Errors
+    ///
+    /// `AllocError` if an allocation fails.
+    pub fn view(&self, alloc: A) -> Result<ExchangeView<A>, AllocError>
+        ensures { IfOk result (Shows N.subs self.now.history) }
+    {
+        ExchangeView::of(alloc, self.core_with_outboxes.core())
     }
 
     /// Compares what each pass has seen and taken with the history, counts what it took, and returns the book. No line has

@@ -1,5 +1,6 @@
 //! What is told of subscription files.
 
+use crate::routers::{LONG_ROUTERS, ROUTER_LINES, ROUTERS, XOT_PORTS};
 use crate::sources::SOURCES;
 use crate::texts::{LINES, STATION, TOP, WHOLE};
 use std::alloc::{AllocError, Global};
@@ -13,6 +14,12 @@ const STATION_1: &str = "[[station]]\naddress = '1'\nline = [{ name = 'a', port 
 /// A station with one line, as far as the value of the line's key `from`.
 const LINE_FROM: &str =
     "[[station]]\naddress = '1'\n[[station.line]]\nname = 'a'\nport = 1\nfrom = ";
+
+/// A station with one line, as far as the value of the line's key `router`.
+const LINE_ROUTER: &str = "[[station]]\naddress = '1'\n[[station.line]]\nname = 'a'\nrouter = ";
+
+/// A station, as far as the value of its key `line`.
+const STATION_LINE: &str = "[[station]]\naddress = '1'\nline = ";
 
 /// What is told of a file.
 fn told(alloc: Global, file: &str) -> Result<String, AllocError> {
@@ -42,14 +49,18 @@ fn subscription_files(rt: HostRuntime) -> Result<(), Fail> {
     let alloc = rt.alloc();
     are_told(&rt, alloc, "", &TOP, STATION_1)?;
     are_told(&rt, alloc, STATION_1, &STATION, "")?;
-    are_told(
-        &rt,
-        alloc,
-        "[[station]]\naddress = '1'\nline = ",
-        &LINES,
-        "",
-    )?;
+    are_told(&rt, alloc, STATION_LINE, &LINES, "")?;
     are_told(&rt, alloc, LINE_FROM, &SOURCES, "")?;
     are_told(&rt, alloc, "", &WHOLE, "")?;
+    Ok(())
+}
+
+#[test]
+fn lines_behind_routers(rt: HostRuntime) -> Result<(), Fail> {
+    let alloc = rt.alloc();
+    are_told(&rt, alloc, "", &XOT_PORTS, STATION_1)?;
+    are_told(&rt, alloc, LINE_ROUTER, &ROUTERS, "")?;
+    are_told(&rt, alloc, LINE_ROUTER, &LONG_ROUTERS, "")?;
+    are_told(&rt, alloc, STATION_LINE, &ROUTER_LINES, "")?;
     Ok(())
 }

@@ -4,6 +4,8 @@
 #[cfg(test)]
 mod files;
 #[cfg(test)]
+mod routers;
+#[cfg(test)]
 mod sources;
 #[cfg(test)]
 mod texts;

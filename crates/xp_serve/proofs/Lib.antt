@@ -1,8 +1,8 @@
+mod Accesses
 mod Addresses
 mod EarlyEnds
 mod Fronts
 mod Kept
 mod Passes
-mod Ports
 mod Printed
 mod Told

@@ -4,11 +4,21 @@ use crate::keep_fault::KeepFault;
 use crate::keeping::RecordKeeper;
 use xp_charge::Record;
 use xp_lines::{Received, RecordSink};
+use xp_view::ExchangeView;
 
 /// What is looked at again and again while the lines are served.
 pub trait Watch: Drop {
     /// Looks once, and does not wait. It is called at least ten times a second.
     fn look(&mut self) -> Received;
+
+    /// Takes note of the records of calls that have ended.
+    fn note_ended(&mut self, records: &[Record]);
+
+    /// Whether it wants to see the exchange now.
+    fn wants_look(&self) -> bool;
+
+    /// Takes what can be seen of the exchange, and how many records wait to be kept.
+    fn see(&mut self, view: &ExchangeView, waiting: usize);
 }
 
 /// A keeper of charging records, and what is looked at beside it.
@@ -26,6 +36,7 @@ impl<K: RecordKeeper, W: Watch> RecordSink for Attending<K, W> {
     ghost keeps = { λ a b. K.keeps a.keeper b.keeper };
 
     fn receive(&mut self, records: Vec<Record>) -> Received {
+        self.watch.note_ended(&records);
         self.keeper.receive(records)
     }
 
@@ -34,6 +45,14 @@ impl<K: RecordKeeper, W: Watch> RecordSink for Attending<K, W> {
             Received::GoesOn => self.watch.look(),
             Received::Stops => Received::Stops,
         }
+    }
+
+    fn wants_look(&self) -> bool {
+        self.watch.wants_look()
+    }
+
+    fn see(&mut self, view: ExchangeView) {
+        self.watch.see(&view, self.keeper.waiting());
     }
 
     ghost keeps_itself = { λ a. K.keeps_itself a.keeper };
@@ -49,6 +68,10 @@ impl<K: RecordKeeper, W: Watch> RecordKeeper for Attending<K, W> {
     ghost has_lines = { λ a. K.has_lines a.keeper };
 
     ghost keeps_names = { λ a b same. K.keeps_names a.keeper b.keeper same };
+
+    fn waiting(&self) -> usize {
+        self.keeper.waiting()
+    }
 
     fn finish(&mut self, rest: &[Record]) -> Result<(), KeepFault> {
         self.keeper.finish(rest)

@@ -22,6 +22,7 @@ use xp_lines::{Received, RecordSink};
 use xp_past::Past;
 use xp_subs::Subs;
 use xp_tcp::WallClock;
+use xp_view::ExchangeView;
 
 /// With so many call detail records that the file has not taken, serving stops.
 const MOST_WAITING: usize = 100_000;
@@ -234,6 +235,12 @@ impl<F: RecordFile, L: Log + Drop, W: Write + Drop> RecordSink for DetailKeeper<
         self.flow()
     }
 
+    fn wants_look(&self) -> bool {
+        false
+    }
+
+    fn see(&mut self, _view: ExchangeView) {}
+
     ghost keeps_itself = { λ k. (refl, refl, refl) };
 
     ghost keeps_on = { λ k l m first second. (second.0 ∙ first.0, second.1 ∙ first.1, second.2 ∙ first.2) };
@@ -250,6 +257,10 @@ impl<F: RecordFile, L: Log + Drop, W: Write + Drop> RecordKeeper for DetailKeepe
     ghost has_lines = { λ k. refl };
 
     ghost keeps_names = { λ k l same. same.0 };
+
+    fn waiting(&self) -> usize {
+        self.writer.waiting_records()
+    }
 
     fn finish(&mut self, rest: &[Record]) -> Result<(), KeepFault> {
         self.keep_rest(rest)

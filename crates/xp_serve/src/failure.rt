@@ -20,9 +20,15 @@ pub enum ServeFailure {
     /// A source of the line with this name is no IP address.
     #[error("xp: from {0}")]
     From(Name),
+    /// The router of the line with this name has no IP address.
+    #[error("xp: router {0}")]
+    Router(Name),
     /// The port of the line with this name can't be listened on, or no connection can come to it any more.
     #[error("xp: port {0}")]
     Port(Name),
+    /// The port that routers connect to can't be listened on.
+    #[error("xp: xot_port")]
+    XotPort,
     /// The history is full.
     #[error("xp: journal full")]
     Journal,
@@ -48,7 +54,9 @@ impl ServeFailure {
             ServeFailure::Journal | ServeFailure::Thread | ServeFailure::Memory => 4,
             ServeFailure::Host
             | ServeFailure::From(_)
+            | ServeFailure::Router(_)
             | ServeFailure::Port(_)
+            | ServeFailure::XotPort
             | ServeFailure::Output
             | ServeFailure::Details => 5,
         }

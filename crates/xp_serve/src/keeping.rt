@@ -20,6 +20,9 @@ pub trait RecordKeeper: RecordSink {
     // What is kept once these are all records of the run, and this came of keeping them.
     ghost kept: { Self → List Record → Result (Unit {0}) KeepFault → Type 0 };
 
+    /// How many of the records that were received are not kept yet.
+    fn waiting(&self) -> usize;
+
     /// Keeps the records that are left as the run ends, which follow those that were received.
     ///
     /// # Errors

@@ -3,6 +3,8 @@
 #![tactic(auto)]
 
 mod attending;
+mod beside_door;
+mod console_feed;
 mod details;
 mod ends;
 mod failure;
@@ -20,6 +22,7 @@ mod telling;
 mod watching;
 
 pub use attending::{Attending, Watch};
+pub use console_feed::{ConsoleFeed, NoConsole};
 pub use details::DetailKeeper;
 pub use ends::{EarlyEnd, EarlyEndCause};
 pub use failure::ServeFailure;
@@ -30,6 +33,6 @@ pub use listening::listen_all;
 pub use operator_log::OperatorLog;
 pub use printing::RecordPrinter;
 pub use served::{NotServed, Recorded, Served};
-pub use serving::{ServeEnd, TcpThreadInputs, serve, serve_on, thread_inputs};
+pub use serving::{ServeEnd, TcpThreadInputs, TcpThreads, serve, serve_on, thread_inputs};
 pub use stop_input::StopInput;
 pub use watching::OperatorWatch;

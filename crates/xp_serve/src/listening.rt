@@ -1,26 +1,32 @@
-//! Listening on the port of each line.
+//! Listening on the ports of lines, and for their routers.
 
-ghost use Rattle.std.specs.Prelude.{◌≡◌, ◌<◌, ◌++◌, ◌∷◌, [], IfErr, IfOk, OnOk};
+ghost use Rattle.std.specs.Net.Grammar.{IsIpText};
+ghost use Rattle.std.specs.Net.Socket.{socket_ip, socket_port};
+ghost use Rattle.std.specs.Prelude.{◌≡◌, ◌<◌, ◌++◌, ◌∷◌, [], IfErr, IfNone, IfOk, IfSome, OnOk, true};
 ghost use Rattle.xp_serve.specs.Failures.{IsWanting};
-ghost use Rattle.xp_serve.specs.Ports.{ports_of};
+ghost use Rattle.xp_serve.specs.Accesses.{AreServedAt, IsServedAt};
 ghost use Rattle.xp_serve.specs.steps.Addresses.{AreAddresses};
 ghost use Rattle.xp_subs.specs.Sound.{IsSound};
-ghost use Rattle.xp_subs.specs.Tables.{line_at, line_count};
+ghost use Rattle.xp_file.specs.declared.entry.Access.TheVariants as subscribed;
+ghost use Rattle.xp_subs.specs.Tables.{has_routers, line_at, line_count};
+ghost use Rattle.xp_tcp.specs.declared.access.Access.{Access as Served};
+ghost use Rattle.xp_tcp.specs.declared.access.Access.TheVariants as served;
 
 use crate::failure::ServeFailure;
 use std::alloc::Global;
-use std::net::{IpAddr, Net};
+use std::net::{IpAddr, Net, SocketAddr};
 use std::sync::Arc;
-use xp_subs::{LineNo, Subs};
+use xp_subs::{Access, LineNo, RouterAddress, Subs};
 use xp_tcp::{Admission, AdmissionFault, ListenFault, Notices, Sockets};
 
-/// Listens on the port of each line, in order, at an address of the machine. The ports tell what an operator has to see by
-/// `notices`.
+/// Listens on the port of each line, in order, at an address of the machine, and for the routers of the lines that are behind one.
+/// The ports tell what an operator has to see by `notices`.
 ///
 /// # Errors
 ///
-/// Before any port is listened on: `From` with the first line that has a source which is no IP address. `Port` with the first
-/// line whose port can't be had, `Memory`.
+/// Before any port is listened on: `From` with the first line that has a source which is no IP address, or `Router` with the first
+/// whose router has none. `Port` with the first line whose port can't be had, `XotPort` where the port for routers can't,
+/// `Memory`.
 pub fn listen_all<R: Net>(
     rt: &R,
     alloc: Global,
@@ -28,26 +34,77 @@ pub fn listen_all<R: Net>(
     host: IpAddr,
     notices: Arc<Notices>,
 ) -> Result<Sockets, ServeFailure>
-    ensures ports { IfOk result (λ sockets. sockets ≡ ports_of subs.now) }
+    ensures accesses { IfOk result (AreServedAt subs.now) }
     ensures wanting { IfErr result (IsWanting subs.now) }
 {
     let lines = subs.counts().lines;
-    check_sources(subs)?;
+    check_addresses(subs)?;
     let mut sockets = Sockets::new(alloc, lines, notices)?;
     for line in 0..lines {
         listen(rt, subs, host, line as LineNo, &mut sockets)?;
     }
+    if subs.has_routers() {
+        open_door(rt, alloc, subs, host, &mut sockets)?;
+    }
     Ok(sockets)
 }
 
-/// Whether each source of each line is an IP address.
-fn check_sources(subs: &Subs) -> Result<(), ServeFailure>
+/// Listens for the routers of all lines.
+fn open_door<R: Net>(
+    rt: &R,
+    alloc: Global,
+    subs: &Subs,
+    host: IpAddr,
+    sockets: &mut Sockets,
+) -> Result<(), ServeFailure>
+    requires { has_routers subs.now ≡ true }
+    ensures same { sockets.new ≡ sockets.old }
+    ensures wanting { IfErr result (IsWanting subs.now) }
+{
+    match sockets.open_door(rt, alloc, host, subs.xot_port()) {
+        Ok(()) => Ok(()),
+        Err(ListenFault::Port) => Err(ServeFailure::XotPort),
+        Err(ListenFault::Memory) => Err(ServeFailure::Memory),
+    }
+}
+
+/// Whether each source of each line, and its router if it has one, is an IP address.
+fn check_addresses(subs: &Subs) -> Result<(), ServeFailure>
     ensures wanting { IfErr result (IsWanting subs.now) }
 {
     for line in 0..subs.counts().lines {
-        admission_of(subs, line as LineNo)?;
+        check_line(subs, line as LineNo)?;
     }
     Ok(())
+}
+
+/// Whether each source of a line, and its router if it has one, is an IP address.
+fn check_line(subs: &Subs, line: LineNo) -> Result<(), ServeFailure>
+    requires { line < line_count subs.now }
+    ensures wanting { IfErr result (IsWanting subs.now) }
+{
+    admission_of(subs, line)?;
+    if let Access::Router(router) = subs.access_of(line) {
+        router_of(subs, line, router)?;
+    }
+    Ok(())
+}
+
+/// Where a router takes connections.
+///
+/// # Errors
+///
+/// `Router` where its text is no IP address.
+fn router_of(subs: &Subs, line: LineNo, router: &RouterAddress) -> Result<SocketAddr, ServeFailure>
+    requires line { line < line_count subs.now }
+    requires router { (line_at subs.now line).access ≡ subscribed.Router router.now }
+    ensures at { IfOk result (λ at. IsIpText router.now.address (socket_ip at) × (socket_port at ≡ router.now.port)) }
+    ensures wanting { IfErr result (IsWanting subs.now) }
+{
+    match router.address().parse::<IpAddr>() {
+        Ok(address) => Ok(SocketAddr::new(address, router.port())),
+        Err(_) => Err(ServeFailure::Router(subs.line(line).name.copy())),
+    }
 }
 
 /// From where the connections of a line may come.
@@ -78,7 +135,7 @@ fn admission_of(subs: &Subs, line: LineNo) -> Result<Admission, ServeFailure>
     Ok(admission)
 }
 
-/// Listens on the port of a line, the next one.
+/// Listens on the port of a line, the next one, or adds it as one behind its router.
 fn listen<R: Net>(
     rt: &R,
     subs: &Subs,
@@ -88,11 +145,52 @@ fn listen<R: Net>(
 ) -> Result<(), ServeFailure>
     requires line { line < line_count subs.now }
     requires sound { IsSound subs.now }
-    ensures one { OnOk result (sockets.new ≡ sockets.old ++ (line_at subs.now line).port ∷ []) }
+    ensures one { OnOk result ((access : Served) × (sockets.new ≡ sockets.old ++ access ∷ []) × IsServedAt (line_at subs.now line).access access) }
+    ensures wanting { IfErr result (IsWanting subs.now) }
+{
+    match subs.access_of(line) {
+        Access::Port(port) => listen_on(rt, subs, host, line, *port, sockets),
+        Access::Router(router) => add_behind(rt, subs, line, router, sockets),
+    }
+}
+
+/// Listens on the port of a line, the next one.
+fn listen_on<R: Net>(
+    rt: &R,
+    subs: &Subs,
+    host: IpAddr,
+    line: LineNo,
+    port: u16,
+    sockets: &mut Sockets,
+) -> Result<(), ServeFailure>
+    requires line { line < line_count subs.now }
+    requires port { 0 < port }
+    ensures one { OnOk result (sockets.new ≡ sockets.old ++ served.Port port ∷ []) }
     ensures wanting { IfErr result (IsWanting subs.now) }
 {
     let admission = admission_of(subs, line)?;
-    match sockets.listen(rt, host, subs.port_of(line), admission) {
+    match sockets.listen(rt, host, port, admission) {
+        Ok(()) => Ok(()),
+        Err(ListenFault::Port) => Err(ServeFailure::port(subs, line)),
+        Err(ListenFault::Memory) => Err(ServeFailure::Memory),
+    }
+}
+
+/// Adds a line behind its router, the next one.
+fn add_behind<R: Net>(
+    rt: &R,
+    subs: &Subs,
+    line: LineNo,
+    router: &RouterAddress,
+    sockets: &mut Sockets,
+) -> Result<(), ServeFailure>
+    requires line { line < line_count subs.now }
+    requires router { (line_at subs.now line).access ≡ subscribed.Router router.now }
+    ensures one { OnOk result ((access : Served) × (sockets.new ≡ sockets.old ++ access ∷ []) × IsServedAt (subscribed.Router router.now) access) }
+    ensures wanting { IfErr result (IsWanting subs.now) }
+{
+    let at = router_of(subs, line, router)?;
+    match sockets.add_router(rt, at) {
         Ok(()) => Ok(()),
         Err(ListenFault::Port) => Err(ServeFailure::port(subs, line)),
         Err(ListenFault::Memory) => Err(ServeFailure::Memory),

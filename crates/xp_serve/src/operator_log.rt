@@ -14,19 +14,27 @@ const STANDARD_ERROR: i32 = 2;
 #[derive(Drop)]
 pub struct OperatorLog<L: Log> {
     log: L,
+    /// Whether only failures are told.
+    is_quiet: bool,
     /// How many lines were left out since the last one that was written.
     left_out: u64,
 }
 
 impl<L: Log> OperatorLog<L> {
-    /// The log that writes its lines by this logger.
-    pub fn new(log: L) -> OperatorLog<L> {
-        OperatorLog { log, left_out: 0 }
+    /// The log that writes its lines by this logger. A quiet one tells no mere facts.
+    pub fn new(log: L, is_quiet: bool) -> OperatorLog<L> {
+        OperatorLog {
+            log,
+            is_quiet,
+            left_out: 0,
+        }
     }
 
     /// Tells a fact, at this moment, in seconds since 1970.
     pub fn info<D: Display + Drop>(&mut self, moment: u64, fact: D) {
-        self.tell(Level::Info, moment, fact);
+        if !self.is_quiet {
+            self.tell(Level::Info, moment, fact);
+        }
     }
 
     /// Tells what an operator has to look at, at this moment, in seconds since 1970.

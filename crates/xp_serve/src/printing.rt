@@ -18,6 +18,7 @@ use xp_exchange::write_out;
 use xp_lines::{Received, RecordSink};
 use xp_past::Past;
 use xp_subs::Subs;
+use xp_view::ExchangeView;
 
 /// Writes charging records, each as one line. Once memory was wanting or the writer failed, it writes nothing more.
 #[derive(Drop)]
@@ -128,6 +129,12 @@ impl<W: Write + Drop> RecordSink for RecordPrinter<W> {
         Received::GoesOn
     }
 
+    fn wants_look(&self) -> bool {
+        false
+    }
+
+    fn see(&mut self, _view: ExchangeView) {}
+
     ghost keeps_itself = { λ p. (refl, refl) };
 
     ghost keeps_on = { λ p q r first second. (second.0 ∙ first.0, second.1 ∙ first.1) };
@@ -146,6 +153,10 @@ impl<W: Write + Drop> RecordKeeper for RecordPrinter<W> {
     ghost has_lines = { λ p. refl };
 
     ghost keeps_names = { λ p q same. same.0 };
+
+    fn waiting(&self) -> usize {
+        0
+    }
 
     fn finish(&mut self, rest: &[Record]) -> Result<(), KeepFault> {
         self.print(rest);

@@ -8,6 +8,7 @@ ghost use Rattle.xp_serve.specs.declared.failure.ServeFailure.TheVariants.{Host 
 ghost use Rattle.xp_serve.specs.steps.Serving.{AreReady, WereServed, WereStopped};
 ghost use Rattle.xp_subs.specs.Tables.{line_count};
 
+use crate::beside_door::serve_with_door;
 use crate::ends::{end_reasons_of, first_early_end, passes_of};
 use crate::failure::ServeFailure;
 use crate::host::host_address;
@@ -18,13 +19,13 @@ use crate::served::{NotServed, Recorded, Served};
 use crate::telling::tell;
 use std::alloc::{AllocError, Global};
 use std::marker::Brand;
-use std::net::{IpAddr, Net};
+use std::net::{IpAddr, Net, TcpListener, TcpStream};
 use std::sync::{Arc, Wait};
 use std::thread::Threads;
-use xp_lines::{EndReason, LinesServed, RecordSink, ThreadInputs, serve_all};
+use xp_lines::{EndReason, LinesServed, RecordSink, ThreadInputs};
 use xp_lock::{Exchange, LinePass, Name, PreparedExchange, Recorder, prepare};
 use xp_subs::Subs;
-use xp_tcp::{Notices, OpenGate, Sockets, TcpClock, TcpPort};
+use xp_tcp::{Door, Ends, LinePort, Notices, OpenGate, Sockets, TcpClock};
 
 /// What serving came to.
 #[derive(Drop)]
@@ -35,17 +36,20 @@ pub struct ServeEnd<K: RecordKeeper> {
     pub outcome: Result<(), ServeFailure>,
 }
 
-/// Listens on the port of each line, and serves all lines by [`serve_on`] until they have ended. The keeper has each charging
+/// Listens on the port of each line, and for the routers of lines, and serves all lines by [`serve_on`] until they have ended. The keeper has each charging
 /// record as its call ends, in the order in which the calls end. What an operator has to see of the lines is told by `notices`.
 ///
 /// # Errors
 ///
 /// Before any line is served: `Host` where the host of the subscription file is neither `localhost` nor an IP address, before
-/// any port is listened on, and else `From` with the lowest line that has a source which is no IP address; `Port` with the
-/// lowest line whose port can't be had, `Memory`. After the records are kept:
-/// what the lowest line told that ended before its time, as `Port`, `Journal` or `Thread`. Where not all records could be kept,
+/// any port is listened on, and else `From` with the lowest line that has a source which is no IP address, or `Router` with the
+/// lowest whose router has none; `Port` with the lowest line whose port can't be had, `XotPort` where that for routers can't,
+/// `Memory`. After the records are kept: what the lowest line told that ended before its time, as `Port`, `Journal` or `Thread`. Where not all records could be kept,
 /// what the keeper told: `Memory`, `Output` or `Details`.
-pub fn serve<R: Net + Threads + Wait + Sync, K: RecordKeeper>(
+pub fn serve<
+    R: Net<Listener = TcpListener, Stream = TcpStream> + Threads + Wait + Sync,
+    K: RecordKeeper,
+>(
     rt: &R,
     alloc: Global,
     subs: Subs,
@@ -68,7 +72,10 @@ pub fn serve<R: Net + Threads + Wait + Sync, K: RecordKeeper>(
 }
 
 /// Serves all lines at an address of the machine.
-fn serve_at<R: Net + Threads + Wait + Sync, K: RecordKeeper>(
+fn serve_at<
+    R: Net<Listener = TcpListener, Stream = TcpStream> + Threads + Wait + Sync,
+    K: RecordKeeper,
+>(
     rt: &R,
     alloc: Global,
     subs: Subs,
@@ -119,7 +126,10 @@ fn end<K: RecordKeeper>(recorded: Recorded<K>) -> ServeEnd<K>
 /// # Errors
 ///
 /// `NotServed` if an allocation fails. Then no line was served, and the sink comes back.
-pub fn serve_on<R: Threads + Wait + Sync, S: RecordSink>(
+pub fn serve_on<
+    R: Net<Listener = TcpListener, Stream = TcpStream> + Threads + Wait + Sync,
+    S: RecordSink,
+>(
     rt: &R,
     alloc: Global,
     subs: Subs,
@@ -143,7 +153,11 @@ pub fn serve_on<R: Threads + Wait + Sync, S: RecordSink>(
 }
 
 /// Serves the lines of the exchange that N names.
-fn serve_named<N: Name + Send + Sync, R: Threads + Wait + Sync, S: RecordSink>(
+fn serve_named<
+    N: Name + Send + Sync,
+    R: Net<Listener = TcpListener, Stream = TcpStream> + Threads + Wait + Sync,
+    S: RecordSink,
+>(
     rt: &R,
     alloc: Global,
     prepared: PreparedExchange,
@@ -168,12 +182,12 @@ fn serve_named<N: Name + Send + Sync, R: Threads + Wait + Sync, S: RecordSink>(
     let Ready {
         exchange,
         parts,
+        door,
         recorder,
         room,
         room_of_reasons,
     } = ready;
-    let (turns, records) = (limits.turns, limits.records);
-    match serve_all(rt, alloc, &exchange, parts, recorder, sink, turns, records) {
+    match serve_with_door(rt, alloc, &exchange, parts, door, recorder, sink, limits) {
         Ok(lines) => Ok(close(rt, exchange, lines, room, room_of_reasons)),
         Err(fault) => Err(NotServed { sink: fault.sink }),
     }
@@ -222,6 +236,8 @@ struct Ready<N: Name> {
     exchange: Exchange<N>,
     /// What the threads of the lines are given.
     parts: Vec<TcpThreadInputs<N>>,
+    /// The door of the lines behind routers, if there are any.
+    door: Option<Door>,
     recorder: Recorder<N>,
     /// Room for the passes of the lines, and for why they ended.
     room: Vec<LinePass<N>>,
@@ -243,10 +259,11 @@ fn make_ready<N: Name>(
     let (exchange, passes, recorder) = Exchange::<N>::start(alloc, prepared)?;
     let room = Vec::with_capacity(alloc, passes.len())?;
     let room_of_reasons = Vec::with_capacity(alloc, passes.len())?;
-    let parts = thread_inputs(alloc, passes, sockets)?;
+    let TcpThreads { parts, door } = thread_inputs(alloc, passes, sockets)?;
     Ok(Ready {
         exchange,
         parts,
+        door,
         recorder,
         room,
         room_of_reasons,
@@ -254,7 +271,15 @@ fn make_ready<N: Name>(
 }
 
 /// What the thread of a line is given.
-pub type TcpThreadInputs<N> = ThreadInputs<N, TcpPort, TcpClock, OpenGate>;
+pub type TcpThreadInputs<N> = ThreadInputs<N, LinePort, TcpClock, OpenGate>;
+
+/// What the threads of all lines are given, and the door of the lines behind routers, if there are any.
+#[derive(Drop)]
+pub struct TcpThreads<N: Name> {
+    /// In the order of lines.
+    pub parts: Vec<TcpThreadInputs<N>>,
+    pub door: Option<Door>,
+}
 
 /// What the threads of the lines are given, in the order of lines: each the pass and the port of its line.
 ///
@@ -265,13 +290,14 @@ pub fn thread_inputs<N: Name>(
     alloc: Global,
     passes: Vec<LinePass<N>>,
     sockets: Sockets,
-) -> Result<Vec<TcpThreadInputs<N>>, AllocError>
+) -> Result<TcpThreads<N>, AllocError>
     requires { length sockets ≡ vec_len passes }
-    ensures passes { IfOk result (λ parts. map (λ part. part.pass) parts.items ≡ passes.items) }
-    ensures ports { IfOk result (λ parts. map (λ part. part.port) parts.items ≡ sockets) }
+    ensures passes { IfOk result (λ threads. map (λ part. part.pass) threads.parts.items ≡ passes.items) }
+    ensures ports { IfOk result (λ threads. map (λ part. part.port) threads.parts.items ≡ sockets) }
 {
     let mut parts = Vec::with_capacity(alloc, passes.len())?;
-    let mut ends = sockets.into_ends(alloc)?.into_iter();
+    let Ends { lines, door } = sockets.into_ends(alloc)?;
+    let mut ends = lines.into_iter();
     for pass in passes {
         let Some((port, clock)) = ends.next() else {
             unreachable!()
@@ -283,5 +309,5 @@ pub fn thread_inputs<N: Name>(
             gate: OpenGate,
         })?;
     }
-    Ok(parts)
+    Ok(TcpThreads { parts, door })
 }

@@ -1,35 +1,41 @@
 //! What an operator asks of a serving exchange, and is told by it.
 
 use crate::attending::Watch;
+use crate::console_feed::ConsoleFeed;
 use crate::operator_log::OperatorLog;
 use crate::stop_input::StopInput;
 use log::Log;
 use std::alloc::{AllocError, Global};
+use std::fmt::Display;
 use std::sync::Arc;
+use xp_charge::Record;
 use xp_file::Name;
 use xp_lines::Received;
 use xp_subs::{LineNo, Subs};
 use xp_tcp::{Notice, Notices, WallClock};
+use xp_view::ExchangeView;
 
 /// How many notices are told at most in one look.
 const MOST_TOLD: usize = 64;
 
 /// Tells the notices of the lines' threads, and looks whether serving is to stop.
 #[derive(Drop)]
-pub struct OperatorWatch<L: Log> {
+pub struct OperatorWatch<L: Log, F: ConsoleFeed> {
     /// The names of the lines, in order.
     names: Vec<Name>,
     notices: Arc<Notices>,
     /// The input whose end asks serving to stop, if there is one.
     stop: Option<StopInput>,
+    console: F,
     /// Whether the stop was told.
     is_told: bool,
     clock: WallClock,
     log: OperatorLog<L>,
 }
 
-impl<L: Log + Drop> OperatorWatch<L> {
-    /// The watch over the lines of these subscriptions. Where `stop` is given, serving stops as that input ends.
+impl<L: Log + Drop, F: ConsoleFeed> OperatorWatch<L, F> {
+    /// The watch over the lines of these subscriptions. Where `stop` is given, serving stops as that input ends. It feeds a
+    /// console, and serving stops where that asks for it.
     ///
     /// # Errors
     ///
@@ -39,13 +45,15 @@ impl<L: Log + Drop> OperatorWatch<L> {
         subs: &Subs,
         notices: Arc<Notices>,
         stop: Option<StopInput>,
+        console: F,
         clock: WallClock,
         log: OperatorLog<L>,
-    ) -> Result<OperatorWatch<L>, AllocError> {
+    ) -> Result<OperatorWatch<L, F>, AllocError> {
         Ok(OperatorWatch {
             names: names_of(alloc, subs)?,
             notices,
             stop,
+            console,
             is_told: false,
             clock,
             log,
@@ -67,29 +75,54 @@ impl<L: Log + Drop> OperatorWatch<L> {
         }
     }
 
-    /// Tells a notice with the name of its line.
+    /// Tells a notice, with the name of its line if it is of one.
     fn tell_notice(&mut self, now: u64, notice: &Notice) {
-        let Some(name) = self.names.get(notice.line() as usize) else {
+        self.console.note(notice);
+        let Some(line) = notice.line() else {
+            self.tell_by(now, notice, format_args!("routers: {notice}"));
             return;
         };
-        self.log.info(now, format_args!("line {name}: {notice}"));
+        let Some(name) = self.names.get(usize::from(line)) else {
+            return;
+        };
+        let name = name.copy();
+        self.tell_by(now, notice, format_args!("line {name}: {notice}"));
+    }
+
+    /// Tells the fact of a notice: a failure also where only failures are told.
+    fn tell_by<D: Display + Drop>(&mut self, now: u64, notice: &Notice, fact: D) {
+        match notice {
+            Notice::PortFailing { .. } | Notice::DoorFailing => self.log.warn(now, fact),
+            _ => self.log.info(now, fact),
+        }
     }
 
     /// Whether serving is asked to stop. That is told once.
     fn is_asked_to_stop(&mut self, now: u64) -> bool {
-        let asked = match &mut self.stop {
+        let Some(reason) = self.reason_to_stop() else {
+            return false;
+        };
+        if !self.is_told {
+            self.is_told = true;
+            self.log.info(now, format_args!("stopping: {reason}"));
+        }
+        true
+    }
+
+    /// Why serving is to stop, if it is.
+    fn reason_to_stop(&mut self) -> Option<&'static str> {
+        if self.console.is_asked_to_stop() {
+            return Some("the console was asked to");
+        }
+        let ended = match &mut self.stop {
             Some(input) => input.has_ended(),
             None => false,
         };
-        if asked && !self.is_told {
-            self.is_told = true;
-            self.log.info(now, "stopping: standard input has ended");
-        }
-        asked
+        ended.then_some("standard input has ended")
     }
 }
 
-impl<L: Log + Drop> Watch for OperatorWatch<L> {
+impl<L: Log + Drop, F: ConsoleFeed> Watch for OperatorWatch<L, F> {
     fn look(&mut self) -> Received {
         let now = self.clock.now();
         self.tell_notices(now);
@@ -98,6 +131,19 @@ impl<L: Log + Drop> Watch for OperatorWatch<L> {
         } else {
             Received::GoesOn
         }
+    }
+
+    fn note_ended(&mut self, records: &[Record]) {
+        self.console.note_ended(records);
+    }
+
+    fn wants_look(&self) -> bool {
+        self.console.wants_look()
+    }
+
+    fn see(&mut self, view: &ExchangeView, waiting: usize) {
+        let now = self.clock.now();
+        self.console.show(now, view, waiting);
     }
 }
 

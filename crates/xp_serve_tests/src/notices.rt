@@ -29,7 +29,7 @@ fn notices_and_texts(line: u16) -> [(Notice, &'static str); 5] {
 #[test]
 fn texts_of_notices(rt: HostRuntime) -> Result<(), Fail> {
     for (notice, text) in notices_and_texts(7) {
-        assert_eq!(rt; notice.line(), 7);
+        assert_eq!(rt; notice.line(), Some(7));
         assert_eq!(rt; format!(in rt.alloc(); "{notice}")?.as_str(), text);
     }
     Ok(())

@@ -8,7 +8,7 @@ use std::test::Fail;
 use std::thread;
 use std::time::Duration;
 use xp_lines::{Arrived, Port};
-use xp_tcp::{Admission, Notice, Notices, Sockets, TcpLink, TcpPort};
+use xp_tcp::{Admission, LineLink, LinePort, Notice, Notices, Sockets};
 
 /// How many seconds a client waits for the end of its connection.
 const PATIENCE: u64 = 10;
@@ -20,7 +20,7 @@ const MOST_TRIES: u32 = 100_000;
 #[derive(Drop)]
 struct Scene {
     client: TcpStream,
-    port: TcpPort,
+    port: LinePort,
     notices: Arc<Notices>,
 }
 
@@ -40,7 +40,7 @@ fn listen_and_connect<R: Net<Listener = TcpListener, Stream = TcpStream>>(
     let patience = Duration::from_secs(PATIENCE);
     let client = TcpStream::connect_timeout(rt, &at, patience)?;
     client.set_read_timeout(Some(patience))?;
-    let (port, _clock) = sockets.into_ends(alloc)?.pop().ok_or("no end")?;
+    let (port, _clock) = sockets.into_ends(alloc)?.lines.pop().ok_or("no end")?;
     Ok(Scene {
         client,
         port,
@@ -49,7 +49,7 @@ fn listen_and_connect<R: Net<Listener = TcpListener, Stream = TcpStream>>(
 }
 
 /// Asks the port for its next link until there is a notice. The link, if one came.
-fn next(scene: &mut Scene) -> (Option<TcpLink>, Option<Notice>) {
+fn next(scene: &mut Scene) -> (Option<LineLink>, Option<Notice>) {
     for _try in 0..MOST_TRIES {
         let link = match scene.port.next() {
             Arrived::Came(link) => Some(link),

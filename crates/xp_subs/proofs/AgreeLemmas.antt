@@ -7,8 +7,10 @@ use Rattle.std.proofs.lemmas.Bool.{cases_Bool, cases_lt}
 use Rattle.std.proofs.lemmas.List.{get_or_append_left}
 use Rattle.std.proofs.lemmas.List.Quantifiers.{position-Some}
 use Rattle.xp_file.specs.Name.{same}
+use Rattle.xp_file.specs.declared.entry.Access.{Access}
+use Rattle.xp_file.specs.declared.entry.Access.TheVariants.{Port, Router}
 use Rattle.xp_subs.specs.declared.target.Target.{Target}
-use Rattle.xp_subs.specs.steps.Passes.{Used, with_address, with_name, with_port, with_own}
+use Rattle.xp_subs.specs.steps.Passes.{Used, with_address, with_name, with_port, with_access, with_own}
 use Rattle.xp_subs.specs.Tables.{holds}
 use Rattle.xp_subs.proofs.PositionLemmas.{or_last, lookup-push, position-push, get_or-last}
 use Rattle.xp_subs.proofs.TableLemmas.{same_is, same-itself}
@@ -152,7 +154,7 @@ module _ (stations names : List (List ℕ)) (lines : List Own) (used : Used) (ag
           ∙ rw (none, same-itself n) (ap (λ m. Some m) (sym last))
 
   -- one more port
-  pub add_port : (port : ℕ) (more : Used) → with_port port used ≡ Ok more → Agrees stations names lines more
+  add_port : (port : ℕ) (more : Used) → with_port port used ≡ Ok more → Agrees stations names lines more
   add_port port more entered = subst (Agrees stations names lines) (sym (port_is_new port used more entered)) (record {
     targets = agree.targets;
     names_found = agree.names_found;
@@ -160,6 +162,11 @@ module _ (stations names : List (List ℕ)) (lines : List Own) (used : Used) (ag
     lines_once = agree.lines_once;
     names_once = agree.names_once;
   })
+
+  pub add_access : (access : Access) (more : Used) → with_access access used ≡ Ok more → Agrees stations names lines more
+  add_access (Port port) more entered = add_port port more entered
+  add_access (Router router) more entered =
+      let is : used ≡ more = (let e : Ok used ≡ Ok more = entered in cc) in subst (Agrees stations names lines) is agree
 
   -- one more line, with its own address or without
   line_kept : (line : Own) (a : List ℕ) (s : Option ℕ) → lead lines s (position (owns a) lines) ≡ lead (lines ++ line ∷ []) s (position (owns a) lines)

@@ -10,8 +10,9 @@ use Rattle.std.proofs.lemmas.List.Quantifiers.{position-Some}
 use Rattle.std.proofs.lemmas.List.Sums.{sum_by-cons}
 use Rattle.xp_file.specs.declared.entry.GroupEntry.{GroupEntry}
 use Rattle.xp_file.specs.declared.entry.LineEntry.{LineEntry}
-use Rattle.xp_file.specs.Entries.{AreLimits, StationData, IsLineEntry, IsGroupEntry}
+use Rattle.xp_file.specs.Entries.{AreLimits, StationData, IsAccess, IsLineEntry, IsGroupEntry}
 use Rattle.xp_file.specs.Name.{same, is_line_name}
+use Rattle.xp_file.specs.Routers.{IsPort}
 use Rattle.xp_file.specs.Sources.{AreSources}
 use Rattle.xp_subs.specs.declared.line.Line.{Line}
 use Rattle.xp_subs.specs.declared.station.Membership.{Membership}
@@ -26,7 +27,7 @@ use Rattle.xp_subs.specs.steps.Consistency.{IsConsistent}
 use Rattle.xp_subs.specs.steps.WithinLimits.{AreWithinLimits, IsStationWithinLimits}
 use Rattle.xp_subs.specs.Passes.{line_total, has_own_indexes}
 use Rattle.xp_subs.specs.steps.Passes.{Used, nothing_used, with_stations}
-use Rattle.xp_subs.specs.Sound.{IsSound, IsTarget, HasAddress, HasShortIndexes, HasOwnGroups, IsPort, Lists}
+use Rattle.xp_subs.specs.Sound.{IsSound, IsTarget, HasAddress, HasShortIndexes, HasOwnGroups, Lists}
 use Rattle.xp_subs.specs.Tables.{Tables, holds, no_line, no_station, station_at, line_at, station_of, target_of, line_named_of, has_address, whole_station, one_line, first_target, station_count, line_count}
 use Rattle.xp_subs.proofs.AgreeLemmas.{Agrees, Own, owns, no_own, lead}
 use Rattle.xp_subs.proofs.EntersLemmas.{own_list, name_list, station_addresses, all_names, all_owns, stations_agree}
@@ -47,7 +48,7 @@ numbers-at first (suc count) (suc i) d within = numbers-at (first + 1) count i d
 
 -- a line that a file may have
 abbrev pub IsLine : Line → Type 0
-IsLine line = IsTrue (is_line_name line.name) × IsPort line.port × AreSources line.from
+IsLine line = IsTrue (is_line_name line.name) × IsAccess line.access × AreSources line.from
 
 -- the lines of one station
 own_of : Line → Own
@@ -193,7 +194,7 @@ all_lines number (entry ∷ entries) each =
     made [] all = All-nil IsLine
     made (line ∷ lines) all =
         let here = All-head IsLineEntry line lines all in
-        All-cons IsLine (line_from number line) (lines_of number lines) (here.spelled, (here.least_port, here.most_port), here.sources)
+        All-cons IsLine (line_from number line) (lines_of number lines) (here.spelled, here.access, here.sources)
         (made lines (All-tail IsLineEntry line lines all))
 
 -- what holds of each station of a file holds of each that is built
@@ -326,7 +327,7 @@ all_own tables line (entry ∷ entries) known own =
 
 -- the facts of a file that is built
 module _ (file : FileData) (used : Used) (fit : AreWithinLimits file.stations) (some : 0 < length file.stations)
-    (limits : AreLimits file.segment_limit file.journal) (once : with_stations 0 0 file.stations nothing_used ≡ Ok used)
+    (limits : AreLimits file.segment_limit file.journal) (port : IsPort file.xot_port) (once : with_stations 0 0 file.stations nothing_used ≡ Ok used)
     (own : list_all has_own_indexes file.stations ≡ true) where
   entries : List StationData
   entries = file.stations
@@ -412,8 +413,9 @@ module _ (file : FileData) (used : Used) (fit : AreWithinLimits file.stations) (
     indexes = built_indexes;
     own_groups = built_groups;
     names_of_groups = mentions_once file.stations;
-    ports = λ line within. (built_line line within).1;
+    accesses = λ line within. (built_line line within).1;
     ports_once = line_ports_once 0 file.stations (all_once file.stations used once);
+    xot_port = port;
     limits = limits;
     spelled = λ line within. (built_line line within).0;
     sources = λ line within. (built_line line within).2;
@@ -421,23 +423,23 @@ module _ (file : FileData) (used : Used) (fit : AreWithinLimits file.stations) (
 
 -- what a `Subs` of such a file keeps
 pub built_keeps : (inside : Inside) (file : FileData) (used : Used) → AreWithinLimits file.stations → 0 < length file.stations
-    → AreLimits file.segment_limit file.journal → with_stations 0 0 file.stations nothing_used ≡ Ok used
+    → AreLimits file.segment_limit file.journal → IsPort file.xot_port → with_stations 0 0 file.stations nothing_used ≡ Ok used
     → list_all has_own_indexes file.stations ≡ true → tables inside ≡ tables_of file
     → inside.targets.entries ≡ used.targets → inside.names.entries ≡ used.names
     → IsConsistent inside
-built_keeps inside file used fit some limits once own is targets names = record {
-  sound = subst IsSound (sym is) (built_sound file used fit some limits once own);
-  targets = λ a. ap (lookup (same a)) targets ∙ built_targets file used fit some limits once own a ∙ ap (λ t. target_of t a) (sym is);
-  names = λ n. ap (lookup (same n)) names ∙ built_names file used fit some limits once own n ∙ ap (λ t. line_named_of t n) (sym is);
+built_keeps inside file used fit some limits port once own is targets names = record {
+  sound = subst IsSound (sym is) (built_sound file used fit some limits port once own);
+  targets = λ a. ap (lookup (same a)) targets ∙ built_targets file used fit some limits port once own a ∙ ap (λ t. target_of t a) (sym is);
+  names = λ n. ap (lookup (same n)) names ∙ built_names file used fit some limits port once own n ∙ ap (λ t. line_named_of t n) (sym is);
 }
 
 -- the tables that were built of the parts of a file
-pub built_tables : (file : FileData) (limit journal : ℕ) (host : List ℕ) (entries first second third : List StationData)
+pub built_tables : (file : FileData) (limit journal : ℕ) (host : List ℕ) (xot_port : ℕ) (entries first second third : List StationData)
     (known : List (List ℕ)) (stations : List Station) (lines : List Line)
-    → record { segment_limit = limit; journal = journal; host = host; stations = entries } ≡ file
+    → record { segment_limit = limit; journal = journal; host = host; xot_port = xot_port; stations = entries } ≡ file
     → first ≡ entries → known ≡ mentions [] first → second ≡ entries → stations ≡ stations_from known 0 second
     → third ≡ entries → lines ≡ lines_from 0 third
-    → record { stations = stations; lines = lines; groups = known; segment_limit = limit; journal = journal; host = host } ≡ tables_of file
+    → record { stations = stations; lines = lines; groups = known; segment_limit = limit; journal = journal; host = host; xot_port = xot_port } ≡ tables_of file
 unfolding tables_of
-built_tables file limit journal host entries first second third known stations lines is a names b these c those =
+built_tables file limit journal host xot_port entries first second third known stations lines is a names b these c those =
     rw (← is, these, those, names, a, b, c)

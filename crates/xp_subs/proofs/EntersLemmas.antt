@@ -4,8 +4,8 @@ use Rattle.std.proofs.lemmas.List.{append-nil, length-map}
 use Rattle.xp_file.specs.declared.entry.LineEntry.{LineEntry}
 use Rattle.xp_file.specs.Entries.{StationData}
 use Rattle.xp_file.specs.Reading.{◌>>=◌}
-use Rattle.xp_subs.specs.steps.Passes.{Used, with_address, with_name, with_names, with_port, with_ports, with_own, with_addresses, with_station, with_stations}
-use Rattle.xp_subs.proofs.AgreeLemmas.{Agrees, Own, add_station, add_name, add_port, add_line}
+use Rattle.xp_subs.specs.steps.Passes.{Used, with_address, with_name, with_names, with_access, with_ports, with_own, with_addresses, with_station, with_stations}
+use Rattle.xp_subs.proofs.AgreeLemmas.{Agrees, Own, add_station, add_name, add_access, add_line}
 use Rattle.xp_file.proofs.Choices.{bind_ok}
 
 -- the names of lines, and their stations and own addresses
@@ -35,9 +35,9 @@ module _ (stations : List (List ℕ)) (lines : List Own) where
   ports_agree names [] used last agree entered =
       let is : used ≡ last = (let e : Ok used ≡ Ok last = entered in cc) in subst (Agrees stations names lines) is agree
   ports_agree names (first ∷ ports) used last agree entered =
-      let port = first.port in
-      let (next, one, rest) = bind_ok (with_port port used) (with_ports ports) last entered in
-      ports_agree names ports next last (add_port stations names lines used agree port next one) rest
+      let access = first.access in
+      let (next, one, rest) = bind_ok (with_access access used) (with_ports ports) last entered in
+      ports_agree names ports next last (add_access stations names lines used agree access next one) rest
 
 lines_agree : (stations names : List (List ℕ)) (lines : List Own) (station : ℕ) (more : List LineEntry) (used last : Used) (line : ℕ)
     → length lines ≡ line → Agrees stations names lines used → with_addresses station line more used ≡ Ok last

@@ -4,8 +4,10 @@ use Rattle.std.specs.Prelude.{nat_eq}
 use Rattle.std.specs.List.{list_any}
 use Rattle.std.specs.Map.{lookup}
 use Rattle.std.proofs.lemmas.Bool.{eq-eqb, eqb-true}
-use Rattle.std.proofs.lemmas.List.{append-nil, map-append}
+use Rattle.std.proofs.lemmas.List.{append-nil}
 use Rattle.std.proofs.lemmas.List.Folds.{list_any-append}
+use Rattle.xp_file.specs.declared.entry.Access.{Access}
+use Rattle.xp_file.specs.declared.entry.Access.TheVariants.{Port, Router}
 use Rattle.xp_file.specs.declared.entry.LineEntry.{LineEntry}
 use Rattle.xp_file.specs.declared.fault.SubscriptionFault.{SubscriptionFault}
 use Rattle.xp_file.specs.declared.fault.SubscriptionFault.TheVariants as faults
@@ -16,8 +18,9 @@ use Rattle.xp_file.proofs.Choices.{err_is_ok}
 use Rattle.xp_subs.specs.declared.line.Line.{Line}
 use Rattle.xp_subs.specs.declared.target.Target.{Target}
 use Rattle.xp_subs.specs.Built.{lines_of, lines_from}
-use Rattle.xp_subs.specs.steps.Passes.{Used, nothing_used, with_address, with_name, with_names, with_port, with_ports, with_own, with_addresses, with_station, with_stations}
-use Rattle.xp_subs.specs.UsedValues.{Use, address, name, port, key_of, own_use, own_uses, uses_of_station, uses_of, Once, IsFirstRepeated}
+use Rattle.xp_subs.specs.Tables.{port_list, ports_of}
+use Rattle.xp_subs.specs.steps.Passes.{Used, nothing_used, with_address, with_name, with_names, with_port, with_access, with_ports, with_own, with_addresses, with_station, with_stations}
+use Rattle.xp_subs.specs.UsedValues.{Use, address, name, port, key_of, port_use, port_uses, own_use, own_uses, uses_of_station, uses_of, Once, IsFirstRepeated}
 use Rattle.xp_subs.proofs.AgreeLemmas.{address_is_new, name_is_new}
 use Rattle.xp_subs.proofs.OnceLemmas.{in_none, in_front, in_rest, in_cases, in_left, in_right, in_parts, once_none, once_head, once_tail, once_cons, once_push}
 use Rattle.xp_subs.proofs.PositionLemmas.{or_last, lookup-push}
@@ -245,12 +248,15 @@ names_lead (first ∷ lines) done used line marks =
     leads_then done (name first.name ∷ []) (map (λ (l : LineEntry). name l.name) lines) (with_name line first.name used) (with_names (line + 1) lines)
     (name_leads done used line first.name marks) (λ mid more. names_lead lines (done ++ name first.name ∷ []) mid (line + 1) more)
 
-ports_lead : (lines : List LineEntry) (done : List Use) (used : Used) → Marks used done
-    → Leads done (map (λ (l : LineEntry). port l.port) lines) (with_ports lines used)
+access_leads : (access : Access) (done : List Use) (used : Used) → Marks used done → Leads done (port_use access) (with_access access used)
+access_leads (Port p) done used marks = port_leads done used p marks
+access_leads (Router router) done used marks = leads_none done used marks
+
+ports_lead : (lines : List LineEntry) (done : List Use) (used : Used) → Marks used done → Leads done (port_uses lines) (with_ports lines used)
 ports_lead [] done used marks = leads_none done used marks
 ports_lead (first ∷ lines) done used marks =
-    leads_then done (port first.port ∷ []) (map (λ (l : LineEntry). port l.port) lines) (with_port first.port used) (with_ports lines)
-    (port_leads done used first.port marks) (λ mid more. ports_lead lines (done ++ port first.port ∷ []) mid more)
+    leads_then done (port_use first.access) (port_uses lines) (with_access first.access used) (with_ports lines)
+    (access_leads first.access done used marks) (λ mid more. ports_lead lines (done ++ port_use first.access) mid more)
 
 own_leads : (own : Option (List ℕ)) (done : List Use) (used : Used) (station line : ℕ) → Marks used done → Leads done (own_use own) (with_own station line own used)
 own_leads None done used station line marks = leads_none done used marks
@@ -270,7 +276,7 @@ unfolding with_station
 station_leads station done used number line marks =
     let whole = address station.address ∷ [] in
     let names = map (λ (l : LineEntry). name l.name) station.lines in
-    let ports = map (λ (l : LineEntry). port l.port) station.lines in
+    let ports = port_uses station.lines in
     let owns = own_uses station.lines in
     leads_then done whole (names ++ (ports ++ owns)) (with_address (record { station = number; line = None }) station.address used) _
     (address_leads done used (record { station = number; line = None }) station.address marks)
@@ -359,18 +365,29 @@ owns_without (line ∷ lines) =
     one None = refl
     one (Some a) = refl
 
-ports_with : (station : ℕ) (lines : List LineEntry)
-    → ports_among (map (λ (l : LineEntry). port l.port) lines) ≡ map (λ (l : Line). l.port) (lines_of station lines)
+ports_with : (station : ℕ) (lines : List LineEntry) → ports_among (port_uses lines) ≡ ports_of (lines_of station lines)
 unfolding ports_among
 ports_with station [] = refl
-ports_with station (line ∷ lines) = ap (λ l. line.port ∷ l) (ports_with station lines)
+ports_with station (line ∷ lines) =
+    ports_among-append (port_use line.access) (port_uses lines)
+    ∙ ap (λ l. l ++ ports_among (port_uses lines)) (one line.access)
+    ∙ ap (λ l. port_list line.access ++ l) (ports_with station lines)
+  where
+    one : (access : Access) → ports_among (port_use access) ≡ port_list access
+    one (Port p) = refl
+    one (Router router) = refl
 
-ports_of_uses : (number : ℕ) (stations : List StationData) → ports_among (uses_of stations) ≡ map (λ (l : Line). l.port) (lines_from number stations)
+ports_of-append : (lines more : List Line) → ports_of (lines ++ more) ≡ ports_of lines ++ ports_of more
+ports_of-append [] more = refl
+ports_of-append (line ∷ lines) more =
+    ap (λ l. port_list line.access ++ l) (ports_of-append lines more) ∙ sym (append_assoc (port_list line.access) (ports_of lines) (ports_of more))
+
+ports_of_uses : (number : ℕ) (stations : List StationData) → ports_among (uses_of stations) ≡ ports_of (lines_from number stations)
 unfolding ports_among
 ports_of_uses number [] = refl
 ports_of_uses number (station ∷ stations) =
     let names = map (λ (l : LineEntry). name l.name) station.lines in
-    let ports = map (λ (l : LineEntry). port l.port) station.lines in
+    let ports = port_uses station.lines in
     let owns = own_uses station.lines in
     ports_among-append (uses_of_station station) (uses_of stations)
     ∙ ap (λ l. l ++ ports_among (uses_of stations))
@@ -380,9 +397,9 @@ ports_of_uses number (station ∷ stations) =
     ∙ ap (λ l. ports_among ports ++ l) (owns_without station.lines)
     ∙ append-nil (ports_among ports)
     ∙ ports_with number station.lines)
-    ∙ ap (λ l. map (λ (l : Line). l.port) (lines_of number station.lines) ++ l) (ports_of_uses (number + 1) stations)
-    ∙ sym (map-append (λ (l : Line). l.port) (lines_of number station.lines) (lines_from (number + 1) stations))
+    ∙ ap (λ l. ports_of (lines_of number station.lines) ++ l) (ports_of_uses (number + 1) stations)
+    ∙ sym (ports_of-append (lines_of number station.lines) (lines_from (number + 1) stations))
 
 -- no two lines have one port
-pub line_ports_once : (number : ℕ) (stations : List StationData) → Once (uses_of stations) → Once (map (λ (l : Line). l.port) (lines_from number stations))
+pub line_ports_once : (number : ℕ) (stations : List StationData) → Once (uses_of stations) → Once (ports_of (lines_from number stations))
 line_ports_once number stations once = subst Once (ports_of_uses number stations) (ports_once (uses_of stations) once)

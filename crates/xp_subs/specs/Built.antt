@@ -23,7 +23,7 @@ numbers first (suc count) = first ∷ numbers (first + 1) count
 -- a line of the station with this number
 abbrev pub line_from : ℕ → LineEntry → Line
 line_from station line =
-    record { name = line.name; port = line.port; address = line.address; modulus = line.modulus; station = station; from = line.from }
+    record { name = line.name; access = line.access; address = line.address; modulus = line.modulus; station = station; from = line.from }
 
 abbrev pub lines_of : ℕ → List LineEntry → List Line
 lines_of station lines = map (line_from station) lines
@@ -90,6 +90,7 @@ tables_of file = record {
   segment_limit = file.segment_limit;
   journal = file.journal;
   host = file.host;
+  xot_port = file.xot_port;
 }
 
 -- The first fault of stations whose keys have been read: a limit, a value that is used twice, or an index.

@@ -11,4 +11,5 @@ tables inside = record {
   segment_limit = inside.segment_limit;
   journal = inside.journal;
   host = string_bytes inside.host;
+  xot_port = inside.xot_port;
 }

@@ -1,13 +1,13 @@
 -- What holds of the tables of all subscriptions.
 use Rattle.std.specs.Prelude.{◌≡◌, ℕ, ◌<◌, ◌≤◌, List, Option, None, Some, Contains, All, IsTrue, map}
-use Rattle.xp_file.specs.Entries.{AreLimits}
-use Rattle.xp_subs.specs.declared.line.Line.{Line}
+use Rattle.xp_file.specs.Entries.{AreLimits, IsAccess}
 use Rattle.xp_subs.specs.declared.station.Membership.{Membership}
 use Rattle.xp_subs.specs.declared.station.Station.{Station}
 use Rattle.xp_subs.specs.declared.target.Target.{Target}
 use Rattle.xp_file.specs.Name.{is_line_name}
+use Rattle.xp_file.specs.Routers.{IsPort}
 use Rattle.xp_file.specs.Sources.{AreSources}
-use Rattle.xp_subs.specs.Tables.{Tables, station_count, line_count, station_at, line_at, station_of, target_of, line_named_of, group_count}
+use Rattle.xp_subs.specs.Tables.{Tables, station_count, line_count, station_at, line_at, station_of, target_of, line_named_of, group_count, ports_of}
 use Rattle.xp_subs.specs.UsedValues.{Once}
 
 -- the line is in the station's list of lines
@@ -47,10 +47,6 @@ pub record HasOwnGroups (tables : Tables) (station : Station) : Type 0 where
   pub groups_named : All (λ group. group < group_count tables) (groups_of station)
   pub preferential : (index : ℕ) → station.preferential ≡ Some index → Contains (indexes_of station) index
 
--- a valid TCP port
-abbrev pub IsPort : ℕ → Type 0
-IsPort port = (1 ≤ port) × (port ≤ 65_535)
-
 pub record IsSound (tables : Tables) : Type 0 where
   -- there is at least one line; there are at most 512 lines and 256 stations
   pub some_line : 0 < line_count tables
@@ -78,9 +74,11 @@ pub record IsSound (tables : Tables) : Type 0 where
   -- a station is in a group only once; no two groups have the same name, so equal group numbers mean equal names
   pub own_groups : (station : ℕ) → station < station_count tables → HasOwnGroups tables (station_at tables station)
   pub names_of_groups : Once tables.groups
-  -- no two lines have the same port
-  pub ports : (line : ℕ) → line < line_count tables → IsPort (line_at tables line).port
-  pub ports_once : Once (map (λ (line : Line). line.port) tables.lines)
+  -- each line has a valid port or a valid router; no two lines have the same port
+  pub accesses : (line : ℕ) → line < line_count tables → IsAccess (line_at tables line).access
+  pub ports_once : Once (ports_of tables.lines)
+  -- the port for routers is valid
+  pub xot_port : IsPort tables.xot_port
   -- the limits of segments and of history entries are in their ranges
   pub limits : AreLimits tables.segment_limit tables.journal
   -- each line has a valid name

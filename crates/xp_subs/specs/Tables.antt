@@ -1,6 +1,9 @@
 -- The subscription tables, and the functions that read them.
 pub use Rattle.xp_file.specs.Name.{same}
-use Rattle.std.specs.Prelude.{ℕ, List, [], Bool, false, Option, None, Some, unwrap_or, length, position, slice_index_or}
+use Rattle.std.specs.Prelude.{ℕ, List, [], ◌∷◌, ◌++◌, Bool, true, false, Option, None, Some, unwrap_or, length, position, slice_index_or}
+use Rattle.std.specs.List.{list_any}
+use Rattle.xp_file.specs.declared.entry.Access.{Access}
+use Rattle.xp_file.specs.declared.entry.Access.TheVariants.{Port, Router}
 use Rattle.xp_packets.specs.declared.modulus.Modulus.{Modulus}
 use Rattle.xp_packets.specs.declared.modulus.Modulus.TheVariants.{Eight}
 use Rattle.xp_subs.specs.declared.line.Line.{Line}
@@ -15,6 +18,7 @@ pub record Tables : Type 0 where
   pub segment_limit : ℕ
   pub journal : ℕ
   pub host : List ℕ
+  pub xot_port : ℕ
 
 abbrev pub station_count : Tables → ℕ
 station_count tables = length tables.stations
@@ -41,7 +45,7 @@ no_station = record {
 }
 
 abbrev pub no_line : Line
-no_line = record { name = []; port = 0; address = None; modulus = Eight; station = 0; from = [] }
+no_line = record { name = []; access = Port 0; address = None; modulus = Eight; station = 0; from = [] }
 
 abbrev pub station_at : Tables → ℕ → Station
 station_at tables number = slice_index_or tables.stations number no_station
@@ -61,6 +65,27 @@ address_of tables number =
 -- the modulus of a line's packet numbers
 abbrev pub modulus_of : Tables → ℕ → Modulus
 modulus_of tables number = (line_at tables number).modulus
+
+-- the port of a line alone, if it has one
+abbrev pub port_list : Access → List ℕ
+port_list (Port port) = port ∷ []
+port_list (Router router) = []
+
+-- the ports of all lines that have one, in the order of the lines
+abbrev pub ports_of : List Line → List ℕ
+ports_of [] = []
+ports_of (line ∷ lines) = port_list line.access ++ ports_of lines
+
+-- a line is behind an XOT router
+abbrev pub is_router : Access → Bool
+is_router (Port port) = false
+is_router (Router router) = true
+
+abbrev pub has_router : Line → Bool
+has_router line = is_router line.access
+
+abbrev pub has_routers : Tables → Bool
+has_routers tables = list_any has_router tables.lines
 
 abbrev pub holds : List ℕ → Option (List ℕ) → Bool
 holds address None = false

@@ -1,6 +1,8 @@
 -- The values that a subscription file may use only once: addresses of stations and lines together, names of lines,
 -- and ports.
 use Rattle.std.specs.Prelude.{◌≡◌, ℕ, List, [], ◌∷◌, ◌++◌, Option, None, Some, Contains, map}
+use Rattle.xp_file.specs.declared.entry.Access.{Access}
+use Rattle.xp_file.specs.declared.entry.Access.TheVariants.{Port, Router}
 use Rattle.xp_file.specs.declared.entry.LineEntry.{LineEntry}
 use Rattle.xp_file.specs.declared.key.Key.{Key}
 use Rattle.xp_file.specs.declared.key.Key.TheVariants as keys
@@ -27,11 +29,20 @@ abbrev pub own_uses : List LineEntry → List Use
 own_uses [] = []
 own_uses (line ∷ lines) = own_use line.address ++ own_uses lines
 
+-- the use of a line's port, if it has one
+abbrev pub port_use : Access → List Use
+port_use (Port p) = port p ∷ []
+port_use (Router router) = []
+
+abbrev pub port_uses : List LineEntry → List Use
+port_uses [] = []
+port_uses (line ∷ lines) = port_use line.access ++ port_uses lines
+
 -- the uses of a station: its address, then the names of all its lines, then their ports, then their own addresses
 abbrev pub uses_of_station : StationData → List Use
 uses_of_station station =
     address station.address ∷ map (λ (line : LineEntry). name line.name) station.lines
-    ++ (map (λ (line : LineEntry). port line.port) station.lines ++ own_uses station.lines)
+    ++ (port_uses station.lines ++ own_uses station.lines)
 
 -- all uses in a file, in the order of the file
 abbrev pub uses_of : List StationData → List Use

@@ -166,7 +166,7 @@ fn line(station: StationNo, entry: &LineEntry) -> Line
 {
     Line {
         name: entry.name.copy(),
-        port: entry.port,
+        access: entry.access.copy(),
         address: entry.address.as_ref().map(|address| address.copy()),
         modulus: entry.modulus,
         station,

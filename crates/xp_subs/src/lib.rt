@@ -17,7 +17,9 @@ pub use line::Line;
 pub use station::{Membership, Station};
 pub use subs::Subs;
 pub use target::{Counts, Target};
-pub use xp_file::{Facilities, Key, Name, Redirection, Sources, SubscriptionFault};
+pub use xp_file::{
+    Access, Facilities, Key, Name, Redirection, RouterAddress, Sources, SubscriptionFault,
+};
 
 /// The number of a line: from 0, in the order of the file.
 pub type LineNo = u16;

@@ -4,6 +4,7 @@ ghost use Rattle.xp_file.specs.declared.fault.SubscriptionFault.TheVariants.{Mem
 ghost use Rattle.std.specs.List.{list_all};
 ghost use Rattle.std.specs.Set.{distinct_count};
 ghost use Rattle.xp_file.specs.Entries.{AreLimits};
+ghost use Rattle.xp_file.specs.Routers.{IsPort};
 ghost use Rattle.xp_file.specs.SubscriptionFile.{file_in};
 ghost use Rattle.xp_subs.specs.Built.{SetsUp, tables_of, named_groups};
 ghost use Rattle.xp_subs.specs.steps.WithinLimits.{AreWithinLimits};
@@ -56,6 +57,7 @@ fn from_file(alloc: Global, file: SubscriptionFile, uses: UsedValues) -> Result<
     requires fit { AreWithinLimits file.stations }
     requires some { 0 < length file.stations }
     requires limits { AreLimits file.segment_limit file.journal }
+    requires port { IsPort file.xot_port }
     requires own { list_all has_own_indexes file.stations ≡ true }
     requires once { with_stations 0 0 file.stations nothing_used ≡ Ok uses }
     ensures { IfOk result (λ subs. subs ≡ tables_of file) }
@@ -70,6 +72,7 @@ fn from_file(alloc: Global, file: SubscriptionFile, uses: UsedValues) -> Result<
         segment_limit: file.segment_limit,
         journal: file.journal,
         host: file.host,
+        xot_port: file.xot_port,
         targets: uses.targets,
         names: uses.names,
     })

@@ -1,6 +1,6 @@
 ghost use Rattle.std.specs.Prelude.{◌≡◌, ◌<◌, IfSome};
 ghost use Rattle.xp_subs.specs.Sound.{IsSound, IsTarget};
-ghost use Rattle.xp_subs.specs.Tables.{line_count, station_count, group_count, station_at, line_at, station_of, address_of, modulus_of, target_of, line_named_of};
+ghost use Rattle.xp_subs.specs.Tables.{line_count, station_count, group_count, station_at, line_at, station_of, address_of, modulus_of, target_of, line_named_of, has_routers};
 
 use crate::line::Line;
 use crate::station::Station;
@@ -8,7 +8,7 @@ use crate::target::{Counts, Target};
 use crate::{LineNo, StationNo};
 use indexmap::{IndexMap, IndexSet};
 use std::marker::Model;
-use xp_file::{Name, Sources};
+use xp_file::{Access, Name, Sources};
 use xp_packets::{Digits, Modulus};
 
 /// The subscriptions of an exchange: its stations, with their lines, facilities and groups.
@@ -20,6 +20,7 @@ pub struct Subs {
     pub(crate) segment_limit: u32,
     pub(crate) journal: u64,
     pub(crate) host: String,
+    pub(crate) xot_port: u16,
     pub(crate) targets: IndexMap<Digits, Target>,
     pub(crate) names: IndexMap<Name, LineNo>,
 }
@@ -99,12 +100,12 @@ impl Subs {
         self.line(line).name.as_str()
     }
 
-    /// The port on which the exchange listens for a line.
-    pub fn port_of(&self, line: LineNo) -> u16
+    /// The port or the router of a line.
+    pub fn access_of(&self, line: LineNo) -> &Access
         requires { line < line_count self.now }
-        ensures { result ≡ (line_at self.now line).port }
+        ensures { result.now ≡ (line_at self.now line).access }
     {
-        self.line(line).port
+        &self.line(line).access
     }
 
     /// The addresses from which the connections of a line may come, 1 to 8; none where any address may.
@@ -157,5 +158,19 @@ impl Subs {
         ensures { result.now ≡ self.now.host }
     {
         self.host.as_str()
+    }
+
+    /// The port at which the exchange listens for XOT routers, 1 to 65,535, if a line is behind one.
+    pub fn xot_port(&self) -> u16
+        ensures { result ≡ self.now.xot_port }
+    {
+        self.xot_port
+    }
+
+    /// Whether a line is behind an XOT router.
+    pub fn has_routers(&self) -> bool
+        ensures { result ≡ has_routers self.now }
+    {
+        self.lines.iter().any(|line| line.has_router())
     }
 }

@@ -7,7 +7,7 @@ use crate::{LineNo, StationNo};
 use indexmap::{IndexMap, IndexSet};
 use std::alloc::Global;
 use std::marker::Model;
-use xp_file::{Key, LineEntry, Name, StationEntry, SubscriptionFault};
+use xp_file::{Access, Key, LineEntry, Name, StationEntry, SubscriptionFault};
 use xp_packets::Digits;
 
 /// The values that are used so far.
@@ -32,7 +32,7 @@ impl Model for UsedValues {
 
 impl UsedValues {
     ghost use Rattle.xp_subs.specs.steps.WithinLimits.{AreWithinLimits};
-    ghost use Rattle.xp_subs.specs.steps.Passes.{with_address, with_name, with_names, with_port, with_ports, with_own, with_addresses, with_station, with_stations, nothing_used};
+    ghost use Rattle.xp_subs.specs.steps.Passes.{with_address, with_name, with_names, with_port, with_access, with_ports, with_own, with_addresses, with_station, with_stations, nothing_used};
 
     fn new(alloc: Global) -> UsedValues
         ensures { result ≡ nothing_used }
@@ -74,6 +74,16 @@ impl UsedValues {
         Ok(())
     }
 
+    fn enter_access(&mut self, access: &Access) -> Result<(), SubscriptionFault>
+        ensures ok { OnOk result (with_access access.now self.old ≡ Ok self.new) }
+        ensures refused { IfErr result (λ fault. fault ≢ OutOfMemory → with_access access.now self.old ≡ Err fault) }
+    {
+        match access {
+            Access::Port(port) => self.enter_port(*port),
+            Access::Router(_) => Ok(()),
+        }
+    }
+
     fn enter_names(&mut self, first: LineNo, lines: &[LineEntry]) -> Result<(), SubscriptionFault>
         requires { first + length lines.now ≤ 512 }
         ensures ok { OnOk result (with_names first lines.now self.old ≡ Ok self.new) }
@@ -92,7 +102,7 @@ impl UsedValues {
         ensures refused { IfErr result (λ fault. fault ≢ OutOfMemory → with_ports lines.now self.old ≡ Err fault) }
     {
         for entry in lines {
-            self.enter_port(entry.port)?;
+            self.enter_access(&entry.access)?;
         }
         Ok(())
     }

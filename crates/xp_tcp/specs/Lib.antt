@@ -1,4 +1,3 @@
+pub mod Accesses
 pub mod Admissions
-pub mod Notices
-pub mod Ports
 pub mod steps

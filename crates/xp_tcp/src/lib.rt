@@ -1,24 +1,31 @@
-//! TCP for the lines of an exchange: each line's listening socket, and what its thread waits on.
+//! TCP for the lines of an exchange: each line's listening socket, or the connections between it and its router, and what its
+//! thread waits on.
 #![tactic(auto)]
 
+mod access;
 mod admission;
 mod clock;
 mod gate;
+mod line_port;
 mod link;
-mod notices;
 mod options;
 mod port;
-mod share;
+mod router_connection;
+mod router_link;
+mod router_port;
 mod sockets;
 mod start;
-mod wakers;
 mod wall_clock;
 
+pub use access::Access;
 pub use admission::{Admission, AdmissionFault, MOST_ADDRESSES};
 pub use clock::TcpClock;
 pub use gate::OpenGate;
+pub use line_port::{LineLink, LinePort};
 pub use link::TcpLink;
-pub use notices::{Notice, Notices};
 pub use port::TcpPort;
-pub use sockets::{ListenFault, Sockets};
+pub use router_link::RouterLink;
+pub use router_port::RouterPort;
+pub use sockets::{Ends, ListenFault, Sockets};
 pub use wall_clock::WallClock;
+pub use xp_door::{Candidate, ConnectFault, Door, DoorBell, Notice, Notices, is_router, line_for};

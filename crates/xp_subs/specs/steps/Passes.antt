@@ -2,6 +2,8 @@
 use Rattle.std.specs.Prelude.{ℕ, ◌+◌, List, [], ◌∷◌, ◌++◌, Option, None, Some, Result, Ok, Err, length, nat_eq, is_some, if◌then◌else◌}
 use Rattle.std.specs.List.{list_any}
 use Rattle.std.specs.Map.{lookup}
+use Rattle.xp_file.specs.declared.entry.Access.{Access}
+use Rattle.xp_file.specs.declared.entry.Access.TheVariants.{Port, Router}
 use Rattle.xp_file.specs.declared.entry.LineEntry.{LineEntry}
 use Rattle.xp_file.specs.declared.fault.SubscriptionFault.{SubscriptionFault}
 use Rattle.xp_file.specs.declared.fault.SubscriptionFault.TheVariants as faults
@@ -36,6 +38,10 @@ with_port port used =
     if list_any (nat_eq port) used.ports then Err (faults.TwiceUsed keys.Port)
     else Ok (record used { ports = used.ports ++ port ∷ [] })
 
+abbrev pub with_access : Access → Used → Result Used SubscriptionFault
+with_access (Port port) used = with_port port used
+with_access (Router router) used = Ok used
+
 -- the values of the lines of a station; the lines are numbered from `line` on
 abbrev pub with_names : ℕ → List LineEntry → Used → Result Used SubscriptionFault
 with_names line [] used = Ok used
@@ -46,7 +52,7 @@ with_names line (first ∷ lines) used = do
 abbrev pub with_ports : List LineEntry → Used → Result Used SubscriptionFault
 with_ports [] used = Ok used
 with_ports (first ∷ lines) used = do
-  more ← with_port first.port used
+  more ← with_access first.access used
   with_ports lines more
 
 abbrev pub with_own : ℕ → ℕ → Option (List ℕ) → Used → Result Used SubscriptionFault

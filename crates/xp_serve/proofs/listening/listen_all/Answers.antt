@@ -1,6 +1,8 @@
-use Rattle.std.proofs.Common.{◌<◌, [], ◌∷◌, ◌++◌, ap, arith, sym, ◌∙◌}
-use Rattle.xp_subs.specs.Tables.{line_at, line_count}
-use Rattle.xp_serve.proofs.Ports.{next_port}
+use Rattle.std.proofs.Common.{◌+◌, ◌<◌, arith, map, subst, sym, take}
+use Rattle.xp_lines.specs.Pairs.{AreEach}
+use Rattle.xp_serve.specs.Accesses.{IsServedAt}
+use Rattle.xp_subs.specs.Tables.{line_count}
+use Rattle.xp_serve.proofs.Accesses.{served_more}
 use Rattle.xp_serve.proofs.listening.listen_all.Goals as goal
 
 pub loop-line-preserved : goal.loop-line-preserved
@@ -10,4 +12,6 @@ loop-line-preserved g c =
     let below = c.loop-line-test.true in
     let count = c.counts-lines.ensures.lines in
     let within : line < line_count subs = omega (arith, below, count) in
-    c.in_ok-listen.ensures.one ∙ ap (λ ports. ports ++ (line_at subs line).port ∷ []) c.loop-line.invariant ∙ sym (next_port subs.lines line within)
+    let one = c.in_ok-listen.ensures.one in
+    subst (AreEach IsServedAt (take (line + 1) (map (λ line. line.access) subs.lines))) (sym one.1)
+    (served_more subs.lines line c.loop-line.sockets one.0 within c.loop-line.invariant one.2)

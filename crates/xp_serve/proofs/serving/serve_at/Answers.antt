@@ -1,10 +1,14 @@
 use Rattle.std.proofs.Common.{[], ◌++◌, ap, inl, inr, refl, sym, ◌∙◌}
 use Rattle.xp_subs.specs.Tables.{line_count}
+use Rattle.xp_serve.proofs.Accesses.{served_count}
 use Rattle.xp_serve.proofs.Told.{early_line, wants_memory}
 use Rattle.xp_serve.proofs.serving.serve_at.Goals as goal
 
 pub returns-in-Err : goal.returns-in-Err
 returns-in-Err g c = inl (refl, c.in-Err.ensures.wanting)
+
+pub serve_on-requires-clause-sockets : goal.serve_on-requires-clause-sockets
+serve_on-requires-clause-sockets g c κs within = served_count c.args.subs.lines c.in-Ok.sockets c.in-Ok.ensures.accesses
 
 pub serve_on-requires-clause-lines : goal.serve_on-requires-clause-lines
 serve_on-requires-clause-lines g c κs within = g.met.K.RecordKeeper.has_lines c.args.keeper ∙ ap line_count c.requires.names

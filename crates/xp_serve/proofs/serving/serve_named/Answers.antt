@@ -6,17 +6,17 @@ use Rattle.xp_serve.proofs.serving.serve_named.Goals as goal
 
 pub close-requires-clause-served : goal.close-requires-clause-served
 close-requires-clause-served g c =
-    were_served g.N.Name.subs _ (map (λ part. part.pass) c.in-Ok.ready.parts.items) (map (λ end. end.pass) c.in-Ok-serve_all.lines.ends.items)
-    c.in-Ok.ensures.passes c.in-Ok-serve_all.ensures.served
+    were_served g.N.Name.subs _ (map (λ part. part.pass) c.in-Ok.ready.parts.items) (map (λ end. end.pass) c.in-Ok-serve_with_door.lines.ends.items)
+    c.in-Ok.ensures.passes c.in-Ok-serve_with_door.ensures.served
 
 pub close-requires-clause-stopped : goal.close-requires-clause-stopped
 close-requires-clause-stopped g c =
-    were_stopped g.N.Name.subs _ (map (λ part. part.pass) c.in-Ok.ready.parts.items) c.in-Ok-serve_all.lines.ends.items
-    c.in-Ok.ensures.passes c.in-Ok-serve_all.ensures.served c.in-Ok-serve_all.ensures.stopped
+    were_stopped g.N.Name.subs _ (map (λ part. part.pass) c.in-Ok.ready.parts.items) c.in-Ok-serve_with_door.lines.ends.items
+    c.in-Ok.ensures.passes c.in-Ok-serve_with_door.ensures.served c.in-Ok-serve_with_door.ensures.stopped
 
-pub returns-in-Ok-serve_all-clause-received : goal.returns-in-Ok-serve_all-clause-received
-returns-in-Ok-serve_all-clause-received g c =
+pub returns-in-Ok-serve_with_door-clause-received : goal.returns-in-Ok-serve_with_door-clause-received
+returns-in-Ok-serve_with_door-clause-received g c =
     let received = g.S.RecordSink.received in
-    let hands = c.in-Ok-serve_all.ensures.recorded in
+    let hands = c.in-Ok-serve_with_door.ensures.recorded in
     let given = c.close.ensures.given ∙ hands.taken ∙ ap (λ (r : Recording Alloc). r.received ++ hands.more) c.in-Ok.ensures.recorder in
     ap received c.close.ensures.sink ∙ hands.given ∙ ap (λ more. received c.args.sink ++ more) (sym given)

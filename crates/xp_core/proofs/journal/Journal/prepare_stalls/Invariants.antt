@@ -1,4 +1,5 @@
 use Rattle.std.proofs.Common.{◌≡◌, ◌+◌, ◌-◌, ◌≤◌, length, vec_len, vec_capacity}
+use Rattle.xp_core.specs.Stalls.{stalls_in}
 use Rattle.xp_core.specs.declared.journal.TheConstants.{MOST_STALLS}
 use Rattle.xp_core.proofs.journal.Journal.prepare_stalls.Given as goal
 
@@ -7,6 +8,7 @@ abbrev pub invariant-loop-alloc : goal.invariant-loop-alloc
 invariant-loop-alloc g l = record {
   history : l.self-inside.history.items ≡ l.fn.self.history;
   count : l.self-inside.count ≡ length l.self-inside.history.items;
+  stall_count : l.self-inside.stall_count ≡ stalls_in l.self-inside.history.items;
   given_count : l.self-inside.given_count ≡ length l.self-inside.given.items;
   given : l.self-inside.given.items ≡ l.fn.self.given;
   waiting : l.self-inside.waiting.items ≡ l.fn.self.waiting;

@@ -1,0 +1,170 @@
+//! What an operator is to know of the lines' connections.
+
+ghost use Rattle.std.specs.Prelude.{◌≡◌, ◌<◌, ◌↔◌, ◌∷◌, [], ◌++◌, IsTrue, length};
+ghost use Rattle.std.specs.Bool.{OnFalse, OnTrue};
+ghost use Rattle.xp_door.specs.Notices.{line_of};
+
+use crate::connect_fault::ConnectFault;
+use crate::locks::hold;
+use crate::traffic::Traffic;
+use circular_buffer::HeapCircularBuffer;
+use std::alloc::{AllocError, Global};
+use std::fmt;
+use std::net::SocketAddr;
+use std::sync::Mutex;
+use std::sync::atomic::AtomicU64;
+use std::sync::atomic::Ordering::SeqCst;
+use xp_subs::LineNo;
+
+/// How many notices wait at most.
+const MOST_WAITING: usize = 1_024;
+
+/// What has become of a line's connections.
+#[derive(Clone, Copy, Debug, PartialEq)]
+pub enum Notice {
+    /// A connection from an address that is not admitted was closed.
+    Refused { line: LineNo, peer: SocketAddr },
+    /// The line has a connection.
+    Up { line: LineNo, peer: SocketAddr },
+    /// The line has lost its connection, or has closed it.
+    Down { line: LineNo },
+    /// The line behind a router has a connection that the exchange has made to the router.
+    Connected { line: LineNo, peer: SocketAddr },
+    /// The line behind a router has closed its connection, over which no call goes any more. It stays in service.
+    Closed { line: LineNo },
+    /// The line behind a router could not be connected to it.
+    NotConnected { line: LineNo, fault: ConnectFault },
+    /// The line's port can take no connections, for want of descriptors or of memory.
+    PortFailing { line: LineNo },
+    /// The line's port takes connections again.
+    PortWorks { line: LineNo },
+    /// A connection to the routers' port was closed: its address is that of no line's router.
+    NoRouter { peer: SocketAddr },
+    /// A connection to the routers' port was closed: each line behind its router has one.
+    NoFreeLine { peer: SocketAddr },
+    /// The routers' port can take no connections, for want of descriptors or of memory.
+    DoorFailing,
+    /// The routers' port takes connections again.
+    DoorWorks,
+}
+
+impl Notice {
+    /// The line that it is of. `None` where it is of the routers' port.
+    pub fn line(&self) -> Option<LineNo>
+        ensures { result ≡ line_of self.now }
+    {
+        match self {
+            Notice::Refused { line, .. }
+            | Notice::Up { line, .. }
+            | Notice::Down { line }
+            | Notice::Connected { line, .. }
+            | Notice::Closed { line }
+            | Notice::NotConnected { line, .. }
+            | Notice::PortFailing { line }
+            | Notice::PortWorks { line } => Some(*line),
+            Notice::NoRouter { .. }
+            | Notice::NoFreeLine { .. }
+            | Notice::DoorFailing
+            | Notice::DoorWorks => None,
+        }
+    }
+}
+
+/// The text of the notice, without its line, such as `up from 10.0.0.9:40000`.
+impl fmt::Display for Notice {
+    ghost use Rattle.std.specs.Prelude.{Some};
+    ghost use Rattle.xp_door.specs.steps.Notices.{text_of};
+
+    ghost output = { λ notice. Some (text_of notice) };
+
+    fn fmt<W: fmt::Write>(&self, f: &mut fmt::Formatter<W>) -> fmt::Result {
+        match self {
+            Notice::Refused { peer, .. } => write!(f, "connection from {peer} refused"),
+            Notice::Up { peer, .. } => write!(f, "up from {peer}"),
+            Notice::Down { .. } => f.write_str("down"),
+            Notice::Connected { peer, .. } => write!(f, "connected to {peer}"),
+            Notice::Closed { .. } => f.write_str("connection closed"),
+            Notice::NotConnected { fault, .. } => write!(f, "no connection to the router: {fault}"),
+            Notice::PortFailing { .. } | Notice::DoorFailing => {
+                f.write_str("port fails: no connection can be accepted")
+            }
+            Notice::PortWorks { .. } | Notice::DoorWorks => f.write_str("port works again"),
+            Notice::NoRouter { peer } => {
+                write!(
+                    f,
+                    "connection from {peer} refused: no line is behind this router"
+                )
+            }
+            Notice::NoFreeLine { peer } => {
+                write!(f, "connection from {peer} refused: no line is free")
+            }
+        }
+    }
+}
+
+/// The notices that wait to be taken, oldest first, at most 1,024, and the octets that the connections have moved. The threads of
+/// all lines share them.
+#[derive(Drop)]
+pub struct Notices {
+    waiting: Mutex<HeapCircularBuffer<Notice>>,
+    /// How many were lost since that was last asked for.
+    lost: AtomicU64,
+    traffic: Traffic,
+}
+
+impl Notices {
+    /// No notices yet.
+    pub fn new(alloc: Global) -> Result<Notices, AllocError> {
+        Ok(Notices {
+            waiting: Mutex::new(HeapCircularBuffer::with_capacity(alloc, MOST_WAITING)?),
+            lost: AtomicU64::new(0),
+            traffic: Traffic::new(alloc)?,
+        })
+    }
+
+    /// Tells a notice. It never waits: where 1,024 wait already, or other threads keep the notices for too long, the notice is lost,
+    /// which is counted.
+    pub fn tell(&self, notice: Notice) {
+        let is_kept = match hold(&self.waiting) {
+            Some(mut waiting) => keep(&mut waiting, notice),
+            None => false,
+        };
+        if !is_kept {
+            self.lost.fetch_add(1, SeqCst);
+        }
+    }
+
+    /// Takes the notice that was told first. `None` where none waits, or where other threads keep the notices for too long.
+    pub fn take(&self) -> Option<Notice> {
+        hold(&self.waiting)?.pop_front()
+    }
+
+    /// Counts octets that a line has received.
+    pub(crate) fn receive(&self, line: LineNo, octets: usize) {
+        self.traffic.receive(line, octets);
+    }
+
+    /// Counts octets that a line has sent.
+    pub(crate) fn send(&self, line: LineNo, octets: usize) {
+        self.traffic.send(line, octets);
+    }
+
+    /// How many octets the connections of all lines have received so far, and how many they have sent.
+    pub fn traffic(&self) -> (u64, u64) {
+        self.traffic.sums()
+    }
+
+    /// How many notices were lost since the last call.
+    pub fn take_lost(&self) -> u64 {
+        self.lost.swap(0, SeqCst)
+    }
+}
+
+/// Puts a notice behind those that wait, if there is room. Whether there was.
+fn keep(waiting: &mut HeapCircularBuffer<Notice>, notice: Notice) -> bool
+    ensures room { IsTrue result ↔ (length waiting.old.items < waiting.old.capacity) }
+    ensures kept { OnTrue result (waiting.new.items ≡ waiting.old.items ++ notice ∷ []) }
+    ensures lost { OnFalse result (waiting.new.items ≡ waiting.old.items) }
+{
+    waiting.fill_from_slice(&[notice]) == 1
+}

@@ -1,0 +1,61 @@
+//! What the threads of all lines share.
+
+ghost use Rattle.std.specs.Prelude.{◌≡◌, IfOk};
+
+use crate::notices::{Notice, Notices};
+use crate::wakers::LineWaker;
+use std::alloc::AllocError;
+use std::sync::Arc;
+use xp_subs::LineNo;
+
+/// A line's share in the wakers and the notices.
+#[derive(Drop)]
+pub struct LineShare {
+    pub line: LineNo,
+    wakers: Arc<Vec<LineWaker>>,
+    notices: Arc<Notices>,
+}
+
+impl LineShare {
+    /// The share of a line.
+    pub fn new(
+        line: LineNo,
+        wakers: &Arc<Vec<LineWaker>>,
+        notices: &Arc<Notices>,
+    ) -> Result<LineShare, AllocError>
+        ensures { IfOk result (λ share. share.line ≡ line) }
+    {
+        Ok(LineShare {
+            line,
+            wakers: Arc::try_clone(wakers)?,
+            notices: Arc::try_clone(notices)?,
+        })
+    }
+
+    /// The same share again.
+    pub fn try_clone(&self) -> Result<LineShare, AllocError>
+        ensures { IfOk result (λ share. share.line ≡ self.now.line) }
+    {
+        LineShare::new(self.line, &self.wakers, &self.notices)
+    }
+
+    /// The waker of the line's own thread.
+    pub fn waker(&self) -> Option<&LineWaker> {
+        self.wakers.get(self.line as usize)
+    }
+
+    /// Counts octets that the line has received.
+    pub fn count_received(&self, octets: usize) {
+        self.notices.receive(self.line, octets);
+    }
+
+    /// Counts octets that the line has sent.
+    pub fn count_sent(&self, octets: usize) {
+        self.notices.send(self.line, octets);
+    }
+
+    /// Tells a notice.
+    pub fn tell(&self, notice: Notice) {
+        self.notices.tell(notice);
+    }
+}

@@ -1,0 +1,93 @@
+//! The threads of all lines, and that of the door for routers beside them.
+
+ghost use Rattle.std.specs.Prelude.{◌≡◌, IfErr, IfOk, map};
+ghost use Rattle.xp_lines.specs.Pairs.{AreEach};
+ghost use Rattle.xp_lines.specs.Recorded.{HandsOn};
+ghost use Rattle.xp_lines.specs.Sessions.{AreMoved, IsLineDown, IsLineServed};
+ghost use Rattle.xp_subs.specs.Tables.{line_count};
+
+use crate::limits::Limits;
+use std::alloc::Global;
+use std::net::{Net, TcpListener, TcpStream};
+use std::sync::Wait;
+use std::thread;
+use std::thread::{JoinHandle, Scope, Threads};
+use xp_lines::{
+    Clock, EndReason, Gate, LinesServed, Link, Port, RecordSink, ServeFault, ThreadInputs,
+    serve_all,
+};
+use xp_lock::{Exchange, Name, Recorder};
+use xp_tcp::Door;
+
+/// Serves all lines by [`serve_all`]. Where there is a door, it takes the connections of routers meanwhile, on a thread of its own.
+///
+/// # Errors
+///
+/// `ServeFault` if an allocation fails, or the thread of the door could not be started. Then no line was served.
+pub(crate) fn serve_with_door<
+    N: Name + Send + Sync,
+    P: Port + Send,
+    C: Clock + Send,
+    G: Gate + Send,
+    R: Net<Listener = TcpListener, Stream = TcpStream> + Threads + Wait + Sync,
+    S: RecordSink,
+>(
+    rt: &R,
+    alloc: Global,
+    exchange: &Exchange<N>,
+    parts: Vec<ThreadInputs<N, P, C, G>>,
+    door: Option<Door>,
+    recorder: Recorder<N>,
+    sink: S,
+    limits: Limits,
+) -> Result<LinesServed<N, S>, ServeFault<N, P, C, G, S>>
+    requires { S.lines sink ≡ line_count N.subs }
+    ensures served { IfOk result (λ served. AreEach (IsLineServed N.subs (AreMoved P.Link.pushed P.Link.pulled)) (map (λ part. part.pass) parts.items) (map (λ end. end.pass) served.ends.items)) }
+    ensures stopped { IfOk result (λ served. AreEach (λ first end. end.why ≡ EndReason.Stopped → IsLineDown N.subs (AreMoved P.Link.pushed P.Link.pulled) first end.pass) (map (λ part. part.pass) parts.items) served.ends.items) }
+    ensures recorded { IfOk result (λ served. HandsOn S.received S.keeps recorder sink served.recorder served.sink) }
+    ensures kept { IfErr result (λ fault. fault.sink ≡ sink) }
+{
+    let (turns, records) = (limits.turns, limits.records);
+    let Some(door) = door else {
+        return serve_all(rt, alloc, exchange, parts, recorder, sink, turns, records);
+    };
+    let Ok(bell) = door.bell() else {
+        return Err(ServeFault {
+            parts,
+            recorder,
+            sink,
+        });
+    };
+    thread::scope(
+        thread::scope_env(),
+        rt,
+        |scope| -> Result<LinesServed<N, S>, ServeFault<N, P, C, G, S>>
+            requires lines { S.lines sink ≡ line_count N.subs }
+            ensures served { IfOk result (λ served. AreEach (IsLineServed N.subs (AreMoved P.Link.pushed P.Link.pulled)) (map (λ part. part.pass) parts.items) (map (λ end. end.pass) served.ends.items)) }
+            ensures stopped { IfOk result (λ served. AreEach (λ first end. end.why ≡ EndReason.Stopped → IsLineDown N.subs (AreMoved P.Link.pushed P.Link.pulled) first end.pass) (map (λ part. part.pass) parts.items) served.ends.items) }
+            ensures recorded { IfOk result (λ served. HandsOn S.received S.keeps recorder sink served.recorder served.sink) }
+            ensures kept { IfErr result (λ fault. fault.sink ≡ sink) }
+        {
+            let Some(running) = begin_door(rt, scope, door) else {
+                return Err(ServeFault {
+                    parts,
+                    recorder,
+                    sink,
+                });
+            };
+            let served = serve_all(rt, alloc, exchange, parts, recorder, sink, turns, records);
+            bell.stop();
+            running.join(rt);
+            served
+        },
+    )
+}
+
+/// Starts the thread of the door. `None` where it cannot be started.
+fn begin_door<'s, E, R: Net<Listener = TcpListener, Stream = TcpStream> + Wait + Sync + 's>(
+    rt: &'s R,
+    scope: &Scope<'s, E>,
+    door: Door,
+) -> Option<JoinHandle<()>> {
+    scope.spawn(move || door.run(rt)).ok()
+}
