@@ -26,7 +26,7 @@ fn free_ports<R: Net<Listener = TcpListener, Stream = TcpStream>>(
 }
 
 /// What is printed as the lines are served until there is a charging record, if they are served to the end.
-fn printed<R: Net<Listener = TcpListener, Stream = TcpStream> + Threads + Wait + Sync>(
+fn printed<R: Net + Threads + Wait + Sync>(
     rt: &R,
     alloc: Global,
     subs: Subs,
