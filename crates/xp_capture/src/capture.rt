@@ -1,0 +1,129 @@
+//! A capture file, frame by frame.
+
+ghost use Rattle.std.specs.Prelude.{◌≡◌, ◌<◌, ◌≤◌, ◌++◌, IfOk, OnErr, OnOk, length, replicate, slice_get, slice_set, unwrap_or};
+ghost use Rattle.xp_capture.specs.Capture.{file_header, first_flow, flow_of, flow_after, frame_octets};
+ghost use Rattle.xp_capture.specs.Segment.{segment_octets};
+
+use crate::ends::Ends;
+use crate::flow::Flow;
+use crate::segment::{Segment, push_segment};
+use crate::words::{Head, push_words};
+use std::alloc::{AllocError, Allocator, Global};
+use std::marker::Model;
+use xp_words::Direction;
+
+/// A frame of a line, or any other octets that go over its connection.
+#[derive(Clone, Copy, Debug)]
+pub struct Frame<'a> {
+    /// The second in which it goes. A file tells seconds up to 4,294,967,295, and that one in the place of later ones.
+    pub moment: u64,
+    /// The number of the line. Its address in the file is as many addresses behind 10.1.0.0.
+    pub line: u16,
+    pub direction: Direction,
+    /// At most 65,495 octets.
+    pub octets: &'a [u8],
+}
+
+/// The connections of the lines in a capture file: how many octets went over each, in both directions.
+#[derive(Drop)]
+pub struct Capture {
+    flows: Vec<Flow>,
+}
+
+impl Model for Capture {
+    ghost use Rattle.std.specs.Prelude.{List};
+    ghost use Rattle.xp_capture.specs.declared.flow.Flow.{Flow};
+
+    ghost Value = { List Flow };
+
+    ghost view = { λ capture. capture.flows.items };
+}
+
+impl Capture {
+    /// The connections of so many lines, before any octet.
+    ///
+    /// # Errors
+    ///
+    /// An allocation failed.
+    pub fn new(alloc: Global, lines: u16) -> Result<Capture, AllocError>
+        ensures { IfOk result (λ capture. capture ≡ replicate lines first_flow) }
+    {
+        Ok(Capture {
+            flows: vec![in alloc; Flow::first(); usize::from(lines)]?,
+        })
+    }
+
+    /// Appends a frame to the octets of the file, as a TCP segment between its line and the exchange.
+    ///
+    /// # Errors
+    ///
+    /// An allocation failed. Then both are as they were.
+    pub fn write<A: Allocator>(
+        &mut self,
+        out: &mut Vec<u8, A>,
+        frame: Frame<'_>,
+    ) -> Result<(), AllocError>
+        requires line { frame.line < length self.old }
+        requires most { length frame.octets.now ≤ 65_495 }
+        ensures written { OnOk result (out.new.items
+            ≡ out.old.items ++ frame_octets (flow_of self.old frame.entry.line) frame.entry.moment frame.entry.line frame.entry.direction frame.entry.octets.now) }
+        ensures counted { OnOk result (self.new
+            ≡ slice_set self.old frame.entry.line (flow_after (flow_of self.old frame.entry.line) frame.entry.direction (length frame.entry.octets.now))) }
+        ensures refused { OnErr result (out.new.items ≡ out.old.items) }
+        ensures same { OnErr result (self.new ≡ self.old) }
+    {
+        let flow = self.flow(frame.line);
+        push_segment(out, &frame.segment(flow))?;
+        self.flows[usize::from(frame.line)] = flow.after(
+            frame.direction,
+            frame.octets.len() as u32,
+        );
+        Ok(())
+    }
+
+    /// The connection of a line.
+    fn flow(&self, line: u16) -> Flow
+        requires { line < length self.now }
+        ensures { result ≡ flow_of self.now line }
+    {
+        self.flows[usize::from(line)]
+    }
+}
+
+impl<'a> Frame<'a> {
+    /// The frame as a segment, of which these sequence numbers come next.
+    fn segment(self, flow: Flow) -> Segment<'a>
+        ensures octets { result.octets.now ≡ self.entry.octets.now }
+        ensures segment { segment_octets result.moment result.ends result.sequence result.acknowledged result.octets.now
+            ≡ frame_octets flow self.entry.moment self.entry.line self.entry.direction self.entry.octets.now }
+    {
+        let (sequence, acknowledged) = match self.direction {
+            Direction::FromDte => (flow.from_line, flow.from_exchange),
+            Direction::FromDce => (flow.from_exchange, flow.from_line),
+        };
+        Segment {
+            moment: self.moment,
+            ends: Ends::of(self.line, self.direction),
+            sequence,
+            acknowledged,
+            octets: self.octets,
+        }
+    }
+}
+
+/// Appends the header of a capture file. The frames follow it.
+///
+/// # Errors
+///
+/// An allocation failed. Then `out` is as it was.
+pub fn write_file_header<A: Allocator>(out: &mut Vec<u8, A>) -> Result<(), AllocError>
+    ensures written { OnOk result (out.new.items ≡ out.old.items ++ file_header) }
+    ensures refused { OnErr result (out.new.items ≡ out.old.items) }
+{
+    let mut head = Head::new();
+    push_words(
+        &mut head,
+        &[0xa1b2, 0xc3d4, 2, 4, 0, 0, 0, 0, 0, 0xffff, 0, 228],
+    );
+    out.extend_from_slice(head.as_slice())
+}
