@@ -1,5 +1,5 @@
 -- A capture file: its header, and each frame in turn.
-use Rattle.std.specs.Prelude.{ℕ, ◌+◌, ◌%◌, ◌^◌, length, slice_get, unwrap_or, List, [], ◌∷◌}
+use Rattle.std.specs.Prelude.{ℕ, ◌+◌, ◌%◌, ◌^◌, slice_get, unwrap_or, List, [], ◌∷◌}
 use Rattle.xp_capture.specs.Segment.{ends_of, octets_of_words, segment_octets}
 use Rattle.xp_capture.specs.declared.flow.Flow.{Flow}
 use Rattle.xp_words.specs.declared.direction.Direction.{Direction}

@@ -71,6 +71,7 @@ impl Capture {
             ≡ slice_set self.old frame.entry.line (flow_after (flow_of self.old frame.entry.line) frame.entry.direction (length frame.entry.octets.now))) }
         ensures refused { OnErr result (out.new.items ≡ out.old.items) }
         ensures same { OnErr result (self.new ≡ self.old) }
+        ensures lines { length self.new ≡ length self.old }
     {
         let flow = self.flow(frame.line);
         push_segment(out, &frame.segment(flow))?;

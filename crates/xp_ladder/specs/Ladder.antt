@@ -1,5 +1,5 @@
 -- The messages of lines as a diagram: the exchange in the middle, a line at its left, and others at its right.
-use Rattle.std.specs.Prelude.{ℕ, ◌+◌, ◌-◌, ◌^◌, chars, codes, false, flat_map, replicate, List, [], ◌∷◌, ◌++◌}
+use Rattle.std.specs.Prelude.{ℕ, ◌-◌, ◌^◌, chars, codes, false, suc, zero, List, [], ◌∷◌, ◌++◌}
 use Rattle.std.specs.Fmt.{decimal, format_spec, padded_integral}
 use Rattle.unicode_width.specs.Width.{str_width}
 use Rattle.xp_ladder.specs.declared.rung.Rung.{Rung}
@@ -22,14 +22,15 @@ abbrev pub head_left : List ℕ
 head_left = 0xe2 ∷ 0x97 ∷ 0x84 ∷ []
 
 -- so many copies of a character
-abbrev pub repeated : List ℕ → ℕ → List ℕ
-repeated character count = flat_map (λ (copy : ℕ). character) (replicate count 0)
+unfoldable pub repeated : List ℕ → ℕ → List ℕ
+repeated character zero = []
+repeated character (suc count) = repeated character count ++ character
 
 abbrev pub spaces : ℕ → List ℕ
 spaces count = repeated (codes " ") count
 
 -- the columns of a text in a terminal
-abbrev pub width : List ℕ → ℕ
+unfoldable pub width : List ℕ → ℕ
 width text = str_width false (chars text)
 
 -- an arrow across the 33 columns between two poles, with words on it; wider words make it longer
@@ -53,7 +54,7 @@ halves Right drawn = spaces 33 ++ pole ++ drawn
 -- the moment in ten columns, then the three poles with what is between them
 abbrev pub rung_text : Rung → List ℕ
 rung_text rung =
-    padded_integral (format_spec 32 2 0 10 (2 ^ 64 - 1)) false [] (decimal rung.moment)
+    padded_integral (format_spec 32 3 0 10 (2 ^ 64 - 1)) false [] (decimal rung.moment)
     ++ codes " " ++ pole ++ halves rung.side (arrow rung.side rung.direction rung.words.now) ++ pole
 
 -- the names of the lines above their poles

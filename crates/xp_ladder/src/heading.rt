@@ -4,10 +4,9 @@ ghost use Rattle.std.specs.Prelude.{◌≡◌, IfOk};
 ghost use Rattle.std.specs.String.{string_bytes};
 ghost use Rattle.xp_ladder.specs.Ladder.{heading_text};
 
-use crate::repeated::Repeated;
+use crate::repeated::{Repeated, width};
 use std::alloc::{AllocError, Global};
 use std::fmt;
-use unicode_width::UnicodeWidthStr;
 
 /// The names of the lines, above their poles. It has 80 columns where the name at the left has at most 34 columns, and those at the
 /// right at most 27.
@@ -39,8 +38,8 @@ impl fmt::Display for Heading<'_> {
 
     fn fmt<W: fmt::Write>(&self, f: &mut fmt::Formatter<W>) -> fmt::Result {
         let indented = Indented(self.left);
-        let exchange = Repeated::spaces(34usize.saturating_sub(self.left.width()));
-        let right = Repeated::spaces(27usize.saturating_sub(self.right.width()));
+        let exchange = Repeated::spaces(34usize.saturating_sub(width(self.left)));
+        let right = Repeated::spaces(27usize.saturating_sub(width(self.right)));
         write!(f, "{indented}{exchange}exchange{right}{}", self.right)
     }
 }

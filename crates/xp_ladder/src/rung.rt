@@ -3,11 +3,10 @@
 ghost use Rattle.std.specs.Prelude.{◌≡◌, IfOk};
 ghost use Rattle.std.specs.String.{string_bytes};
 
-use crate::repeated::Repeated;
+use crate::repeated::{Repeated, width};
 use crate::side::Side;
 use std::alloc::{AllocError, Global};
 use std::fmt;
-use unicode_width::UnicodeWidthStr;
 use xp_words::Direction;
 
 /// The columns of the words on an arrow.
@@ -107,7 +106,7 @@ impl fmt::Display for Arrow<'_> {
         let words = self.words;
         let dashes = Repeated {
             text: "─",
-            count: WORDS.saturating_sub(words.width()),
+            count: WORDS.saturating_sub(width(words)),
         };
         match (self.side, self.direction) {
             (Side::Left, Direction::FromDte) | (Side::Right, Direction::FromDce) => {

@@ -3,6 +3,6 @@ use Rattle.xp_ladder.specs.Ladder.{repeated}
 use Rattle.xp_ladder.proofs.repeated.RepeatedDisplay.fmt.Given as goal
 
 -- the copies so far are written
-abbrev pub invariant-loop-_copy : goal.invariant-loop-_copy
-invariant-loop-_copy g l =
+abbrev pub invariant-loop-copy : goal.invariant-loop-copy
+invariant-loop-copy g l =
     IsPlainFormatter l.initial.f → HasWritten g.W.Write.write_str_gives l.initial.f (repeated l.self.text.now l._copy) l.f
