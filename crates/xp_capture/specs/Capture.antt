@@ -1,13 +1,10 @@
--- A capture file: its header, and each frame in turn.
-use Rattle.std.specs.Prelude.{ℕ, ◌+◌, ◌%◌, ◌^◌, slice_get, unwrap_or, List, [], ◌∷◌}
-use Rattle.xp_capture.specs.Segment.{ends_of, octets_of_words, segment_octets}
+-- The frames of a capture file, each in turn.
+use Rattle.std.specs.Prelude.{ℕ, ◌+◌, ◌%◌, ◌^◌, slice_get, slice_set, unwrap_or, length, List}
+use Rattle.xp_capture.specs.Segment.{ends_of, segment_octets}
+use Rattle.xp_capture.specs.declared.capture.Frame.{Frame}
 use Rattle.xp_capture.specs.declared.flow.Flow.{Flow}
 use Rattle.xp_words.specs.declared.direction.Direction.{Direction}
 use Rattle.xp_words.specs.declared.direction.Direction.TheVariants.{FromDte, FromDce}
-
--- the header of a file of pcap, version 2.4, of IPv4 packets of at most 65,535 octets
-abbrev pub file_header : List ℕ
-file_header = octets_of_words (0xa1b2 ∷ 0xc3d4 ∷ 2 ∷ 4 ∷ 0 ∷ 0 ∷ 0 ∷ 0 ∷ 0 ∷ 0xffff ∷ 0 ∷ 228 ∷ [])
 
 -- no octet was sent: the sequence numbers begin at 1
 abbrev pub first_flow : Flow
@@ -22,7 +19,21 @@ flow_after flow FromDce count = record flow { from_exchange = (flow.from_exchang
 abbrev pub flow_of : List Flow → ℕ → Flow
 flow_of flows line = unwrap_or (slice_get flows line) first_flow
 
--- the octets of a frame of a line, of which these sequence numbers come next
-abbrev pub frame_octets : Flow → ℕ → ℕ → Direction → List ℕ → List ℕ
-frame_octets flow moment line FromDte octets = segment_octets moment (ends_of line FromDte) flow.from_line flow.from_exchange octets
-frame_octets flow moment line FromDce octets = segment_octets moment (ends_of line FromDce) flow.from_exchange flow.from_line octets
+-- the sequence numbers of a segment, and of what it acknowledges
+abbrev pub numbers_of : Flow → Direction → ℕ × ℕ
+numbers_of flow FromDte = (flow.from_line, flow.from_exchange)
+numbers_of flow FromDce = (flow.from_exchange, flow.from_line)
+
+-- what a frame adds to the file, over these connections
+abbrev pub frame_octets : List Flow → Frame → List ℕ
+frame_octets flows frame =
+    segment_octets
+    frame.moment
+    (ends_of frame.line frame.direction)
+    (numbers_of (flow_of flows frame.line) frame.direction).0
+    (numbers_of (flow_of flows frame.line) frame.direction).1
+    frame.octets.now
+
+-- the connections behind a frame
+abbrev pub flows_after : List Flow → Frame → List Flow
+flows_after flows frame = slice_set flows frame.line (flow_after (flow_of flows frame.line) frame.direction (length frame.octets.now))

@@ -1,13 +1,11 @@
 //! A capture file, frame by frame.
 
-ghost use Rattle.std.specs.Prelude.{◌≡◌, ◌<◌, ◌≤◌, ◌++◌, IfOk, OnErr, OnOk, length, replicate, slice_get, slice_set, unwrap_or};
-ghost use Rattle.xp_capture.specs.Capture.{file_header, first_flow, flow_of, flow_after, frame_octets};
-ghost use Rattle.xp_capture.specs.Segment.{segment_octets};
+ghost use Rattle.std.specs.Prelude.{◌≡◌, ◌<◌, ◌≤◌, ◌++◌, IfOk, OnErr, OnOk, length, replicate};
+ghost use Rattle.xp_capture.specs.Segment.{ends_of};
 
 use crate::ends::Ends;
 use crate::flow::Flow;
 use crate::segment::{Segment, push_segment};
-use crate::words::{Head, push_words};
 use std::alloc::{AllocError, Allocator, Global};
 use std::marker::Model;
 use xp_words::Direction;
@@ -40,6 +38,8 @@ impl Model for Capture {
 }
 
 impl Capture {
+    ghost use Rattle.xp_capture.specs.Capture.{first_flow, flow_of, flows_after, frame_octets};
+
     /// The connections of so many lines, before any octet.
     ///
     /// # Errors
@@ -65,10 +65,8 @@ impl Capture {
     ) -> Result<(), AllocError>
         requires line { frame.line < length self.old }
         requires most { length frame.octets.now ≤ 65_495 }
-        ensures written { OnOk result (out.new.items
-            ≡ out.old.items ++ frame_octets (flow_of self.old frame.entry.line) frame.entry.moment frame.entry.line frame.entry.direction frame.entry.octets.now) }
-        ensures counted { OnOk result (self.new
-            ≡ slice_set self.old frame.entry.line (flow_after (flow_of self.old frame.entry.line) frame.entry.direction (length frame.entry.octets.now))) }
+        ensures written { OnOk result (out.new.items ≡ out.old.items ++ frame_octets self.old frame.entry) }
+        ensures counted { OnOk result (self.new ≡ flows_after self.old frame.entry) }
         ensures refused { OnErr result (out.new.items ≡ out.old.items) }
         ensures same { OnErr result (self.new ≡ self.old) }
         ensures lines { length self.new ≡ length self.old }
@@ -92,11 +90,14 @@ impl Capture {
 }
 
 impl<'a> Frame<'a> {
+    ghost use Rattle.xp_capture.specs.Capture.{numbers_of};
+
     /// The frame as a segment, of which these sequence numbers come next.
     fn segment(self, flow: Flow) -> Segment<'a>
+        ensures moment { result.moment ≡ self.entry.moment }
+        ensures ends { result.ends ≡ ends_of self.entry.line self.entry.direction }
+        ensures numbers { (result.sequence, result.acknowledged) ≡ numbers_of flow self.entry.direction }
         ensures octets { result.octets.now ≡ self.entry.octets.now }
-        ensures segment { segment_octets result.moment result.ends result.sequence result.acknowledged result.octets.now
-            ≡ frame_octets flow self.entry.moment self.entry.line self.entry.direction self.entry.octets.now }
     {
         let (sequence, acknowledged) = match self.direction {
             Direction::FromDte => (flow.from_line, flow.from_exchange),
@@ -110,21 +111,4 @@ impl<'a> Frame<'a> {
             octets: self.octets,
         }
     }
-}
-
-/// Appends the header of a capture file. The frames follow it.
-///
-/// # Errors
-///
-/// An allocation failed. Then `out` is as it was.
-pub fn write_file_header<A: Allocator>(out: &mut Vec<u8, A>) -> Result<(), AllocError>
-    ensures written { OnOk result (out.new.items ≡ out.old.items ++ file_header) }
-    ensures refused { OnErr result (out.new.items ≡ out.old.items) }
-{
-    let mut head = Head::new();
-    push_words(
-        &mut head,
-        &[0xa1b2, 0xc3d4, 2, 4, 0, 0, 0, 0, 0, 0xffff, 0, 228],
-    );
-    out.extend_from_slice(head.as_slice())
 }

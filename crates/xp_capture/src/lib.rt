@@ -4,8 +4,10 @@
 mod capture;
 mod checksum;
 mod ends;
+mod file_header;
 mod flow;
 mod segment;
 mod words;
 
-pub use capture::{Capture, Frame, write_file_header};
+pub use capture::{Capture, Frame};
+pub use file_header::write_file_header;
