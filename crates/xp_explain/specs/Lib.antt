@@ -1,0 +1,3 @@
+pub mod Explanation
+pub mod Stated
+pub mod Way
