@@ -1,4 +1,5 @@
+pub mod Accesses
 pub mod Admissions
+pub mod Choices
 pub mod Notices
-pub mod Ports
 pub mod steps

@@ -1,12 +1,19 @@
 -- What an operator is to know of the lines' connections.
-use Rattle.std.specs.Prelude.{ℕ}
+use Rattle.std.specs.Prelude.{ℕ, Option, None, Some}
 use Rattle.xp_tcp.specs.declared.notices.Notice.{Notice}
-use Rattle.xp_tcp.specs.declared.notices.Notice.TheVariants.{Down, PortFailing, PortWorks, Refused, Up}
+use Rattle.xp_tcp.specs.declared.notices.Notice.TheVariants.{Closed, Connected, DoorFailing, DoorWorks, Down, NoFreeLine, NoRouter, NotConnected, PortFailing, PortWorks, Refused, Up}
 
--- the line that a notice is of
-abbrev pub line_of : Notice → ℕ
-line_of (Refused line peer) = line
-line_of (Up line peer) = line
-line_of (Down line) = line
-line_of (PortFailing line) = line
-line_of (PortWorks line) = line
+-- the line that a notice is of; none where it is of the port for routers
+abbrev pub line_of : Notice → Option ℕ
+line_of (Refused line peer) = Some line
+line_of (Up line peer) = Some line
+line_of (Down line) = Some line
+line_of (Connected line peer) = Some line
+line_of (Closed line) = Some line
+line_of (NotConnected line fault) = Some line
+line_of (PortFailing line) = Some line
+line_of (PortWorks line) = Some line
+line_of (NoRouter peer) = None
+line_of (NoFreeLine peer) = None
+line_of DoorFailing = None
+line_of DoorWorks = None

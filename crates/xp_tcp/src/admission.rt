@@ -109,7 +109,7 @@ fn is_among(places: &[Place], peer: IpAddr) -> bool
 }
 
 /// Whether two addresses have the same canonical form.
-fn is_same_host(address: IpAddr, other: IpAddr) -> bool
+pub(crate) fn is_same_host(address: IpAddr, other: IpAddr) -> bool
     ensures { IsTrue result ↔ IsSameHost address other }
 {
     address.to_canonical() == other.to_canonical()

@@ -4,21 +4,19 @@ ghost use Rattle.std.specs.Prelude.{◌≡◌, ◌<◌, ◌↔◌, ◌∷◌, []
 ghost use Rattle.std.specs.Bool.{OnFalse, OnTrue};
 ghost use Rattle.xp_tcp.specs.Notices.{line_of};
 
+use crate::connect_fault::ConnectFault;
+use crate::locks::hold;
 use circular_buffer::HeapCircularBuffer;
 use std::alloc::{AllocError, Global};
+use std::fmt;
 use std::net::SocketAddr;
+use std::sync::Mutex;
 use std::sync::atomic::AtomicU64;
 use std::sync::atomic::Ordering::SeqCst;
-use std::sync::{Mutex, MutexGuard};
-use std::{fmt, thread};
 use xp_subs::LineNo;
 
 /// How many notices wait at most.
 const MOST_WAITING: usize = 1_024;
-
-/// How often the lock is tried. A thread holds it for less than a microsecond, unless the system stops that thread, and between two
-/// tries other threads run.
-const MOST_TRIES: u32 = 1_000;
 
 /// What has become of a line's connections.
 #[derive(Clone, Copy, Debug, PartialEq)]
@@ -29,23 +27,44 @@ pub enum Notice {
     Up { line: LineNo, peer: SocketAddr },
     /// The line has lost its connection, or has closed it.
     Down { line: LineNo },
+    /// The line behind a router has a connection that the exchange has made to the router.
+    Connected { line: LineNo, peer: SocketAddr },
+    /// The line behind a router has closed its connection, over which no call goes any more. It stays in service.
+    Closed { line: LineNo },
+    /// The line behind a router could not be connected to it.
+    NotConnected { line: LineNo, fault: ConnectFault },
     /// The line's port can take no connections, for want of descriptors or of memory.
     PortFailing { line: LineNo },
     /// The line's port takes connections again.
     PortWorks { line: LineNo },
+    /// A connection to the routers' port was closed: its address is that of no line's router.
+    NoRouter { peer: SocketAddr },
+    /// A connection to the routers' port was closed: each line behind its router has one.
+    NoFreeLine { peer: SocketAddr },
+    /// The routers' port can take no connections, for want of descriptors or of memory.
+    DoorFailing,
+    /// The routers' port takes connections again.
+    DoorWorks,
 }
 
 impl Notice {
-    /// The line that it is of.
-    pub fn line(&self) -> LineNo
+    /// The line that it is of. `None` where it is of the routers' port.
+    pub fn line(&self) -> Option<LineNo>
         ensures { result ≡ line_of self.now }
     {
         match self {
             Notice::Refused { line, .. }
             | Notice::Up { line, .. }
             | Notice::Down { line }
+            | Notice::Connected { line, .. }
+            | Notice::Closed { line }
+            | Notice::NotConnected { line, .. }
             | Notice::PortFailing { line }
-            | Notice::PortWorks { line } => *line,
+            | Notice::PortWorks { line } => Some(*line),
+            Notice::NoRouter { .. }
+            | Notice::NoFreeLine { .. }
+            | Notice::DoorFailing
+            | Notice::DoorWorks => None,
         }
     }
 }
@@ -62,10 +81,19 @@ impl fmt::Display for Notice {
             Notice::Refused { peer, .. } => write!(f, "connection from {peer} refused"),
             Notice::Up { peer, .. } => write!(f, "up from {peer}"),
             Notice::Down { .. } => f.write_str("down"),
-            Notice::PortFailing { .. } => {
+            Notice::Connected { peer, .. } => write!(f, "connected to {peer}"),
+            Notice::Closed { .. } => f.write_str("connection closed"),
+            Notice::NotConnected { fault, .. } => write!(f, "no connection to the router: {fault}"),
+            Notice::PortFailing { .. } | Notice::DoorFailing => {
                 f.write_str("port fails: no connection can be accepted")
             }
-            Notice::PortWorks { .. } => f.write_str("port works again"),
+            Notice::PortWorks { .. } | Notice::DoorWorks => f.write_str("port works again"),
+            Notice::NoRouter { peer } => {
+                write!(f, "connection from {peer} refused: no line is behind this router")
+            }
+            Notice::NoFreeLine { peer } => {
+                write!(f, "connection from {peer} refused: no line is free")
+            }
         }
     }
 }
@@ -90,7 +118,7 @@ impl Notices {
     /// Tells a notice. It never waits: where 1,024 wait already, or other threads keep the notices for too long, the notice is lost,
     /// which is counted.
     pub fn tell(&self, notice: Notice) {
-        let is_kept = match self.lock() {
+        let is_kept = match hold(&self.waiting) {
             Some(mut waiting) => keep(&mut waiting, notice),
             None => false,
         };
@@ -101,22 +129,12 @@ impl Notices {
 
     /// Takes the notice that was told first. `None` where none waits, or where other threads keep the notices for too long.
     pub fn take(&self) -> Option<Notice> {
-        self.lock()?.pop_front()
+        hold(&self.waiting)?.pop_front()
     }
 
     /// How many notices were lost since the last call.
     pub fn take_lost(&self) -> u64 {
         self.lost.swap(0, SeqCst)
-    }
-
-    fn lock(&self) -> Option<MutexGuard<'_, HeapCircularBuffer<Notice>>> {
-        for _try in 0..MOST_TRIES {
-            if let Some(waiting) = self.waiting.try_lock() {
-                return Some(waiting);
-            }
-            thread::yield_now();
-        }
-        None
     }
 }
 

@@ -11,10 +11,19 @@ use mio::net::TcpStream;
 use std::io;
 use std::os::fd::{AsRawFd, RawFd};
 
+/// How soon a peer that is gone ends its connection.
+#[derive(Clone, Copy, Debug, PartialEq)]
+pub(crate) enum Patience {
+    /// Within 90 seconds.
+    Line,
+    /// Within 30 seconds.
+    Router,
+}
+
 /// How many octets an option's value has.
 const VALUE_LENGTH: u32 = 4;
 
-/// An option of a connection. Together they end a connection whose peer has not answered for 90 seconds.
+/// An option of a connection. Together they end a connection whose peer has not answered for so long.
 #[derive(Clone, Copy)]
 enum PeerOption {
     /// The system asks a peer that is silent whether it is still there.
@@ -51,20 +60,23 @@ impl PeerOption {
         }
     }
 
-    fn value(self) -> u32 {
-        match self {
-            PeerOption::Probes => 1,
-            PeerOption::Silence => 60,
-            PeerOption::Interval => 10,
-            PeerOption::Count => 3,
-            PeerOption::Unacknowledged => 90_000,
+    fn value(self, patience: Patience) -> u32 {
+        match (self, patience) {
+            (PeerOption::Probes, _) => 1,
+            (PeerOption::Silence, Patience::Line) => 60,
+            (PeerOption::Silence, Patience::Router) => 15,
+            (PeerOption::Interval, Patience::Line) => 10,
+            (PeerOption::Interval, Patience::Router) => 5,
+            (PeerOption::Count, _) => 3,
+            (PeerOption::Unacknowledged, Patience::Line) => 90_000,
+            (PeerOption::Unacknowledged, Patience::Router) => 30_000,
         }
     }
 
     /// Gives a socket the option.
-    fn set(self, socket: RawFd) -> io::Result<()> {
+    fn set(self, socket: RawFd, patience: Patience) -> io::Result<()> {
         let mut value = [0; 16];
-        value[..VALUE_LENGTH as usize].copy_from_slice(&self.value().to_le_bytes());
+        value[..VALUE_LENGTH as usize].copy_from_slice(&self.value(patience).to_le_bytes());
         let (level, name) = self.level_and_name();
         let status = unsafe { setsockopt(socket, level, name, &value, VALUE_LENGTH) };
         if status < 0 {
@@ -74,10 +86,10 @@ impl PeerOption {
     }
 }
 
-/// Lets the system end a connection whose peer is gone: within some 90 seconds, whether octets wait to be acknowledged or not.
-pub(crate) fn notice_dead_peer(stream: &TcpStream) -> io::Result<()> {
+/// Lets the system end a connection whose peer is gone: within this time, whether octets wait to be acknowledged or not.
+pub(crate) fn notice_dead_peer(stream: &TcpStream, patience: Patience) -> io::Result<()> {
     for option in PeerOption::ALL {
-        option.set(stream.as_raw_fd())?;
+        option.set(stream.as_raw_fd(), patience)?;
     }
     Ok(())
 }

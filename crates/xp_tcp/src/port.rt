@@ -163,7 +163,7 @@ fn is_lasting(error: &io::Error) -> bool {
 }
 
 /// Whether no connection can be accepted for want of descriptors or of memory. `None` where the error does not tell.
-fn is_in_want(error: &io::Error) -> Option<bool> {
+pub(crate) fn is_in_want(error: &io::Error) -> Option<bool> {
     match error.raw_os_error() {
         Some(libc::EMFILE | ENFILE | ENOBUFS | libc::ENOMEM) => Some(true),
         _ if error.kind() == ErrorKind::WouldBlock => Some(false),

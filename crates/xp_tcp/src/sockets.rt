@@ -1,14 +1,22 @@
-//! The listening sockets of an exchange's lines.
+//! The sockets of an exchange's lines.
 
-ghost use Rattle.std.specs.Prelude.{◌≡◌, ◌<◌, [], IfOk, OnErr, OnOk, map, slice_get};
+ghost use Rattle.std.specs.Prelude.{◌≡◌, ◌<◌, ◌∷◌, ◌++◌, [], IfOk, IfSome, OnErr, OnOk, map, slice_get};
 ghost use Rattle.std.specs.Net.Socket.{socket_port};
-ghost use Rattle.xp_tcp.specs.Ports.{Listens};
+ghost use Rattle.xp_tcp.specs.Accesses.{Listens, port_of};
+ghost use Rattle.xp_tcp.specs.steps.Sources.{IsListening, source_access};
+ghost use Rattle.xp_tcp.specs.declared.access.Access.TheVariants as access;
 ghost use Rattle.xp_tcp.specs.declared.sockets.ListenFault.TheVariants.{Memory as OutOfMemory, Port as NoPort};
 
+use crate::access::Access;
 use crate::admission::Admission;
 use crate::clock::TcpClock;
+use crate::door::{Door, DoorSockets};
+use crate::door_bell::DoorBell;
+use crate::line_port::LinePort;
 use crate::notices::Notices;
 use crate::port::TcpPort;
+use crate::router_line::RouterLine;
+use crate::router_port::RouterPort;
 use crate::share::LineShare;
 use crate::start::Start;
 use crate::wakers::LineWaker;
@@ -22,16 +30,16 @@ use std::sync::Arc;
 use thiserror::Error;
 use xp_subs::LineNo;
 
-/// Names a line's listening socket among what its thread waits for.
+/// Names a listening socket among what its thread waits for.
 const LISTENER: Token = Token(0);
 
-/// Names the wakes of other lines.
+/// Names the wakes of other threads.
 const WAKER: Token = Token(1);
 
 /// How many events a wait takes: as many as a line has sockets and wakers.
 const MOST_EVENTS: usize = 3;
 
-/// Why a line's port is not listened on.
+/// Why a port is not listened on, or a line has no sockets.
 #[derive(Clone, Copy, Debug, Drop, PartialEq, Error)]
 pub enum ListenFault {
     /// The port can't be had.
@@ -57,42 +65,81 @@ impl From<io::Error> for ListenFault {
     }
 }
 
-/// The listening socket of one line, with what its thread waits on.
+/// Where the connections of one line are to come from.
 #[derive(Drop)]
-struct Listening {
-    line: LineNo,
-    listener: TcpListener,
-    admission: Admission,
-    waits: Registry,
-    poll: Poll,
-    events: Events,
-    port: u16,
+enum LineSource {
+    /// A socket that listens on a port of the line's own, and from where its connections may come.
+    Own(u16, TcpListener, Admission),
+    /// The router of this address.
+    Router(SocketAddr),
 }
 
-/// The listening sockets of the lines, in line order, with what their threads wait on. Contracts see their ports.
+/// What the thread of one line waits on. Contracts see where the line's connections come from.
+#[derive(Drop)]
+struct LineSockets {
+    line: LineNo,
+    source: LineSource,
+    poll: Poll,
+    events: Events,
+    waits: Registry,
+}
+
+impl Model for LineSockets {
+    ghost use Rattle.xp_tcp.specs.declared.access.Access.{Access};
+    ghost use Rattle.xp_tcp.specs.steps.Sources.{source_access};
+
+    ghost Value = { Access };
+
+    ghost view = { λ line. source_access line.source };
+}
+
+impl LineSockets {
+    /// Where the line's connections come from.
+    fn access(&self) -> Access
+        ensures { result ≡ self.now }
+    {
+        match &self.source {
+            LineSource::Own(port, _, _) => Access::Port(*port),
+            LineSource::Router(router) => Access::Router(*router),
+        }
+    }
+}
+
+/// The sockets of the lines, in line order, and the door of those that are behind routers. Contracts see where the connections of
+/// each line come from.
 #[derive(Drop)]
 pub struct Sockets {
-    lines: Vec<Listening>,
+    lines: Vec<LineSockets>,
     wakers: Vec<LineWaker>,
+    door: Option<DoorSockets>,
     notices: Arc<Notices>,
 }
 
+/// What the threads of the lines are given, in line order, and the door, if it was opened.
+#[derive(Drop)]
+pub struct Ends {
+    pub lines: Vec<(LinePort, TcpClock)>,
+    pub door: Option<Door>,
+}
+
 impl Model for Sockets {
-    ghost use Rattle.std.specs.Prelude.{ℕ, List, map};
+    ghost use Rattle.std.specs.Prelude.{List};
+    ghost use Rattle.xp_tcp.specs.declared.access.Access.{Access};
 
-    ghost Value = { List ℕ };
+    ghost Value = { List Access };
 
-    ghost view = { λ sockets. map (λ line. line.port) sockets.lines.items };
+    ghost view = { λ sockets. sockets.lines.items };
 }
 
 impl Sockets {
-    /// No sockets yet, with room for so many. What becomes of their connections is told to the notices.
+    /// No sockets yet, with room for so many lines. What becomes of their connections is told to the notices.
     pub fn new(alloc: Global, count: usize, notices: Arc<Notices>) -> Result<Sockets, AllocError>
         ensures { IfOk result (λ sockets. sockets ≡ []) }
     {
         Ok(Sockets {
             lines: Vec::with_capacity(alloc, count)?,
             wakers: Vec::with_capacity(alloc, count)?,
+            door: None,
             notices,
         })
     }
@@ -113,66 +160,291 @@ impl Sockets {
         ensures ok { OnOk result (Listens self.old port self.new) }
         ensures err { OnErr result (self.new ≡ self.old) }
     {
+        let (number, events) = self.reserve()?;
+        let (line, waker) = open_port(rt, SocketAddr::new(host, port), number, admission, events)?;
+        self.push(line, waker)
+    }
+
+    /// Adds the next line, which is behind the router of this address and port.
+    ///
+    /// # Errors
+    ///
+    /// `Port` where the system has no descriptors left, or where there are 65,536 lines already, `Memory`. No line is added then.
+    pub fn add_router<R: Net>(&mut self, rt: &R, router: SocketAddr) -> Result<(), ListenFault>
+        ensures ok { OnOk result (self.new ≡ self.old ++ access.Router router ∷ []) }
+        ensures err { OnErr result (self.new ≡ self.old) }
+    {
+        let (number, events) = self.reserve()?;
+        let (line, waker) = open_behind(rt, router, number, events)?;
+        self.push(line, waker)
+    }
+
+    /// Listens on a port, at an address of the machine, for the connections of all routers. At port 0 the system picks one. Lines
+    /// behind routers need it, whether they are added before or after it: what listens here also makes the connections to
+    /// routers.
+    ///
+    /// # Errors
+    ///
+    /// `Port` where the port can't be had, `Memory`. Nothing has changed then.
+    pub fn open_door<R: Net>(
+        &mut self,
+        rt: &R,
+        alloc: Global,
+        host: IpAddr,
+        port: u16,
+    ) -> Result<(), ListenFault>
+        ensures { self.new ≡ self.old }
+    {
+        let events = Events::with_capacity(alloc, MOST_EVENTS)?;
+        let poll = Poll::new(rt)?;
+        let (listener, port) = listen_at(rt, &poll, SocketAddr::new(host, port))?;
+        let waker = Waker::new(poll.registry(), WAKER)?;
+        let bell = Arc::new(alloc, DoorBell::new(waker)).map_err(|_| ListenFault::Memory)?;
+        self.door = Some(DoorSockets {
+            listener,
+            poll,
+            events,
+            bell,
+            port,
+        });
+        Ok(())
+    }
+
+    /// Where the connections of a line come from. `None` where there is no such line.
+    pub fn access(&self, line: LineNo) -> Option<Access>
+        ensures { result ≡ slice_get self.now line }
+    {
+        self.lines.get(line as usize).map(|line| line.access())
+    }
+
+    /// The port on which a line's socket listens. `None` where there is no such line, or it is behind a router.
+    pub fn port(&self, line: LineNo) -> Option<u16>
+        ensures { result ≡ port_of (slice_get self.now line) }
+    {
+        match self.access(line) {
+            Some(Access::Port(port)) => Some(port),
+            Some(Access::Router(_)) | None => None,
+        }
+    }
+
+    /// The port on which the door listens, if it was opened.
+    pub fn door_port(&self) -> Option<u16> {
+        match &self.door {
+            Some(door) => Some(door.port),
+            None => None,
+        }
+    }
+
+    /// What the threads of the lines are given, in line order: each has the access of its line. The time of day is read once, for
+    /// all clocks.
+    pub fn into_ends(self, alloc: Global) -> Result<Ends, AllocError>
+        ensures { IfOk result (λ ends. map (λ end. end.0) ends.lines.items ≡ self) }
+    {
+        let Sockets {
+            lines,
+            wakers,
+            door,
+            notices,
+        } = self;
+        let shared = Shared {
+            wakers: Arc::new(alloc, wakers)?,
+            notices,
+            bell: bell_of(&door)?,
+            start: Start::read(),
+        };
+        let mut behind = Vec::with_capacity(alloc, lines.len())?;
+        let lines = ends_of(alloc, lines, &shared, &mut behind)?;
+        let door = match door {
+            Some(door) => Some(shared.open(alloc, door, behind)?),
+            None => None,
+        };
+        Ok(Ends { lines, door })
+    }
+
+    /// The number of the next line, and room for it.
+    fn reserve(&mut self) -> Result<(LineNo, Events), ListenFault>
+        ensures { self.new ≡ self.old }
+    {
         let Ok(number) = LineNo::try_from(self.lines.len()) else {
             return Err(ListenFault::Port);
         };
         let alloc = *self.lines.allocator();
+        Ok((number, Events::with_capacity(alloc, MOST_EVENTS)?))
+    }
+
+    /// Adds a line.
+    fn push(&mut self, line: LineSockets, waker: Waker) -> Result<(), ListenFault>
+        ensures ok { OnOk result (self.new ≡ self.old ++ line ∷ []) }
+        ensures err { OnErr result (self.new ≡ self.old) }
+    {
         self.lines.reserve(1)?;
-        let events = Events::with_capacity(alloc, MOST_EVENTS)?;
-        let (line, waker) = open(rt, SocketAddr::new(host, port), number, admission, events)?;
         self.wakers.reserve(1)?;
         self.wakers.push_reserved(LineWaker::new(waker));
         self.lines.push_reserved(line);
         Ok(())
     }
+}
 
-    /// The port on which a line's socket listens.
-    pub fn port(&self, line: LineNo) -> Option<u16>
-        ensures { result ≡ slice_get self.now line }
+/// What the ends of all lines share.
+#[derive(Drop)]
+struct Shared {
+    wakers: Arc<Vec<LineWaker>>,
+    notices: Arc<Notices>,
+    bell: Option<Arc<DoorBell>>,
+    start: Start,
+}
+
+impl Shared {
+    /// What the thread of a line is given. A line behind a router is put behind those so far.
+    fn end_of(
+        &self,
+        alloc: Global,
+        line: LineSockets,
+        behind: &mut Vec<Arc<RouterLine>>,
+    ) -> Result<(LinePort, TcpClock), AllocError>
+        ensures { IfOk result (λ end. end.0 ≡ line) }
     {
-        self.lines.get(line as usize).map(|line| line.port)
+        let LineSockets {
+            line,
+            source,
+            poll,
+            events,
+            waits,
+        } = line;
+        let wakers = Arc::try_clone(&self.wakers)?;
+        let clock = TcpClock::new(poll, events, wakers, line as usize, self.start);
+        let port = self.port_of(alloc, line, source, waits, behind)?;
+        Ok((port, clock))
     }
 
-    /// What the threads of the lines are given, in line order: each has the port of its line. The time of day is read once, for
-    /// all clocks.
-    pub fn into_ends(self, alloc: Global) -> Result<Vec<(TcpPort, TcpClock)>, AllocError>
-        ensures { IfOk result (λ ends. map (λ end. end.0) ends.items ≡ self) }
+    /// The port of a line. A line behind a router is put behind those so far.
+    fn port_of(
+        &self,
+        alloc: Global,
+        line: LineNo,
+        source: LineSource,
+        waits: Registry,
+        behind: &mut Vec<Arc<RouterLine>>,
+    ) -> Result<LinePort, AllocError>
+        ensures { IfOk result (λ port. port ≡ source_access source) }
     {
-        let Sockets {
-            lines,
-            wakers,
-            notices,
-        } = self;
-        let wakers = Arc::new(alloc, wakers)?;
-        let mut ends = Vec::with_capacity(alloc, lines.len())?;
-        let start = Start::read();
-        for line in lines {
-            let share = LineShare::new(line.line, &wakers, &notices)?;
-            let clock = TcpClock::new(
-                line.poll,
-                line.events,
-                Arc::try_clone(&wakers)?,
-                line.line as usize,
-                start,
-            );
-            let port = TcpPort::new(line.port, line.listener, line.admission, line.waits, share);
-            ends.push((port, clock))?;
+        let share = LineShare::new(line, &self.wakers, &self.notices)?;
+        match source {
+            LineSource::Own(port, listener, admission) => Ok(LinePort::own(TcpPort::new(
+                port, listener, admission, waits, share,
+            ))),
+            LineSource::Router(router) => {
+                let router_line = self.behind(alloc, line, router)?;
+                behind.push(Arc::try_clone(&router_line)?)?;
+                let waits = Arc::new(alloc, waits)?;
+                Ok(LinePort::behind(RouterPort::new(router, router_line, waits, share)))
+            }
         }
-        Ok(ends)
+    }
+
+    /// What a line behind a router and the door share.
+    fn behind(
+        &self,
+        alloc: Global,
+        line: LineNo,
+        router: SocketAddr,
+    ) -> Result<Arc<RouterLine>, AllocError> {
+        let bell = match &self.bell {
+            Some(bell) => Some(Arc::try_clone(bell)?),
+            None => None,
+        };
+        Ok(Arc::new(alloc, RouterLine::new(line, router, bell))?)
+    }
+
+    /// The door of these lines.
+    fn open(
+        self,
+        alloc: Global,
+        door: DoorSockets,
+        behind: Vec<Arc<RouterLine>>,
+    ) -> Result<Door, AllocError> {
+        Door::new(alloc, door, behind, self.wakers, self.notices)
+    }
+}
+
+/// What the threads of the lines are given, in line order. The lines behind routers are put behind those so far.
+fn ends_of(
+    alloc: Global,
+    lines: Vec<LineSockets>,
+    shared: &Shared,
+    behind: &mut Vec<Arc<RouterLine>>,
+) -> Result<Vec<(LinePort, TcpClock)>, AllocError>
+    ensures { IfOk result (λ ends. map (λ end. end.0) ends.items ≡ lines.items) }
+{
+    let mut ends = Vec::with_capacity(alloc, lines.len())?;
+    for line in lines {
+        ends.push(shared.end_of(alloc, line, behind)?)?;
+    }
+    Ok(ends)
+}
+
+/// The bell of a door, if it was opened.
+fn bell_of(door: &Option<DoorSockets>) -> Result<Option<Arc<DoorBell>>, AllocError> {
+    match door {
+        Some(door) => Ok(Some(Arc::try_clone(&door.bell)?)),
+        None => Ok(None),
     }
 }
 
 /// Listens at an address for a line: the socket, and what wakes the thread that waits on it. At port 0 the system picks one.
-fn open<R: Net>(
+fn open_port<R: Net>(
     rt: &R,
     address: SocketAddr,
     line: LineNo,
     admission: Admission,
     events: Events,
-) -> io::Result<(Listening, Waker)>
-    ensures { IfOk result (λ opened. 0 < socket_port address → opened.0.port ≡ socket_port address) }
+) -> io::Result<(LineSockets, Waker)>
+    ensures { IfOk result (λ opened. IsListening (socket_port address) opened.0) }
 {
     let poll = Poll::new(rt)?;
+    let (listener, port) = listen_at(rt, &poll, address)?;
+    let source = LineSource::Own(port, listener, admission);
+    complete(line, source, poll, events)
+}
+
+/// What the thread of a line behind a router waits on, and what wakes it.
+fn open_behind<R: Net>(
+    rt: &R,
+    router: SocketAddr,
+    line: LineNo,
+    events: Events,
+) -> io::Result<(LineSockets, Waker)>
+    ensures { IfOk result (λ opened. opened.0 ≡ access.Router router) }
+{
+    let poll = Poll::new(rt)?;
+    complete(line, LineSource::Router(router), poll, events)
+}
+
+/// Completes what the thread of a line waits on by what wakes it.
+fn complete(
+    line: LineNo,
+    source: LineSource,
+    poll: Poll,
+    events: Events,
+) -> io::Result<(LineSockets, Waker)>
+    ensures { IfOk result (λ opened. opened.0 ≡ source_access source) }
+{
+    let waker = Waker::new(poll.registry(), WAKER)?;
+    let waits = poll.registry().try_clone()?;
+    let line = LineSockets {
+        line,
+        source,
+        poll,
+        events,
+        waits,
+    };
+    Ok((line, waker))
+}
+
+/// Listens at an address: the socket, for which a thread waits, and its port. At port 0 the system picks one.
+fn listen_at<R: Net>(rt: &R, poll: &Poll, address: SocketAddr) -> io::Result<(TcpListener, u16)>
+    ensures { IfOk result (λ listens. 0 < socket_port address → listens.1 ≡ socket_port address) }
+{
     let mut listener = TcpListener::bind(rt, address)?;
     let port = match address.port() {
         0 => listener.local_addr()?.port(),
@@ -180,16 +452,5 @@ fn open<R: Net>(
     };
     poll.registry()
         .register(&mut listener, LISTENER, Interest::READABLE)?;
-    let waker = Waker::new(poll.registry(), WAKER)?;
-    let waits = poll.registry().try_clone()?;
-    let line = Listening {
-        line,
-        listener,
-        admission,
-        waits,
-        poll,
-        events,
-        port,
-    };
-    Ok((line, waker))
+    Ok((listener, port))
 }

@@ -22,7 +22,7 @@ impl Start {
     pub(crate) fn read() -> Start {
         Start {
             time_of_day: read(libc::CLOCK_REALTIME).unwrap_or(Duration::ZERO),
-            uptime: read(CLOCK_OF_TICKS).unwrap_or(Duration::MAX),
+            uptime: uptime().unwrap_or(Duration::MAX),
         }
     }
 
@@ -35,7 +35,7 @@ impl Start {
 
     /// The seconds since 1970, now. Changes of the time of day after the start do not count. `None` where the clock fails.
     pub(crate) fn seconds_now(&self) -> Option<u64> {
-        Some(self.seconds_at(read(CLOCK_OF_TICKS)?))
+        Some(self.seconds_at(uptime()?))
     }
 
     /// The seconds since 1970, where the system began so long ago: the time of day at the start, and what has passed since.
@@ -46,6 +46,11 @@ impl Start {
             .saturating_add(uptime.saturating_sub(self.uptime))
             .as_secs()
     }
+}
+
+/// The time since the system began. `None` where the clock fails.
+pub(crate) fn uptime() -> Option<Duration> {
+    read(CLOCK_OF_TICKS)
 }
 
 /// What a clock of the system tells. `None` where it fails, or tells a time before its start.

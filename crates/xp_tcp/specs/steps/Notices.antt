@@ -1,13 +1,28 @@
 -- The text of a notice.
 use Rattle.std.specs.Prelude.{ℕ, List, ◌++◌, codes}
 use Rattle.std.specs.Net.Text.{socket_text}
+use Rattle.xp_tcp.specs.declared.connect_fault.ConnectFault.{ConnectFault}
+use Rattle.xp_tcp.specs.declared.connect_fault.ConnectFault.TheVariants as faults
 use Rattle.xp_tcp.specs.declared.notices.Notice.{Notice}
-use Rattle.xp_tcp.specs.declared.notices.Notice.TheVariants.{Down, PortFailing, PortWorks, Refused, Up}
+use Rattle.xp_tcp.specs.declared.notices.Notice.TheVariants.{Closed, Connected, DoorFailing, DoorWorks, Down, NoFreeLine, NoRouter, NotConnected, PortFailing, PortWorks, Refused, Up}
+
+abbrev pub fault_text : ConnectFault → List ℕ
+fault_text faults.Refused = codes "refused"
+fault_text faults.Unreachable = codes "unreachable"
+fault_text faults.NoAnswer = codes "no answer"
+fault_text faults.NoSocket = codes "no socket"
 
 -- the text of a notice, without its line
 abbrev pub text_of : Notice → List ℕ
 text_of (Refused line peer) = codes "connection from " ++ socket_text peer ++ codes " refused"
 text_of (Up line peer) = codes "up from " ++ socket_text peer
 text_of (Down line) = codes "down"
+text_of (Connected line peer) = codes "connected to " ++ socket_text peer
+text_of (Closed line) = codes "connection closed"
+text_of (NotConnected line fault) = codes "no connection to the router: " ++ fault_text fault
 text_of (PortFailing line) = codes "port fails: no connection can be accepted"
 text_of (PortWorks line) = codes "port works again"
+text_of (NoRouter peer) = codes "connection from " ++ socket_text peer ++ codes " refused: no line is behind this router"
+text_of (NoFreeLine peer) = codes "connection from " ++ socket_text peer ++ codes " refused: no line is free"
+text_of DoorFailing = codes "port fails: no connection can be accepted"
+text_of DoorWorks = codes "port works again"

@@ -1,0 +1,247 @@
+//! The TCP port that routers connect to.
+
+use crate::choosing::{Candidate, is_router, line_for};
+use crate::connect_fault::ConnectFault;
+use crate::door_bell::DoorBell;
+use crate::notices::{Notice, Notices};
+use crate::port::is_in_want;
+use crate::router_line::{Arrival, RouterLine};
+use crate::wakers::LineWaker;
+use mio::net::{TcpListener, TcpStream};
+use mio::{Events, Poll};
+use std::alloc::{AllocError, Global};
+use std::io::ErrorKind;
+use std::net::{Net, SocketAddr};
+use std::sync::{Arc, Wait};
+use std::time::Duration;
+
+/// How many connections are taken at most before the lines are looked at again.
+const MOST_TAKEN: usize = 16;
+
+/// How often a line is chosen for a connection at most, where those that were chosen took another meanwhile.
+const MOST_CHOICES: usize = 16;
+
+/// How long the thread sleeps at most, in milliseconds.
+const LONGEST_SLEEP: u64 = 500;
+
+/// The door of the lines behind routers: it listens at one TCP port for all routers, and gives each connection to a line behind
+/// the router that it comes from. It begins the connections to routers that lines wait for. It waits for no line and no router.
+#[derive(Drop)]
+pub struct Door {
+    listener: TcpListener,
+    poll: Poll,
+    /// Room for what the thread was woken by, which is not looked at.
+    events: Events,
+    /// The lines behind routers, in line order.
+    lines: Vec<Arc<RouterLine>>,
+    /// The same lines as they were last looked at.
+    candidates: Vec<Candidate>,
+    wakers: Arc<Vec<LineWaker>>,
+    notices: Arc<Notices>,
+    bell: Arc<DoorBell>,
+    /// No connection could be accepted, for want of descriptors or of memory, and none was since.
+    is_failing: bool,
+}
+
+/// What a door is made of, before its lines are known.
+#[derive(Drop)]
+pub(crate) struct DoorSockets {
+    pub(crate) listener: TcpListener,
+    pub(crate) poll: Poll,
+    pub(crate) events: Events,
+    pub(crate) bell: Arc<DoorBell>,
+    pub(crate) port: u16,
+}
+
+impl Door {
+    pub(crate) fn new(
+        alloc: Global,
+        sockets: DoorSockets,
+        lines: Vec<Arc<RouterLine>>,
+        wakers: Arc<Vec<LineWaker>>,
+        notices: Arc<Notices>,
+    ) -> Result<Door, AllocError> {
+        let candidates = candidates_of(alloc, &lines)?;
+        let DoorSockets {
+            listener,
+            poll,
+            events,
+            bell,
+            port: _,
+        } = sockets;
+        Ok(Door {
+            listener,
+            poll,
+            events,
+            lines,
+            candidates,
+            wakers,
+            notices,
+            bell,
+            is_failing: false,
+        })
+    }
+
+    /// What stops the door.
+    pub fn bell(&self) -> Result<Arc<DoorBell>, AllocError> {
+        Arc::try_clone(&self.bell)
+    }
+
+    /// Takes connections, and begins those that lines wait for, until the bell tells it to stop.
+    pub fn run<R: Net + Wait>(self, rt: &R) {
+        let mut door = self;
+        for _turn in rt.forever() {
+            if door.bell.is_stopped() {
+                return;
+            }
+            door.begin_wanted(rt);
+            if !door.accept_some() {
+                door.sleep();
+            }
+        }
+    }
+
+    /// Sleeps until a connection comes or the bell rings.
+    fn sleep(&mut self) {
+        let most = Duration::from_millis(LONGEST_SLEEP);
+        // Where the wait fails, the turn that follows finds nothing, and the thread waits again.
+        let _ = self.poll.poll(&mut self.events, Some(most));
+    }
+
+    /// Begins the connections that lines wait for, if the bell was rung.
+    fn begin_wanted<R: Net>(&mut self, rt: &R) {
+        if !self.bell.take_ring() {
+            return;
+        }
+        for place in 0..self.lines.len() {
+            if let Some(back) = self.begin_for(rt, place) {
+                self.give(back);
+            }
+        }
+    }
+
+    /// Begins the connection that a line waits for, if it does. The connection comes back that the line was given before.
+    fn begin_for<R: Net>(&self, rt: &R, place: usize) -> Option<Arrival> {
+        let line = self.lines.get(place)?;
+        match line.is_wanted() {
+            Some(true) => {}
+            Some(false) => return None,
+            None => {
+                self.bell.ring();
+                return None;
+            }
+        }
+        let begun = TcpStream::connect(rt, line.router);
+        let back = line.begin(begun.map_err(|error| ConnectFault::of(&error)));
+        self.wake(line);
+        if line.is_wanted() != Some(false) {
+            self.bell.ring();
+        }
+        back
+    }
+
+    /// Takes some connections. Whether there may be more of them.
+    fn accept_some(&mut self) -> bool {
+        for _taken in 0..MOST_TAKEN {
+            match self.listener.accept() {
+                Ok((stream, peer)) => {
+                    self.note(false);
+                    self.give(Arrival { stream, peer });
+                }
+                Err(error) => {
+                    if let Some(fails) = is_in_want(&error) {
+                        self.note(fails);
+                    }
+                    match error.kind() {
+                        // One connection alone has failed.
+                        ErrorKind::ConnectionAborted | ErrorKind::Interrupted => {}
+                        _ => return false,
+                    }
+                }
+            }
+        }
+        true
+    }
+
+    /// Gives a connection to a line behind its router. Where none is free, or it comes from no router, it is closed.
+    fn give(&mut self, arrival: Arrival) {
+        let peer = arrival.peer;
+        let mut left = Some(arrival);
+        for _choice in 0..MOST_CHOICES {
+            self.look();
+            let Some(place) = line_for(peer.ip(), self.candidates.as_slice()) else {
+                break;
+            };
+            left = self.hand(place, left);
+            if left.is_none() {
+                return;
+            }
+        }
+        self.refuse(peer);
+    }
+
+    /// Hands a connection to a line. It comes back where the line can't take it.
+    fn hand(&self, place: usize, arrival: Option<Arrival>) -> Option<Arrival> {
+        let line = self.lines.get(place)?;
+        match line.hand(arrival?) {
+            Ok(()) => {
+                self.wake(line);
+                None
+            }
+            Err(back) => Some(back),
+        }
+    }
+
+    /// Tells that a connection was closed.
+    fn refuse(&self, peer: SocketAddr) {
+        let notice = if is_router(peer.ip(), self.candidates.as_slice()) {
+            Notice::NoFreeLine { peer }
+        } else {
+            Notice::NoRouter { peer }
+        };
+        self.notices.tell(notice);
+    }
+
+    /// Looks which lines are free.
+    fn look(&mut self) {
+        for (candidate, line) in self.candidates.iter_mut().zip(self.lines.iter()) {
+            candidate.is_free = line.is_free();
+        }
+    }
+
+    /// Wakes the thread of a line.
+    fn wake(&self, line: &RouterLine) {
+        if let Some(waker) = self.wakers.get(line.line as usize) {
+            waker.mark_work();
+            waker.wake_if_asleep();
+        }
+    }
+
+    /// Notes whether connections can be accepted, and tells where that has changed.
+    fn note(&mut self, fails: bool) {
+        if fails == self.is_failing {
+            return;
+        }
+        self.is_failing = fails;
+        self.notices.tell(if fails {
+            Notice::DoorFailing
+        } else {
+            Notice::DoorWorks
+        });
+    }
+}
+
+/// The lines as a connection's choice sees them, none of them free before they are looked at.
+fn candidates_of(
+    alloc: Global,
+    lines: &Vec<Arc<RouterLine>>,
+) -> Result<Vec<Candidate>, AllocError> {
+    let mut candidates = Vec::with_capacity(alloc, lines.len())?;
+    for line in lines {
+        candidates.push(Candidate {
+            router: line.router.ip(),
+            is_free: false,
+        })?;
+    }
+    Ok(candidates)
+}

@@ -1,0 +1,105 @@
+//! The ports and links of lines of both kinds.
+
+ghost use Rattle.std.specs.Prelude.{◌≡◌, ◌≢◌, ◌≤◌, length};
+ghost use Rattle.xp_lines.specs.Counts.{pulled_count, pushed_count};
+ghost use Rattle.xp_tcp.specs.declared.access.Access.TheVariants as access;
+
+use crate::link::TcpLink;
+use crate::port::TcpPort;
+use crate::router_link::RouterLink;
+use crate::router_port::RouterPort;
+use std::marker::Model;
+use xp_lines::{Arrived, Link, Port, Pulled, Pushed};
+
+/// Where a line's links come from. Contracts see where its connections come from.
+#[derive(Drop)]
+pub struct LinePort {
+    source: LinkSource,
+}
+
+/// What gives a line its links.
+#[derive(Drop)]
+enum LinkSource {
+    Own(TcpPort),
+    Router(RouterPort),
+}
+
+impl Model for LinePort {
+    ghost use Rattle.xp_tcp.specs.declared.access.Access.{Access};
+    ghost use Rattle.xp_tcp.specs.steps.Sources.{link_access};
+
+    ghost Value = { Access };
+
+    ghost view = { λ port. link_access port.source };
+}
+
+impl LinePort {
+    /// The port of a line with a TCP port of its own.
+    pub(crate) fn own(port: TcpPort) -> LinePort
+        ensures { result ≡ access.Port port }
+    {
+        LinePort {
+            source: LinkSource::Own(port),
+        }
+    }
+
+    /// The port of a line behind a router.
+    pub(crate) fn behind(port: RouterPort) -> LinePort
+        ensures { result ≡ access.Router port }
+    {
+        LinePort {
+            source: LinkSource::Router(port),
+        }
+    }
+}
+
+/// A link of a line.
+#[derive(Drop)]
+pub enum LineLink {
+    /// A connection to the line's own TCP port.
+    Own(TcpLink),
+    /// The link of a line behind a router.
+    Router(RouterLink),
+}
+
+impl Port for LinePort {
+    type Link = LineLink;
+
+    fn next(&mut self) -> Arrived<LineLink>
+        ensures { self.new ≡ self.old }
+    {
+        match &mut self.source {
+            LinkSource::Own(port) => match port.next() {
+                Arrived::Came(link) => Arrived::Came(LineLink::Own(link)),
+                Arrived::Nothing => Arrived::Nothing,
+                Arrived::Fault => Arrived::Fault,
+            },
+            LinkSource::Router(port) => match port.next() {
+                Arrived::Came(link) => Arrived::Came(LineLink::Router(link)),
+                Arrived::Nothing => Arrived::Nothing,
+                Arrived::Fault => Arrived::Fault,
+            },
+        }
+    }
+}
+
+impl Link for LineLink {
+    fn pull(&mut self, into: &mut [u8]) -> Pulled
+        ensures bound { pulled_count result ≤ length into.new }
+        ensures some { result ≢ Pulled.Octets 0 }
+    {
+        match self {
+            LineLink::Own(link) => link.pull(into),
+            LineLink::Router(link) => link.pull(into),
+        }
+    }
+
+    fn push(&mut self, from: &[u8]) -> Pushed
+        ensures bound { pushed_count result ≤ length from.now }
+    {
+        match self {
+            LineLink::Own(link) => link.push(from),
+            LineLink::Router(link) => link.push(from),
+        }
+    }
+}

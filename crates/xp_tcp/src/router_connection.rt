@@ -1,0 +1,163 @@
+//! A connection between a line and its router.
+
+ghost use Rattle.std.specs.Prelude.{◌≢◌, ◌<◌, ◌≤◌, length};
+ghost use Rattle.xp_lines.specs.Counts.{pulled_count, pushed_count};
+
+use crate::call_watch::CallWatch;
+use crate::clearing::Clearing;
+use crate::link::{read_from, write_to};
+use crate::wakers::LineWaker;
+use mio::net::TcpStream;
+use std::io::Read;
+use std::net::{Shutdown, SocketAddr};
+use xp_lines::{Pulled, Pushed};
+
+/// How many octets the header of a frame has.
+const HEADER_LENGTH: usize = 4;
+
+/// The place of a packet's type in its frame.
+const TYPE_PLACE: usize = 6;
+
+/// The type octet of a call request and an incoming call (X.25 table 5-2).
+const CALL: u8 = 0x0b;
+
+/// How many reads drop what a router sent that belongs to no call, before its connection is closed.
+const MOST_DROPPED: usize = 16;
+
+/// A connection between a line and its router, for one call.
+#[derive(Drop)]
+pub(crate) struct RouterConnection {
+    stream: TcpStream,
+    /// Who has made it, where the router has.
+    from: Option<SocketAddr>,
+    watch: CallWatch,
+}
+
+impl RouterConnection {
+    /// A connection that the exchange has made.
+    pub(crate) fn to_router(stream: TcpStream) -> RouterConnection {
+        RouterConnection {
+            stream,
+            from: None,
+            watch: CallWatch::new(),
+        }
+    }
+
+    /// A connection that the router has made, from this peer.
+    pub(crate) fn from_router(stream: TcpStream, peer: SocketAddr) -> RouterConnection {
+        RouterConnection {
+            stream,
+            from: Some(peer),
+            watch: CallWatch::new(),
+        }
+    }
+
+    /// Whether its call is cleared on both sides.
+    pub(crate) fn is_over(&self) -> bool {
+        self.watch.clearing == Clearing::Done
+    }
+
+    /// The peer that has made it, where no octet has passed since.
+    pub(crate) fn fresh_peer(&self) -> Option<SocketAddr> {
+        if self.watch.has_sent || self.watch.has_received {
+            return None;
+        }
+        self.from
+    }
+
+    /// Reads octets of the call. Those behind the packet that clears it are dropped.
+    pub(crate) fn pull(&mut self, waker: &LineWaker, into: &mut [u8]) -> Pulled
+        requires { 0 < length into.old }
+        ensures bound { pulled_count result ≤ length into.new }
+        ensures some { result ≢ Pulled.Octets 0 }
+    {
+        if self.watch.clearing == Clearing::Unclear {
+            return Pulled::Ended;
+        }
+        if self.watch.clearing.takes_no_more() {
+            return Pulled::Nothing;
+        }
+        match read_from(&mut self.stream, waker, into) {
+            Pulled::Octets(count) => Pulled::Octets(self.watch.receive(&into[..count])),
+            other => other,
+        }
+    }
+
+    /// Writes octets of the call, to the end of the packet by which it is cleared at most. A call that the exchange has put to the
+    /// line is not written where the router's own came first: the exchange has ended it, or will as it reads the router's.
+    pub(crate) fn push(&mut self, from: &[u8]) -> Pushed
+        ensures bound { pushed_count result ≤ length from.now }
+    {
+        if self.watch.clearing.is_settled() {
+            return Pushed::Fault;
+        }
+        if self.from.is_some() && !self.watch.has_sent && is_call(from) {
+            return Pushed::Took(frame_length(from));
+        }
+        let most = self.watch.may_send(from);
+        let pushed = write_to(&mut self.stream, &from[..most]);
+        match pushed {
+            Pushed::Took(count) => {
+                self.watch.send(&from[..count]);
+                pushed
+            }
+            Pushed::Nothing => pushed,
+            Pushed::Fault => self.without_router(&from[..most]),
+        }
+    }
+
+    /// What came of writing octets to a router that is gone. Where they confirm its clear request nobody waits for them.
+    fn without_router(&mut self, from: &[u8]) -> Pushed
+        ensures bound { pushed_count result ≤ length from.now }
+    {
+        if !self.watch.clearing.takes_no_more() {
+            return Pushed::Fault;
+        }
+        self.watch.send(from);
+        if self.is_over() {
+            Pushed::Took(from.len())
+        } else {
+            Pushed::Fault
+        }
+    }
+
+    /// Closes the connection, after what was written has gone. What the router has sent since is dropped.
+    pub(crate) fn close(self) {
+        close(self.stream);
+    }
+
+    /// The connection itself.
+    pub(crate) fn into_stream(self) -> TcpStream {
+        self.stream
+    }
+}
+
+/// Closes a connection, after what was written has gone.
+pub(crate) fn close(stream: TcpStream) {
+    let mut stream = stream;
+    let _ = stream.shutdown(Shutdown::Write);
+    // A connection with octets to be read would be closed with a reset, by which what was written may be lost.
+    let mut dropped = [0; 1024];
+    for _read in 0..MOST_DROPPED {
+        match stream.read(&mut dropped) {
+            Ok(0) | Err(_) => return,
+            Ok(_) => {}
+        }
+    }
+}
+
+/// Whether octets begin with the frame of an incoming call.
+pub(crate) fn is_call(octets: &[u8]) -> bool {
+    octets.len() > TYPE_PLACE && octets[TYPE_PLACE] == CALL
+}
+
+/// How many of the octets are of the frame at their front.
+fn frame_length(octets: &[u8]) -> usize
+    ensures { result ≤ length octets.now }
+{
+    let [_, _, high, low, ..] = octets else {
+        return octets.len();
+    };
+    let packet_length = usize::from(u16::from_be_bytes([*high, *low]));
+    octets.len().min(HEADER_LENGTH + packet_length)
+}
