@@ -1,7 +1,8 @@
 //! A connection between a line and its router.
 
-ghost use Rattle.std.specs.Prelude.{◌≢◌, ◌<◌, ◌≤◌, length};
+ghost use Rattle.std.specs.Prelude.{◌≡◌, ◌≢◌, ◌<◌, ◌≤◌, false, length};
 ghost use Rattle.xp_lines.specs.Counts.{pulled_count, pushed_count};
+ghost use Rattle.xp_tcp.specs.steps.Clearings.{is_settled};
 
 use crate::call_watch::CallWatch;
 use crate::clearing::Clearing;
@@ -108,6 +109,7 @@ impl RouterConnection {
 
     /// What came of writing octets to a router that is gone. Where they confirm its clear request nobody waits for them.
     fn without_router(&mut self, from: &[u8]) -> Pushed
+        requires { is_settled self.old.watch.clearing ≡ false }
         ensures bound { pushed_count result ≤ length from.now }
     {
         if !self.watch.clearing.takes_no_more() {
