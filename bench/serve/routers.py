@@ -33,6 +33,12 @@ PATIENCE, SOON = 10, 2
 # Seconds within which a caller has to be told that a router can't be reached.
 UNREACHABLE = 6
 
+# Seconds for which a router is waited for, at least.
+PATIENT = 4
+
+# Seconds after which a line is in service again.
+BREATH = 0.1
+
 # The most seconds between two calls from both sides.
 SPREAD = 0.002
 
@@ -312,21 +318,23 @@ def not_listening(exchange):
     if caller.cleared() != (0x09, 0):
         raise Wrong("a router that refuses connections is not out of order")
     refused = time.monotonic() - begun
+    time.sleep(BREATH)
     # A listener whose queue is full: connections to it are neither made nor refused.
     with socket.create_server((third.address, third.port), backlog=0) as full, contextlib.ExitStack() as waiting:
         for _ in range(4):
             connection = waiting.enter_context(socket.socket())
             connection.setblocking(False)
             connection.connect_ex((third.address, third.port))
-        time.sleep(0.1)
+        time.sleep(BREATH)
         begun = time.monotonic()
         caller.send(call_request(BEHIND_THIRD))
         if caller.cleared() != (0x09, 0):
             raise Wrong("a router that does not answer is not out of order")
         silent = time.monotonic() - begun
         full.close()
-    if max(refused, silent) > UNREACHABLE:
+    if max(refused, silent) > UNREACHABLE or silent < PATIENT:
         raise Wrong(f"the caller was told after {refused:.1f} and {silent:.1f} seconds")
+    time.sleep(BREATH)
     third.listen()
     whole_call(caller, BEHIND_THIRD, third)
     third.listener.close()
@@ -355,6 +363,7 @@ def cut_in_each_state(exchange):
 
     def next_call():
         nonlocal records
+        time.sleep(BREATH)
         whole_call(caller, BEHIND_THIRD, third)
         records += 1
 
@@ -364,9 +373,8 @@ def cut_in_each_state(exchange):
         next_call()
         call = third.connect()
         call.connection.sendall(b"\0\0\0")
-        time.sleep(0.05)
+        time.sleep(BREATH)
         cut(call)
-        time.sleep(0.05)
         next_call()
         # p2: the router's call rings.
         call = third.place(CALLED, next(TOKENS))
@@ -396,7 +404,6 @@ def cut_in_each_state(exchange):
                 cut(call)
                 if caller.cleared() != (0x09, 0):
                     raise Wrong("the caller was not told that the router is gone")
-            time.sleep(0.05)
             next_call()
         # The router clears, and does not wait for the confirmation.
         caller.send(call_request(BEHIND_THIRD))
@@ -415,8 +422,8 @@ def cut_in_each_state(exchange):
     return records
 
 
-def collect(line, tokens):
-    """Accepts each call to a line with a port of its own, and confirms that it is cleared."""
+def collect(line, tokens, cleared):
+    """Accepts each call to a line with a port of its own, and confirms that it is cleared, which is counted."""
     with contextlib.suppress(Wrong, OSError):
         while packet := line.receive(3600):
             if packet[2] == CALL:
@@ -424,6 +431,7 @@ def collect(line, tokens):
                 line.accept()
             elif packet[2] == CLEAR:
                 line.send(CLEAR_CONFIRMATION)
+                cleared.release()
 
 
 def glare_round(exchange, caller, delay):
@@ -489,13 +497,16 @@ def glare(exchange, rounds, choose):
     """The router calls while it is called, again and again: each call is served or refused, once, and by its own line."""
     caller, called, third = exchange.line(0), exchange.line(1), exchange.routers[2]
     third.listen()
-    taken, outcomes, expected = [], collections.Counter(), []
-    threading.Thread(target=collect, args=(called, taken), daemon=True).start()
+    taken, outcomes, expected, cleared = [], collections.Counter(), [], threading.Semaphore(0)
+    threading.Thread(target=collect, args=(called, taken, cleared), daemon=True).start()
     for _ in range(rounds):
         outcome, theirs = glare_round(exchange, caller, choose.uniform(-SPREAD, SPREAD))
         outcomes[outcome["caller"], outcome["router"]] += 1
         if outcome["router"] == "connected":
             expected.append(theirs)
+            if not cleared.acquire(timeout=PATIENCE):
+                raise Wrong("the called line was not told that the router has cleared")
+        time.sleep(SPREAD)
     if taken != expected:
         raise Wrong(f"{len(taken)} calls of the router came to the called line, and {len(expected)} were answered")
     for (ours, theirs), count in sorted(outcomes.items()):

@@ -7,7 +7,7 @@ use std::marker::Model;
 use xp_past::Past;
 
 /// How many octets the header of a frame has.
-const HEADER_LENGTH: usize = 4;
+pub(crate) const HEADER_LENGTH: usize = 4;
 
 /// The octet by which a clear request or a clear indication is told (X.25 table 5-2).
 const CLEAR: u8 = 0x13;

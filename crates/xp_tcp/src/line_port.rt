@@ -4,16 +4,19 @@ ghost use Rattle.std.specs.Prelude.{◌≡◌, ◌≢◌, ◌≤◌, length};
 ghost use Rattle.xp_lines.specs.Counts.{pulled_count, pushed_count};
 ghost use Rattle.xp_tcp.specs.declared.access.Access.TheVariants as access;
 
+use crate::access::Access;
 use crate::link::TcpLink;
 use crate::port::TcpPort;
 use crate::router_link::RouterLink;
 use crate::router_port::RouterPort;
 use std::marker::Model;
+use std::net::SocketAddr;
 use xp_lines::{Arrived, Link, Port, Pulled, Pushed};
 
 /// Where a line's links come from. Contracts see where its connections come from.
 #[derive(Drop)]
 pub struct LinePort {
+    access: Access,
     source: LinkSource,
 }
 
@@ -26,29 +29,30 @@ enum LinkSource {
 
 impl Model for LinePort {
     ghost use Rattle.xp_tcp.specs.declared.access.Access.{Access};
-    ghost use Rattle.xp_tcp.specs.steps.Sources.{link_access};
 
     ghost Value = { Access };
 
-    ghost view = { λ port. link_access port.source };
+    ghost view = { λ port. port.access };
 }
 
 impl LinePort {
     /// The port of a line with a TCP port of its own.
-    pub(crate) fn own(port: TcpPort) -> LinePort
+    pub(crate) fn own(port: u16, source: TcpPort) -> LinePort
         ensures { result ≡ access.Port port }
     {
         LinePort {
-            source: LinkSource::Own(port),
+            access: Access::Port(port),
+            source: LinkSource::Own(source),
         }
     }
 
-    /// The port of a line behind a router.
-    pub(crate) fn behind(port: RouterPort) -> LinePort
-        ensures { result ≡ access.Router port }
+    /// The port of a line behind the router of this address.
+    pub(crate) fn behind(router: SocketAddr, source: RouterPort) -> LinePort
+        ensures { result ≡ access.Router router }
     {
         LinePort {
-            source: LinkSource::Router(port),
+            access: Access::Router(router),
+            source: LinkSource::Router(source),
         }
     }
 }

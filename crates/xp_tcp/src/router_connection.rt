@@ -6,15 +6,13 @@ ghost use Rattle.xp_tcp.specs.steps.Clearings.{is_settled};
 
 use crate::call_watch::CallWatch;
 use crate::clearing::Clearing;
+use crate::frame_watch::HEADER_LENGTH;
 use crate::link::{read_from, write_to};
 use crate::wakers::LineWaker;
 use mio::net::TcpStream;
 use std::io::Read;
 use std::net::{Shutdown, SocketAddr};
 use xp_lines::{Pulled, Pushed};
-
-/// How many octets the header of a frame has.
-const HEADER_LENGTH: usize = 4;
 
 /// The place of a packet's type in its frame.
 const TYPE_PLACE: usize = 6;

@@ -177,14 +177,25 @@ impl RouterLink {
         self.ask(Some(Arrival { stream, peer }));
     }
 
+    /// Closes the connection where its call is cleared on both sides.
+    fn settle(&mut self) {
+        if let Circuit::Connected(connection) = &self.circuit {
+            if connection.is_over() {
+                self.close();
+            }
+        }
+    }
+
     /// Closes the connection, over which no call goes any more. The line is free.
     fn close(&mut self) {
-        if let Circuit::Connected(connection) = mem::replace(&mut self.circuit, Circuit::Free) {
-            connection.close();
-        }
+        let circuit = mem::replace(&mut self.circuit, Circuit::Free);
         let line = self.share.line;
         self.share.tell(Notice::Closed { line });
+        // A router that sees the end may connect again at once.
         self.line.release();
+        if let Circuit::Connected(connection) = circuit {
+            connection.close();
+        }
     }
 }
 
@@ -205,6 +216,8 @@ impl Link for RouterLink {
         if into.is_empty() {
             return Pulled::Nothing;
         }
+        // The exchange has taken the confirmation that was pulled before.
+        self.settle();
         if matches!(self.circuit, Circuit::Free) {
             self.take_handed();
         }
@@ -214,12 +227,13 @@ impl Link for RouterLink {
         let Circuit::Connected(connection) = &mut self.circuit else {
             return Pulled::Nothing;
         };
-        let pulled = connection.pull(waker, into);
-        let is_unused = pulled == Pulled::Ended && connection.fresh_peer().is_some();
-        if is_unused || connection.is_over() {
-            self.close();
+        match connection.pull(waker, into) {
+            Pulled::Ended if connection.fresh_peer().is_some() => {
+                self.close();
+                Pulled::Nothing
+            }
+            pulled => pulled,
         }
-        if is_unused { Pulled::Nothing } else { pulled }
     }
 
     fn push(&mut self, from: &[u8]) -> Pushed
@@ -229,17 +243,14 @@ impl Link for RouterLink {
         if from.is_empty() {
             return Pushed::Took(0);
         }
+        self.settle();
         self.step(from);
         let pushed = match &mut self.circuit {
             Circuit::Connected(connection) => connection.push(from),
             Circuit::Free | Circuit::Asked(_) | Circuit::Connecting(_, _) => Pushed::Nothing,
             Circuit::Failed => Pushed::Fault,
         };
-        if let Circuit::Connected(connection) = &self.circuit {
-            if connection.is_over() {
-                self.close();
-            }
-        }
+        self.settle();
         pushed
     }
 }

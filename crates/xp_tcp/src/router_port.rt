@@ -1,38 +1,23 @@
 //! Where the links of a line behind a router come from.
 
-ghost use Rattle.std.specs.Prelude.{◌≡◌};
-
 use crate::router_line::RouterLine;
 use crate::router_link::RouterLink;
 use crate::share::LineShare;
 use mio::Registry;
-use std::marker::Model;
-use std::net::SocketAddr;
 use std::sync::Arc;
 use xp_lines::Arrived;
 
-/// Gives a line behind a router its links, the next one as soon as the last went: so the line is in service. Contracts see the
-/// router's address.
+/// Gives a line behind a router its links, the next one as soon as the last went: so the line is in service.
 pub struct RouterPort {
-    router: SocketAddr,
     line: Arc<RouterLine>,
     /// What the line's thread waits for.
     waits: Arc<Registry>,
     share: LineShare,
 }
 
-impl Model for RouterPort {
-    ghost use Rattle.std.specs.declared.net.socket_addr.SocketAddr.{SocketAddr};
-
-    ghost Value = { SocketAddr };
-
-    ghost view = { λ port. port.router };
-}
-
 impl Drop for RouterPort {
     fn drop(self) {
         let RouterPort {
-            router: _,
             line,
             waits: _,
             share: _,
@@ -43,19 +28,11 @@ impl Drop for RouterPort {
 
 impl RouterPort {
     pub(crate) fn new(
-        router: SocketAddr,
         line: Arc<RouterLine>,
         waits: Arc<Registry>,
         share: LineShare,
-    ) -> RouterPort
-        ensures { result ≡ router }
-    {
-        RouterPort {
-            router,
-            line,
-            waits,
-            share,
-        }
+    ) -> RouterPort {
+        RouterPort { line, waits, share }
     }
 
     /// The next link. None for once after one that was not used: the line could not come into service, and its thread is to let

@@ -330,14 +330,15 @@ impl Shared {
     {
         let share = LineShare::new(line, &self.wakers, &self.notices)?;
         match source {
-            LineSource::Own(port, listener, admission) => Ok(LinePort::own(TcpPort::new(
-                port, listener, admission, waits, share,
-            ))),
+            LineSource::Own(port, listener, admission) => {
+                let source = TcpPort::new(port, listener, admission, waits, share);
+                Ok(LinePort::own(port, source))
+            }
             LineSource::Router(router) => {
                 let router_line = self.behind(alloc, line, router)?;
                 behind.push(Arc::try_clone(&router_line)?)?;
                 let waits = Arc::new(alloc, waits)?;
-                Ok(LinePort::behind(RouterPort::new(router, router_line, waits, share)))
+                Ok(LinePort::behind(router, RouterPort::new(router_line, waits, share)))
             }
         }
     }
