@@ -448,6 +448,10 @@ def glare_round(exchange, caller, delay):
                 call.clear()
                 call.ends()
                 outcome["router"] = "connected"
+            elif answer[2:3] == bytes([CLEAR]) and (answer[3], answer[4]) == (0x01, 71):
+                call.send(CLEAR_CONFIRMATION)
+                call.ends()
+                outcome["router"] = "refused 01/71"
             elif answer:
                 raise Wrong(f"the router's call was answered by {answer.hex()}")
             else:
@@ -514,7 +518,7 @@ def glare(exchange, rounds, choose):
     third.listener.close()
     caller.close()
     called.close()
-    return rounds + len(expected)
+    return rounds + sum(count for (_, theirs), count in outcomes.items() if theirs != "closed")
 
 
 def play(program, stations, checks):

@@ -312,7 +312,7 @@ impl Shared {
             waits,
         } = line;
         let wakers = Arc::try_clone(&self.wakers)?;
-        let clock = TcpClock::new(poll, events, wakers, line as usize, self.start);
+        let clock = TcpClock::new(poll, events, wakers, usize::from(line), self.start);
         let port = self.port_of(alloc, line, source, waits, behind)?;
         Ok((port, clock))
     }

@@ -60,9 +60,9 @@ fn no_free_line(rt: HostRuntime) -> Result<(), Fail> {
 }
 
 /// A connection from an address that is no router's.
-struct Stranger;
+struct FromElsewhere;
 
-impl Play for Stranger {
+impl Play for FromElsewhere {
     fn play<R: Net<Listener = TcpListener, Stream = TcpStream>>(
         rt: &R,
         scene: &mut Scene,
@@ -75,8 +75,8 @@ impl Play for Stranger {
 }
 
 #[test]
-fn stranger(rt: HostRuntime) -> Result<(), Fail> {
-    run::<Stranger, HostRuntime>(&rt, rt.alloc(), Ipv4Addr::new(127, 0, 0, 77))
+fn from_no_router(rt: HostRuntime) -> Result<(), Fail> {
+    run::<FromElsewhere, HostRuntime>(&rt, rt.alloc(), Ipv4Addr::new(127, 0, 0, 77))
 }
 
 /// A connection that the router ends before any octet: the link stays, and has the next.

@@ -4,6 +4,7 @@ use crate::frames::{ACCEPTED, CALL, CLEAR, CLEAR_AND_CALL, CONFIRMATION, CONFIRM
 use crate::scene::{Play, Scene, check, comes, ends, run, send};
 use std::net::{Ipv4Addr, Net, TcpListener, TcpStream};
 use std::test::Fail;
+use xp_lines::{Link, Pulled};
 use xp_tcp::{ConnectFault, Notice};
 
 /// The exchange clears, and has the next call at once.
@@ -25,6 +26,7 @@ impl Play for ClearedByExchange {
         // What is behind the confirmation is dropped.
         send(&mut call, &CONFIRMATION_AND_CALL)?;
         check(scene.pull(&mut into) == Some(CONFIRMATION.len()), "more than the confirmation")?;
+        check(scene.link.pull(&mut into) == Pulled::Nothing, "octets behind the confirmation")?;
         check(ends(&mut call), "the connection stays")?;
         check(scene.push(&CALL) == Some(CALL.len()), "the next call was not taken")?;
         let mut next = scene.accept()?;

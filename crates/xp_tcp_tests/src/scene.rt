@@ -168,9 +168,8 @@ pub fn run<
         let running = scope.spawn(move || door.run(rt));
         let played = P::play(rt, &mut scene);
         bell.stop();
-        match running {
-            Ok(door) => door.join(rt),
-            Err(_) => return Err(Fail::from("no thread")),
+        if let Ok(running) = running {
+            running.join(rt);
         }
         played
     })
