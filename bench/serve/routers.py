@@ -135,6 +135,11 @@ class Router:
         self.listener = socket.create_server((self.address, self.port), backlog=64)
         threading.Thread(target=self.take, args=(self.listener,), daemon=True).start()
 
+    def leave(self):
+        """Connections to it are refused from now on."""
+        self.listener.shutdown(socket.SHUT_RDWR)  # ends the thread's accept
+        self.listener.close()
+
     def take(self, listener):
         with contextlib.suppress(OSError):
             while True:
@@ -305,7 +310,7 @@ def one_after_the_other(exchange):
         call.cleared()
         call.ends()
         at_first.ends()
-    third.listener.close()
+    third.leave()
     caller.close()
     return 400
 
@@ -337,7 +342,7 @@ def not_listening(exchange):
     time.sleep(BREATH)
     third.listen()
     whole_call(caller, BEHIND_THIRD, third)
-    third.listener.close()
+    third.leave()
     caller.close()
     print(f"  told after {refused:.1f} and {silent:.1f} seconds")
     return 3
@@ -416,7 +421,7 @@ def cut_in_each_state(exchange):
             raise Wrong("the caller was not told that the router has cleared")
         next_call()
         records += 5
-    third.listener.close()
+    third.leave()
     caller.close()
     called.close()
     return records
@@ -515,7 +520,7 @@ def glare(exchange, rounds, choose):
         raise Wrong(f"{len(taken)} calls of the router came to the called line, and {len(expected)} were answered")
     for (ours, theirs), count in sorted(outcomes.items()):
         print(f"  {count:5} times: the call to the router {ours}, the router's own {theirs}")
-    third.listener.close()
+    third.leave()
     caller.close()
     called.close()
     return rounds + sum(count for (_, theirs), count in outcomes.items() if theirs != "closed")
@@ -534,7 +539,7 @@ def play(program, stations, checks):
             try:
                 wanted += check(exchange)
             except Wrong as wrong:
-                sys.exit(f"{check.__name__}: {wrong}; {exchange.said()}")
+                sys.exit(f"{check.__name__}: {wrong}; {exchange.said()[-1500:]}")
             print(f"{check.__name__}: {check.__doc__}", flush=True)
         try:
             records = exchange.stop()

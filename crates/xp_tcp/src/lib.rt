@@ -4,14 +4,11 @@
 
 mod access;
 mod admission;
-mod call_watch;
 mod choosing;
-mod clearing;
 mod clock;
 mod connect_fault;
 mod door;
 mod door_bell;
-mod frame_watch;
 mod gate;
 mod line_port;
 mod link;

@@ -1,24 +1,16 @@
 //! A connection between a line and its router.
 
 ghost use Rattle.std.specs.Prelude.{◌≡◌, ◌≢◌, ◌<◌, ◌≤◌, false, length};
+ghost use Rattle.xp_clearing.specs.Clearings.{is_settled};
 ghost use Rattle.xp_lines.specs.Counts.{pulled_count, pushed_count};
-ghost use Rattle.xp_tcp.specs.steps.Clearings.{is_settled};
 
-use crate::call_watch::CallWatch;
-use crate::clearing::Clearing;
-use crate::frame_watch::HEADER_LENGTH;
 use crate::link::{read_from, write_to};
 use crate::wakers::LineWaker;
 use mio::net::TcpStream;
 use std::io::Read;
 use std::net::{Shutdown, SocketAddr};
+use xp_clearing::{CallWatch, Clearing, begins_with_call, front_length};
 use xp_lines::{Pulled, Pushed};
-
-/// The place of a packet's type in its frame.
-const TYPE_PLACE: usize = 6;
-
-/// The type octet of a call request and an incoming call (X.25 table 5-2).
-const CALL: u8 = 0x0b;
 
 /// How many reads drop what a router sent that belongs to no call, before its connection is closed.
 const MOST_DROPPED: usize = 16;
@@ -90,8 +82,8 @@ impl RouterConnection {
         if self.watch.clearing.is_settled() {
             return Pushed::Fault;
         }
-        if self.from.is_some() && !self.watch.has_sent && is_call(from) {
-            return Pushed::Took(frame_length(from));
+        if self.from.is_some() && !self.watch.has_sent && begins_with_call(from) {
+            return Pushed::Took(front_length(from));
         }
         let most = self.watch.may_send(from);
         let pushed = write_to(&mut self.stream, &from[..most]);
@@ -144,20 +136,4 @@ pub(crate) fn close(stream: TcpStream) {
             Ok(_) => {}
         }
     }
-}
-
-/// Whether octets begin with the frame of an incoming call.
-pub(crate) fn is_call(octets: &[u8]) -> bool {
-    octets.len() > TYPE_PLACE && octets[TYPE_PLACE] == CALL
-}
-
-/// How many of the octets are of the frame at their front.
-fn frame_length(octets: &[u8]) -> usize
-    ensures { result ≤ length octets.now }
-{
-    let [_, _, high, low, ..] = octets else {
-        return octets.len();
-    };
-    let packet_length = usize::from(u16::from_be_bytes([*high, *low]));
-    octets.len().min(HEADER_LENGTH + packet_length)
 }

@@ -7,7 +7,7 @@ use crate::connect_fault::ConnectFault;
 use crate::link::wait_for;
 use crate::notices::Notice;
 use crate::options::Patience;
-use crate::router_connection::{RouterConnection, close, is_call};
+use crate::router_connection::RouterConnection;
 use crate::router_line::{Arrival, Attempt, RouterLine};
 use crate::share::LineShare;
 use crate::start::uptime;
@@ -16,6 +16,7 @@ use mio::net::TcpStream;
 use std::mem;
 use std::sync::Arc;
 use std::time::Duration;
+use xp_clearing::begins_with_call;
 use xp_lines::{Link, Pulled, Pushed};
 
 /// How long a connection to a router may take, in seconds.
@@ -104,7 +105,7 @@ impl RouterLink {
     fn step(&mut self, from: &[u8]) {
         match mem::replace(&mut self.circuit, Circuit::Failed) {
             // Only a call begins a connection.
-            Circuit::Free if is_call(from) => self.ask(None),
+            Circuit::Free if begins_with_call(from) => self.ask(None),
             Circuit::Free | Circuit::Failed => {}
             Circuit::Asked(since) => self.begin(since),
             Circuit::Connecting(stream, since) => self.connect(stream, since),
@@ -168,7 +169,7 @@ impl RouterLink {
             self.circuit = Circuit::Connected(connection);
             return;
         };
-        if !is_call(from) {
+        if !begins_with_call(from) {
             self.circuit = Circuit::Connected(connection);
             return;
         }

@@ -1,9 +1,9 @@
 -- How far octets bring the call of a connection.
-use Rattle.std.specs.Prelude.{◌≡◌, ℕ, Bool, false, List, [], ◌∷◌, ◌++◌}
+use Rattle.std.specs.Prelude.{◌≡◌, ℕ, ◌<◌, ◌≤◌, Bool, true, false, List, [], ◌∷◌, ◌++◌, length, take}
 use Rattle.std.specs.List.{AllByRecursion}
-use Rattle.xp_tcp.specs.declared.clearing.Clearing.{Clearing}
-use Rattle.xp_tcp.specs.declared.frame_watch.PassedFrame.{PassedFrame}
-use Rattle.xp_tcp.specs.steps.Frames.{IsUnfinished, IsWhole, passed_by}
+use Rattle.xp_clearing.specs.declared.clearing.Clearing.{Clearing}
+use Rattle.xp_clearing.specs.declared.frame_watch.PassedFrame.{PassedFrame}
+use Rattle.xp_clearing.specs.Frames.{IsUnfinished, IsWhole, passed_by}
 
 -- the frames one behind the other
 abbrev pub joined : List (List ℕ) → List ℕ
@@ -24,3 +24,9 @@ pub record Passes (step : Clearing → PassedFrame → Clearing) (is_enough : Cl
   pub rest : IsUnfinished left
   pub clears : after ≡ after_all step before frames
   pub early : (front : List (List ℕ)) (last : List ℕ) → frames ≡ front ++ last ∷ [] → is_enough (after_all step before front) ≡ false
+
+-- So many of the octets pass: all, or those to the end of the frame by which the clearing is far enough.
+pub record PassesOf (step : Clearing → PassedFrame → Clearing) (is_enough : Clearing → Bool) (before : Clearing) (part octets : List ℕ) (count : ℕ) (after : Clearing) (left : List ℕ) : Type 0 where
+  pub within : count ≤ length octets
+  pub passes : Passes step is_enough before part (take count octets) after left
+  pub all : count < length octets → is_enough after ≡ true

@@ -2,10 +2,10 @@
 use Rattle.std.proofs.Common.{◌≡◌, ◌<◌, ◌+◌, ◌++◌, ◌∷◌, [], List, ℕ, Bool, false, refl, ap, sym, ◌∙◌, subst, length, take, get_or, lit<, append_assoc, append-nil}
 use Rattle.std.proofs.lemmas.List.{same_from_push, take_more}
 use Rattle.std.specs.List.{AllByRecursion}
-use Rattle.xp_tcp.specs.declared.clearing.Clearing.{Clearing}
-use Rattle.xp_tcp.specs.declared.frame_watch.PassedFrame.{PassedFrame}
-use Rattle.xp_tcp.specs.steps.Calls.{Passes, after_all, joined}
-use Rattle.xp_tcp.specs.steps.Frames.{IsUnfinished, IsWhole, passed_by}
+use Rattle.xp_clearing.specs.declared.clearing.Clearing.{Clearing}
+use Rattle.xp_clearing.specs.declared.frame_watch.PassedFrame.{PassedFrame}
+use Rattle.xp_clearing.specs.Calls.{Passes, after_all, joined}
+use Rattle.xp_clearing.specs.Frames.{IsUnfinished, IsWhole, passed_by}
 
 -- the octets of one frame more
 joined_more : (frames : List (List ℕ)) (frame : List ℕ) → joined (frames ++ frame ∷ []) ≡ joined frames ++ frame

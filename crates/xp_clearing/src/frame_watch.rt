@@ -1,55 +1,61 @@
 //! The frames of a stream as they pass (RFC 1613). No octet is kept.
 
-ghost use Rattle.std.specs.Prelude.{◌≡◌, ◌<◌, ◌≤◌, ◌++◌, ◌∷◌, [], ◌/◌, ◌↔◌, ℕ, IfSome, IsTrue, List, None, length};
-ghost use Rattle.xp_tcp.specs.steps.Frames.{IsUnfinished, IsWhole, is_clear, is_confirmation, is_plain, passed_by};
+ghost use Rattle.std.specs.Prelude.{◌≡◌, ◌<◌, ◌≤◌, ◌++◌, ◌∷◌, [], ◌+◌, ◌/◌, ◌↔◌, ℕ, IfSome, IsTrue, List, None, length, min};
+ghost use Rattle.xp_clearing.specs.Frames.{BeginsWithCall, IsUnfinished, IsWhole, is_clear, is_confirmation, is_plain, packet_length, passed_by};
 
 use std::marker::Model;
 use xp_past::Past;
 
 /// How many octets the header of a frame has.
-pub(crate) const HEADER_LENGTH: usize = 4;
+const HEADER_LENGTH: usize = 4;
 
-/// The octet by which a clear request or a clear indication is told (X.25 table 5-2).
+/// The place of a packet's type in its frame.
+const TYPE_PLACE: usize = 6;
+
+/// The type octet of a call request and an incoming call (X.25 table 5-2).
+const CALL: u8 = 0x0b;
+
+/// The type octet of a clear request and a clear indication.
 const CLEAR: u8 = 0x13;
 
-/// The octet of a clear confirmation.
+/// The type octet of a clear confirmation.
 const CLEAR_CONFIRMATION: u8 = 0x17;
 
 /// What is to be known of a frame that has passed.
 #[derive(Clone, Copy, Debug, PartialEq)]
-pub(crate) struct PassedFrame {
+pub struct PassedFrame {
     /// The length that the header tells.
-    pub(crate) packet_length: usize,
+    pub packet_length: usize,
     /// The first octet of the packet: the general format identifier, and the group of the channel.
-    pub(crate) first: u8,
+    pub first: u8,
     /// The third octet of the packet: its type.
-    pub(crate) packet_type: u8,
+    pub packet_type: u8,
 }
 
 impl PassedFrame {
     /// The general format identifier.
-    pub(crate) fn format(&self) -> u8
+    pub fn format(&self) -> u8
         ensures { result ≡ self.now.first / 16 }
     {
         self.first >> 4
     }
 
     /// Whether it carries a clear request, or a clear indication.
-    pub(crate) fn is_clear(&self) -> bool
+    pub fn is_clear(&self) -> bool
         ensures { result ≡ is_clear self.now }
     {
         self.packet_type == CLEAR
     }
 
     /// Whether it carries a clear confirmation.
-    pub(crate) fn is_confirmation(&self) -> bool
+    pub fn is_confirmation(&self) -> bool
         ensures { result ≡ is_confirmation self.now }
     {
         self.packet_type == CLEAR_CONFIRMATION
     }
 
     /// Whether a clear request or a clear confirmation has no block, so that only its format can be wrong.
-    pub(crate) fn is_plain(&self) -> bool
+    pub fn is_plain(&self) -> bool
         ensures { result ≡ is_plain self.now }
     {
         (self.is_clear() && (self.packet_length == 4 || self.packet_length == 5))
@@ -59,7 +65,7 @@ impl PassedFrame {
 
 /// Where a stream of frames is. Contracts see the octets of the frame that is not whole yet.
 #[derive(Drop)]
-pub(crate) struct FrameWatch {
+pub struct FrameWatch {
     /// How many octets of the frame have passed.
     seen: usize,
     /// What is known of it so far, 0 where nothing is.
@@ -69,7 +75,7 @@ pub(crate) struct FrameWatch {
 
 impl Model for FrameWatch {
     ghost use Rattle.std.specs.Prelude.{◌≡◌, ◌≤◌, ℕ, List, length};
-    ghost use Rattle.xp_tcp.specs.steps.Frames.{IsUnfinished, passed_by};
+    ghost use Rattle.xp_clearing.specs.Frames.{BeginsWithCall, IsUnfinished, passed_by};
 
     ghost Value = { List ℕ };
 
@@ -80,7 +86,7 @@ impl Model for FrameWatch {
 
 impl FrameWatch {
     /// The start of a stream.
-    pub(crate) fn new() -> FrameWatch
+    pub fn new() -> FrameWatch
         ensures { result ≡ [] }
     {
         FrameWatch {
@@ -95,7 +101,7 @@ impl FrameWatch {
     }
 
     /// Another watch of the same place.
-    pub(crate) fn again(&self) -> FrameWatch
+    pub fn again(&self) -> FrameWatch
         ensures { result ≡ self.now }
     {
         FrameWatch {
@@ -105,15 +111,8 @@ impl FrameWatch {
         }
     }
 
-    /// Whether no octet of the next frame has passed.
-    pub(crate) fn is_between(&self) -> bool
-        ensures { IsTrue result ↔ (self.now ≡ []) }
-    {
-        self.seen == 0
-    }
-
     /// An octet passes. The frame that is whole by it, if one is.
-    pub(crate) fn pass(&mut self, octet: u8) -> Option<PassedFrame>
+    pub fn pass(&mut self, octet: u8) -> Option<PassedFrame>
         ensures rest { IsUnfinished self.new }
         ensures part { result ≡ None → self.new ≡ self.old ++ octet ∷ [] }
         ensures whole { IfSome result (λ frame. (self.new ≡ []) × IsWhole (self.old ++ octet ∷ []) × (frame ≡ passed_by (self.old ++ octet ∷ []))) }
@@ -151,4 +150,22 @@ fn with_octet(frame: PassedFrame, place: usize, octet: u8) -> PassedFrame
         _ => {}
     }
     frame
+}
+
+/// Whether octets begin with the frame of a call request or an incoming call.
+pub fn begins_with_call(octets: &[u8]) -> bool
+    ensures { IsTrue result ↔ BeginsWithCall octets.now }
+{
+    octets.len() > TYPE_PLACE && octets[TYPE_PLACE] == CALL
+}
+
+/// How many of the octets are of the frame that they begin with.
+pub fn front_length(octets: &[u8]) -> usize
+    ensures { result ≡ min (length octets.now) (4 + packet_length octets.now) }
+{
+    if octets.len() < HEADER_LENGTH {
+        return octets.len();
+    }
+    let packet_length = usize::from(octets[2]) * 256 + usize::from(octets[3]);
+    octets.len().min(HEADER_LENGTH + packet_length)
 }

@@ -1,6 +1,6 @@
 -- The frames of a stream, as octets (RFC 1613).
 use Rattle.std.specs.Prelude.{◌≡◌, ℕ, ◌+◌, ◌*◌, ◌/◌, ◌<◌, ◌==◌, ◌&&◌, ◌||◌, Bool, List, length, slice_index}
-use Rattle.xp_tcp.specs.declared.frame_watch.PassedFrame.{PassedFrame}
+use Rattle.xp_clearing.specs.declared.frame_watch.PassedFrame.{PassedFrame}
 
 -- the length of the packet, that the last two octets of a frame's header tell
 abbrev pub packet_length : List ℕ → ℕ
@@ -17,6 +17,10 @@ IsUnfinished octets = length octets < 4 + packet_length octets
 -- what is told of a frame. What has not passed yet counts as 0.
 abbrev pub passed_by : List ℕ → PassedFrame
 passed_by octets = record { packet_length = packet_length octets; first = slice_index octets 4; packet_type = slice_index octets 6 }
+
+-- a frame begins, and its packet is a call request or an incoming call
+abbrev pub BeginsWithCall : List ℕ → Type 0
+BeginsWithCall octets = (6 < length octets) × (slice_index octets 6 ≡ 0x0b)
 
 abbrev pub format_of : PassedFrame → ℕ
 format_of frame = frame.first / 16

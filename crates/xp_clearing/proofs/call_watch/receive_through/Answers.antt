@@ -1,14 +1,18 @@
-use Rattle.std.proofs.Common.{◌+◌, sym, subst, take, ap, ◌∙◌}
-use Rattle.xp_tcp.specs.steps.Calls.{Passes}
-use Rattle.xp_tcp.specs.steps.Clearings.{after_received, takes_no_more}
-use Rattle.xp_tcp.proofs.Passing.{part_passes, whole_passes}
-use Rattle.xp_tcp.proofs.call_watch.receive_through.Goals as goal
-use Rattle.xp_tcp.proofs.call_watch.receive_through.Goals.{in-Some+else-takes_no_more, in_default}
+use Rattle.std.proofs.Common.{◌+◌, sym, subst, take, ap, ◌∙◌, arith}
+use Rattle.xp_clearing.specs.Calls.{Passes}
+use Rattle.xp_clearing.specs.Clearings.{after_received, takes_no_more}
+use Rattle.xp_clearing.proofs.Passing.{part_passes, whole_passes}
+use Rattle.xp_clearing.proofs.call_watch.receive_through.Goals as goal
+use Rattle.xp_clearing.proofs.call_watch.receive_through.Goals.{in-Some+else-takes_no_more, in_default}
 
 pub returns-then-takes_no_more-clause-passes : goal.returns-then-takes_no_more-clause-passes
 returns-then-takes_no_more-clause-passes c =
     let before = c.loop-place.invariant in
-    whole_passes after_received takes_no_more _ _ c.args.octets.now c.loop-place.place _ _ c.loop-place.received _ c.in-Some.frame before.0 before.1 c.loop-place-test.true c.in-Some.ensures.whole c.after_received.ensures
+    record {
+      within = omega (arith, c.loop-place-test.true);
+      passes = whole_passes after_received takes_no_more _ _ c.args.octets.now c.loop-place.place _ _ c.loop-place.received _ c.in-Some.frame before.0 before.1 c.loop-place-test.true c.in-Some.ensures.whole c.after_received.ensures;
+      all = λ _. sym c.takes_no_more.ensures ∙ c.if-takes_no_more.true;
+    }
 
 pub loop-place-preserved : goal.loop-place-preserved
 loop-place-preserved c =

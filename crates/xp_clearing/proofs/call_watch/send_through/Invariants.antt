@@ -1,8 +1,8 @@
 use Rattle.std.proofs.Common.{◌≡◌, take, false}
-use Rattle.xp_tcp.specs.steps.Calls.{Passes}
-use Rattle.xp_tcp.specs.steps.Clearings.{after_sent, is_settled}
-use Rattle.xp_tcp.specs.steps.Frames.{IsUnfinished}
-use Rattle.xp_tcp.proofs.call_watch.send_through.Given as goal
+use Rattle.xp_clearing.specs.Calls.{Passes}
+use Rattle.xp_clearing.specs.Clearings.{after_sent, is_settled}
+use Rattle.xp_clearing.specs.Frames.{IsUnfinished}
+use Rattle.xp_clearing.proofs.call_watch.send_through.Given as goal
 
 abbrev pub invariant-loop-place : goal.invariant-loop-place
 invariant-loop-place l =

@@ -1,30 +1,35 @@
 //! The call of a connection, as its octets pass in both directions.
 
-ghost use Rattle.std.specs.Prelude.{◌≡◌, ◌≢◌, ◌≤◌, ◌<◌, [], false, true, length, take, List, ℕ};
-ghost use Rattle.xp_tcp.specs.declared.clearing.Clearing.{Clearing as Cleared};
-ghost use Rattle.xp_tcp.specs.steps.Calls.{Passes};
-ghost use Rattle.xp_tcp.specs.steps.Clearings.{after_received, after_sent, is_settled, takes_no_more};
-ghost use Rattle.xp_tcp.specs.steps.Frames.{IsUnfinished};
+ghost use Rattle.std.specs.Prelude.{◌≡◌, ◌≢◌, ◌<◌, [], false, true, List, ℕ};
+ghost use Rattle.xp_clearing.specs.declared.clearing.Clearing.{Clearing as Cleared};
+ghost use Rattle.xp_clearing.specs.declared.clearing.Clearing.TheVariants.{NotBegun as NothingBegun};
+ghost use Rattle.xp_clearing.specs.Calls.{PassesOf};
+ghost use Rattle.xp_clearing.specs.Clearings.{after_received, after_sent, is_settled, takes_no_more};
+ghost use Rattle.xp_clearing.specs.Frames.{IsUnfinished};
 
 use crate::clearing::Clearing;
 use crate::frame_watch::FrameWatch;
 
 /// What has passed on a connection: where its two streams of frames are, and how far its call is cleared.
 #[derive(Drop)]
-pub(crate) struct CallWatch {
-    pub(crate) clearing: Clearing,
-    pub(crate) sent: FrameWatch,
-    pub(crate) received: FrameWatch,
+pub struct CallWatch {
+    pub clearing: Clearing,
+    pub sent: FrameWatch,
+    pub received: FrameWatch,
     /// Whether any octet was sent.
-    pub(crate) has_sent: bool,
+    pub has_sent: bool,
     /// Whether any octet was received.
-    pub(crate) has_received: bool,
+    pub has_received: bool,
     ghost unfinished: { IsUnfinished sent × IsUnfinished received },
 }
 
 impl CallWatch {
     /// The watch of a new connection.
-    pub(crate) fn new() -> CallWatch {
+    pub fn new() -> CallWatch
+        ensures clearing { result.clearing ≡ NothingBegun }
+        ensures sent { (result.sent ≡ []) × (result.has_sent ≡ false) }
+        ensures received { (result.received ≡ []) × (result.has_received ≡ false) }
+    {
         CallWatch {
             clearing: Clearing::NotBegun,
             sent: FrameWatch::new(),
@@ -35,19 +40,21 @@ impl CallWatch {
     }
 
     /// How many of these octets may be sent: all, or those to the end of the frame by which the call is cleared on both sides.
-    pub(crate) fn may_send(&self, octets: &[u8]) -> usize
+    pub fn may_send(&self, octets: &[u8]) -> usize
         requires { is_settled self.now.clearing ≡ false }
-        ensures within { result ≤ length octets.now }
-        ensures all { (after : Cleared) × (left : List ℕ) × (_ : Passes after_sent is_settled self.now.clearing self.now.sent (take result octets.now) after left) × (result < length octets.now → is_settled after ≡ true) }
+        ensures { (after : Cleared) × (left : List ℕ) × PassesOf after_sent is_settled self.now.clearing self.now.sent octets.now result after left }
     {
         let mut clearing = self.clearing;
         let mut sent = self.sent.again();
         send_through(&mut clearing, &mut sent, octets)
     }
 
-    /// These octets are sent, no more than may be.
-    pub(crate) fn send(&mut self, octets: &[u8])
+    /// These octets are sent, to the end of the frame by which the call is cleared on both sides at most.
+    pub fn send(&mut self, octets: &[u8])
         requires { is_settled self.old.clearing ≡ false }
+        ensures sent { (count : ℕ) × PassesOf after_sent is_settled self.old.clearing self.old.sent octets.now count self.new.clearing self.new.sent }
+        ensures has_sent { self.new.has_sent ≡ true }
+        ensures received { (self.new.received ≡ self.old.received) × (self.new.has_received ≡ self.old.has_received) }
     {
         self.has_sent = true;
         send_through(&mut self.clearing, &mut self.sent, octets);
@@ -55,12 +62,12 @@ impl CallWatch {
 
     /// These octets have come. How many of them are of the call: all, or those to the end of the frame by which the router clears
     /// it, or by which it is cleared on both sides.
-    pub(crate) fn receive(&mut self, octets: &[u8]) -> usize
+    pub fn receive(&mut self, octets: &[u8]) -> usize
         requires { takes_no_more self.old.clearing ≡ false }
-        ensures within { result ≤ length octets.now }
+        ensures received { PassesOf after_received takes_no_more self.old.clearing self.old.received octets.now result self.new.clearing self.new.received }
         ensures some { octets.now ≢ [] → 0 < result }
-        ensures passes { Passes after_received takes_no_more self.old.clearing self.old.received (take result octets.now) self.new.clearing self.new.received }
-        ensures all { result < length octets.now → takes_no_more self.new.clearing ≡ true }
+        ensures has_received { self.new.has_received ≡ true }
+        ensures sent { (self.new.sent ≡ self.old.sent) × (self.new.has_sent ≡ self.old.has_sent) }
     {
         self.has_received = true;
         receive_through(&mut self.clearing, &mut self.received, octets)
@@ -71,9 +78,7 @@ impl CallWatch {
 fn send_through(clearing: &mut Clearing, sent: &mut FrameWatch, octets: &[u8]) -> usize
     requires before { is_settled clearing.old ≡ false }
     requires unfinished { IsUnfinished sent.old }
-    ensures within { result ≤ length octets.now }
-    ensures passes { Passes after_sent is_settled clearing.old sent.old (take result octets.now) clearing.new sent.new }
-    ensures all { result < length octets.now → is_settled clearing.new ≡ true }
+    ensures passes { PassesOf after_sent is_settled clearing.old sent.old octets.now result clearing.new sent.new }
     ensures unfinished { IsUnfinished sent.new }
 {
     for (place, octet) in octets.iter().enumerate() {
@@ -91,10 +96,8 @@ fn send_through(clearing: &mut Clearing, sent: &mut FrameWatch, octets: &[u8]) -
 fn receive_through(clearing: &mut Clearing, received: &mut FrameWatch, octets: &[u8]) -> usize
     requires before { takes_no_more clearing.old ≡ false }
     requires unfinished { IsUnfinished received.old }
-    ensures within { result ≤ length octets.now }
+    ensures passes { PassesOf after_received takes_no_more clearing.old received.old octets.now result clearing.new received.new }
     ensures some { octets.now ≢ [] → 0 < result }
-    ensures passes { Passes after_received takes_no_more clearing.old received.old (take result octets.now) clearing.new received.new }
-    ensures all { result < length octets.now → takes_no_more clearing.new ≡ true }
     ensures unfinished { IsUnfinished received.new }
 {
     for (place, octet) in octets.iter().enumerate() {

@@ -1,14 +1,18 @@
-use Rattle.std.proofs.Common.{◌+◌, sym, subst, take, ap, ◌∙◌}
-use Rattle.xp_tcp.specs.steps.Calls.{Passes}
-use Rattle.xp_tcp.specs.steps.Clearings.{after_sent, is_settled}
-use Rattle.xp_tcp.proofs.Passing.{part_passes, whole_passes}
-use Rattle.xp_tcp.proofs.call_watch.send_through.Goals as goal
-use Rattle.xp_tcp.proofs.call_watch.send_through.Goals.{in-Some+else-is_settled, in_default}
+use Rattle.std.proofs.Common.{◌+◌, sym, subst, take, ap, ◌∙◌, arith}
+use Rattle.xp_clearing.specs.Calls.{Passes}
+use Rattle.xp_clearing.specs.Clearings.{after_sent, is_settled}
+use Rattle.xp_clearing.proofs.Passing.{part_passes, whole_passes}
+use Rattle.xp_clearing.proofs.call_watch.send_through.Goals as goal
+use Rattle.xp_clearing.proofs.call_watch.send_through.Goals.{in-Some+else-is_settled, in_default}
 
 pub returns-then-is_settled-clause-passes : goal.returns-then-is_settled-clause-passes
 returns-then-is_settled-clause-passes c =
     let before = c.loop-place.invariant in
-    whole_passes after_sent is_settled _ _ c.args.octets.now c.loop-place.place _ _ c.loop-place.sent _ c.in-Some.frame before.0 before.1 c.loop-place-test.true c.in-Some.ensures.whole c.after_sent.ensures
+    record {
+      within = omega (arith, c.loop-place-test.true);
+      passes = whole_passes after_sent is_settled _ _ c.args.octets.now c.loop-place.place _ _ c.loop-place.sent _ c.in-Some.frame before.0 before.1 c.loop-place-test.true c.in-Some.ensures.whole c.after_sent.ensures;
+      all = λ _. sym c.is_settled.ensures ∙ c.if-is_settled.true;
+    }
 
 pub loop-place-preserved : goal.loop-place-preserved
 loop-place-preserved c =

@@ -1,9 +1,9 @@
 -- How a call is cleared by the packets that pass (X.25 clause 4.1.7).
 use Rattle.std.specs.Prelude.{ℕ, Bool, true, false, ◌==◌, ◌&&◌, ◌||◌, if◌then◌else◌}
-use Rattle.xp_tcp.specs.declared.clearing.Clearing.{Clearing}
-use Rattle.xp_tcp.specs.declared.clearing.Clearing.TheVariants.{Done, Indicated, NotBegun, Requested, RequestedOddly, Unclear}
-use Rattle.xp_tcp.specs.declared.frame_watch.PassedFrame.{PassedFrame}
-use Rattle.xp_tcp.specs.steps.Frames.{format_of, is_clear, is_confirmation, is_plain}
+use Rattle.xp_clearing.specs.declared.clearing.Clearing.{Clearing}
+use Rattle.xp_clearing.specs.declared.clearing.Clearing.TheVariants.{Done, Indicated, NotBegun, Requested, RequestedOddly, Unclear}
+use Rattle.xp_clearing.specs.declared.frame_watch.PassedFrame.{PassedFrame}
+use Rattle.xp_clearing.specs.Frames.{format_of, is_clear, is_confirmation, is_plain}
 
 -- how far the clearing is after a packet to the router
 abbrev pub after_sent : Clearing → PassedFrame → Clearing

@@ -1,14 +1,14 @@
 //! How a connection's call is cleared, by the packets that pass in both directions.
 
 ghost use Rattle.std.specs.Prelude.{◌≡◌, ◌↔◌, IsTrue};
-ghost use Rattle.xp_tcp.specs.steps.Clearings.{after_received, after_sent, is_settled, takes_no_more};
+ghost use Rattle.xp_clearing.specs.Clearings.{after_received, after_sent, is_settled, takes_no_more};
 
 use crate::frame_watch::PassedFrame;
 
 /// How far the clearing of a connection's call is. The exchange is the DCE: it sends clear indications and confirms the router's
 /// clear requests, and the router confirms its indications (X.25 clause 4.1.7).
 #[derive(Clone, Copy, Debug, PartialEq)]
-pub(crate) enum Clearing {
+pub enum Clearing {
     /// No side has cleared.
     NotBegun,
     /// The exchange has sent a clear indication with this format identifier.
@@ -25,7 +25,7 @@ pub(crate) enum Clearing {
 
 impl Clearing {
     /// How far it is after a packet to the router.
-    pub(crate) fn after_sent(self, frame: PassedFrame) -> Clearing
+    pub fn after_sent(self, frame: PassedFrame) -> Clearing
         ensures { result ≡ after_sent self frame }
     {
         match self {
@@ -47,7 +47,7 @@ impl Clearing {
     }
 
     /// How far it is after a packet from the router.
-    pub(crate) fn after_received(self, frame: PassedFrame) -> Clearing
+    pub fn after_received(self, frame: PassedFrame) -> Clearing
         ensures { result ≡ after_received self frame }
     {
         let is_plain = frame.is_plain();
@@ -65,14 +65,14 @@ impl Clearing {
     }
 
     /// Whether nothing more is to be read: what would come belongs to no call.
-    pub(crate) fn takes_no_more(self) -> bool
+    pub fn takes_no_more(self) -> bool
         ensures { result ≡ takes_no_more self }
     {
         !matches!(self, Clearing::NotBegun | Clearing::Indicated(_))
     }
 
     /// Whether nothing more is to be written.
-    pub(crate) fn is_settled(self) -> bool
+    pub fn is_settled(self) -> bool
         ensures { result ≡ is_settled self }
     {
         matches!(self, Clearing::Done | Clearing::Unclear)
