@@ -39,14 +39,14 @@ module _ (step : Clearing → PassedFrame → Clearing) (is_enough : Clearing �
       record {
         frames = passes.frames ++ frame ∷ [];
         whole =
-          sym (append_assoc part octets (octet ∷ [])) ∙ ap (λ l. l ++ octet ∷ []) passes.whole ∙ append_assoc (joined passes.frames) left (octet ∷ [])
-          ∙ sym (joined_more passes.frames frame) ∙ sym (append-nil (joined (passes.frames ++ frame ∷ [])));
+            sym (append_assoc part octets (octet ∷ [])) ∙ ap (λ l. l ++ octet ∷ []) passes.whole ∙ append_assoc (joined passes.frames) left (octet ∷ [])
+            ∙ sym (joined_more passes.frames frame) ∙ sym (append-nil (joined (passes.frames ++ frame ∷ [])));
         each = each_more passes.frames frame passes.each whole;
         rest = lit< tt;
         clears = ap (λ cleared. step cleared (passed_by frame)) passes.clears ∙ sym (after_more step before passes.frames frame);
         early = λ front last is.
-          let same = (same_from_push passes.frames front frame last is).0 in
-          ap (λ frames. is_enough (after_all step before frames)) (sym same) ∙ ap is_enough (sym passes.clears) ∙ goes_on;
+            let same = (same_from_push passes.frames front frame last is).0 in
+            ap (λ frames. is_enough (after_all step before frames)) (sym same) ∙ ap is_enough (sym passes.clears) ∙ goes_on;
       }
 
   -- the octet at a place passes, and no frame is whole by it
@@ -56,7 +56,7 @@ module _ (step : Clearing → PassedFrame → Clearing) (is_enough : Clearing �
       let unfinished_left : IsUnfinished (left ++ octet ∷ []) = subst IsUnfinished is unfinished in
       let Goal : List ℕ → List ℕ → Type 0 = λ passed rest. Passes step is_enough before part passed after rest in
       subst (λ passed. Goal passed new) (sym (take_more octets place 0 lt))
-        (subst (Goal (take place octets ++ octet ∷ [])) (sym is) (one_more (take place octets) after left octet passes unfinished_left))
+      (subst (Goal (take place octets ++ octet ∷ [])) (sym is) (one_more (take place octets) after left octet passes unfinished_left))
 
   -- the octet at a place passes, and a frame is whole by it
   pub whole_passes : (octets : List ℕ) (place : ℕ) (after cleared : Clearing) (left new : List ℕ) (frame : PassedFrame) → Passes step is_enough before part (take place octets) after left → is_enough after ≡ false → place < length octets → (new ≡ []) × IsWhole (left ++ get_or octets place 0 ∷ []) × (frame ≡ passed_by (left ++ get_or octets place 0 ∷ [])) → cleared ≡ step after frame → Passes step is_enough before part (take (place + 1) octets) cleared new
@@ -64,6 +64,6 @@ module _ (step : Clearing → PassedFrame → Clearing) (is_enough : Clearing �
       let octet : ℕ = get_or octets place 0 in
       let Goal : List ℕ → Clearing → List ℕ → Type 0 = λ passed far rest. Passes step is_enough before part passed far rest in
       subst (λ passed. Goal passed cleared new) (sym (take_more octets place 0 lt))
-        (subst (Goal (take place octets ++ octet ∷ []) cleared) (sym whole.0)
-          (subst (λ far. Goal (take place octets ++ octet ∷ []) far []) (sym (is ∙ ap (step after) whole.2))
-            (one_whole (take place octets) after left octet passes goes_on whole.1)))
+      (subst (Goal (take place octets ++ octet ∷ []) cleared) (sym whole.0)
+      (subst (λ far. Goal (take place octets ++ octet ∷ []) far []) (sym (is ∙ ap (step after) whole.2))
+      (one_whole (take place octets) after left octet passes goes_on whole.1)))

@@ -21,9 +21,8 @@ impl ConnectFault {
     pub(crate) fn of(error: &io::Error) -> ConnectFault {
         match error.kind() {
             ErrorKind::ConnectionRefused | ErrorKind::ConnectionReset => ConnectFault::Refused,
-            ErrorKind::HostUnreachable
-            | ErrorKind::NetworkUnreachable
-            | ErrorKind::NetworkDown => ConnectFault::Unreachable,
+            ErrorKind::HostUnreachable | ErrorKind::NetworkUnreachable | ErrorKind::NetworkDown =>
+                ConnectFault::Unreachable,
             ErrorKind::TimedOut => ConnectFault::NoAnswer,
             _ => ConnectFault::NoSocket,
         }

@@ -89,7 +89,10 @@ impl fmt::Display for Notice {
             }
             Notice::PortWorks { .. } | Notice::DoorWorks => f.write_str("port works again"),
             Notice::NoRouter { peer } => {
-                write!(f, "connection from {peer} refused: no line is behind this router")
+                write!(
+                    f,
+                    "connection from {peer} refused: no line is behind this router"
+                )
             }
             Notice::NoFreeLine { peer } => {
                 write!(f, "connection from {peer} refused: no line is free")

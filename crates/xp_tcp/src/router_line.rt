@@ -9,7 +9,6 @@ use crate::connect_fault::ConnectFault;
 use crate::door_bell::DoorBell;
 use crate::locks::hold;
 use mio::net::TcpStream;
-
 use std::mem;
 use std::net::SocketAddr;
 use std::sync::atomic::AtomicBool;
@@ -68,11 +67,7 @@ pub(crate) struct RouterLine {
 
 impl RouterLine {
     /// A line without a connection, whose thread rings this bell.
-    pub(crate) fn new(
-        line: LineNo,
-        router: SocketAddr,
-        bell: Option<Arc<DoorBell>>,
-    ) -> RouterLine
+    pub(crate) fn new(line: LineNo, router: SocketAddr, bell: Option<Arc<DoorBell>>) -> RouterLine
         ensures { result.router ≡ router }
     {
         RouterLine {

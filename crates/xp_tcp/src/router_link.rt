@@ -72,11 +72,7 @@ impl Drop for RouterLink {
 
 impl RouterLink {
     /// The link of a line, without a connection.
-    pub(crate) fn new(
-        line: Arc<RouterLine>,
-        waits: Arc<Registry>,
-        share: LineShare,
-    ) -> RouterLink {
+    pub(crate) fn new(line: Arc<RouterLine>, waits: Arc<Registry>, share: LineShare) -> RouterLink {
         RouterLink {
             circuit: Circuit::Free,
             line,

@@ -27,11 +27,7 @@ impl Drop for RouterPort {
 }
 
 impl RouterPort {
-    pub(crate) fn new(
-        line: Arc<RouterLine>,
-        waits: Arc<Registry>,
-        share: LineShare,
-    ) -> RouterPort {
+    pub(crate) fn new(line: Arc<RouterLine>, waits: Arc<Registry>, share: LineShare) -> RouterPort {
         RouterPort { line, waits, share }
     }
 

@@ -22,7 +22,12 @@ fn mapped(number: u8) -> IpAddr {
 
 #[test]
 fn first_free_line_of_the_router(rt: HostRuntime) {
-    let lines = [candidate(1, false), candidate(2, true), candidate(1, true), candidate(1, true)];
+    let lines = [
+        candidate(1, false),
+        candidate(2, true),
+        candidate(1, true),
+        candidate(1, true),
+    ];
     assert_eq!(rt; line_for(host(1), &lines), Some(2));
     assert_eq!(rt; line_for(host(2), &lines), Some(1));
     assert_eq!(rt; line_for(mapped(1), &lines), Some(2));

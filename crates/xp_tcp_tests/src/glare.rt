@@ -17,11 +17,20 @@ impl Play for ConnectedAndCalled {
     ) -> Result<(), Fail> {
         let mut theirs = scene.connect(rt)?;
         let peer = theirs.local_addr()?;
-        check(scene.notice() == Some(Notice::Up { line: 0, peer }), "the line is not up")?;
-        check(scene.push(&CALL) == Some(CALL.len()), "the call was not taken")?;
+        check(
+            scene.notice() == Some(Notice::Up { line: 0, peer }),
+            "the line is not up",
+        )?;
+        check(
+            scene.push(&CALL) == Some(CALL.len()),
+            "the call was not taken",
+        )?;
         let mut ours = scene.accept()?;
         check(comes(&mut ours, &CALL), "the call has not come")?;
-        check(ends(&mut theirs), "the router's connection stays, with no line for it")
+        check(
+            ends(&mut theirs),
+            "the router's connection stays, with no line for it",
+        )
     }
 }
 
@@ -41,9 +50,15 @@ impl Play for CallsCollide {
         let mut theirs = scene.connect(rt)?;
         send(&mut theirs, &CALL)?;
         check(scene.pull(&mut [0; 64]) == Some(CALL.len()), "no call")?;
-        check(scene.push(&CALL) == Some(CALL.len()), "the call was not taken")?;
+        check(
+            scene.push(&CALL) == Some(CALL.len()),
+            "the call was not taken",
+        )?;
         check(scene.push(&ACCEPTED) == Some(ACCEPTED.len()), "no answer")?;
-        check(comes(&mut theirs, &ACCEPTED), "another packet came than the answer")
+        check(
+            comes(&mut theirs, &ACCEPTED),
+            "another packet came than the answer",
+        )
     }
 }
 
@@ -60,10 +75,16 @@ impl Play for ConnectingAndCalled {
         rt: &R,
         scene: &mut Scene,
     ) -> Result<(), Fail> {
-        check(scene.link.push(&CALL) == Pushed::Nothing, "there is a connection already")?;
+        check(
+            scene.link.push(&CALL) == Pushed::Nothing,
+            "there is a connection already",
+        )?;
         let mut theirs = scene.connect(rt)?;
         check(ends(&mut theirs), "the router's connection stays")?;
-        check(scene.push(&CALL) == Some(CALL.len()), "the call was not taken")?;
+        check(
+            scene.push(&CALL) == Some(CALL.len()),
+            "the call was not taken",
+        )?;
         let mut ours = scene.accept()?;
         check(comes(&mut ours, &CALL), "the call has not come")
     }

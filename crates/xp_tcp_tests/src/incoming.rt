@@ -21,9 +21,18 @@ impl Play for CalledAndCleared {
         check(scene.push(&ACCEPTED) == Some(ACCEPTED.len()), "no answer")?;
         check(comes(&mut call, &ACCEPTED), "the answer has not come")?;
         send(&mut call, &CLEAR_AND_CALL)?;
-        check(scene.pull(&mut into) == Some(CLEAR.len()), "more than the clear")?;
-        check(scene.push(&CONFIRMATION) == Some(CONFIRMATION.len()), "no confirmation")?;
-        check(comes(&mut call, &CONFIRMATION), "the confirmation has not come")?;
+        check(
+            scene.pull(&mut into) == Some(CLEAR.len()),
+            "more than the clear",
+        )?;
+        check(
+            scene.push(&CONFIRMATION) == Some(CONFIRMATION.len()),
+            "no confirmation",
+        )?;
+        check(
+            comes(&mut call, &CONFIRMATION),
+            "the confirmation has not come",
+        )?;
         check(ends(&mut call), "the connection stays")?;
         let mut next = scene.connect(rt)?;
         send(&mut next, &CALL)?;
@@ -46,11 +55,17 @@ impl Play for NoFreeLine {
     ) -> Result<(), Fail> {
         let first = scene.connect(rt)?;
         let peer = first.local_addr()?;
-        check(scene.notice() == Some(Notice::Up { line: 0, peer }), "the line is not up")?;
+        check(
+            scene.notice() == Some(Notice::Up { line: 0, peer }),
+            "the line is not up",
+        )?;
         let mut second = scene.connect(rt)?;
         let peer = second.local_addr()?;
         check(ends(&mut second), "the second connection stays")?;
-        check(scene.notice() == Some(Notice::NoFreeLine { peer }), "another notice")
+        check(
+            scene.notice() == Some(Notice::NoFreeLine { peer }),
+            "another notice",
+        )
     }
 }
 
@@ -70,7 +85,10 @@ impl Play for FromElsewhere {
         let mut stranger = scene.connect(rt)?;
         let peer = stranger.local_addr()?;
         check(ends(&mut stranger), "the connection stays")?;
-        check(scene.notice() == Some(Notice::NoRouter { peer }), "another notice")
+        check(
+            scene.notice() == Some(Notice::NoRouter { peer }),
+            "another notice",
+        )
     }
 }
 
@@ -89,9 +107,15 @@ impl Play for UnusedConnection {
     ) -> Result<(), Fail> {
         let unused = scene.connect(rt)?;
         let peer = unused.local_addr()?;
-        check(scene.notice() == Some(Notice::Up { line: 0, peer }), "the line is not up")?;
+        check(
+            scene.notice() == Some(Notice::Up { line: 0, peer }),
+            "the line is not up",
+        )?;
         drop(unused);
-        check(scene.notice() == Some(Notice::Closed { line: 0 }), "another notice")?;
+        check(
+            scene.notice() == Some(Notice::Closed { line: 0 }),
+            "another notice",
+        )?;
         let mut next = scene.connect(rt)?;
         send(&mut next, &CALL)?;
         check(scene.pull(&mut [0; 64]) == Some(CALL.len()), "no call")

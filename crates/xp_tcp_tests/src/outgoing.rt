@@ -16,19 +16,34 @@ impl Play for ClearedByExchange {
         scene: &mut Scene,
     ) -> Result<(), Fail> {
         let mut into = [0; 64];
-        check(scene.push(&CALL) == Some(CALL.len()), "the call was not taken")?;
+        check(
+            scene.push(&CALL) == Some(CALL.len()),
+            "the call was not taken",
+        )?;
         let mut call = scene.accept()?;
         check(comes(&mut call, &CALL), "another packet came than the call")?;
         send(&mut call, &ACCEPTED)?;
         check(scene.pull(&mut into) == Some(ACCEPTED.len()), "no answer")?;
         check(scene.push(&CLEAR) == Some(CLEAR.len()), "no clear")?;
-        check(comes(&mut call, &CLEAR), "another packet came than the clear")?;
+        check(
+            comes(&mut call, &CLEAR),
+            "another packet came than the clear",
+        )?;
         // What is behind the confirmation is dropped.
         send(&mut call, &CONFIRMATION_AND_CALL)?;
-        check(scene.pull(&mut into) == Some(CONFIRMATION.len()), "more than the confirmation")?;
-        check(scene.link.pull(&mut into) == Pulled::Nothing, "octets behind the confirmation")?;
+        check(
+            scene.pull(&mut into) == Some(CONFIRMATION.len()),
+            "more than the confirmation",
+        )?;
+        check(
+            scene.link.pull(&mut into) == Pulled::Nothing,
+            "octets behind the confirmation",
+        )?;
         check(ends(&mut call), "the connection stays")?;
-        check(scene.push(&CALL) == Some(CALL.len()), "the next call was not taken")?;
+        check(
+            scene.push(&CALL) == Some(CALL.len()),
+            "the next call was not taken",
+        )?;
         let mut next = scene.accept()?;
         check(comes(&mut next, &CALL), "the next call has not come")
     }
@@ -48,17 +63,29 @@ impl Play for ClearedByRouter {
         scene: &mut Scene,
     ) -> Result<(), Fail> {
         let mut into = [0; 64];
-        check(scene.push(&CALL) == Some(CALL.len()), "the call was not taken")?;
+        check(
+            scene.push(&CALL) == Some(CALL.len()),
+            "the call was not taken",
+        )?;
         let mut call = scene.accept()?;
         check(comes(&mut call, &CALL), "another packet came than the call")?;
         // What is behind the clear is dropped.
         send(&mut call, &CLEAR_AND_CALL)?;
-        check(scene.pull(&mut into) == Some(CLEAR.len()), "more than the clear")?;
+        check(
+            scene.pull(&mut into) == Some(CLEAR.len()),
+            "more than the clear",
+        )?;
         let taken = scene.push(&CONFIRMATION_AND_CALL);
-        check(taken == Some(CONFIRMATION.len()), "not the confirmation alone")?;
+        check(
+            taken == Some(CONFIRMATION.len()),
+            "not the confirmation alone",
+        )?;
         check(comes(&mut call, &CONFIRMATION), "no confirmation")?;
         check(ends(&mut call), "the connection stays")?;
-        check(scene.push(&CALL) == Some(CALL.len()), "the next call was not taken")?;
+        check(
+            scene.push(&CALL) == Some(CALL.len()),
+            "the next call was not taken",
+        )?;
         let mut next = scene.accept()?;
         check(comes(&mut next, &CALL), "the next call has not come")
     }
@@ -78,12 +105,21 @@ impl Play for ClearedByBoth {
         scene: &mut Scene,
     ) -> Result<(), Fail> {
         let mut into = [0; 64];
-        check(scene.push(&CALL) == Some(CALL.len()), "the call was not taken")?;
+        check(
+            scene.push(&CALL) == Some(CALL.len()),
+            "the call was not taken",
+        )?;
         let mut call = scene.accept()?;
         check(comes(&mut call, &CALL), "another packet came than the call")?;
         send(&mut call, &CLEAR)?;
-        check(scene.pull(&mut into) == Some(CLEAR.len()), "no clear of the router")?;
-        check(scene.push(&CLEAR_AND_CALL) == Some(CLEAR.len()), "not the clear alone")?;
+        check(
+            scene.pull(&mut into) == Some(CLEAR.len()),
+            "no clear of the router",
+        )?;
+        check(
+            scene.push(&CLEAR_AND_CALL) == Some(CLEAR.len()),
+            "not the clear alone",
+        )?;
         check(comes(&mut call, &CLEAR), "no clear of the exchange")?;
         check(ends(&mut call), "the connection stays")
     }
@@ -102,7 +138,10 @@ impl Play for CutByRouter {
         _rt: &R,
         scene: &mut Scene,
     ) -> Result<(), Fail> {
-        check(scene.push(&CALL) == Some(CALL.len()), "the call was not taken")?;
+        check(
+            scene.push(&CALL) == Some(CALL.len()),
+            "the call was not taken",
+        )?;
         drop(scene.accept()?);
         check(scene.pull(&mut [0; 64]).is_none(), "the link stays")
     }
@@ -143,7 +182,10 @@ impl Play for NoCall {
         _rt: &R,
         scene: &mut Scene,
     ) -> Result<(), Fail> {
-        check(scene.push(&CLEAR).is_none(), "a connection was made for a clear")
+        check(
+            scene.push(&CLEAR).is_none(),
+            "a connection was made for a clear",
+        )
     }
 }
 

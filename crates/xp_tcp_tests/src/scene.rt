@@ -153,10 +153,7 @@ pub trait Play {
 }
 
 /// Sets the scene with a line behind a router at this address, and plays on it.
-pub fn run<
-    P: Play,
-    R: Net<Listener = TcpListener, Stream = TcpStream> + Threads + Wait + Sync,
->(
+pub fn run<P: Play, R: Net<Listener = TcpListener, Stream = TcpStream> + Threads + Wait + Sync>(
     rt: &R,
     alloc: Global,
     address: Ipv4Addr,
@@ -177,5 +174,9 @@ pub fn run<
 
 /// That it is so, or what is wrong.
 pub fn check(is_so: bool, wrong: &'static str) -> Result<(), Fail> {
-    if is_so { Ok(()) } else { Err(Fail::from(wrong)) }
+    if is_so {
+        Ok(())
+    } else {
+        Err(Fail::from(wrong))
+    }
 }

@@ -18,13 +18,15 @@ pub loop-place-preserved : goal.loop-place-preserved
 loop-place-preserved c =
     let before = c.loop-place.invariant in
     elim c.match-pass.branch [
-      in-Some+else-is_settled w ↦
-        (whole_passes after_sent is_settled _ _ c.args.octets.now c.loop-place.place _ _ c.loop-place.sent _ w.in-Some.frame before.0 before.1 c.loop-place-test.true w.in-Some.ensures.whole (w.clearing-is ∙ w.after_sent.ensures),
-         ap is_settled w.clearing-is ∙ sym w.is_settled.ensures ∙ w.if-is_settled.false,
-         c.pass.ensures.rest)
-      | in_default w ↦
-        (subst (λ far. Passes after_sent is_settled c.args.clearing.now c.args.sent.now (take (c.loop-place.place + 1) c.args.octets.now) far c.pass.new.self) (sym w.clearing-is)
-           (part_passes after_sent is_settled _ _ c.args.octets.now c.loop-place.place _ c.loop-place.sent _ before.0 c.loop-place-test.true (c.pass.ensures.part w.in_default.is) c.pass.ensures.rest),
-         ap is_settled w.clearing-is ∙ before.1,
-         c.pass.ensures.rest)
+      | in-Some+else-is_settled w ↦ (
+        whole_passes after_sent is_settled _ _ c.args.octets.now c.loop-place.place _ _ c.loop-place.sent _ w.in-Some.frame before.0 before.1 c.loop-place-test.true w.in-Some.ensures.whole (w.clearing-is ∙ w.after_sent.ensures),
+        ap is_settled w.clearing-is ∙ sym w.is_settled.ensures ∙ w.if-is_settled.false,
+        c.pass.ensures.rest,
+      )
+      | in_default w ↦ (
+        subst (λ far. Passes after_sent is_settled c.args.clearing.now c.args.sent.now (take (c.loop-place.place + 1) c.args.octets.now) far c.pass.new.self) (sym w.clearing-is)
+            (part_passes after_sent is_settled _ _ c.args.octets.now c.loop-place.place _ c.loop-place.sent _ before.0 c.loop-place-test.true (c.pass.ensures.part w.in_default.is) c.pass.ensures.rest),
+        ap is_settled w.clearing-is ∙ before.1,
+        c.pass.ensures.rest,
+      )
     ]
