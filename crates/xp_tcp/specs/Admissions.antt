@@ -1,18 +1,10 @@
 -- From where the connections of a line may come.
 use Rattle.std.specs.Prelude.{◌≡◌, ◌<◌, ◌⊎◌, ℕ, List, [], ◌∷◌, ◌++◌, Any, length}
-use Rattle.std.specs.Net.Addr.{IsCanonicalOf, MatchIp}
 use Rattle.std.specs.Net.Grammar.{IsIpText}
 use Rattle.std.specs.declared.net.ip_addr.IpAddr.{IpAddr}
+use Rattle.xp_door.specs.Hosts.{IsSameHost}
 use Rattle.xp_tcp.specs.declared.admission.AdmissionFault.{AdmissionFault}
 use Rattle.xp_tcp.specs.declared.admission.AdmissionFault.TheVariants.{Full, NoAddress}
-
--- the canonical form of an address: of an IPv4-mapped IPv6 address the IPv4 address in it, and of any other that itself
-abbrev pub IsCanonical : IpAddr → IpAddr → Type 0
-IsCanonical address form = MatchIp address (λ _. form ≡ address) (λ ip. IsCanonicalOf ip form)
-
--- two addresses are those of one host: they have the same canonical form
-abbrev pub IsSameHost : IpAddr → IpAddr → Type 0
-IsSameHost address other = (form : IpAddr) × IsCanonical address form × IsCanonical other form
 
 -- a peer's connections may come: there are no addresses, or one of them is the peer's
 abbrev pub Admits : List IpAddr → IpAddr → Type 0

@@ -1,3 +1,2 @@
 -- The definitions that no public contract cites.
-pub mod Notices
 pub mod Sources

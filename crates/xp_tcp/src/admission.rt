@@ -1,12 +1,14 @@
 //! From where the connections of a line may come.
 
 ghost use Rattle.std.specs.Prelude.{◌≡◌, ◌↔◌, [], Any, IfErr, IfOk, IsTrue, OnErr, OnOk};
-ghost use Rattle.xp_tcp.specs.Admissions.{Adds, Admits, IsRefused, IsSameHost};
+ghost use Rattle.xp_door.specs.Hosts.{IsSameHost};
+ghost use Rattle.xp_tcp.specs.Admissions.{Adds, Admits, IsRefused};
 
 use arrayvec::ArrayVec;
 use std::marker::Model;
 use std::net::{IpAddr, Ipv4Addr};
 use thiserror::Error;
+use xp_door::is_same_host;
 
 /// How many addresses a line has at most from which its connections may come.
 pub const MOST_ADDRESSES: usize = 8;
@@ -106,11 +108,4 @@ fn is_among(places: &[Place], peer: IpAddr) -> bool
         }
     }
     false
-}
-
-/// Whether two addresses have the same canonical form.
-pub(crate) fn is_same_host(address: IpAddr, other: IpAddr) -> bool
-    ensures { IsTrue result ↔ IsSameHost address other }
-{
-    address.to_canonical() == other.to_canonical()
 }

@@ -4,12 +4,12 @@ ghost use Rattle.std.specs.Prelude.{◌≡◌, ◌≤◌, ◌/◌};
 ghost use Rattle.std.specs.Duration.{as_nanos};
 
 use crate::start::Start;
-use crate::wakers::{LineWaker, wake_if_asleep};
 use mio::{Events, Poll};
 use std::marker::Model;
 use std::sync::Arc;
 use std::thread;
 use std::time::Duration;
+use xp_door::{LineWaker, wake_if_asleep};
 use xp_lines::Clock;
 use xp_subs::LineNo;
 

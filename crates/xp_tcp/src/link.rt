@@ -4,15 +4,13 @@ ghost use Rattle.std.specs.Prelude.{◌≡◌, ◌≢◌, ◌<◌, ◌≤◌, �
 ghost use Rattle.std.specs.IoError.{error_kind};
 ghost use Rattle.xp_lines.specs.Counts.{pulled_count, pushed_count};
 
-use crate::notices::Notice;
 use crate::options::{Patience, notice_dead_peer};
-use crate::share::LineShare;
-use crate::wakers::LineWaker;
 use mio::net::TcpStream;
 use mio::{Interest, Registry, Token};
 use std::io;
 use std::io::{ErrorKind, Read, Write};
 use std::net::SocketAddr;
+use xp_door::{LineShare, LineWaker, Notice};
 use xp_lines::{Link, Pulled, Pushed};
 
 /// Names a line's connection among what its thread waits for.

@@ -7,23 +7,17 @@ ghost use Rattle.xp_tcp.specs.Admissions.{Admits};
 
 use crate::admission::Admission;
 use crate::link::TcpLink;
-use crate::notices::Notice;
-use crate::share::LineShare;
 use mio::Registry;
 use mio::net::{TcpListener, TcpStream};
 use std::io;
 use std::io::ErrorKind;
 use std::marker::Model;
 use std::net::SocketAddr;
+use xp_door::{LineShare, Notice, is_in_want};
 use xp_lines::{Arrived, Port};
 
 /// How many connections are taken at most in one call, where those before failed or were refused.
 const MOST_TAKEN: usize = 16;
-
-/// The errors of Linux that the system has no descriptors, or no room for buffers.
-const ENFILE: i32 = 23;
-
-const ENOBUFS: i32 = 105;
 
 /// The listening socket of a line, and from where its connections may come. Contracts see it as its port.
 #[derive(Drop)]
@@ -160,13 +154,4 @@ fn is_lasting(error: &io::Error) -> bool {
         error.raw_os_error(),
         Some(libc::EBADF | libc::EINVAL | libc::ENOTSOCK)
     )
-}
-
-/// Whether no connection can be accepted for want of descriptors or of memory. `None` where the error does not tell.
-pub(crate) fn is_in_want(error: &io::Error) -> Option<bool> {
-    match error.raw_os_error() {
-        Some(libc::EMFILE | ENFILE | ENOBUFS | libc::ENOMEM) => Some(true),
-        _ if error.kind() == ErrorKind::WouldBlock => Some(false),
-        _ => None,
-    }
 }

@@ -5,11 +5,11 @@ ghost use Rattle.xp_clearing.specs.Clearings.{is_settled};
 ghost use Rattle.xp_lines.specs.Counts.{pulled_count, pushed_count};
 
 use crate::link::{read_from, write_to};
-use crate::wakers::LineWaker;
 use mio::net::TcpStream;
 use std::io::Read;
 use std::net::{Shutdown, SocketAddr};
 use xp_clearing::{CallWatch, Clearing, begins_with_call, front_length};
+use xp_door::LineWaker;
 use xp_lines::{Pulled, Pushed};
 
 /// How many reads drop what a router sent that belongs to no call, before its connection is closed.
@@ -115,7 +115,7 @@ impl RouterConnection {
 
     /// Closes the connection, after what was written has gone. What the router has sent since is dropped.
     pub(crate) fn close(self) {
-        close(self.stream);
+        close_after_writing(self.stream);
     }
 
     /// The connection itself.
@@ -125,7 +125,7 @@ impl RouterConnection {
 }
 
 /// Closes a connection, after what was written has gone.
-pub(crate) fn close(stream: TcpStream) {
+fn close_after_writing(stream: TcpStream) {
     let mut stream = stream;
     let _ = stream.shutdown(Shutdown::Write);
     // A connection with octets to be read would be closed with a reset, by which what was written may be lost.

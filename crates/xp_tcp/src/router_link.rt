@@ -3,13 +3,9 @@
 ghost use Rattle.std.specs.Prelude.{◌≡◌, ◌≢◌, ◌≤◌, length};
 ghost use Rattle.xp_lines.specs.Counts.{pulled_count, pushed_count};
 
-use crate::connect_fault::ConnectFault;
 use crate::link::wait_for;
-use crate::notices::Notice;
 use crate::options::Patience;
 use crate::router_connection::RouterConnection;
-use crate::router_line::{Arrival, Attempt, RouterLine};
-use crate::share::LineShare;
 use crate::start::uptime;
 use mio::Registry;
 use mio::net::TcpStream;
@@ -17,6 +13,7 @@ use std::mem;
 use std::sync::Arc;
 use std::time::Duration;
 use xp_clearing::begins_with_call;
+use xp_door::{Arrival, Attempt, ConnectFault, LineShare, Notice, RouterLine};
 use xp_lines::{Link, Pulled, Pushed};
 
 /// How long a connection to a router may take, in seconds.

@@ -1,10 +1,9 @@
 //! Where the links of a line behind a router come from.
 
-use crate::router_line::RouterLine;
 use crate::router_link::RouterLink;
-use crate::share::LineShare;
 use mio::Registry;
 use std::sync::Arc;
+use xp_door::{LineShare, RouterLine};
 use xp_lines::Arrived;
 
 /// Gives a line behind a router its links, the next one as soon as the last went: so the line is in service.

@@ -10,16 +10,10 @@ ghost use Rattle.xp_tcp.specs.declared.sockets.ListenFault.TheVariants.{Memory a
 use crate::access::Access;
 use crate::admission::Admission;
 use crate::clock::TcpClock;
-use crate::door::{Door, DoorSockets};
-use crate::door_bell::DoorBell;
 use crate::line_port::LinePort;
-use crate::notices::Notices;
 use crate::port::TcpPort;
-use crate::router_line::RouterLine;
 use crate::router_port::RouterPort;
-use crate::share::LineShare;
 use crate::start::Start;
-use crate::wakers::LineWaker;
 use mio::net::TcpListener;
 use mio::{Events, Interest, Poll, Registry, Token, Waker};
 use std::alloc::{AllocError, Global};
@@ -28,6 +22,7 @@ use std::marker::Model;
 use std::net::{IpAddr, Net, SocketAddr};
 use std::sync::Arc;
 use thiserror::Error;
+use xp_door::{Door, DoorBell, DoorSockets, LineShare, LineWaker, Notices, RouterLine};
 use xp_subs::LineNo;
 
 /// Names a listening socket among what its thread waits for.

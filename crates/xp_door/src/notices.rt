@@ -2,7 +2,7 @@
 
 ghost use Rattle.std.specs.Prelude.{◌≡◌, ◌<◌, ◌↔◌, ◌∷◌, [], ◌++◌, IsTrue, length};
 ghost use Rattle.std.specs.Bool.{OnFalse, OnTrue};
-ghost use Rattle.xp_tcp.specs.Notices.{line_of};
+ghost use Rattle.xp_door.specs.Notices.{line_of};
 
 use crate::connect_fault::ConnectFault;
 use crate::locks::hold;
@@ -72,7 +72,7 @@ impl Notice {
 /// The text of the notice, without its line, such as `up from 10.0.0.9:40000`.
 impl fmt::Display for Notice {
     ghost use Rattle.std.specs.Prelude.{Some};
-    ghost use Rattle.xp_tcp.specs.steps.Notices.{text_of};
+    ghost use Rattle.xp_door.specs.steps.Notices.{text_of};
 
     ghost output = { λ notice. Some (text_of notice) };
 

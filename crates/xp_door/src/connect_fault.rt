@@ -18,7 +18,7 @@ pub enum ConnectFault {
 
 impl ConnectFault {
     /// What an error of the system says.
-    pub(crate) fn of(error: &io::Error) -> ConnectFault {
+    pub fn of(error: &io::Error) -> ConnectFault {
         match error.kind() {
             ErrorKind::ConnectionRefused | ErrorKind::ConnectionReset => ConnectFault::Refused,
             ErrorKind::HostUnreachable | ErrorKind::NetworkUnreachable | ErrorKind::NetworkDown =>
@@ -31,7 +31,7 @@ impl ConnectFault {
 
 impl fmt::Display for ConnectFault {
     ghost use Rattle.std.specs.Prelude.{Some};
-    ghost use Rattle.xp_tcp.specs.steps.Notices.{fault_text};
+    ghost use Rattle.xp_door.specs.steps.Notices.{fault_text};
 
     ghost output = { λ fault. Some (fault_text fault) };
 

@@ -8,7 +8,7 @@ use xp_subs::LineNo;
 /// Wakes the thread of one line, and knows whether that has octets to read. To wake a thread that is not asleep, and to know
 /// that there are no octets, takes no call of the system.
 #[derive(Drop)]
-pub(crate) struct LineWaker {
+pub struct LineWaker {
     waker: Waker,
     /// The line has something to do that its thread may not have seen.
     has_work: AtomicBool,
@@ -19,7 +19,7 @@ pub(crate) struct LineWaker {
 }
 
 impl LineWaker {
-    pub(crate) fn new(waker: Waker) -> LineWaker {
+    pub fn new(waker: Waker) -> LineWaker {
         LineWaker {
             waker,
             has_work: AtomicBool::new(false),
@@ -32,12 +32,12 @@ impl LineWaker {
     ///
     /// Each of the two threads writes its own flag before it reads the other's, so that at least one of them sees what the other
     /// has written.
-    pub(crate) fn mark_work(&self) {
+    pub fn mark_work(&self) {
         self.has_work.store(true, SeqCst);
     }
 
     /// Wakes the line's thread where it sleeps, or is about to.
-    pub(crate) fn wake_if_asleep(&self) {
+    pub fn wake_if_asleep(&self) {
         if self.asleep.swap(false, SeqCst) {
             // It fails only where the thread is woken already.
             let _ = self.waker.wake();
@@ -45,40 +45,40 @@ impl LineWaker {
     }
 
     /// Whether work was marked. From now on it is not: the line's thread looks at all that was put out to it before this.
-    pub(crate) fn take_work(&self) -> bool {
+    pub fn take_work(&self) -> bool {
         self.has_work.swap(false, SeqCst)
     }
 
     /// Whether the line's thread may go to sleep. From now on until `end_sleep` it is woken.
-    pub(crate) fn begin_sleep(&self) -> bool {
+    pub fn begin_sleep(&self) -> bool {
         self.asleep.store(true, SeqCst);
         !self.take_work()
     }
 
     /// The line's thread is up, and looks at all that was put out to it before this.
-    pub(crate) fn end_sleep(&self) {
+    pub fn end_sleep(&self) {
         self.asleep.store(false, SeqCst);
         self.has_work.store(false, SeqCst);
     }
 
     /// Whether the last read left no octets, and no time has passed since.
-    pub(crate) fn is_emptied(&self) -> bool {
+    pub fn is_emptied(&self) -> bool {
         self.emptied.load(SeqCst)
     }
 
     /// A read of the line's thread left no octets.
-    pub(crate) fn empty(&self) {
+    pub fn empty(&self) {
         self.emptied.store(true, SeqCst);
     }
 
     /// Time has passed, so that octets may have come, or their end.
-    pub(crate) fn refill(&self) {
+    pub fn refill(&self) {
         self.emptied.store(false, SeqCst);
     }
 }
 
 /// Wakes the thread of a line, if there is one.
-pub(crate) fn wake_if_asleep(wakers: &[LineWaker], line: Option<LineNo>) {
+pub fn wake_if_asleep(wakers: &[LineWaker], line: Option<LineNo>) {
     let Some(line) = line else {
         return;
     };

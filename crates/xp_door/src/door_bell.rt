@@ -13,7 +13,7 @@ pub struct DoorBell {
 }
 
 impl DoorBell {
-    pub(crate) fn new(waker: Waker) -> DoorBell {
+    pub fn new(waker: Waker) -> DoorBell {
         DoorBell {
             waker,
             is_rung: AtomicBool::new(false),
@@ -22,14 +22,14 @@ impl DoorBell {
     }
 
     /// Asks the door to look at all lines.
-    pub(crate) fn ring(&self) {
+    pub fn ring(&self) {
         self.is_rung.store(true, SeqCst);
         // It fails only where the door is woken already.
         let _ = self.waker.wake();
     }
 
     /// Whether it was rung. From now on it was not: the door looks at all that was asked before this.
-    pub(crate) fn take_ring(&self) -> bool {
+    pub fn take_ring(&self) -> bool {
         self.is_rung.swap(false, SeqCst)
     }
 
@@ -40,7 +40,7 @@ impl DoorBell {
     }
 
     /// Whether the door is to end.
-    pub(crate) fn is_stopped(&self) -> bool {
+    pub fn is_stopped(&self) -> bool {
         self.is_stopped.load(SeqCst)
     }
 }

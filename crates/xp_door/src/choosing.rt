@@ -1,10 +1,10 @@
 //! Which line a router's connection is given to.
 
 ghost use Rattle.std.specs.Prelude.{◌≡◌, ◌↔◌, Any, IsTrue};
-ghost use Rattle.xp_tcp.specs.Admissions.{IsSameHost};
-ghost use Rattle.xp_tcp.specs.Choices.{IsChoice, MayTake};
+ghost use Rattle.xp_door.specs.Hosts.{IsSameHost};
+ghost use Rattle.xp_door.specs.Choices.{IsChoice, MayTake};
 
-use crate::admission::is_same_host;
+use crate::hosts::is_same_host;
 use std::net::IpAddr;
 
 /// A line behind a router, as a connection comes.

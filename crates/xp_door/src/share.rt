@@ -1,5 +1,7 @@
 //! What the threads of all lines share.
 
+ghost use Rattle.std.specs.Prelude.{◌≡◌, IfOk};
+
 use crate::notices::{Notice, Notices};
 use crate::wakers::LineWaker;
 use std::alloc::AllocError;
@@ -8,18 +10,21 @@ use xp_subs::LineNo;
 
 /// A line's share in the wakers and the notices.
 #[derive(Drop)]
-pub(crate) struct LineShare {
-    pub(crate) line: LineNo,
+pub struct LineShare {
+    pub line: LineNo,
     wakers: Arc<Vec<LineWaker>>,
     notices: Arc<Notices>,
 }
 
 impl LineShare {
-    pub(crate) fn new(
+    /// The share of a line.
+    pub fn new(
         line: LineNo,
         wakers: &Arc<Vec<LineWaker>>,
         notices: &Arc<Notices>,
-    ) -> Result<LineShare, AllocError> {
+    ) -> Result<LineShare, AllocError>
+        ensures { IfOk result (λ share. share.line ≡ line) }
+    {
         Ok(LineShare {
             line,
             wakers: Arc::try_clone(wakers)?,
@@ -27,16 +32,20 @@ impl LineShare {
         })
     }
 
-    pub(crate) fn try_clone(&self) -> Result<LineShare, AllocError> {
+    /// The same share again.
+    pub fn try_clone(&self) -> Result<LineShare, AllocError>
+        ensures { IfOk result (λ share. share.line ≡ self.now.line) }
+    {
         LineShare::new(self.line, &self.wakers, &self.notices)
     }
 
     /// The waker of the line's own thread.
-    pub(crate) fn waker(&self) -> Option<&LineWaker> {
+    pub fn waker(&self) -> Option<&LineWaker> {
         self.wakers.get(self.line as usize)
     }
 
-    pub(crate) fn tell(&self, notice: Notice) {
+    /// Tells a notice.
+    pub fn tell(&self, notice: Notice) {
         self.notices.tell(notice);
     }
 }

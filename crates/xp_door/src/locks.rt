@@ -8,7 +8,7 @@ use std::thread;
 const MOST_TRIES: u32 = 1_000;
 
 /// Takes a lock that threads hold for moments. `None` where other threads keep it for too long.
-pub(crate) fn hold<T>(lock: &Mutex<T>) -> Option<MutexGuard<'_, T>> {
+pub fn hold<T>(lock: &Mutex<T>) -> Option<MutexGuard<'_, T>> {
     for _try in 0..MOST_TRIES {
         if let Some(guard) = lock.try_lock() {
             return Some(guard);

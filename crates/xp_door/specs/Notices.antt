@@ -1,7 +1,7 @@
 -- What an operator is to know of the lines' connections.
 use Rattle.std.specs.Prelude.{ℕ, Option, None, Some}
-use Rattle.xp_tcp.specs.declared.notices.Notice.{Notice}
-use Rattle.xp_tcp.specs.declared.notices.Notice.TheVariants.{Closed, Connected, DoorFailing, DoorWorks, Down, NoFreeLine, NoRouter, NotConnected, PortFailing, PortWorks, Refused, Up}
+use Rattle.xp_door.specs.declared.notices.Notice.{Notice}
+use Rattle.xp_door.specs.declared.notices.Notice.TheVariants.{Closed, Connected, DoorFailing, DoorWorks, Down, NoFreeLine, NoRouter, NotConnected, PortFailing, PortWorks, Refused, Up}
 
 -- the line that a notice is of; none where it is of the port for routers
 abbrev pub line_of : Notice → Option ℕ

@@ -1,8 +1,8 @@
 -- Which line behind a router a connection is given to.
 use Rattle.std.specs.Prelude.{◌≡◌, ◌<◌, ℕ, true, List, Option, None, Some, All, length, slice_index_or, take}
 use Rattle.std.specs.declared.net.ip_addr.IpAddr.{IpAddr}
-use Rattle.xp_tcp.specs.Admissions.{IsSameHost}
-use Rattle.xp_tcp.specs.declared.choosing.Candidate.{Candidate}
+use Rattle.xp_door.specs.Hosts.{IsSameHost}
+use Rattle.xp_door.specs.declared.choosing.Candidate.{Candidate}
 
 -- a line may take a connection from a peer: it is behind the peer's router, and free
 abbrev pub MayTake : IpAddr → Candidate → Type 0

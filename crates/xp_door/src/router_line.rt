@@ -2,11 +2,11 @@
 
 ghost use Rattle.std.specs.Prelude.{◌≡◌, IfOk};
 ghost use Rattle.std.specs.Net.Socket.{socket_ip};
-ghost use Rattle.xp_tcp.specs.Admissions.{IsSameHost};
+ghost use Rattle.xp_door.specs.Hosts.{IsSameHost};
 
-use crate::admission::is_same_host;
 use crate::connect_fault::ConnectFault;
 use crate::door_bell::DoorBell;
+use crate::hosts::is_same_host;
 use crate::locks::hold;
 use mio::net::TcpStream;
 use std::mem;
@@ -18,9 +18,9 @@ use xp_subs::LineNo;
 
 /// A connection that a router has made.
 #[derive(Drop)]
-pub(crate) struct Arrival {
-    pub(crate) stream: TcpStream,
-    pub(crate) peer: SocketAddr,
+pub struct Arrival {
+    pub stream: TcpStream,
+    pub peer: SocketAddr,
 }
 
 /// What a line behind a router has now, or waits for.
@@ -44,7 +44,7 @@ enum Stage {
 
 /// What has become of a connection that a line's thread waits for.
 #[derive(Drop)]
-pub(crate) enum Attempt {
+pub enum Attempt {
     /// The door has yet to begin it.
     Waits,
     /// It is begun.
@@ -55,10 +55,10 @@ pub(crate) enum Attempt {
 
 /// A line behind a router, as the door and the line's thread share it. Each of them holds its lock for moments.
 #[derive(Drop)]
-pub(crate) struct RouterLine {
-    pub(crate) line: LineNo,
+pub struct RouterLine {
+    pub line: LineNo,
     /// Where the router takes connections. It makes its own from this address, and any port.
-    pub(crate) router: SocketAddr,
+    pub router: SocketAddr,
     stage: Mutex<Stage>,
     /// Whether the line's last link went before it was used.
     was_unused: AtomicBool,
@@ -67,8 +67,8 @@ pub(crate) struct RouterLine {
 
 impl RouterLine {
     /// A line without a connection, whose thread rings this bell.
-    pub(crate) fn new(line: LineNo, router: SocketAddr, bell: Option<Arc<DoorBell>>) -> RouterLine
-        ensures { result.router ≡ router }
+    pub fn new(line: LineNo, router: SocketAddr, bell: Option<Arc<DoorBell>>) -> RouterLine
+        ensures { (result.line ≡ line) × (result.router ≡ router) }
     {
         RouterLine {
             line,
@@ -80,7 +80,7 @@ impl RouterLine {
     }
 
     /// Whether the line has no connection, and waits for none.
-    pub(crate) fn is_free(&self) -> bool {
+    pub fn is_free(&self) -> bool {
         match hold(&self.stage) {
             Some(stage) => matches!(*stage, Stage::Free),
             None => false,
@@ -88,7 +88,7 @@ impl RouterLine {
     }
 
     /// Gives the line a connection of its router. It comes back where it is from another address, or the line is not free.
-    pub(crate) fn hand(&self, arrival: Arrival) -> Result<(), Arrival>
+    pub fn hand(&self, arrival: Arrival) -> Result<(), Arrival>
         ensures { IfOk result (λ _. IsSameHost (socket_ip self.now.router) (socket_ip arrival.peer)) }
     {
         if !is_same_host(self.router.ip(), arrival.peer.ip()) {
@@ -104,7 +104,7 @@ impl RouterLine {
     }
 
     /// Takes the connection that the door has given to the line, which has none. From now on it has that one.
-    pub(crate) fn take_handed(&self) -> Option<Arrival> {
+    pub fn take_handed(&self) -> Option<Arrival> {
         let mut stage = hold(&self.stage)?;
         match mem::replace(&mut *stage, Stage::Free) {
             Stage::Handed(arrival) => {
@@ -121,7 +121,7 @@ impl RouterLine {
 
     /// Asks the door for a connection to the router. A connection of the router that the line was given, this one or another that
     /// its thread has not taken, goes back to the door. False where the line has to ask again.
-    pub(crate) fn want(&self, back: Option<Arrival>) -> bool {
+    pub fn want(&self, back: Option<Arrival>) -> bool {
         let Some(mut stage) = hold(&self.stage) else {
             return false;
         };
@@ -138,7 +138,7 @@ impl RouterLine {
     }
 
     /// Takes the connection that the line's thread waits for.
-    pub(crate) fn take_begun(&self) -> Attempt {
+    pub fn take_begun(&self) -> Attempt {
         let Some(mut stage) = hold(&self.stage) else {
             return Attempt::Waits;
         };
@@ -153,14 +153,14 @@ impl RouterLine {
     }
 
     /// Whether the line's thread waits for a connection that is not begun. `None` where that can't be told now.
-    pub(crate) fn is_wanted(&self) -> Option<bool> {
+    pub fn is_wanted(&self) -> Option<bool> {
         let stage = hold(&self.stage)?;
         Some(matches!(*stage, Stage::Wanted(_)))
     }
 
     /// Gives the line's thread the connection to the router that it waits for, or why none could be begun. Where it waits no more
     /// the connection is closed. A connection of the router comes back that the line can't take.
-    pub(crate) fn begin(&self, begun: Result<TcpStream, ConnectFault>) -> Option<Arrival> {
+    pub fn begin(&self, begun: Result<TcpStream, ConnectFault>) -> Option<Arrival> {
         let mut stage = hold(&self.stage)?;
         match mem::replace(&mut *stage, Stage::Free) {
             Stage::Wanted(back) => {
@@ -178,7 +178,7 @@ impl RouterLine {
     }
 
     /// The line has no connection any more, and waits for none. One of the router that it had to give back is given to it again.
-    pub(crate) fn release(&self) {
+    pub fn release(&self) {
         let Some(mut stage) = hold(&self.stage) else {
             return;
         };
@@ -190,19 +190,19 @@ impl RouterLine {
     }
 
     /// The line's thread has ended: connections are closed as they come.
-    pub(crate) fn close(&self) {
+    pub fn close(&self) {
         if let Some(mut stage) = hold(&self.stage) {
             *stage = Stage::Closed;
         }
     }
 
     /// Tells whether the line's link, which goes, was used.
-    pub(crate) fn link_went(&self, was_used: bool) {
+    pub fn link_went(&self, was_used: bool) {
         self.was_unused.store(!was_used, SeqCst);
     }
 
     /// Whether the line's last link went before it was used. That is told once.
-    pub(crate) fn take_unused(&self) -> bool {
+    pub fn take_unused(&self) -> bool {
         self.was_unused.swap(false, SeqCst)
     }
 }

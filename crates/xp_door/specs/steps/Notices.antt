@@ -1,10 +1,10 @@
 -- The text of a notice.
 use Rattle.std.specs.Prelude.{ℕ, List, ◌++◌, codes}
 use Rattle.std.specs.Net.Text.{socket_text}
-use Rattle.xp_tcp.specs.declared.connect_fault.ConnectFault.{ConnectFault}
-use Rattle.xp_tcp.specs.declared.connect_fault.ConnectFault.TheVariants as faults
-use Rattle.xp_tcp.specs.declared.notices.Notice.{Notice}
-use Rattle.xp_tcp.specs.declared.notices.Notice.TheVariants.{Closed, Connected, DoorFailing, DoorWorks, Down, NoFreeLine, NoRouter, NotConnected, PortFailing, PortWorks, Refused, Up}
+use Rattle.xp_door.specs.declared.connect_fault.ConnectFault.{ConnectFault}
+use Rattle.xp_door.specs.declared.connect_fault.ConnectFault.TheVariants as faults
+use Rattle.xp_door.specs.declared.notices.Notice.{Notice}
+use Rattle.xp_door.specs.declared.notices.Notice.TheVariants.{Closed, Connected, DoorFailing, DoorWorks, Down, NoFreeLine, NoRouter, NotConnected, PortFailing, PortWorks, Refused, Up}
 
 abbrev pub fault_text : ConnectFault → List ℕ
 fault_text faults.Refused = codes "refused"

@@ -4,9 +4,9 @@ use crate::choosing::{Candidate, is_router, line_for};
 use crate::connect_fault::ConnectFault;
 use crate::door_bell::DoorBell;
 use crate::notices::{Notice, Notices};
-use crate::port::is_in_want;
 use crate::router_line::{Arrival, RouterLine};
 use crate::wakers::LineWaker;
+use crate::want::is_in_want;
 use mio::net::{TcpListener, TcpStream};
 use mio::{Events, Poll};
 use std::alloc::{AllocError, Global};
@@ -45,16 +45,16 @@ pub struct Door {
 
 /// What a door is made of, before its lines are known.
 #[derive(Drop)]
-pub(crate) struct DoorSockets {
-    pub(crate) listener: TcpListener,
-    pub(crate) poll: Poll,
-    pub(crate) events: Events,
-    pub(crate) bell: Arc<DoorBell>,
-    pub(crate) port: u16,
+pub struct DoorSockets {
+    pub listener: TcpListener,
+    pub poll: Poll,
+    pub events: Events,
+    pub bell: Arc<DoorBell>,
+    pub port: u16,
 }
 
 impl Door {
-    pub(crate) fn new(
+    pub fn new(
         alloc: Global,
         sockets: DoorSockets,
         lines: Vec<Arc<RouterLine>>,

@@ -1,0 +1,5 @@
+pub mod Choices
+pub mod Hosts
+pub mod Notices
+pub mod Wants
+pub mod steps

@@ -1,0 +1,26 @@
+//! The door that routers connect to, and what its thread and those of the lines share: how they wake one another, what they tell
+//! an operator, and where each line behind a router is with its connection.
+#![tactic(auto)]
+
+mod choosing;
+mod connect_fault;
+mod door;
+mod door_bell;
+mod hosts;
+mod locks;
+mod notices;
+mod router_line;
+mod share;
+mod wakers;
+mod want;
+
+pub use choosing::{Candidate, is_router, line_for};
+pub use connect_fault::ConnectFault;
+pub use door::{Door, DoorSockets};
+pub use door_bell::DoorBell;
+pub use hosts::is_same_host;
+pub use notices::{Notice, Notices};
+pub use router_line::{Arrival, Attempt, RouterLine};
+pub use share::LineShare;
+pub use wakers::{LineWaker, wake_if_asleep};
+pub use want::is_in_want;
