@@ -1,6 +1,6 @@
 use Rattle.std.proofs.Common.{◌≡◌, ◌<◌, ℕ, slice_index_or}
 use Rattle.std.specs.declared.net.ip_addr.IpAddr.{IpAddr}
-use Rattle.xp_tcp.specs.Admissions.{IsSameHost}
+use Rattle.xp_door.specs.Hosts.{IsSameHost}
 use Rattle.xp_tcp.proofs.admission.is_among.Given as goal
 
 abbrev pub invariant-loop-place : goal.invariant-loop-place
