@@ -7,6 +7,7 @@ mod admission;
 mod clock;
 mod gate;
 mod line_port;
+mod line_sockets;
 mod link;
 mod options;
 mod port;

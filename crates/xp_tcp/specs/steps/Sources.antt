@@ -2,8 +2,8 @@
 use Rattle.std.specs.Prelude.{◌≡◌, ◌<◌, ℕ}
 use Rattle.xp_tcp.specs.declared.access.Access.{Access}
 use Rattle.xp_tcp.specs.declared.access.Access.TheVariants as access
-use Rattle.xp_tcp.specs.declared.sockets.LineSource.{LineSource}
-use Rattle.xp_tcp.specs.declared.sockets.LineSource.TheVariants as sources
+use Rattle.xp_tcp.specs.declared.line_sockets.LineSource.{LineSource}
+use Rattle.xp_tcp.specs.declared.line_sockets.LineSource.TheVariants as sources
 
 abbrev pub source_access : LineSource → Access
 source_access (sources.Own port listener admission) = access.Port port
