@@ -1,15 +1,14 @@
 -- What the arguments of a command ask for.
-use Rattle.std.proofs.Common.{◌≡◌, ◌∙◌, [], arith, refl, sym, ap, subst, codes, option_map, Option, Some, None, IfNone, IfSome, List, ℕ, slice_index_or}
+use Rattle.std.proofs.Common.{◌≡◌, ◌∙◌, [], cond, refl, sym, ap, subst, codes, option_map, Option, Some, None, IfNone, IfSome, List, ℕ, Bool, true, false, nat_eq, slice_index_or}
 use Rattle.clap.specs.Words.{Row, Text, first_of}
-use Rattle.xp.specs.Commands.{AsksFor, HasLimits, IsOrder, IsSubcommand}
+use Rattle.xp.specs.Commands.{AsksFor, HasLimits, HasReplayForm, IsOneForm, IsOrder, has_flag, IsSubcommand, operand_of, verb_of, word_of}
+use Rattle.xp.specs.declared.subcommand.ReplayForm.{ReplayForm}
 use Rattle.xp.specs.declared.subcommand.ServeOrder.{ServeOrder}
 use Rattle.xp.specs.declared.subcommand.Subcommand.{Subcommand}
-use Rattle.xp.specs.declared.subcommand.Subcommand.TheVariants.{Do, Serve}
+use Rattle.xp.specs.declared.subcommand.Verb.{Verb}
+use Rattle.xp.specs.declared.subcommand.Verb.TheVariants.{Check, Replay, Serve, Status, Stop}
 use Rattle.xp_serve.specs.Limits.{AreLimits}
 use Rattle.xp_serve.specs.declared.limits.Limits.{Limits}
-use Rattle.xp_tasks.specs.declared.task.Task.{Task}
-use Rattle.xp_tasks.specs.declared.task.Task.TheVariants.{Check, Replay}
-use Rattle.xp_tasks.specs.Tasks.{word_of}
 
 pub if_none : {X : Type 0} (o : Option X) (P : Type 0) → P → IfNone o P
 if_none None P p = p
@@ -40,23 +39,35 @@ module _ (rows : List Row) (records turns : Option (List ℕ)) (records_are : re
 pub no_order : (rows : List Row) → ((limits : Limits) → HasLimits rows limits → ⊥) → (order : ServeOrder) → IsOrder rows order → ⊥
 no_order rows none order is = none order.limits is.limits
 
-abbrev first_letter : List ℕ → ℕ
-first_letter word = slice_index_or word 0 0
+-- the forms of a replay for which the arguments ask
+module _ (rows : List Row) (words ladder : Bool) (capture : Option Text) (words_are : words ≡ has_flag (codes "words") rows)
+    (ladder_is : ladder ≡ has_flag (codes "ladder") rows) (capture_is : capture ≡ first_of (codes "pcap") rows) (found : Option ReplayForm) where
+  pub has_form : IfSome found (IsOneForm words ladder capture) → IfSome found (HasReplayForm rows)
+  has_form is =
+      subst (λ words. IfSome found (IsOneForm words (has_flag (codes "ladder") rows) (first_of (codes "pcap") rows))) words_are
+      (subst (λ ladder. IfSome found (IsOneForm words ladder (first_of (codes "pcap") rows))) ladder_is
+      (subst (λ capture. IfSome found (IsOneForm words ladder capture)) capture_is is))
 
-unlike_check : ◌≡◌ {A = ℕ} 115 99 → ⊥
-unlike_check same = omega (arith, same)
+  pub has_no_form : IfNone found ((form : ReplayForm) → IsOneForm words ladder capture form → ⊥) → IfNone found ((form : ReplayForm) → HasReplayForm rows form → ⊥)
+  has_no_form none =
+      subst (λ words. IfNone found ((form : ReplayForm) → IsOneForm words (has_flag (codes "ladder") rows) (first_of (codes "pcap") rows) form → ⊥)) words_are
+      (subst (λ ladder. IfNone found ((form : ReplayForm) → IsOneForm words ladder (first_of (codes "pcap") rows) form → ⊥)) ladder_is
+      (subst (λ capture. IfNone found ((form : ReplayForm) → IsOneForm words ladder capture form → ⊥)) capture_is none))
 
-unlike_replay : ◌≡◌ {A = ℕ} 115 114 → ⊥
-unlike_replay same = omega (arith, same)
+-- the name of the argument that has to be given first behind this word
+abbrev operand_behind : Text → Text
+operand_behind word = cond (nat_eq (slice_index_or word 1 0) 116) (codes "ADDRESS") (codes "FILE")
 
-no_task : (task : Task) → codes "serve" ≡ word_of task → ⊥
-no_task Check same = unlike_check (ap first_letter same)
-no_task Replay same = unlike_replay (ap first_letter same)
+operand_is : (verb : Verb) → operand_of verb ≡ operand_behind (word_of verb)
+operand_is Check = refl
+operand_is Replay = refl
+operand_is Serve = refl
+operand_is Status = refl
+operand_is Stop = refl
 
--- a command that asks for the lines to be served, and does not say how
-pub serves_not : (word : Text) (rows : List Row) → word ≡ codes "serve" → ((order : ServeOrder) → IsOrder rows order → ⊥) → (subcommand : Subcommand) → IsSubcommand word rows subcommand → ⊥
-serves_not word rows serve none (Do task) is = no_task task (sym serve ∙ is)
-serves_not word rows serve none (Serve order) is = none order is.1
+-- what a command of this word has to be given
+one_operand : (word : Text) (one other : Verb) → word ≡ word_of one → word ≡ word_of other → operand_of one ≡ operand_of other
+one_operand word one other is too = operand_is one ∙ ap operand_behind (sym is ∙ too) ∙ sym (operand_is other)
 
 -- a pair of which both parts are known
 pub pair_is : {X Y : Type 0} (o : Option (X × Y)) (x : X) (y : Y) → option_map (λ pair. pair.0) o ≡ Some x → option_map (λ pair. pair.1) o ≡ Some y → o ≡ Some (x, y)
@@ -88,8 +99,16 @@ module _ (found : Option (Text × List Row)) (word : Text) (rows : List Row) (fo
       (subst (λ rows. IsSubcommand word rows subcommand) (rows_alike subcommand name asks)
       (subst (λ word. IsSubcommand word asks.rows subcommand) (word_alike subcommand name asks) asks.subcommand_is))
 
-  -- a command without a file
-  pub asks_no_file : first_of (codes "FILE") rows ≡ None → (subcommand : Subcommand) (name : List ℕ) → AsksFor found subcommand name → ⊥
-  asks_no_file none subcommand name asks =
-      let file : None ≡ Some name = sym none ∙ ap (first_of (codes "FILE")) (sym (rows_alike subcommand name asks)) ∙ asks.named in
+  is_here : (subcommand : Subcommand) (name : List ℕ) (asks : AsksFor found subcommand name) → IsSubcommand word rows subcommand
+  is_here subcommand name asks =
+      subst (λ rows. IsSubcommand word rows subcommand) (rows_alike subcommand name asks)
+      (subst (λ word. IsSubcommand word asks.rows subcommand) (word_alike subcommand name asks) asks.subcommand_is)
+
+  -- a command without its file or address
+  pub asks_without : (own : Verb) → word ≡ word_of own → first_of (operand_of own) rows ≡ None
+      → (subcommand : Subcommand) (name : List ℕ) → AsksFor found subcommand name → ⊥
+  asks_without own is none subcommand name asks =
+      let alike = one_operand word own (verb_of subcommand) is (is_here subcommand name asks).0 in
+      let there : None ≡ Some name =
+      sym none ∙ ap (λ operand. first_of operand rows) alike ∙ ap (first_of (operand_of (verb_of subcommand))) (sym (rows_alike subcommand name asks)) ∙ asks.named in
       absurd (cc)

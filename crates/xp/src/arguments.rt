@@ -4,21 +4,23 @@ ghost use Rattle.std.specs.Prelude.{◌≡◌, ℕ, List, IfSome, IfNone, IfOk, 
 ghost use Rattle.clap.specs.Words.{app_of, kind_of, rule_of, subcommand_rows_of};
 ghost use Rattle.clap.specs.declared.error.kind.ErrorKind.TheVariants.{OutOfMemory};
 ghost use Rattle.clap.specs.declared.builder.command.Command.TheViews.{out-Command as fields_of};
-ghost use Rattle.xp.specs.Commands.{AreRight, Ask, AsksFor, command_of, file as file_rule, flag as flag_rule, program, recording, serve, tasks, valued as valued_rule};
+ghost use Rattle.xp.specs.Commands.{AreRight, Ask, AsksFor, command_of, flag as flag_rule, over_files as over_files_app, positional as positional_rule, program, recording, replay as replay_app, serve, serving, valued as valued_rule, verb_of};
 
-use crate::subcommand::{CDR, RECORDS, SERVE, Subcommand, TURNS, UNTIL_EOF};
+use crate::subcommand::{
+    CDR, CONSOLE, LADDER, PCAP, QUIET, RECORDS, Subcommand, TURNS, UNTIL_EOF, Verb, WORDS,
+};
 use clap::error::ErrorKind;
 use clap::{Arg, ArgAction, ArgMatches, Command, Error};
 use std::alloc::{AllocError, Global};
-use xp_tasks::Task;
 
 const ABOUT: &str = "The call-control exchange of an X.25 packet network.";
 
 const PROGRAM_DETAILS: &str = "\
 Examples:
   xp check examples/three-stations.toml
-  xp replay examples/three-stations.toml < examples/call.script
-  xp serve examples/three-stations.toml --cdr calls.csv
+  xp replay examples/three-stations.toml --words < examples/call.script
+  xp serve examples/three-stations.toml --cdr calls.csv --console 127.0.0.1:9980
+  xp status 127.0.0.1:9980
 
 The exit status is 0 when all was done, 2 for wrong arguments or a faulty line
 of a script, 3 for a subscription file that cannot be read or is refused, 4 for
@@ -44,7 +46,8 @@ A line of a script is one of these, where NAME is a line of the FILE:
 Empty lines, and those that begin with #, do nothing.
 
 Prints `out NAME DIGITS` for each frame that the exchange puts out, and
-`record ..` for each call that ended.
+`record ..` for each call that ended. One of --words, --ladder and --pcap shows
+the same in another form.
 
 Example:
   xp replay examples/three-stations.toml < examples/call.script";
@@ -61,9 +64,16 @@ their records are written. A second Ctrl-C ends it at once.
 
 Lines of facts with their moments go to standard error. Where the file of
 --cdr can't be written, the records wait, and are tried again each second.
+With --console a page at that address shows the lines and the live calls.
 
 Example:
   xp serve examples/three-stations.toml --cdr calls.csv";
+
+const REPLAY_WORDS_HELP: &str = "Prints each event, packet and record in words";
+
+const LADDER_HELP: &str = "Prints the packets as a ladder diagram, 80 columns wide";
+
+const PCAP_HELP: &str = "Writes the packets into this file, as a capture that Wireshark reads";
 
 const CDR_HELP: &str = "Writes call detail records at the end of this file (CSV)";
 
@@ -73,39 +83,66 @@ const TURNS_HELP: &str = "For tests: ends each line after so many turns, 1 to 10
 
 const UNTIL_EOF_HELP: &str = "Ends cleanly as standard input ends";
 
-const FILE: &str = "The subscription file (TOML): the stations and their lines";
+const CONSOLE_HELP: &str =
+    "Shows the exchange at this address, as 127.0.0.1:9980: see it in a browser";
 
-/// The arguments of the program: a subcommand and a subscription file.
+const QUIET_HELP: &str = "Tells only failures on standard error";
+
+const STATUS_ABOUT: &str = "Shows a serving exchange: its lines, live calls and last records";
+
+const STATUS_DETAILS: &str = "\
+ADDRESS is that of `xp serve --console ADDRESS`.
+
+Example:
+  xp status 127.0.0.1:9980";
+
+const STOP_ABOUT: &str = "Stops a serving exchange cleanly";
+
+const STOP_DETAILS: &str = "\
+ADDRESS is that of `xp serve --console ADDRESS`. All calls are ended, and their
+records are written, as at Ctrl-C.
+
+Example:
+  xp stop 127.0.0.1:9980";
+
+const FILE_HELP: &str = "The subscription file (TOML): the stations and their lines";
+
+const ADDRESS_HELP: &str = "The address of the console, as 127.0.0.1:9980";
+
+/// The arguments of the program: a subcommand, and what it has to be given.
 #[derive(Clone, Copy, Debug, PartialEq, Eq)]
 pub struct Arguments<'a> {
     pub subcommand: Subcommand<'a>,
-    /// The name of the subscription file.
-    pub file: &'a str,
+    /// The name of the subscription file, or the address of the console that is asked.
+    pub operand: &'a str,
 }
 
 impl<'a> Arguments<'a> {
     /// Reads the words of a command line; the first is the program's own name. Correct words fail only if an allocation
     /// fails.
     pub fn read(alloc: Global, words: &'a [String]) -> Result<Arguments<'a>, Error>
-        ensures asked { IfOk result (λ arguments. Ask (map string_bytes words.now) arguments.subcommand arguments.file.now) }
+        ensures asked { IfOk result (λ arguments. Ask (map string_bytes words.now) arguments.subcommand arguments.operand.now) }
         ensures taken { IfErr result (λ error. AreRight (map string_bytes words.now) → kind_of error ≡ OutOfMemory) }
     {
         let matches = command(alloc)?.try_get_matches_from(words)?;
         match Arguments::named(&matches) {
             Some(arguments) => Ok(arguments),
-            None => Err(refused(alloc, "a command is missing")?),
+            None => Err(refused(alloc, "the arguments do not go together")?),
         }
     }
 
-    /// The subcommand in the words, with its file.
+    /// The subcommand in the words, with its file or address.
     fn named(matches: &ArgMatches<'a>) -> Option<Arguments<'a>>
-        ensures found { IfSome result (λ arguments. AsksFor (subcommand_rows_of matches.now) arguments.subcommand arguments.file.now) }
+        ensures found { IfSome result (λ arguments. AsksFor (subcommand_rows_of matches.now) arguments.subcommand arguments.operand.now) }
         ensures none { IfNone result ((subcommand : Subcommand) (name : List ℕ) → AsksFor (subcommand_rows_of matches.now) subcommand name → ⊥) }
     {
         let (word, matches) = matches.subcommand()?;
         let subcommand = Subcommand::named(word, matches)?;
-        let file = matches.get_str("FILE")?;
-        Some(Arguments { subcommand, file })
+        let operand = matches.get_str(subcommand.verb().operand())?;
+        Some(Arguments {
+            subcommand,
+            operand,
+        })
     }
 }
 
@@ -118,17 +155,36 @@ pub fn refused(alloc: Global, reason: &str) -> Result<Error, Error> {
 fn command<'a>(alloc: Global) -> Result<Command<'a>, AllocError>
     ensures { IfOk result (λ command. app_of command ≡ program) }
 {
-    let serve = serve_command(alloc)?;
-    with_tasks(alloc)?.subcommand(serve)?.bin_name("xp")
+    let status = over_operand(
+        alloc,
+        Verb::Status,
+        STATUS_ABOUT,
+        STATUS_DETAILS,
+        ADDRESS_HELP,
+    )?;
+    let stop = over_operand(alloc, Verb::Stop, STOP_ABOUT, STOP_DETAILS, ADDRESS_HELP)?;
+    with_serving(alloc)?
+        .subcommand(status)?
+        .subcommand(stop)?
+        .bin_name("xp")
 }
 
-/// The program's command line with a subcommand for each task.
-fn with_tasks<'a>(alloc: Global) -> Result<Command<'a>, AllocError>
-    ensures shape { IfOk result (λ command. app_of command ≡ tasks) }
+/// The same without the subcommands that ask a console.
+fn with_serving<'a>(alloc: Global) -> Result<Command<'a>, AllocError>
+    ensures shape { IfOk result (λ command. app_of command ≡ serving) }
     ensures local { IfOk result (λ command. (fields_of command).has_globals ≡ false) }
 {
-    let check = task_command(alloc, Task::Check, CHECK_ABOUT, CHECK_DETAILS)?;
-    let replay = task_command(alloc, Task::Replay, REPLAY_ABOUT, REPLAY_DETAILS)?;
+    let serve = serve_command(alloc)?;
+    over_files(alloc)?.subcommand(serve)
+}
+
+/// The program's command line with the subcommands over a subscription file and a script.
+fn over_files<'a>(alloc: Global) -> Result<Command<'a>, AllocError>
+    ensures shape { IfOk result (λ command. app_of command ≡ over_files_app) }
+    ensures local { IfOk result (λ command. (fields_of command).has_globals ≡ false) }
+{
+    let check = over_operand(alloc, Verb::Check, CHECK_ABOUT, CHECK_DETAILS, FILE_HELP)?;
+    let replay = replay_command(alloc)?;
     Command::new(alloc, "xp")
         .about(ABOUT)
         .after_help(PROGRAM_DETAILS)
@@ -138,20 +194,33 @@ fn with_tasks<'a>(alloc: Global) -> Result<Command<'a>, AllocError>
         .subcommand(replay)
 }
 
-/// The subcommand of a task, with the text of its help before the arguments and after them.
-fn task_command<'a>(
+/// The subcommand of a verb with the argument that it has to be given first, and with the text of its help before the arguments
+/// and after them.
+fn over_operand<'a>(
     alloc: Global,
-    task: Task,
+    verb: Verb,
     about: &'a str,
     details: &'a str,
+    help: &'a str,
 ) -> Result<Command<'a>, AllocError>
-    ensures shape { IfOk result (λ command. app_of command ≡ command_of task) }
+    ensures shape { IfOk result (λ command. app_of command ≡ command_of verb) }
     ensures local { IfOk result (λ command. (fields_of command).has_globals ≡ false) }
 {
-    Command::new(alloc, task.word())
+    Command::new(alloc, verb.word())
         .about(about)
         .after_help(details)
-        .arg(file(alloc))
+        .arg(positional(alloc, verb.operand(), help))
+}
+
+/// The subcommand that replays a script.
+fn replay_command<'a>(alloc: Global) -> Result<Command<'a>, AllocError>
+    ensures shape { IfOk result (λ command. app_of command ≡ replay_app) }
+    ensures local { IfOk result (λ command. (fields_of command).has_globals ≡ false) }
+{
+    over_operand(alloc, Verb::Replay, REPLAY_ABOUT, REPLAY_DETAILS, FILE_HELP)?
+        .arg(flag(alloc, WORDS, REPLAY_WORDS_HELP))?
+        .arg(flag(alloc, LADDER, LADDER_HELP))?
+        .arg(valued(alloc, PCAP, "PATH", PCAP_HELP))
 }
 
 /// The subcommand that serves the lines.
@@ -161,6 +230,8 @@ fn serve_command<'a>(alloc: Global) -> Result<Command<'a>, AllocError>
 {
     recording_command(alloc)?
         .arg(valued(alloc, TURNS, "M", TURNS_HELP))?
+        .arg(valued(alloc, CONSOLE, "ADDRESS", CONSOLE_HELP))?
+        .arg(flag(alloc, QUIET, QUIET_HELP))?
         .arg(flag(alloc, UNTIL_EOF, UNTIL_EOF_HELP))
 }
 
@@ -169,19 +240,17 @@ fn recording_command<'a>(alloc: Global) -> Result<Command<'a>, AllocError>
     ensures shape { IfOk result (λ command. app_of command ≡ recording) }
     ensures local { IfOk result (λ command. (fields_of command).has_globals ≡ false) }
 {
-    Command::new(alloc, SERVE)
-        .about(SERVE_ABOUT)
-        .after_help(SERVE_DETAILS)
-        .arg(file(alloc))?
+    over_operand(alloc, Verb::Serve, SERVE_ABOUT, SERVE_DETAILS, FILE_HELP)?
         .arg(valued(alloc, CDR, "PATH", CDR_HELP))?
         .arg(valued(alloc, RECORDS, "N", RECORDS_HELP))
 }
 
-fn file<'a>(alloc: Global) -> Arg<'a>
-    ensures rule { rule_of result ≡ file_rule }
+/// An argument that has to be there, as FILE.
+fn positional<'a>(alloc: Global, name: &'a str, help: &'a str) -> Arg<'a>
+    ensures rule { rule_of result ≡ positional_rule name.now }
     ensures local { result.global ≡ false }
 {
-    Arg::new(alloc, "FILE").required(true).help(FILE)
+    Arg::new(alloc, name).required(true).help(help)
 }
 
 /// An argument with a value, as `--records N`.

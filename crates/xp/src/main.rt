@@ -4,26 +4,36 @@
 ghost use Rattle.std.specs.Prelude.{◌≡◌};
 
 mod arguments;
+mod console;
 mod failure;
 mod laws;
+mod replaying;
+mod served_console;
 mod serving;
+mod status_feed;
 mod subcommand;
+mod subscribing;
 
 use crate::arguments::Arguments;
+use crate::console::ask_console;
 use crate::failure::Failure;
+use crate::replaying::{perform_task, replay_script};
 use crate::serving::serve_lines;
-use crate::subcommand::Subcommand;
+use crate::subcommand::{ServeOrder, Subcommand};
+use crate::subscribing::read_subscriptions;
 use log::Log;
 use std::fs::{File, Files};
-use std::io::{BufReader, BufWriter, ErrorKind};
+use std::io::ErrorKind;
 use std::net::{Net, TcpListener, TcpStream};
 use std::process::ExitCode;
+use std::random::RandomSource;
 use std::rt::Env;
 use std::sync::Wait;
 use std::thread::Threads;
-use std::{env, fs, io};
+use std::time::Clock;
+use std::{env, fs};
 use xp_subs::Subs;
-use xp_tasks::{Task, TaskFailure, perform, subscriptions};
+use xp_tasks::{Task, TaskFailure};
 
 fn main(rt: HostRuntime) -> ExitCode {
     match run(&rt) {
@@ -36,40 +46,58 @@ fn main(rt: HostRuntime) -> ExitCode {
     }
 }
 
-/// Performs the subcommand on the file that the arguments name.
+/// Performs the subcommand on the file, or at the console, that the arguments name.
 fn run<
     R: AllocGlobal
+        + Clock
         + Env
         + Files<File = File>
         + Input
         + Log
         + Net<Listener = TcpListener, Stream = TcpStream>
         + Print
+        + RandomSource
         + Sync
         + Threads
         + Wait,
 >(rt: &R) -> Result<(), Failure> {
-    let alloc = rt.alloc();
     let words = words(rt)?;
-    let arguments = Arguments::read(alloc, &words)?;
-    let text = fs::read_to_string(rt, arguments.file);
-    let subs = subscriptions(alloc, &text)?;
+    let arguments = Arguments::read(rt.alloc(), &words)?;
+    let operand = arguments.operand;
     match arguments.subcommand {
-        Subcommand::Do(task) => do_task(rt, task, subs),
-        Subcommand::Serve(order) => {
-            let names = subscriptions(alloc, &text)?;
-            serve_lines(rt, &order, subs, names)
-        }
+        Subcommand::Check => perform_task(rt, Task::Check, subscriptions_in(rt, operand)?),
+        Subcommand::Replay(form) => replay_script(rt, form, subscriptions_in(rt, operand)?),
+        Subcommand::Serve(order) => serve_file(rt, &order, operand),
+        Subcommand::Ask(request) => ask_console(rt, request, operand),
     }
 }
 
-/// Performs a task over the standard streams.
-fn do_task<R: AllocGlobal + Input + Print>(rt: &R, task: Task, subs: Subs) -> Result<(), Failure> {
+/// Serves the lines of a subscription file.
+fn serve_file<
+    R: AllocGlobal
+        + Clock
+        + Files<File = File>
+        + Log
+        + Net<Listener = TcpListener, Stream = TcpStream>
+        + Print
+        + RandomSource
+        + Sync
+        + Threads
+        + Wait,
+>(rt: &R, order: &ServeOrder<'_>, file: &str) -> Result<(), Failure> {
     let alloc = rt.alloc();
-    let reader = BufReader::new(alloc, rt.reader()).map_err(|_| TaskFailure::Memory)?;
-    let mut writer = BufWriter::new(alloc, io::writer(rt)).map_err(|_| TaskFailure::Memory)?;
-    perform(alloc, task, subs, reader, &mut writer)?;
-    Ok(())
+    let text = fs::read_to_string(rt, file);
+    let subs = read_subscriptions(alloc, &text)?;
+    let names = read_subscriptions(alloc, &text)?;
+    serve_lines(rt, order, subs, names)
+}
+
+/// The subscriptions of the file of this name.
+fn subscriptions_in<R: AllocGlobal + Files<File = File>>(
+    rt: &R,
+    file: &str,
+) -> Result<Subs, Failure> {
+    read_subscriptions(rt.alloc(), &fs::read_to_string(rt, file))
 }
 
 /// The words of the command line.

@@ -1,18 +1,35 @@
 //! The subcommands of the program.
 
-ghost use Rattle.std.specs.Prelude.{◌≡◌, IfNone, IfSome, codes};
+ghost use Rattle.std.specs.Prelude.{◌≡◌, IfNone, IfSome, Some, codes, option_map};
 ghost use Rattle.clap.specs.Words.{first_of, found_of, rows_of};
-ghost use Rattle.xp.specs.Commands.{HasLimits, IsOrder, IsSubcommand, says_true};
+ghost use Rattle.xp.specs.Commands.{HasLimits, HasReplayForm, IsOneForm, IsOrder, IsSubcommand, Suits, operand_of, says_true, verb_of, word_of};
 
 use clap::ArgMatches;
 use xp_serve::Limits;
-use xp_tasks::Task;
 
-/// The word of the subcommand that serves the lines.
-pub const SERVE: &str = "serve";
+/// The name of the subscription file.
+pub const FILE: &str = "FILE";
+
+/// The address of a console.
+pub const ADDRESS: &str = "ADDRESS";
+
+/// The argument by which words for people are printed.
+pub const WORDS: &str = "words";
+
+/// The argument by which a ladder diagram is printed.
+pub const LADDER: &str = "ladder";
+
+/// The argument for the file of a capture.
+pub const PCAP: &str = "pcap";
 
 /// The argument for the file of call detail records.
 pub const CDR: &str = "cdr";
+
+/// The argument for the address of the console.
+pub const CONSOLE: &str = "console";
+
+/// The argument by which only failures are told.
+pub const QUIET: &str = "quiet";
 
 /// The argument for the number of records after which serving ends.
 pub const RECORDS: &str = "records";
@@ -23,23 +40,105 @@ pub const TURNS: &str = "turns";
 /// The argument by which serving ends cleanly as standard input ends.
 pub const UNTIL_EOF: &str = "until-eof";
 
+/// What a subcommand does.
+#[derive(Clone, Copy, Debug, PartialEq, Eq)]
+pub enum Verb {
+    Check,
+    Replay,
+    Serve,
+    Status,
+    Stop,
+}
+
+impl Verb {
+    ghost use Rattle.xp.specs.declared.subcommand.Verb.{Verb};
+
+    /// Its word on the command line.
+    pub fn word<'a>(self) -> &'a str
+        ensures { result.now ≡ word_of self }
+    {
+        match self {
+            Verb::Check => "check",
+            Verb::Replay => "replay",
+            Verb::Serve => "serve",
+            Verb::Status => "status",
+            Verb::Stop => "stop",
+        }
+    }
+
+    /// The verb of a word of the command line.
+    pub fn named(word: &str) -> Option<Verb>
+        ensures found { IfSome result (λ verb. word.now ≡ word_of verb) }
+        ensures none { IfNone result ((verb : Verb) → word.now ≡ word_of verb → ⊥) }
+    {
+        match word {
+            "check" => Some(Verb::Check),
+            "replay" => Some(Verb::Replay),
+            "serve" => Some(Verb::Serve),
+            "status" => Some(Verb::Status),
+            "stop" => Some(Verb::Stop),
+            _ => None,
+        }
+    }
+
+    /// The name of the argument that it has to be given first: a file, or the address of a console.
+    pub fn operand<'a>(self) -> &'a str
+        ensures { result.now ≡ operand_of self }
+    {
+        match self {
+            Verb::Check | Verb::Replay | Verb::Serve => FILE,
+            Verb::Status | Verb::Stop => ADDRESS,
+        }
+    }
+}
+
+/// The form in which a replay is told.
+#[derive(Clone, Copy, Debug, PartialEq, Eq)]
+pub enum ReplayForm<'a> {
+    /// Lines of frames in hexadecimal digits, and of charging records.
+    Digits,
+    /// Words for a person.
+    Words,
+    /// A ladder diagram.
+    Ladder,
+    /// A capture, in the file of this name.
+    Capture(&'a str),
+}
+
 /// How the lines are to be served.
 #[derive(Clone, Copy, Debug, PartialEq, Eq)]
 pub struct ServeOrder<'a> {
     pub limits: Limits,
     /// The name of the file of call detail records, if there is to be one.
     pub details: Option<&'a str>,
+    /// The address at which the console is to be, if there is to be one.
+    pub console: Option<&'a str>,
+    /// Whether only failures are told on standard error.
+    pub quiet: bool,
     /// Whether serving ends cleanly as standard input ends.
     pub until_eof: bool,
+}
+
+/// What a console is asked for.
+#[derive(Clone, Copy, Debug, PartialEq, Eq)]
+pub enum ConsoleRequest {
+    /// To show the exchange.
+    Status,
+    /// To stop the exchange.
+    Stop,
 }
 
 /// A subcommand of the program.
 #[derive(Clone, Copy, Debug, PartialEq, Eq)]
 pub enum Subcommand<'a> {
-    /// Performs a task over the standard streams.
-    Do(Task),
+    /// Checks a subscription file.
+    Check,
+    /// Replays a script from standard input.
+    Replay(ReplayForm<'a>),
     /// Serves the lines over TCP.
     Serve(ServeOrder<'a>),
+    /// Asks the console of a serving exchange.
+    Ask(ConsoleRequest),
 }
 
 impl<'a> Subcommand<'a> {
@@ -48,12 +147,66 @@ impl<'a> Subcommand<'a> {
         ensures found { IfSome result (λ subcommand. IsSubcommand word.now (rows_of (found_of matches.now)) subcommand) }
         ensures none { IfNone result ((subcommand : Subcommand) → IsSubcommand word.now (rows_of (found_of matches.now)) subcommand → ⊥) }
     {
-        if word == SERVE {
-            let order = order_of(matches)?;
-            return Some(Subcommand::Serve(order));
+        let verb = Verb::named(word)?;
+        Subcommand::with(verb, matches)
+    }
+
+    /// The subcommand of a verb, with its arguments.
+    fn with(verb: Verb, matches: &ArgMatches<'a>) -> Option<Subcommand<'a>>
+        ensures found { IfSome result (λ subcommand. (verb_of subcommand ≡ verb) × Suits (rows_of (found_of matches.now)) subcommand) }
+        ensures none { IfNone result ((subcommand : Subcommand) → verb_of subcommand ≡ verb → Suits (rows_of (found_of matches.now)) subcommand → ⊥) }
+    {
+        match verb {
+            Verb::Check => Some(Subcommand::Check),
+            Verb::Replay => {
+                let form = replay_form(matches)?;
+                Some(Subcommand::Replay(form))
+            }
+            Verb::Serve => {
+                let order = order_of(matches)?;
+                Some(Subcommand::Serve(order))
+            }
+            Verb::Status => Some(Subcommand::Ask(ConsoleRequest::Status)),
+            Verb::Stop => Some(Subcommand::Ask(ConsoleRequest::Stop)),
         }
-        let task = Task::named(word)?;
-        Some(Subcommand::Do(task))
+    }
+
+    /// What it does.
+    pub fn verb(&self) -> Verb
+        ensures { result ≡ verb_of self.now }
+    {
+        match self {
+            Subcommand::Check => Verb::Check,
+            Subcommand::Replay(_) => Verb::Replay,
+            Subcommand::Serve(_) => Verb::Serve,
+            Subcommand::Ask(ConsoleRequest::Status) => Verb::Status,
+            Subcommand::Ask(ConsoleRequest::Stop) => Verb::Stop,
+        }
+    }
+}
+
+/// The form in which the arguments ask for a replay: at most one of three.
+fn replay_form<'a>(matches: &ArgMatches<'a>) -> Option<ReplayForm<'a>>
+    ensures found { IfSome result (λ form. HasReplayForm (rows_of (found_of matches.now)) form) }
+    ensures none { IfNone result ((form : ReplayForm) → HasReplayForm (rows_of (found_of matches.now)) form → ⊥) }
+{
+    let words = is_true(matches, WORDS);
+    let ladder = is_true(matches, LADDER);
+    let capture = matches.get_str(PCAP);
+    one_form(words, ladder, capture)
+}
+
+/// The one form that is asked for. `None` where several are.
+fn one_form<'a>(words: bool, ladder: bool, capture: Option<&'a str>) -> Option<ReplayForm<'a>>
+    ensures found { IfSome result (IsOneForm words ladder (option_map (λ path. path.now) capture.entry)) }
+    ensures none { IfNone result ((form : ReplayForm) → IsOneForm words ladder (option_map (λ path. path.now) capture.entry) form → ⊥) }
+{
+    match (words, ladder, capture) {
+        (false, false, None) => Some(ReplayForm::Digits),
+        (true, false, None) => Some(ReplayForm::Words),
+        (false, true, None) => Some(ReplayForm::Ladder),
+        (false, false, Some(path)) => Some(ReplayForm::Capture(path)),
+        _ => None,
     }
 }
 
@@ -63,10 +216,16 @@ fn order_of<'a>(matches: &ArgMatches<'a>) -> Option<ServeOrder<'a>>
     ensures none { IfNone result ((order : ServeOrder) → IsOrder (rows_of (found_of matches.now)) order → ⊥) }
 {
     let limits = limits_of(matches)?;
+    let details = matches.get_str(CDR);
+    let console = matches.get_str(CONSOLE);
+    let quiet = is_true(matches, QUIET);
+    let until_eof = is_true(matches, UNTIL_EOF);
     Some(ServeOrder {
         limits,
-        details: matches.get_str(CDR),
-        until_eof: is_true(matches, UNTIL_EOF),
+        details,
+        console,
+        quiet,
+        until_eof,
     })
 }
 

@@ -59,7 +59,6 @@ impl<A: Allocator + Copy> Deframer<A> {
     /// as its four octets have arrived, the version first. The packets before it in this piece remain available to
     /// [`next`](Self::next). Every later call returns `Failed` and changes nothing. `Memory` if an allocation fails;
     /// then nothing has changed, and the same piece may be fed again.
-    #[inline(always)]
     pub fn feed(&mut self, piece: &[u8]) -> Result<(), FrameFault>
         ensures { Feeds self.old piece.now result self.new }
     {

@@ -26,7 +26,6 @@ use std::alloc::Allocator;
 ///
 /// `Malformed` gives the first fault in the order of the checks. `Memory` if an allocation fails; this happens only
 /// where the octets are a packet with a block, data or interrupt data.
-#[inline(always)]
 pub fn decode<A: Allocator + Copy>(
     alloc: A,
     modulus: Modulus,

@@ -1,0 +1,5 @@
+mod Feeds
+mod Pieces
+mod TellLines
+mod Told
+mod Whole

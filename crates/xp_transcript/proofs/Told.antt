@@ -1,0 +1,213 @@
+-- What is told of events, one list after the other.
+use Rattle.std.proofs.Common.{◌≡◌, ℕ, ◌+◌, List, [], ◌∷◌, ◌++◌, length, take, refl, sym, ap, ◌∙◌, append_assoc, append-nil, subst, All, Option, Result, Ok, Err}
+use Rattle.std.proofs.lemmas.List.Elements.{All-head, All-tail}
+use Rattle.std.proofs.Math.Seq.{take-append-add}
+use Rattle.std.specs.Io.KnownBytes.{Appends}
+use Rattle.xp_subs.specs.Tables.{Tables}
+use Rattle.xp_core.specs.declared.entry.Entry.{Entry}
+use Rattle.xp_core.specs.declared.event.Event.{Event}
+use Rattle.xp_core.specs.Exchange.{Exchange}
+use Rattle.xp_exchange.specs.declared.fault.ReplayFault.{ReplayFault}
+use Rattle.xp_exchange.specs.declared.fault.ReplayFault.TheVariants.{Script, Journal, Memory, Read, Write}
+use Rattle.xp_exchange.specs.FrameEvents.{Fits}
+use Rattle.xp_exchange.specs.Play.{ActsOn, Enters, PlayState, RefusesEvent}
+use Rattle.xp_exchange.specs.Acting.{Puts}
+use Rattle.xp_exchange.proofs.Acts.{acts_on_both, acts_on_nothing}
+use Rattle.xp_exchange.proofs.Bytes.{appends_both, appends_nothing}
+use Rattle.xp_transcript.specs.declared.teller.Teller.{Teller}
+use Rattle.xp_transcript.specs.Telling.{IsTold, IsToldInPart, TellState}
+use Rattle.xp_transcript.specs.Transcript.{entry_told, teller_after, teller_behind, transcript}
+use Rattle.xp_transcript.specs.steps.Telling.{TellsEach, TellsEvents}
+
+module _ {A : Type 0} where
+  transcript-append : (tables : Tables) (teller : Teller) (xs ys : List (Entry A)) → transcript tables teller (xs ++ ys) ≡ transcript tables teller xs ++ transcript tables (teller_behind tables teller xs) ys
+  transcript-append tables teller [] ys = refl
+  transcript-append tables teller (x ∷ xs) ys =
+      ap (λ rest. entry_told tables teller x ++ rest) (transcript-append tables (teller_after tables teller x) xs ys)
+      ∙ sym (append_assoc (entry_told tables teller x) (transcript tables (teller_after tables teller x) xs) (transcript tables (teller_behind tables (teller_after tables teller x) xs) ys))
+
+  behind-append : (tables : Tables) (teller : Teller) (xs ys : List (Entry A)) → teller_behind tables teller (xs ++ ys) ≡ teller_behind tables (teller_behind tables teller xs) ys
+  behind-append tables teller [] ys = refl
+  behind-append tables teller (x ∷ xs) ys = behind-append tables (teller_after tables teller x) xs ys
+
+  pub told_nothing : (old : Exchange A) (teller : Teller) → IsTold old teller old teller []
+  told_nothing old teller = record { entries = []; history = sym (append-nil old.history); text_is = refl; behind_is = refl }
+
+  pub told_one : (old new : Exchange A) (teller behind : Teller) (event : Event A) (entry : Entry A) (text : List ℕ) → Enters old event new entry
+      → text ≡ entry_told old.subs teller entry → behind ≡ teller_after old.subs teller entry → IsTold old teller new behind text
+  told_one old new teller behind event entry text enters is after = record {
+    entries = entry ∷ [];
+    history = enters.history;
+    text_is = is ∙ sym (append-nil (entry_told old.subs teller entry));
+    behind_is = after;
+  }
+
+  pub told_both : (old between new : Exchange A) (first second third : Teller) (one other : List ℕ) → between.subs ≡ old.subs
+      → IsTold old first between second one → IsTold between second new third other → IsTold old first new third (one ++ other)
+  told_both old between new first second third one other same a b =
+      let later : other ≡ transcript old.subs (teller_behind old.subs first a.entries) b.entries =
+      b.text_is ∙ ap (λ subs. transcript subs second b.entries) same ∙ ap (λ teller. transcript old.subs teller b.entries) a.behind_is in
+      record {
+        entries = a.entries ++ b.entries;
+        history = b.history ∙ ap (λ front. front ++ b.entries) a.history ∙ append_assoc old.history a.entries b.entries;
+        text_is = ap (λ front. front ++ other) a.text_is ∙ ap (λ rest. transcript old.subs first a.entries ++ rest) later
+            ∙ sym (transcript-append old.subs first a.entries b.entries);
+        behind_is = b.behind_is ∙ ap (λ subs. teller_behind subs second b.entries) same ∙ ap (λ teller. teller_behind old.subs teller b.entries) a.behind_is
+            ∙ sym (behind-append old.subs first a.entries b.entries);
+      }
+
+  -- nothing of the events is told
+  pub told_in_no_part : (old : Exchange A) (teller : Teller) (events : List (Event A)) → IsToldInPart old teller events []
+  told_in_no_part old teller events = record {
+    first = [];
+    later = events;
+    in_order = refl;
+    after = old;
+    acts = acts_on_nothing old;
+    behind = teller;
+    whole = [];
+    told = told_nothing old teller;
+    count = 0;
+    front = refl;
+  }
+
+  -- a front of what is told of all events
+  pub told_front : (old new : Exchange A) (teller behind : Teller) (events : List (Event A)) (whole text : List ℕ) (count : ℕ) → ActsOn old events new
+      → IsTold old teller new behind whole → text ≡ take count whole → IsToldInPart old teller events text
+  told_front old new teller behind events whole text count acts told is = record {
+    first = events;
+    later = [];
+    in_order = sym (append-nil events);
+    after = new;
+    acts = acts;
+    behind = behind;
+    whole = whole;
+    told = told;
+    count = count;
+    front = is;
+  }
+
+  -- some events are told whole, and then others in part
+  pub told_in_part_after : (old between : Exchange A) (first second : Teller) (done next events rest : List (Event A)) (one other : List ℕ) → events ≡ done ++ (next ++ rest)
+      → ActsOn old done between → IsTold old first between second one → IsToldInPart between second next other → IsToldInPart old first events (one ++ other)
+  told_in_part_after old between first second done next events rest one other split acts told part = record {
+    first = done ++ part.first;
+    later = part.later ++ rest;
+    in_order = split ∙ ap (λ some. done ++ (some ++ rest)) part.in_order
+        ∙ ap (λ some. done ++ some) (append_assoc part.first part.later rest)
+        ∙ sym (append_assoc done part.first (part.later ++ rest));
+    after = part.after;
+    acts = acts_on_both old between part.after done part.first acts part.acts;
+    behind = part.behind;
+    whole = one ++ part.whole;
+    told = told_both old between part.after first second part.behind one part.whole acts.subs told part.told;
+    count = length one + part.count;
+    front = ap (λ rest. one ++ rest) part.front ∙ sym (take-append-add one part.whole part.count);
+  }
+
+  pub record SoFar (first : TellState A) (events left : List (Event A)) (now : TellState A) (old new : Option (List ℕ)) : Type 0 where
+    pub done : List (Event A)
+    pub split : events ≡ done ++ left
+    pub text : List ℕ
+    pub puts : Appends old new text
+    pub tells : TellsEach first done now text
+    pub fit : All (Fits first.play.exchange.subs) left
+
+  pub so_far_none : (first : TellState A) (events : List (Event A)) (known : Option (List ℕ)) → All (Fits first.play.exchange.subs) events → SoFar first events events first known known
+  so_far_none first events known fit = record {
+    done = [];
+    split = refl;
+    text = [];
+    puts = appends_nothing known;
+    tells = record { acts = acts_on_nothing first.play.exchange; told = told_nothing first.play.exchange first.teller; kept = refl };
+    fit = fit;
+  }
+
+  -- the next event fits
+  pub next_fits : (first : TellState A) (events left rest : List (Event A)) (event : Event A) (now : TellState A) (old new : Option (List ℕ)) → SoFar first events left now old new → left ≡ event ∷ rest
+      → Fits now.play.exchange.subs event
+  next_fits first events left rest event now old new so_far next =
+      subst (λ tables. Fits tables event) (sym so_far.tells.acts.subs)
+      (All-head (Fits first.play.exchange.subs) event rest (subst (All (Fits first.play.exchange.subs)) next so_far.fit))
+
+  each_both : (first now next : TellState A) (done : List (Event A)) (event : Event A) (one other : List ℕ) → TellsEach first done now one → TellsEach now (event ∷ []) next other → TellsEach first (done ++ event ∷ []) next (one ++ other)
+  each_both first now next done event one other a b = record {
+    acts = acts_on_both first.play.exchange now.play.exchange next.play.exchange done (event ∷ []) a.acts b.acts;
+    told = told_both first.play.exchange now.play.exchange next.play.exchange first.teller now.teller next.teller one other a.acts.subs a.told b.told;
+    kept = b.kept ∙ ap (λ (play : PlayState A). record play { exchange = next.play.exchange }) a.kept;
+  }
+
+  pub so_far_more : (first : TellState A) (events left rest : List (Event A)) (event : Event A) (now next : TellState A) (old between new : Option (List ℕ))
+      → SoFar first events left now old between → left ≡ event ∷ rest
+      → (text : List ℕ) × Appends between new text × TellsEvents now (event ∷ []) (Ok tt) next text
+      → SoFar first events rest next old new
+  so_far_more first events left rest event now next old between new so_far cut told = record {
+    done = so_far.done ++ event ∷ [];
+    split = so_far.split ∙ ap (λ some. so_far.done ++ some) cut ∙ sym (append_assoc so_far.done (event ∷ []) rest);
+    text = so_far.text ++ told.0;
+    puts = appends_both old between new so_far.text told.0 so_far.puts told.1;
+    tells = each_both first now next so_far.done event so_far.text told.0 so_far.tells told.2;
+    fit = All-tail (Fits first.play.exchange.subs) event rest (subst (All (Fits first.play.exchange.subs)) cut so_far.fit);
+  }
+
+  pub so_far_all : (first : TellState A) (events left : List (Event A)) (now : TellState A) (old new : Option (List ℕ)) → SoFar first events left now old new → left ≡ []
+      → (text : List ℕ) × Appends old new text × TellsEvents first events (Ok tt) now text
+  so_far_all first events left now old new so_far none =
+      let all : so_far.done ≡ events = sym (so_far.split ∙ ap (λ some. so_far.done ++ some) none ∙ append-nil so_far.done) in
+      (so_far.text, so_far.puts, subst (λ done. TellsEach first done now so_far.text) all so_far.tells)
+
+  pub so_far_broken : (first : TellState A) (events left rest : List (Event A)) (event : Event A) (now next : TellState A) (old between new : Option (List ℕ)) (fault : ReplayFault)
+      → SoFar first events left now old between → left ≡ event ∷ rest
+      → (text : List ℕ) × Appends between new text × TellsEvents now (event ∷ []) (Err fault) next text
+      → (text : List ℕ) × Appends old new text × TellsEvents first events (Err fault) next text
+  so_far_broken first events left rest event now next old between new fault so_far cut told =
+      (so_far.text ++ told.0, appends_both old between new so_far.text told.0 so_far.puts told.1, go fault told.2)
+    where
+      whole : events ≡ so_far.done ++ ((event ∷ []) ++ rest)
+      whole = so_far.split ∙ ap (λ some. so_far.done ++ some) cut
+
+      after : IsToldInPart now.play.exchange now.teller (event ∷ []) told.0 → IsToldInPart first.play.exchange first.teller events (so_far.text ++ told.0)
+      after part = told_in_part_after first.play.exchange now.play.exchange first.teller now.teller so_far.done (event ∷ []) events rest so_far.text told.0 whole so_far.tells.acts so_far.tells.told part
+
+      go : (fault : ReplayFault) → TellsEvents now (event ∷ []) (Err fault) next told.0 → TellsEvents first events (Err fault) next (so_far.text ++ told.0)
+      go Journal part = after part
+      go Memory part = after part
+      go Write part = after part
+      go (Script number) part = elim part [ ]
+      go Read part = elim part [ ]
+
+  -- the event is refused
+  pub refused_event : (fault : ReplayFault) (old new : TellState A) (event : Event A) (known : Option (List ℕ)) → RefusesEvent old.play.exchange fault
+      → (text : List ℕ) × Appends known known text × TellsEvents old (event ∷ []) (Err fault) new text
+  refused_event fault old new event known refused = ([], appends_nothing known, go fault refused)
+    where
+      go : (fault : ReplayFault) → RefusesEvent old.play.exchange fault → TellsEvents old (event ∷ []) (Err fault) new []
+      go Journal refused = told_in_no_part old.play.exchange old.teller (event ∷ [])
+      go Memory refused = told_in_no_part old.play.exchange old.teller (event ∷ [])
+      go Write refused = elim refused [ ]
+      go Read refused = elim refused [ ]
+      go (Script number) refused = elim refused [ ]
+
+  -- its entry is not told
+  pub untold_event : (old new : TellState A) (event : Event A) (known : Option (List ℕ))
+      → (text : List ℕ) × Appends known known text × TellsEvents old (event ∷ []) (Err Memory) new text
+  untold_event old new event known = ([], appends_nothing known, told_in_no_part old.play.exchange old.teller (event ∷ []))
+
+  -- its entry is told, or a front of that
+  pub told_event : (result : Result (Unit {0}) ReplayFault) (old new : TellState A) (event : Event A) (entry : Entry A) (before after : Option (List ℕ)) (text : List ℕ)
+      → Enters old.play.exchange event new.play.exchange entry → text ≡ entry_told old.play.exchange.subs old.teller entry
+      → new.teller ≡ teller_after old.play.exchange.subs old.teller entry → new.play ≡ record old.play { exchange = new.play.exchange }
+      → Puts before after text result
+      → (own : List ℕ) × Appends before after own × TellsEvents old (event ∷ []) result new own
+  told_event (Ok done) old new event entry before after text enters is behind kept puts = (
+    text,
+    puts,
+    record { acts = enters.acts; told = told_one old.play.exchange new.play.exchange old.teller new.teller event entry text enters is behind; kept = kept },
+  )
+  told_event (Err fault) old new event entry before after text enters is behind kept puts = (
+    take puts.1 text,
+    puts.2,
+    subst (λ why. TellsEvents old (event ∷ []) (Err why) new (take puts.1 text)) (sym puts.0)
+        (told_front old.play.exchange new.play.exchange old.teller new.teller (event ∷ []) text (take puts.1 text) puts.1 enters.acts
+        (told_one old.play.exchange new.play.exchange old.teller new.teller event entry text enters is behind) refl),
+  )

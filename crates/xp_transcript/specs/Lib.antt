@@ -1,0 +1,7 @@
+pub mod Places
+pub mod Rows
+pub mod Segments
+pub mod Telling
+pub mod Transcript
+pub mod Words
+pub mod steps

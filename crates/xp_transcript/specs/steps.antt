@@ -1,0 +1,2 @@
+-- What only private functions promise one another: no public contract cites it.
+pub mod Telling
