@@ -1,10 +1,12 @@
 -- What the arguments of a command ask for.
 use Rattle.std.proofs.Common.{◌≡◌, ◌∙◌, [], arith, refl, sym, ap, subst, codes, option_map, Option, Some, None, IfNone, IfSome, List, ℕ, slice_index_or}
 use Rattle.clap.specs.Words.{Row, Text, first_of}
-use Rattle.xp.specs.Commands.{AsksFor, HasLimits, IsOrder, IsSubcommand}
+use Rattle.xp.specs.Commands.{AsksFor, HasLimits, IsOrder, IsSubcommand, operand_of, word_to}
+use Rattle.xp.specs.declared.subcommand.ConsoleRequest.{ConsoleRequest}
+use Rattle.xp.specs.declared.subcommand.ConsoleRequest.TheVariants.{Status, Stop}
 use Rattle.xp.specs.declared.subcommand.ServeOrder.{ServeOrder}
 use Rattle.xp.specs.declared.subcommand.Subcommand.{Subcommand}
-use Rattle.xp.specs.declared.subcommand.Subcommand.TheVariants.{Do, Serve}
+use Rattle.xp.specs.declared.subcommand.Subcommand.TheVariants.{Ask, Do, Serve}
 use Rattle.xp_serve.specs.Limits.{AreLimits}
 use Rattle.xp_serve.specs.declared.limits.Limits.{Limits}
 use Rattle.xp_tasks.specs.declared.task.Task.{Task}
@@ -53,10 +55,46 @@ no_task : (task : Task) → codes "serve" ≡ word_of task → ⊥
 no_task Check same = unlike_check (ap first_letter same)
 no_task Replay same = unlike_replay (ap first_letter same)
 
+abbrev second_letter : List ℕ → ℕ
+second_letter word = slice_index_or word 1 0
+
+unlike_console : ◌≡◌ {A = ℕ} 101 116 → ⊥
+unlike_console same = omega (arith, same)
+
+no_request : (request : ConsoleRequest) → codes "serve" ≡ word_to request → ⊥
+no_request Status same = unlike_console (ap second_letter same)
+no_request Stop same = unlike_console (ap second_letter same)
+
 -- a command that asks for the lines to be served, and does not say how
 pub serves_not : (word : Text) (rows : List Row) → word ≡ codes "serve" → ((order : ServeOrder) → IsOrder rows order → ⊥) → (subcommand : Subcommand) → IsSubcommand word rows subcommand → ⊥
 serves_not word rows serve none (Do task) is = no_task task (sym serve ∙ is)
 serves_not word rows serve none (Serve order) is = none order is.1
+serves_not word rows serve none (Ask request) is = no_request request (sym serve ∙ is)
+
+unlike_status_check : ◌≡◌ {A = ℕ} 99 115 → ⊥
+unlike_status_check same = omega (arith, same)
+
+unlike_status_replay : ◌≡◌ {A = ℕ} 114 115 → ⊥
+unlike_status_replay same = omega (arith, same)
+
+-- no task has the word of a request
+task_or_request : (task : Task) (request : ConsoleRequest) → word_of task ≡ word_to request → ⊥
+task_or_request Check Status same = unlike_status_check (ap first_letter same)
+task_or_request Check Stop same = unlike_status_check (ap first_letter same)
+task_or_request Replay Status same = unlike_status_replay (ap first_letter same)
+task_or_request Replay Stop same = unlike_status_replay (ap first_letter same)
+
+-- what a command of this word has to be given
+one_operand : (word : Text) (rows : List Row) (one other : Subcommand) → IsSubcommand word rows one → IsSubcommand word rows other → operand_of one ≡ operand_of other
+one_operand word rows (Do task) (Do second) is too = refl
+one_operand word rows (Do task) (Serve order) is too = refl
+one_operand word rows (Do task) (Ask request) is too = absurd (task_or_request task request (sym is ∙ too))
+one_operand word rows (Serve order) (Do task) is too = refl
+one_operand word rows (Serve order) (Serve second) is too = refl
+one_operand word rows (Serve order) (Ask request) is too = absurd (no_request request (sym is.0 ∙ too))
+one_operand word rows (Ask request) (Do task) is too = absurd (task_or_request task request (sym too ∙ is))
+one_operand word rows (Ask request) (Serve order) is too = absurd (no_request request (sym too.0 ∙ is))
+one_operand word rows (Ask request) (Ask second) is too = refl
 
 -- a pair of which both parts are known
 pub pair_is : {X Y : Type 0} (o : Option (X × Y)) (x : X) (y : Y) → option_map (λ pair. pair.0) o ≡ Some x → option_map (λ pair. pair.1) o ≡ Some y → o ≡ Some (x, y)
@@ -88,8 +126,16 @@ module _ (found : Option (Text × List Row)) (word : Text) (rows : List Row) (fo
       (subst (λ rows. IsSubcommand word rows subcommand) (rows_alike subcommand name asks)
       (subst (λ word. IsSubcommand word asks.rows subcommand) (word_alike subcommand name asks) asks.subcommand_is))
 
-  -- a command without a file
-  pub asks_no_file : first_of (codes "FILE") rows ≡ None → (subcommand : Subcommand) (name : List ℕ) → AsksFor found subcommand name → ⊥
-  asks_no_file none subcommand name asks =
-      let file : None ≡ Some name = sym none ∙ ap (first_of (codes "FILE")) (sym (rows_alike subcommand name asks)) ∙ asks.named in
+  is_here : (subcommand : Subcommand) (name : List ℕ) (asks : AsksFor found subcommand name) → IsSubcommand word rows subcommand
+  is_here subcommand name asks =
+      subst (λ rows. IsSubcommand word rows subcommand) (rows_alike subcommand name asks)
+      (subst (λ word. IsSubcommand word asks.rows subcommand) (word_alike subcommand name asks) asks.subcommand_is)
+
+  -- a command without its file or address
+  pub asks_without : (own : Subcommand) → IsSubcommand word rows own → first_of (operand_of own) rows ≡ None
+      → (subcommand : Subcommand) (name : List ℕ) → AsksFor found subcommand name → ⊥
+  asks_without own is none subcommand name asks =
+      let alike = one_operand word rows own subcommand is (is_here subcommand name asks) in
+      let there : None ≡ Some name =
+      sym none ∙ ap (λ operand. first_of operand rows) alike ∙ ap (first_of (operand_of subcommand)) (sym (rows_alike subcommand name asks)) ∙ asks.named in
       absurd (cc)

@@ -2,9 +2,11 @@
 use Rattle.std.specs.Prelude.{◌≡◌, ℕ, List, [], Bool, Option, Some, None, true, false, codes, option_map}
 use Rattle.clap.specs.Words.{App, Row, Rule, Text, fault_of, first_of, new_app, new_rule, subcommand_of, with_rule, with_subcommand}
 use Rattle.clap.specs.declared.builder.action.ArgAction.TheVariants.{SetTrue}
+use Rattle.xp.specs.declared.subcommand.ConsoleRequest.{ConsoleRequest}
+use Rattle.xp.specs.declared.subcommand.ConsoleRequest.TheVariants.{Status, Stop}
 use Rattle.xp.specs.declared.subcommand.ServeOrder.{ServeOrder}
 use Rattle.xp.specs.declared.subcommand.Subcommand.{Subcommand}
-use Rattle.xp.specs.declared.subcommand.Subcommand.TheVariants.{Do, Serve}
+use Rattle.xp.specs.declared.subcommand.Subcommand.TheVariants.{Ask as AskConsole, Do, Serve}
 use Rattle.xp_serve.specs.Limits.{AreLimits}
 use Rattle.xp_serve.specs.declared.limits.Limits.{Limits}
 use Rattle.xp_subs.specs.Tables.{same}
@@ -15,6 +17,10 @@ use Rattle.xp_tasks.specs.Tasks.{word_of}
 -- the argument that each command has
 abbrev pub file : Rule
 file = record (new_rule (codes "FILE")) { required = true }
+
+-- the address of a console
+abbrev pub address : Rule
+address = record (new_rule (codes "ADDRESS")) { required = true }
 
 -- an argument with a value, as `--records N`
 abbrev pub valued : Text → Rule
@@ -34,7 +40,18 @@ recording = with_rule (with_rule (with_rule (new_app (codes "serve")) file) (val
 
 -- the command that asks for the lines to be served
 abbrev pub serve : App
-serve = with_rule (with_rule recording (valued (codes "turns"))) (flag (codes "until-eof"))
+serve =
+    with_rule (with_rule (with_rule (with_rule recording (valued (codes "turns"))) (valued (codes "console"))) (flag (codes "quiet")))
+    (flag (codes "until-eof"))
+
+-- the word that asks a console for something
+abbrev pub word_to : ConsoleRequest → Text
+word_to Status = codes "status"
+word_to Stop = codes "stop"
+
+-- the command that asks a console for something
+abbrev pub command_to : ConsoleRequest → App
+command_to request = with_rule (new_app (word_to request)) address
 
 -- a command of which something has to be asked
 abbrev pub asked : App → App
@@ -47,8 +64,12 @@ tasks =
     (with_subcommand (asked (new_app (codes "xp"))) (command_of Check).top)
     (command_of Replay).top
 
+-- with the command that serves
+abbrev pub serving : App
+serving = with_subcommand tasks serve.top
+
 abbrev pub program : App
-program = with_subcommand tasks serve.top
+program = with_subcommand (with_subcommand serving (command_to Status).top) (command_to Stop).top
 
 -- the arguments say when serving ends
 abbrev pub HasLimits : List Row → Limits → Type 0
@@ -63,26 +84,35 @@ says_true (Some text) = same text (codes "true")
 pub record IsOrder (rows : List Row) (order : ServeOrder) : Type 0 where
   pub limits : HasLimits rows order.limits
   pub details : option_map (λ name. name.now) order.details ≡ first_of (codes "cdr") rows
+  pub console : option_map (λ address. address.now) order.console ≡ first_of (codes "console") rows
+  pub quiet : order.quiet ≡ says_true (first_of (codes "quiet") rows)
   pub until_eof : order.until_eof ≡ says_true (first_of (codes "until-eof") rows)
 
 -- a command of this word, with its arguments as they were found, asks for this
 abbrev pub IsSubcommand : Text → List Row → Subcommand → Type 0
 IsSubcommand word rows (Do task) = word ≡ word_of task
 IsSubcommand word rows (Serve order) = (word ≡ codes "serve") × IsOrder rows order
+IsSubcommand word rows (AskConsole request) = word ≡ word_to request
 
--- A command, with its arguments as they were found, asks for this with this file.
+-- the name of the one argument that a subcommand has to be given: a file, or the address of a console
+abbrev pub operand_of : Subcommand → Text
+operand_of (Do task) = codes "FILE"
+operand_of (Serve order) = codes "FILE"
+operand_of (AskConsole request) = codes "ADDRESS"
+
+-- A command, with its arguments as they were found, asks for this with this file or address.
 pub record AsksFor (found : Option (Text × List Row)) (subcommand : Subcommand) (name : List ℕ) : Type 0 where
   pub word : Text
   pub rows : List Row
   pub found_is : found ≡ Some (word, rows)
   pub subcommand_is : IsSubcommand word rows subcommand
-  pub named : first_of (codes "FILE") rows ≡ Some name
+  pub named : first_of (operand_of subcommand) rows ≡ Some name
 
--- The words, of which the first is the program's own, are without fault, and ask for this with this file.
+-- The words, of which the first is the program's own, are without fault, and ask for this with this file or address.
 pub record Ask (words : List Text) (subcommand : Subcommand) (name : List ℕ) : Type 0 where
   pub faultless : fault_of program words ≡ []
   pub asked : AsksFor (subcommand_of program words) subcommand name
 
--- words that ask for something with a file
+-- words that ask for something
 abbrev pub AreRight : List Text → Type 0
 AreRight words = (subcommand : Subcommand) × (name : List ℕ) × Ask words subcommand name

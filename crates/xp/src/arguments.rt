@@ -4,9 +4,12 @@ ghost use Rattle.std.specs.Prelude.{◌≡◌, ℕ, List, IfSome, IfNone, IfOk, 
 ghost use Rattle.clap.specs.Words.{app_of, kind_of, rule_of, subcommand_rows_of};
 ghost use Rattle.clap.specs.declared.error.kind.ErrorKind.TheVariants.{OutOfMemory};
 ghost use Rattle.clap.specs.declared.builder.command.Command.TheViews.{out-Command as fields_of};
-ghost use Rattle.xp.specs.Commands.{AreRight, Ask, AsksFor, command_of, file as file_rule, flag as flag_rule, program, recording, serve, tasks, valued as valued_rule};
+ghost use Rattle.xp.specs.Commands.{AreRight, Ask, AsksFor, address as address_rule, command_of, command_to, file as file_rule, flag as flag_rule, program, recording, serve, serving, tasks, valued as valued_rule};
 
-use crate::subcommand::{CDR, RECORDS, SERVE, Subcommand, TURNS, UNTIL_EOF};
+use crate::subcommand::{
+    ADDRESS, CDR, CONSOLE, ConsoleRequest, FILE, QUIET, RECORDS, SERVE, Subcommand, TURNS,
+    UNTIL_EOF,
+};
 use clap::error::ErrorKind;
 use clap::{Arg, ArgAction, ArgMatches, Command, Error};
 use std::alloc::{AllocError, Global};
@@ -18,7 +21,8 @@ const PROGRAM_DETAILS: &str = "\
 Examples:
   xp check examples/three-stations.toml
   xp replay examples/three-stations.toml < examples/call.script
-  xp serve examples/three-stations.toml --cdr calls.csv
+  xp serve examples/three-stations.toml --cdr calls.csv --console 127.0.0.1:9980
+  xp status 127.0.0.1:9980
 
 The exit status is 0 when all was done, 2 for wrong arguments or a faulty line
 of a script, 3 for a subscription file that cannot be read or is refused, 4 for
@@ -61,6 +65,7 @@ their records are written. A second Ctrl-C ends it at once.
 
 Lines of facts with their moments go to standard error. Where the file of
 --cdr can't be written, the records wait, and are tried again each second.
+With --console a page at that address shows the lines and the live calls.
 
 Example:
   xp serve examples/three-stations.toml --cdr calls.csv";
@@ -73,21 +78,45 @@ const TURNS_HELP: &str = "For tests: ends each line after so many turns, 1 to 10
 
 const UNTIL_EOF_HELP: &str = "Ends cleanly as standard input ends";
 
-const FILE: &str = "The subscription file (TOML): the stations and their lines";
+const CONSOLE_HELP: &str =
+    "Shows the exchange at this address, as 127.0.0.1:9980: see it in a browser";
 
-/// The arguments of the program: a subcommand and a subscription file.
+const QUIET_HELP: &str = "Tells only failures on standard error";
+
+const STATUS_ABOUT: &str = "Shows a serving exchange: its lines, live calls and last records";
+
+const STATUS_DETAILS: &str = "\
+ADDRESS is that of `xp serve --console ADDRESS`.
+
+Example:
+  xp status 127.0.0.1:9980";
+
+const STOP_ABOUT: &str = "Stops a serving exchange cleanly";
+
+const STOP_DETAILS: &str = "\
+ADDRESS is that of `xp serve --console ADDRESS`. All calls are ended, and their
+records are written, as at Ctrl-C.
+
+Example:
+  xp stop 127.0.0.1:9980";
+
+const FILE_HELP: &str = "The subscription file (TOML): the stations and their lines";
+
+const ADDRESS_HELP: &str = "The address of the console, as 127.0.0.1:9980";
+
+/// The arguments of the program: a subcommand, and what it has to be given.
 #[derive(Clone, Copy, Debug, PartialEq, Eq)]
 pub struct Arguments<'a> {
     pub subcommand: Subcommand<'a>,
-    /// The name of the subscription file.
-    pub file: &'a str,
+    /// The name of the subscription file, or the address of the console that is asked.
+    pub operand: &'a str,
 }
 
 impl<'a> Arguments<'a> {
     /// Reads the words of a command line; the first is the program's own name. Correct words fail only if an allocation
     /// fails.
     pub fn read(alloc: Global, words: &'a [String]) -> Result<Arguments<'a>, Error>
-        ensures asked { IfOk result (λ arguments. Ask (map string_bytes words.now) arguments.subcommand arguments.file.now) }
+        ensures asked { IfOk result (λ arguments. Ask (map string_bytes words.now) arguments.subcommand arguments.operand.now) }
         ensures taken { IfErr result (λ error. AreRight (map string_bytes words.now) → kind_of error ≡ OutOfMemory) }
     {
         let matches = command(alloc)?.try_get_matches_from(words)?;
@@ -97,15 +126,18 @@ impl<'a> Arguments<'a> {
         }
     }
 
-    /// The subcommand in the words, with its file.
+    /// The subcommand in the words, with its file or address.
     fn named(matches: &ArgMatches<'a>) -> Option<Arguments<'a>>
-        ensures found { IfSome result (λ arguments. AsksFor (subcommand_rows_of matches.now) arguments.subcommand arguments.file.now) }
+        ensures found { IfSome result (λ arguments. AsksFor (subcommand_rows_of matches.now) arguments.subcommand arguments.operand.now) }
         ensures none { IfNone result ((subcommand : Subcommand) (name : List ℕ) → AsksFor (subcommand_rows_of matches.now) subcommand name → ⊥) }
     {
         let (word, matches) = matches.subcommand()?;
         let subcommand = Subcommand::named(word, matches)?;
-        let file = matches.get_str("FILE")?;
-        Some(Arguments { subcommand, file })
+        let operand = matches.get_str(subcommand.operand())?;
+        Some(Arguments {
+            subcommand,
+            operand,
+        })
     }
 }
 
@@ -118,8 +150,37 @@ pub fn refused(alloc: Global, reason: &str) -> Result<Error, Error> {
 fn command<'a>(alloc: Global) -> Result<Command<'a>, AllocError>
     ensures { IfOk result (λ command. app_of command ≡ program) }
 {
+    let status = console_command(alloc, ConsoleRequest::Status, STATUS_ABOUT, STATUS_DETAILS)?;
+    let stop = console_command(alloc, ConsoleRequest::Stop, STOP_ABOUT, STOP_DETAILS)?;
+    with_serving(alloc)?
+        .subcommand(status)?
+        .subcommand(stop)?
+        .bin_name("xp")
+}
+
+/// The same without the subcommands that ask a console.
+fn with_serving<'a>(alloc: Global) -> Result<Command<'a>, AllocError>
+    ensures shape { IfOk result (λ command. app_of command ≡ serving) }
+    ensures local { IfOk result (λ command. (fields_of command).has_globals ≡ false) }
+{
     let serve = serve_command(alloc)?;
-    with_tasks(alloc)?.subcommand(serve)?.bin_name("xp")
+    with_tasks(alloc)?.subcommand(serve)
+}
+
+/// The subcommand of a request to a console, with the text of its help before the arguments and after them.
+fn console_command<'a>(
+    alloc: Global,
+    request: ConsoleRequest,
+    about: &'a str,
+    details: &'a str,
+) -> Result<Command<'a>, AllocError>
+    ensures shape { IfOk result (λ command. app_of command ≡ command_to request) }
+    ensures local { IfOk result (λ command. (fields_of command).has_globals ≡ false) }
+{
+    Command::new(alloc, request.word())
+        .about(about)
+        .after_help(details)
+        .arg(address(alloc))
 }
 
 /// The program's command line with a subcommand for each task.
@@ -161,6 +222,8 @@ fn serve_command<'a>(alloc: Global) -> Result<Command<'a>, AllocError>
 {
     recording_command(alloc)?
         .arg(valued(alloc, TURNS, "M", TURNS_HELP))?
+        .arg(valued(alloc, CONSOLE, "ADDRESS", CONSOLE_HELP))?
+        .arg(flag(alloc, QUIET, QUIET_HELP))?
         .arg(flag(alloc, UNTIL_EOF, UNTIL_EOF_HELP))
 }
 
@@ -181,7 +244,14 @@ fn file<'a>(alloc: Global) -> Arg<'a>
     ensures rule { rule_of result ≡ file_rule }
     ensures local { result.global ≡ false }
 {
-    Arg::new(alloc, "FILE").required(true).help(FILE)
+    Arg::new(alloc, FILE).required(true).help(FILE_HELP)
+}
+
+fn address<'a>(alloc: Global) -> Arg<'a>
+    ensures rule { rule_of result ≡ address_rule }
+    ensures local { result.global ≡ false }
+{
+    Arg::new(alloc, ADDRESS).required(true).help(ADDRESS_HELP)
 }
 
 /// An argument with a value, as `--records N`.

@@ -3,7 +3,7 @@
 ghost use Rattle.std.specs.Prelude.{◌≡◌};
 ghost use Rattle.xp.specs.Failures.{status_of};
 ghost use Rattle.xp.specs.steps.Failures.{IsOfArguments};
-ghost use Rattle.xp.specs.declared.failure.Failure.TheVariants.{Cdr as OfDetails, Serve as OfServing, Task as OfTask};
+ghost use Rattle.xp.specs.declared.failure.Failure.TheVariants.{Ask as OfAsking, Cdr as OfDetails, Console as OfConsole, Serve as OfServing, Task as OfTask};
 ghost use Rattle.xp_tasks.specs.declared.failure.TaskFailure.TheVariants.{Memory as OutOfMemory};
 
 use clap::error::ErrorKind;
@@ -11,6 +11,7 @@ use std::alloc::AllocError;
 use std::io;
 use thiserror::Error;
 use xp_cdr::OpenFault;
+use xp_console::{AskFault, ConsoleFault};
 use xp_serve::ServeFailure;
 use xp_tasks::TaskFailure;
 
@@ -26,20 +27,27 @@ pub enum Failure {
     /// The file of call detail records was not opened.
     #[error("xp: cdr: {0}")]
     Cdr(OpenFault),
+    /// The console can't be served.
+    #[error("xp: console: {0}")]
+    Console(ConsoleFault),
+    /// The console of a serving exchange has not done what it was asked.
+    #[error("xp: console: {0}")]
+    Ask(AskFault),
     /// Serving ended before its time.
     #[error("{0}")]
     Serve(ServeFailure),
 }
 
 impl Failure {
-    /// The exit status: 2 for arguments, 5 for the file of call detail records, else that of the task or of serving.
+    /// The exit status: 2 for arguments, 5 for the file of call detail records and for a console, else that of the task or of
+    /// serving.
     pub fn status(&self) -> u8
         ensures { result ≡ status_of self.now }
     {
         match self {
             Failure::Arguments(_) => 2,
             Failure::Task(failure) => failure.status(),
-            Failure::Cdr(_) => 5,
+            Failure::Cdr(_) | Failure::Console(_) | Failure::Ask(_) => 5,
             Failure::Serve(failure) => failure.status(),
         }
     }
@@ -50,7 +58,7 @@ impl Failure {
             // clap ends the last line itself.
             Failure::Arguments(told) => rt.eprint(told),
             Failure::Task(failure) => rt.eprintln(failure),
-            Failure::Cdr(_) => rt.eprintln(self),
+            Failure::Cdr(_) | Failure::Console(_) | Failure::Ask(_) => rt.eprintln(self),
             Failure::Serve(failure) => rt.eprintln(failure),
         }
     }
@@ -77,6 +85,22 @@ impl From<ServeFailure> for Failure {
 
     fn from(told: ServeFailure) -> Failure {
         Failure::Serve(told)
+    }
+}
+
+impl From<ConsoleFault> for Failure {
+    ghost from_gives = { λ told failure. failure ≡ OfConsole told };
+
+    fn from(told: ConsoleFault) -> Failure {
+        Failure::Console(told)
+    }
+}
+
+impl From<AskFault> for Failure {
+    ghost from_gives = { λ told failure. failure ≡ OfAsking told };
+
+    fn from(told: AskFault) -> Failure {
+        Failure::Ask(told)
     }
 }
 

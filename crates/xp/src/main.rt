@@ -4,25 +4,30 @@
 ghost use Rattle.std.specs.Prelude.{◌≡◌};
 
 mod arguments;
+mod console;
 mod failure;
 mod laws;
+mod served_console;
 mod serving;
+mod status_feed;
 mod subcommand;
 
 use crate::arguments::Arguments;
+use crate::console::ask_console;
 use crate::failure::Failure;
 use crate::serving::serve_lines;
-use crate::subcommand::Subcommand;
+use crate::subcommand::{ServeOrder, Subcommand};
 use log::Log;
 use std::fs::{File, Files};
 use std::io::{BufReader, BufWriter, ErrorKind};
 use std::net::{Net, TcpListener, TcpStream};
 use std::process::ExitCode;
+use std::random::RandomSource;
 use std::rt::Env;
 use std::sync::Wait;
 use std::thread::Threads;
+use std::time::Clock;
 use std::{env, fs, io};
-use xp_subs::Subs;
 use xp_tasks::{Task, TaskFailure, perform, subscriptions};
 
 fn main(rt: HostRuntime) -> ExitCode {
@@ -36,36 +41,58 @@ fn main(rt: HostRuntime) -> ExitCode {
     }
 }
 
-/// Performs the subcommand on the file that the arguments name.
+/// Performs the subcommand on the file, or at the console, that the arguments name.
 fn run<
     R: AllocGlobal
+        + Clock
         + Env
         + Files<File = File>
         + Input
         + Log
         + Net<Listener = TcpListener, Stream = TcpStream>
         + Print
+        + RandomSource
         + Sync
         + Threads
         + Wait,
 >(rt: &R) -> Result<(), Failure> {
-    let alloc = rt.alloc();
     let words = words(rt)?;
-    let arguments = Arguments::read(alloc, &words)?;
-    let text = fs::read_to_string(rt, arguments.file);
-    let subs = subscriptions(alloc, &text)?;
+    let arguments = Arguments::read(rt.alloc(), &words)?;
     match arguments.subcommand {
-        Subcommand::Do(task) => do_task(rt, task, subs),
-        Subcommand::Serve(order) => {
-            let names = subscriptions(alloc, &text)?;
-            serve_lines(rt, &order, subs, names)
-        }
+        Subcommand::Do(task) => do_task(rt, task, arguments.operand),
+        Subcommand::Serve(order) => serve_file(rt, &order, arguments.operand),
+        Subcommand::Ask(request) => ask_console(rt, request, arguments.operand),
     }
 }
 
-/// Performs a task over the standard streams.
-fn do_task<R: AllocGlobal + Input + Print>(rt: &R, task: Task, subs: Subs) -> Result<(), Failure> {
+/// Serves the lines of a subscription file.
+fn serve_file<
+    R: AllocGlobal
+        + Clock
+        + Files<File = File>
+        + Log
+        + Net<Listener = TcpListener, Stream = TcpStream>
+        + Print
+        + RandomSource
+        + Sync
+        + Threads
+        + Wait,
+>(rt: &R, order: &ServeOrder<'_>, file: &str) -> Result<(), Failure> {
     let alloc = rt.alloc();
+    let text = fs::read_to_string(rt, file);
+    let subs = subscriptions(alloc, &text)?;
+    let names = subscriptions(alloc, &text)?;
+    serve_lines(rt, order, subs, names)
+}
+
+/// Performs a task on a subscription file, over the standard streams.
+fn do_task<R: AllocGlobal + Files<File = File> + Input + Print>(
+    rt: &R,
+    task: Task,
+    file: &str,
+) -> Result<(), Failure> {
+    let alloc = rt.alloc();
+    let subs = subscriptions(alloc, &fs::read_to_string(rt, file))?;
     let reader = BufReader::new(alloc, rt.reader()).map_err(|_| TaskFailure::Memory)?;
     let mut writer = BufWriter::new(alloc, io::writer(rt)).map_err(|_| TaskFailure::Memory)?;
     perform(alloc, task, subs, reader, &mut writer)?;

@@ -3,19 +3,24 @@
 ghost use Rattle.std.specs.Prelude.{◌≡◌, []};
 
 use crate::failure::Failure;
+use crate::served_console::ServedConsole;
 use crate::subcommand::ServeOrder;
 use log::Log;
 use std::alloc::AllocGlobal;
 use std::fs::{File, Files};
-use std::io;
 use std::io::BufWriter;
 use std::net::{Net, TcpListener, TcpStream};
+use std::random::RandomSource;
+use std::sync::atomic::AtomicBool;
+use std::sync::atomic::Ordering::SeqCst;
 use std::sync::{Arc, Wait};
 use std::thread::Threads;
+use std::time::Clock;
+use std::{io, thread};
 use xp_cdr::{DetailFile, Opened};
 use xp_serve::{
-    Attending, DetailKeeper, NoConsole, OperatorLog, OperatorWatch, RecordKeeper, RecordPrinter,
-    StopInput, serve,
+    Attending, ConsoleFeed, DetailKeeper, NoConsole, OperatorLog, OperatorWatch, RecordKeeper,
+    RecordPrinter, StopInput, serve,
 };
 use xp_subs::Subs;
 use xp_tasks::TaskFailure;
@@ -25,10 +30,12 @@ use xp_tcp::{Notices, WallClock};
 /// are otherwise printed. `names` are the same subscriptions once more.
 pub(crate) fn serve_lines<
     R: AllocGlobal
+        + Clock
         + Files<File = File>
         + Log
         + Net<Listener = TcpListener, Stream = TcpStream>
         + Print
+        + RandomSource
         + Sync
         + Threads
         + Wait,
@@ -48,7 +55,7 @@ pub(crate) fn serve_lines<
                 names,
                 clock.seconds(),
                 clock,
-                OperatorLog::new(rt, false),
+                OperatorLog::new(rt, order.quiet),
                 output,
             );
             attend(rt, order, clock, subs, keeper)
@@ -62,22 +69,95 @@ pub(crate) fn serve_lines<
 }
 
 /// Serves the lines with this keeper of their charging records, tells what the operator has to know, and looks whether to stop.
+/// Where a console is ordered it is served beside the lines.
 fn attend<
-    R: AllocGlobal + Log + Net<Listener = TcpListener, Stream = TcpStream> + Sync + Threads + Wait,
+    R: AllocGlobal
+        + Clock
+        + Log
+        + Net<Listener = TcpListener, Stream = TcpStream>
+        + RandomSource
+        + Sync
+        + Threads
+        + Wait,
     K: RecordKeeper,
 >(rt: &R, order: &ServeOrder<'_>, clock: WallClock, subs: Subs, keeper: K) -> Result<(), Failure>
     requires names { K.named_by keeper ≡ subs }
     requires new { K.received keeper ≡ [] }
 {
-    let alloc = rt.alloc();
-    let notices = Arc::new(alloc, Notices::new(alloc)?).map_err(|_| TaskFailure::Memory)?;
+    let notices = Arc::new(rt.alloc(), Notices::new(rt.alloc())?).map_err(|_| TaskFailure::Memory)?;
+    match order.console {
+        Some(address) => {
+            let served = ServedConsole::listen(rt, address)?;
+            let feed = served.feed(rt.alloc(), &subs, clock.seconds(), &notices)?;
+            let watch = watch_over(rt, order, clock, &subs, &notices, feed)?;
+            let attending = Attending { keeper, watch };
+            serve_beside(rt, order, served, subs, notices, attending)
+        }
+        None => {
+            let watch = watch_over(rt, order, clock, &subs, &notices, NoConsole)?;
+            let attending = Attending { keeper, watch };
+            serve(rt, rt.alloc(), subs, order.limits, notices, attending).outcome?;
+            Ok(())
+        }
+    }
+}
+
+/// What watches over the lines.
+fn watch_over<'a, R: AllocGlobal + Log, F: ConsoleFeed>(
+    rt: &'a R,
+    order: &ServeOrder<'_>,
+    clock: WallClock,
+    subs: &Subs,
+    notices: &Arc<Notices>,
+    console: F,
+) -> Result<OperatorWatch<&'a R, F>, Failure> {
     let stop = order.until_eof.then_some(StopInput::default());
-    let log = OperatorLog::new(rt, false);
-    let told = Arc::try_clone(&notices)?;
-    let watch = OperatorWatch::new(alloc, &subs, told, stop, NoConsole, clock, log)?;
-    let attending = Attending { keeper, watch };
-    serve(rt, alloc, subs, order.limits, notices, attending).outcome?;
-    Ok(())
+    let log = OperatorLog::new(rt, order.quiet);
+    let notices = Arc::try_clone(notices)?;
+    Ok(OperatorWatch::new(rt.alloc(), subs, notices, stop, console, clock, log)?)
+}
+
+/// Serves the lines, and the console on a thread of its own beside them.
+fn serve_beside<
+    R: AllocGlobal
+        + Clock
+        + Log
+        + Net<Listener = TcpListener, Stream = TcpStream>
+        + Sync
+        + Threads
+        + Wait,
+    K: RecordKeeper,
+>(
+    rt: &R,
+    order: &ServeOrder<'_>,
+    console: ServedConsole,
+    subs: Subs,
+    notices: Arc<Notices>,
+    attending: K,
+) -> Result<(), Failure>
+    requires names { K.named_by attending ≡ subs }
+    requires new { K.received attending ≡ [] }
+{
+    let limits = order.limits;
+    let is_over = Arc::new(rt.alloc(), AtomicBool::new(false)).map_err(|_| TaskFailure::Memory)?;
+    let ends = Arc::try_clone(&is_over)?;
+    thread::scope(
+        thread::scope_env(),
+        rt,
+        |scope| -> Result<(), Failure>
+            requires names { K.named_by attending ≡ subs }
+            requires new { K.received attending ≡ [] }
+        {
+            let Ok(running) = scope.spawn(move || console.run(rt, &ends)) else {
+                return Err(Failure::Task(TaskFailure::Memory));
+            };
+            let outcome = serve(rt, rt.alloc(), subs, limits, notices, attending).outcome;
+            is_over.store(true, SeqCst);
+            running.join(rt);
+            outcome?;
+            Ok(())
+        },
+    )
 }
 
 /// Tells that the torn last line of a file of call detail records was cut off.

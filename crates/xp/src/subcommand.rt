@@ -1,18 +1,30 @@
 //! The subcommands of the program.
 
-ghost use Rattle.std.specs.Prelude.{◌≡◌, IfNone, IfSome, codes};
+ghost use Rattle.std.specs.Prelude.{◌≡◌, ◌↔◌, IfNone, IfSome, Some, codes};
 ghost use Rattle.clap.specs.Words.{first_of, found_of, rows_of};
-ghost use Rattle.xp.specs.Commands.{HasLimits, IsOrder, IsSubcommand, says_true};
+ghost use Rattle.xp.specs.Commands.{HasLimits, IsOrder, IsSubcommand, operand_of, says_true, word_to};
 
 use clap::ArgMatches;
 use xp_serve::Limits;
 use xp_tasks::Task;
+
+/// The name of the subscription file.
+pub const FILE: &str = "FILE";
+
+/// The address of a console.
+pub const ADDRESS: &str = "ADDRESS";
 
 /// The word of the subcommand that serves the lines.
 pub const SERVE: &str = "serve";
 
 /// The argument for the file of call detail records.
 pub const CDR: &str = "cdr";
+
+/// The argument for the address of the console.
+pub const CONSOLE: &str = "console";
+
+/// The argument by which only failures are told.
+pub const QUIET: &str = "quiet";
 
 /// The argument for the number of records after which serving ends.
 pub const RECORDS: &str = "records";
@@ -29,8 +41,44 @@ pub struct ServeOrder<'a> {
     pub limits: Limits,
     /// The name of the file of call detail records, if there is to be one.
     pub details: Option<&'a str>,
+    /// The address at which the console is to be, if there is to be one.
+    pub console: Option<&'a str>,
+    /// Whether only failures are told on standard error.
+    pub quiet: bool,
     /// Whether serving ends cleanly as standard input ends.
     pub until_eof: bool,
+}
+
+/// What a console is asked for.
+#[derive(Clone, Copy, Debug, PartialEq, Eq)]
+pub enum ConsoleRequest {
+    /// To show the exchange.
+    Status,
+    /// To stop the exchange.
+    Stop,
+}
+
+impl ConsoleRequest {
+    ghost use Rattle.xp.specs.declared.subcommand.ConsoleRequest.{ConsoleRequest};
+
+    /// Its word on the command line.
+    pub fn word<'a>(self) -> &'a str
+        ensures { result.now ≡ word_to self }
+    {
+        match self {
+            ConsoleRequest::Status => "status",
+            ConsoleRequest::Stop => "stop",
+        }
+    }
+
+    /// The request of a word of the command line.
+    pub fn named(word: &str) -> Option<ConsoleRequest>
+        ensures { (request : ConsoleRequest) → (result ≡ Some request) ↔ (word.now ≡ word_to request) }
+    {
+        [ConsoleRequest::Status, ConsoleRequest::Stop]
+            .into_iter()
+            .find(|request| word == request.word())
+    }
 }
 
 /// A subcommand of the program.
@@ -40,6 +88,8 @@ pub enum Subcommand<'a> {
     Do(Task),
     /// Serves the lines over TCP.
     Serve(ServeOrder<'a>),
+    /// Asks the console of a serving exchange.
+    Ask(ConsoleRequest),
 }
 
 impl<'a> Subcommand<'a> {
@@ -52,8 +102,21 @@ impl<'a> Subcommand<'a> {
             let order = order_of(matches)?;
             return Some(Subcommand::Serve(order));
         }
+        if let Some(request) = ConsoleRequest::named(word) {
+            return Some(Subcommand::Ask(request));
+        }
         let task = Task::named(word)?;
         Some(Subcommand::Do(task))
+    }
+
+    /// The name of the one argument that the subcommand has to be given.
+    pub fn operand<'b>(&self) -> &'b str
+        ensures { result.now ≡ operand_of self.now }
+    {
+        match self {
+            Subcommand::Do(_) | Subcommand::Serve(_) => FILE,
+            Subcommand::Ask(_) => ADDRESS,
+        }
     }
 }
 
@@ -63,10 +126,16 @@ fn order_of<'a>(matches: &ArgMatches<'a>) -> Option<ServeOrder<'a>>
     ensures none { IfNone result ((order : ServeOrder) → IsOrder (rows_of (found_of matches.now)) order → ⊥) }
 {
     let limits = limits_of(matches)?;
+    let details = matches.get_str(CDR);
+    let console = matches.get_str(CONSOLE);
+    let quiet = is_true(matches, QUIET);
+    let until_eof = is_true(matches, UNTIL_EOF);
     Some(ServeOrder {
         limits,
-        details: matches.get_str(CDR),
-        until_eof: is_true(matches, UNTIL_EOF),
+        details,
+        console,
+        quiet,
+        until_eof,
     })
 }
 

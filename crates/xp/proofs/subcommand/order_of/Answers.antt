@@ -12,6 +12,8 @@ returns-clause-found c =
     let matches = found_of c.args.matches.now in
     record {
       limits = c.in_ok-limits.ensures.found;
-      details = c.get_str.ensures ∙ first_value-rows matches (codes "cdr");
-      until_eof = c.is_true.ensures;
+      details = c.get_str-details.ensures ∙ first_value-rows matches (codes "cdr");
+      console = c.get_str-console.ensures ∙ first_value-rows matches (codes "console");
+      quiet = c.is_true-quiet.ensures;
+      until_eof = c.is_true-until_eof.ensures;
     }

@@ -58,5 +58,5 @@ returns-in-Some-clause-asked c =
     let asked = c.in-Some.arguments in
     record {
       faultless = no_fault _ words c.in_ok-command.ensures c.in_ok-matches.ensures.kinds;
-      asked = subst (λ found. AsksFor found asked.subcommand asked.file.now) (found_alike words _ _ c.in_ok-command.ensures c.in_ok-matches.ensures.matches) c.in-Some.ensures.found;
+      asked = subst (λ found. AsksFor found asked.subcommand asked.operand.now) (found_alike words _ _ c.in_ok-command.ensures c.in_ok-matches.ensures.matches) c.in-Some.ensures.found;
     }

@@ -1,0 +1,39 @@
+//! Asking the console of a serving exchange.
+
+use crate::failure::Failure;
+use crate::subcommand::ConsoleRequest;
+use std::alloc::AllocGlobal;
+use std::net::{Net, SocketAddr, TcpStream};
+use std::time::Clock;
+use xp_console::{AskFault, ask_status, ask_stop};
+use xp_tasks::TaskFailure;
+
+/// Asks the console at this address, and prints what it shows.
+pub(crate) fn ask_console<R: AllocGlobal + Clock + Net<Stream = TcpStream> + Print>(
+    rt: &R,
+    request: ConsoleRequest,
+    address: &str,
+) -> Result<(), Failure> {
+    let address = address_of(address)?;
+    match request {
+        ConsoleRequest::Status => {
+            let status = ask_status(rt, rt.alloc(), address)?;
+            match rt.print(&status) {
+                Ok(()) => Ok(()),
+                Err(_) => Err(Failure::Task(TaskFailure::Output)),
+            }
+        }
+        ConsoleRequest::Stop => {
+            ask_stop(rt, rt.alloc(), address)?;
+            Ok(())
+        }
+    }
+}
+
+/// The address that a text is.
+pub(crate) fn address_of(text: &str) -> Result<SocketAddr, Failure> {
+    match text.parse::<SocketAddr>() {
+        Ok(address) => Ok(address),
+        Err(_) => Err(Failure::Ask(AskFault::Unreachable)),
+    }
+}

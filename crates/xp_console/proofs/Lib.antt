@@ -1,0 +1,5 @@
+pub mod Answered
+pub mod Appends
+pub mod Fields
+pub mod Floats
+pub mod Removed

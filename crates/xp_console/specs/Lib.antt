@@ -1,0 +1,11 @@
+pub mod Answers
+pub mod Clients
+pub mod Hosts
+pub mod Json
+pub mod Metrics
+pub mod Page
+pub mod Refusals
+pub mod Requests
+pub mod Responses
+pub mod Words
+pub mod steps

@@ -1,0 +1,111 @@
+-- The counts in Prometheus' text format.
+use Rattle.std.specs.Prelude.{ℕ, Bool, true, false, codes, count_by, decimal, flat_map, List, [], ◌∷◌, ◌++◌, length}
+use Rattle.xp_console.specs.Refusals.{by_cause}
+use Rattle.xp_console.specs.Words.{cause_text, state_text}
+use Rattle.xp_console.specs.declared.refused.RefusedCalls.{RefusedCalls}
+use Rattle.xp_console.specs.declared.status.ExchangeStatus.{ExchangeStatus}
+use Rattle.xp_console.specs.declared.status.LineStatus.{LineStatus}
+use Rattle.xp_console.specs.declared.status.LiveCall.{LiveCall}
+use Rattle.xp_console.specs.declared.status.LineState.{LineState}
+use Rattle.xp_console.specs.declared.status.LineState.TheVariants.{OutOfService, Ready, DteWaiting, DceWaiting, DataTransfer, DceClearIndication}
+use Rattle.xp_console.specs.declared.status.Totals.{Totals}
+
+-- what a metric is, in front of its samples: what it counts, and whether it only grows (`counter`) or not (`gauge`)
+unfoldable pub head_text : List ℕ → List ℕ → List ℕ → List ℕ
+head_text name kind help =
+    codes "# HELP " ++ name ++ codes " " ++ help ++ codes "\n# TYPE " ++ name ++ codes " " ++ kind ++ codes "\n"
+
+-- a sample of a metric
+unfoldable pub sample_text : List ℕ → ℕ → List ℕ
+sample_text name value = name ++ codes " " ++ decimal value ++ codes "\n"
+
+-- a sample with a label
+unfoldable pub labelled_text : List ℕ → List ℕ → List ℕ → ℕ → List ℕ
+labelled_text name label word value =
+    name ++ codes "{" ++ label ++ codes "=\"" ++ word ++ codes "\"} " ++ decimal value ++ codes "\n"
+
+-- two states are the same
+abbrev pub is_same_state : LineState → LineState → Bool
+is_same_state OutOfService OutOfService = true
+is_same_state Ready Ready = true
+is_same_state DteWaiting DteWaiting = true
+is_same_state DceWaiting DceWaiting = true
+is_same_state DataTransfer DataTransfer = true
+is_same_state DceClearIndication DceClearIndication = true
+is_same_state _ _ = false
+
+-- how many lines are in a state
+unfoldable pub count_in : LineState → List LineStatus → ℕ
+count_in state lines = count_by (λ line. is_same_state line.state state) lines
+
+-- how many lines are in this state
+unfoldable pub state_sample : List LineStatus → LineState → List ℕ
+state_sample lines state =
+    labelled_text (codes "gonukire_lines") (codes "state") (state_text state) (count_in state lines)
+
+-- the states of a channel
+abbrev pub all_states : List LineState
+all_states = OutOfService ∷ Ready ∷ DteWaiting ∷ DceWaiting ∷ DataTransfer ∷ DceClearIndication ∷ []
+
+unfoldable pub lines_text : List LineStatus → List ℕ
+lines_text lines =
+    head_text (codes "gonukire_lines") (codes "gauge") (codes "Lines, by the state of their channel.")
+    ++ flat_map (state_sample lines) all_states
+
+-- a metric of one sample
+unfoldable pub single_text : List ℕ → List ℕ → List ℕ → ℕ → List ℕ
+single_text name kind help value = head_text name kind help ++ sample_text name value
+
+-- calls, those that are live and all
+unfoldable pub live_text : List LiveCall → List ℕ
+live_text calls =
+    single_text (codes "gonukire_calls_live") (codes "gauge") (codes "Calls that have not ended.") (length calls)
+
+unfoldable pub calls_text : ExchangeStatus → List ℕ
+calls_text status =
+    live_text status.calls.items
+    ++ single_text (codes "gonukire_calls_total") (codes "counter") (codes "Call requests, with those that were refused.") status.totals.calls
+
+-- how many call requests were refused with this cause
+unfoldable pub refused_sample : ℕ × ℕ → List ℕ
+refused_sample refused =
+    labelled_text (codes "gonukire_refused_total") (codes "cause") (cause_text refused.0) refused.1
+
+unfoldable pub refused_text : RefusedCalls → List ℕ
+refused_text refused =
+    head_text (codes "gonukire_refused_total") (codes "counter") (codes "Call requests that were refused, by the clearing cause.")
+    ++ flat_map refused_sample (by_cause refused)
+
+-- how many there are of two kinds, such as directions
+unfoldable pub directions_text : List ℕ → List ℕ → ℕ → List ℕ → ℕ → List ℕ
+directions_text name one first other second =
+    labelled_text name (codes "direction") one first ++ labelled_text name (codes "direction") other second
+
+-- segments, and octets, in each direction
+unfoldable pub segments_text : Totals → List ℕ
+segments_text totals =
+    head_text (codes "gonukire_segments_total") (codes "counter") (codes "Segments of ended calls, by the end that sent them.")
+    ++ directions_text (codes "gonukire_segments_total") (codes "from_caller") totals.segments_from_callers (codes "from_called") totals.segments_from_called
+
+unfoldable pub octets_text : Totals → List ℕ
+octets_text totals =
+    head_text (codes "gonukire_link_octets_total") (codes "counter") (codes "Octets of the connections of lines.")
+    ++ directions_text (codes "gonukire_link_octets_total") (codes "received") totals.octets_received (codes "sent") totals.octets_sent
+
+-- events, and how many of them were forced stalls
+unfoldable pub events_text : Totals → List ℕ
+events_text totals =
+    single_text (codes "gonukire_events_total") (codes "counter") (codes "Events of lines.") totals.events
+    ++ single_text (codes "gonukire_stalls_total") (codes "counter") (codes "Lines taken out of service for not taking their output.") totals.stalls
+
+-- records that wait
+unfoldable pub waiting_text : Totals → List ℕ
+waiting_text totals =
+    single_text (codes "gonukire_records_waiting") (codes "gauge") (codes "Records of ended calls that are not written yet.") totals.records_waiting
+
+-- all metrics
+unfoldable pub metrics_text : ExchangeStatus → List ℕ
+metrics_text status =
+    lines_text status.lines.items ++ calls_text status ++ refused_text status.totals.refused
+    ++ segments_text status.totals ++ octets_text status.totals ++ events_text status.totals
+    ++ waiting_text status.totals

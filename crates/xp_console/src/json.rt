@@ -1,0 +1,198 @@
+//! One moment of the exchange as JSON.
+
+ghost use Rattle.std.specs.Prelude.{◌≡◌, IfOk, map, string_bytes};
+ghost use Rattle.serde_json.specs.Data.{array};
+ghost use Rattle.serde_json.specs.View.{items_of, view};
+ghost use Rattle.xp_console.specs.Json.{calls_data, cleared_data, ended_data, json_text, line_data, lines_data, live_data, optional_data, optional_party_data, party_data, peer_data, recent_data, refused_data, segments_data, status_data, totals_data};
+
+use crate::status::{EndedCall, ExchangeStatus, LineStatus, LiveCall, Party, Totals};
+use crate::words::{cause_text, payer_text, state_text};
+use serde_json::{Value, json};
+use std::alloc::{AllocError, Global};
+use std::net::SocketAddr;
+
+/// What the exchange shows of one moment, as JSON with no space.
+#[tactic(auto, using(crate::proofs::Floats::status_has_no_float), unfolding(crate::specs::Json::json_text))]
+pub(crate) fn status_json(alloc: Global, status: &ExchangeStatus) -> Result<String, AllocError>
+    ensures { IfOk result (λ text. string_bytes text ≡ json_text status.now) }
+{
+    status_value(alloc, status)?.to_string(alloc)
+}
+
+fn status_value(alloc: Global, status: &ExchangeStatus) -> Result<Value, AllocError>
+    ensures { IfOk result (λ value. view value ≡ status_data status.now) }
+{
+    let calls = calls_value(alloc, &status.calls)?;
+    let lines = lines_value(alloc, &status.lines)?;
+    let recent = recent_value(alloc, &status.recent)?;
+    let totals = totals_value(alloc, &status.totals)?;
+    json!(in alloc; {
+        "calls": calls,
+        "lines": lines,
+        "moment": status.moment,
+        "recent": recent,
+        "started": status.started,
+        "totals": totals,
+    })
+}
+
+fn lines_value(alloc: Global, lines: &[LineStatus]) -> Result<Value, AllocError>
+    ensures { IfOk result (λ value. view value ≡ lines_data lines.now) }
+{
+    let mut values = Vec::with_capacity(alloc, lines.len())?;
+    for line in lines {
+        values.push(line_value(alloc, line)?)?;
+    }
+    Ok(Value::Array(values))
+}
+
+fn line_value(alloc: Global, line: &LineStatus) -> Result<Value, AllocError>
+    ensures { IfOk result (λ value. view value ≡ line_data line.now) }
+{
+    let call = optional_value(line.call);
+    let peer = peer_value(alloc, line.peer)?;
+    json!(in alloc; {
+        "call": call,
+        "name": line.name.as_str(),
+        "peer": peer,
+        "since": line.since,
+        "state": state_text(line.state),
+    })
+}
+
+fn calls_value(alloc: Global, calls: &[LiveCall]) -> Result<Value, AllocError>
+    ensures { IfOk result (λ value. view value ≡ calls_data calls.now) }
+{
+    let mut values = Vec::with_capacity(alloc, calls.len())?;
+    for call in calls {
+        values.push(live_value(alloc, call)?)?;
+    }
+    Ok(Value::Array(values))
+}
+
+fn live_value(alloc: Global, call: &LiveCall) -> Result<Value, AllocError>
+    ensures { IfOk result (λ value. view value ≡ live_data call.now) }
+{
+    let called = party_value(alloc, &call.called)?;
+    let caller = party_value(alloc, &call.caller)?;
+    let segments = segments_value(alloc, call.segments_from_caller, call.segments_from_called)?;
+    json!(in alloc; {
+        "called": called,
+        "caller": caller,
+        "connected": optional_value(call.connected),
+        "number": call.number,
+        "requested": call.requested,
+        "seconds": call.seconds,
+        "segments": segments,
+    })
+}
+
+fn recent_value(alloc: Global, calls: &[EndedCall]) -> Result<Value, AllocError>
+    ensures { IfOk result (λ value. view value ≡ recent_data calls.now) }
+{
+    let mut values = Vec::with_capacity(alloc, calls.len())?;
+    for call in calls {
+        values.push(ended_value(alloc, call)?)?;
+    }
+    Ok(Value::Array(values))
+}
+
+fn ended_value(alloc: Global, call: &EndedCall) -> Result<Value, AllocError>
+    ensures { IfOk result (λ value. view value ≡ ended_data call.now) }
+{
+    let called = optional_party_value(alloc, &call.called)?;
+    let caller = party_value(alloc, &call.caller)?;
+    let cleared = cleared_value(alloc, call.cause, call.diagnostic)?;
+    let segments = segments_value(alloc, call.segments_from_caller, call.segments_from_called)?;
+    json!(in alloc; {
+        "called": called,
+        "caller": caller,
+        "cleared": cleared,
+        "connected": optional_value(call.connected),
+        "dialled": call.dialled.as_str(),
+        "ended": call.ended,
+        "number": call.number,
+        "payer": payer_text(call.payer),
+        "requested": call.requested,
+        "seconds": call.seconds,
+        "segments": segments,
+    })
+}
+
+fn totals_value(alloc: Global, totals: &Totals) -> Result<Value, AllocError>
+    ensures { IfOk result (λ value. view value ≡ totals_data totals.now) }
+{
+    let refused = causes_value(alloc, &totals.refused.by_cause())?;
+    json!(in alloc; {
+        "calls": totals.calls,
+        "events": totals.events,
+        "octets_received": totals.octets_received,
+        "octets_sent": totals.octets_sent,
+        "records_waiting": totals.records_waiting,
+        "refused": refused,
+        "segments_from_called": totals.segments_from_called,
+        "segments_from_callers": totals.segments_from_callers,
+        "stalls": totals.stalls,
+    })
+}
+
+fn causes_value(alloc: Global, counts: &[(u8, u64)]) -> Result<Value, AllocError>
+    ensures { IfOk result (λ value. view value ≡ array (items_of (map refused_data counts.now))) }
+{
+    let mut values = Vec::with_capacity(alloc, counts.len())?;
+    for count in counts {
+        values.push(refused_value(alloc, count.0, count.1)?)?;
+    }
+    Ok(Value::Array(values))
+}
+
+fn refused_value(alloc: Global, cause: u8, count: u64) -> Result<Value, AllocError>
+    ensures { IfOk result (λ value. view value ≡ refused_data (cause, count)) }
+{
+    json!(in alloc; {"cause": cause, "count": count, "words": cause_text(cause)})
+}
+
+fn segments_value(alloc: Global, from_caller: u64, from_called: u64) -> Result<Value, AllocError>
+    ensures { IfOk result (λ value. view value ≡ segments_data from_caller from_called) }
+{
+    json!(in alloc; {"from_called": from_called, "from_caller": from_caller})
+}
+
+fn cleared_value(alloc: Global, cause: u8, diagnostic: u8) -> Result<Value, AllocError>
+    ensures { IfOk result (λ value. view value ≡ cleared_data cause diagnostic) }
+{
+    json!(in alloc; {"cause": cause, "diagnostic": diagnostic, "words": cause_text(cause)})
+}
+
+fn optional_party_value(alloc: Global, party: &Option<Party>) -> Result<Value, AllocError>
+    ensures { IfOk result (λ value. view value ≡ optional_party_data party.now) }
+{
+    match party {
+        Some(party) => party_value(alloc, party),
+        None => Ok(Value::Null),
+    }
+}
+
+fn party_value(alloc: Global, party: &Party) -> Result<Value, AllocError>
+    ensures { IfOk result (λ value. view value ≡ party_data party.now) }
+{
+    json!(in alloc; {"address": party.address.as_str(), "line": party.line.as_str()})
+}
+
+fn peer_value(alloc: Global, peer: Option<SocketAddr>) -> Result<Value, AllocError>
+    ensures { IfOk result (λ value. view value ≡ peer_data peer) }
+{
+    match peer {
+        Some(peer) => Ok(Value::from(peer.to_string(alloc)?)),
+        None => Ok(Value::Null),
+    }
+}
+
+fn optional_value(count: Option<u64>) -> Value
+    ensures { view result ≡ optional_data count }
+{
+    match count {
+        Some(count) => Value::from(count),
+        None => Value::Null,
+    }
+}

@@ -1,0 +1,215 @@
+//! The page of the console.
+
+ghost use Rattle.std.specs.Prelude.{◌≡◌};
+ghost use Rattle.xp_console.specs.Page.{page_text};
+
+/// The page: it asks for `/status.json` each second, and shows what that says. It loads nothing else.
+#[tactic(auto, unfolding(crate::specs::Page::page_text))]
+pub(crate) fn page() -> &'static [u8]
+    ensures { result.now ≡ page_text }
+{
+    PAGE.as_bytes()
+}
+
+const PAGE: &str = r#"<!doctype html>
+<html lang="en">
+<head>
+<meta charset="utf-8">
+<meta name="viewport" content="width=device-width, initial-scale=1">
+<title>Gonukire</title>
+<style>
+:root {
+  color-scheme: light dark;
+  --figures: ui-monospace, "DejaVu Sans Mono", Menlo, Consolas, monospace;
+  --paper: #fbfbf9; --ink: #1c1f22; --soft: #5c646c; --rule: #d9dcdf; --band: #f1f2f0;
+  --ready: #2c7a3f; --waiting: #966200; --data: #1f5fae; --clearing: #b3261e; --off: #6d747b;
+}
+@media (prefers-color-scheme: dark) {
+  :root {
+    --paper: #15181b; --ink: #e4e6e8; --soft: #9aa3ab; --rule: #31373d; --band: #1d2125;
+    --ready: #6cc483; --waiting: #e0ab4a; --data: #7fb3f2; --clearing: #f28b82; --off: #8d959d;
+  }
+}
+* { box-sizing: border-box; }
+body { margin: 0 auto; max-width: 110rem; padding: 1rem 1.25rem 2rem; background: var(--paper); color: var(--ink);
+  font: 14px/1.45 system-ui, sans-serif; }
+header { display: flex; flex-wrap: wrap; align-items: baseline; gap: .25rem 1.25rem; }
+h1 { margin: 0; font-size: 1.15rem; letter-spacing: .01em; }
+header p { margin: 0; color: var(--soft); }
+#trouble { color: var(--clearing); font-weight: 600; }
+dl { display: grid; grid-template-columns: repeat(auto-fill, minmax(9rem, 1fr)); gap: .3rem 1.25rem; margin: .6rem 0 1rem;
+  padding: .45rem 0; border: solid var(--rule); border-width: 1px 0; }
+dl div { display: flex; flex-direction: column-reverse; }
+dt { color: var(--soft); font-size: .8rem; }
+dd { margin: 0; font: 1.05rem/1.3 var(--figures); }
+main, .stack { display: grid; gap: 1.25rem 2rem; min-width: 0; }
+@media (min-width: 48rem) { dl { display: flex; flex-wrap: wrap; justify-content: space-between; } }
+@media (min-width: 76rem) { main { grid-template-columns: minmax(26rem, 4fr) minmax(0, 7fr); align-items: start; } }
+section { min-width: 0; }
+.table { overflow: auto; max-height: 85vh; }
+#live { max-height: 45vh; }
+table { border-collapse: collapse; width: 100%; white-space: nowrap; }
+caption { padding: 0 0 .2rem; text-align: left; font-weight: 600; }
+caption span { color: var(--soft); font-weight: 400; }
+th { position: sticky; top: 0; padding: .2rem .7rem .25rem 0; background: var(--paper); box-shadow: inset 0 -1px var(--ink);
+  color: var(--soft); font-size: .8rem; font-weight: 400; line-height: 1.2; text-align: left; vertical-align: bottom; white-space: normal; }
+td { padding: .14rem .7rem .14rem 0; border-bottom: 1px solid var(--rule); vertical-align: baseline; }
+tbody tr:nth-child(even) { background: var(--band); }
+th:first-child, td:first-child { padding-left: .35rem; }
+td.number, td.code { font: .93em/1.45 var(--figures); }
+.number { text-align: right; }
+td.state::before { content: ""; display: inline-block; width: .62em; height: .62em; margin-right: .5em; border-radius: 50%;
+  border: 1.5px solid currentColor; background: currentColor; }
+td.off::before { background: none; }
+.off { color: var(--off); } .ready { color: var(--ready); } .waiting { color: var(--waiting); } .data { color: var(--data); }
+.clearing { color: var(--clearing); }
+.find { display: flex; flex-wrap: wrap; gap: .25rem .75rem; align-items: baseline; margin-bottom: .5rem; color: var(--soft); }
+.find input { width: 14rem; max-width: 100%; padding: .15rem .4rem; border: 1px solid var(--rule); border-radius: 3px;
+  background: var(--paper); color: var(--ink); font: inherit; }
+.stale main, .stale dl { opacity: .45; }
+:focus-visible { outline: 2px solid var(--data); outline-offset: 2px; }
+</style>
+</head>
+<body>
+<header>
+<h1>Gonukire</h1>
+<p id="moment">waiting for the exchange</p>
+<p id="trouble" role="status"></p>
+</header>
+<dl id="counts"></dl>
+<main>
+<section>
+<div class="find"><label for="wanted">Show lines with</label><input id="wanted" type="search" autocomplete="off" spellcheck="false"></div>
+<div class="table" tabindex="0" role="region" aria-label="Lines"><table id="lines"></table></div>
+</section>
+<div class="stack">
+<section><div id="live" class="table" tabindex="0" role="region" aria-label="Live calls"><table id="calls"></table></div></section>
+<section><div class="table" tabindex="0" role="region" aria-label="Ended calls"><table id="recent"></table></div></section>
+</div>
+</main>
+<noscript>This page needs JavaScript. The same is at /status.txt as text.</noscript>
+<script>
+"use strict";
+const kinds = { "out of service": "off", "ready": "ready", "DTE waiting": "waiting", "DCE waiting": "waiting",
+  "data transfer": "data", "DCE clear indication": "clearing" };
+const element = (name, text, kind) => {
+  const made = document.createElement(name);
+  if (text !== undefined) made.textContent = text;
+  if (kind) made.className = kind;
+  return made;
+};
+const two = (count) => String(count).padStart(2, "0");
+const age = (seconds) => {
+  const whole = Math.max(0, seconds), days = Math.floor(whole / 86400);
+  const clock = Math.floor(whole % 86400 / 3600) + ":" + two(Math.floor(whole % 3600 / 60)) + ":" + two(whole % 60);
+  return days ? days + " d " + clock : clock;
+};
+const moment = (seconds) => new Date(seconds * 1000).toISOString().slice(0, 19).replace("T", " ");
+const count = (number) => number.toLocaleString("en").replaceAll(",", "\u202f");
+const hex = (octet) => octet.toString(16).padStart(2, "0");
+const party = (one) => one ? one.line + " " + one.address : "\u2013";
+
+// A table of these columns: each a heading, a class, and what a row shows there, which may be a text and a class.
+function table(id, title, columns) {
+  const made = document.getElementById(id), note = element("span"), caption = element("caption", title + " ");
+  caption.append(note);
+  const head = element("tr");
+  for (const [heading, kind] of columns) {
+    const cell = element("th", heading, kind);
+    cell.scope = "col";
+    head.append(cell);
+  }
+  const top = element("thead"), body = element("tbody");
+  top.append(head);
+  made.append(caption, top, body);
+  return (items, told) => {
+    note.textContent = told;
+    while (body.rows.length > items.length) body.deleteRow(-1);
+    items.forEach((item, place) => {
+      const row = body.rows[place] || body.insertRow();
+      columns.forEach(([, kind, shown], column) => {
+        const cell = row.cells[column] || row.insertCell(), [text, more] = [].concat(shown(item));
+        const wanted = [kind, more].filter(Boolean).join(" ");
+        if (cell.textContent !== text) cell.textContent = text;
+        if (cell.className !== wanted) cell.className = wanted;
+      });
+    });
+  };
+}
+let now = 0;
+const showLines = table("lines", "Lines", [
+  ["line", "", (line) => line.name],
+  ["state", "state", (line) => [line.state, kinds[line.state] || ""]],
+  ["for", "number", (line) => age(now - line.since)],
+  ["call", "number", (line) => line.call === null ? "\u2013" : String(line.call)],
+  ["peer", "code", (line) => line.peer || "\u2013"],
+]);
+const showCalls = table("calls", "Live calls", [
+  ["call", "number", (call) => String(call.number)],
+  ["caller", "code", (call) => party(call.caller)],
+  ["called", "code", (call) => party(call.called)],
+  ["connected for", "number", (call) => call.connected === null ? ["ringing", "waiting"] : age(call.seconds)],
+  ["segments from caller", "number", (call) => count(call.segments.from_caller)],
+  ["segments from called", "number", (call) => count(call.segments.from_called)],
+]);
+const showRecent = table("recent", "Ended calls", [
+  ["call", "number", (call) => String(call.number)],
+  ["ended (UTC)", "code", (call) => moment(call.ended)],
+  ["caller", "code", (call) => party(call.caller)],
+  ["called", "code", (call) => party(call.called)],
+  ["dialled", "code", (call) => call.dialled],
+  ["connected for", "number", (call) => age(call.seconds)],
+  ["segments from caller", "number", (call) => count(call.segments.from_caller)],
+  ["segments from called", "number", (call) => count(call.segments.from_called)],
+  ["payer", "", (call) => call.payer],
+  ["cause", "", (call) => hex(call.cleared.cause) + " " + call.cleared.words],
+  ["diagnostic", "number", (call) => String(call.cleared.diagnostic)],
+]);
+function showCounts(status) {
+  const totals = status.totals, up = status.lines.filter((line) => line.state !== "out of service").length;
+  const refused = totals.refused.reduce((sum, one) => sum + one.count, 0);
+  const facts = [["lines in service", up + " of " + status.lines.length], ["live calls", count(status.calls.length)],
+    ["calls", count(totals.calls)], ["refused calls", count(refused)],
+    ["segments from callers", count(totals.segments_from_callers)], ["segments from called", count(totals.segments_from_called)],
+    ["events", count(totals.events)], ["stalls", count(totals.stalls)], ["records waiting", count(totals.records_waiting)],
+    ["octets received", count(totals.octets_received)], ["octets sent", count(totals.octets_sent)]];
+  const list = document.getElementById("counts");
+  facts.forEach(([name, value], place) => {
+    const fact = list.children[place] || list.appendChild(element("div"));
+    if (!fact.firstChild) fact.append(element("dt", name), element("dd"));
+    fact.lastChild.textContent = value;
+  });
+}
+let latest = null;
+const wanted = document.getElementById("wanted");
+function show() {
+  if (!latest) return;
+  now = latest.moment;
+  const word = wanted.value.trim().toLowerCase();
+  const lines = latest.lines.filter((line) => (line.name + " " + line.state + " " + (line.peer || "")).toLowerCase().includes(word));
+  showCounts(latest);
+  showLines(lines, word ? lines.length + " of " + latest.lines.length : String(lines.length));
+  showCalls(latest.calls, String(latest.calls.length));
+  showRecent(latest.recent.slice().reverse(), "the last " + latest.recent.length + ", the latest first");
+  document.getElementById("moment").textContent = moment(now) + " UTC, serving for " + age(now - latest.started);
+}
+async function refresh() {
+  try {
+    const answer = await fetch("/status.json", { cache: "no-store", signal: AbortSignal.timeout(5000) });
+    if (!answer.ok) throw new Error(String(answer.status));
+    latest = await answer.json();
+    show();
+    document.body.className = "";
+    document.getElementById("trouble").textContent = "";
+  } catch {
+    document.body.className = "stale";
+    document.getElementById("trouble").textContent = "exchange not reachable";
+  }
+  setTimeout(refresh, 1000);
+}
+wanted.addEventListener("input", show);
+refresh();
+</script>
+</body>
+</html>
+"#;

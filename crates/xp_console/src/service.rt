@@ -1,0 +1,180 @@
+//! The console as a service of HTTP, over a source of the exchange's status.
+
+ghost use Rattle.std.specs.Prelude.{◌≡◌, [], IfOk, OnErr, string_bytes};
+ghost use Rattle.http.specs.Request.{head_of};
+ghost use Rattle.http_server.specs.Response.{IsBlank};
+ghost use Rattle.xp_console.specs.Answers.{Grants, IsTextOf, Responds, Serves, Shows, Stops, Tells, kind_of as kind_in};
+ghost use Rattle.xp_console.specs.Responses.{Says};
+ghost use Rattle.xp_console.specs.declared.status.ExchangeStatus.{ExchangeStatus};
+
+use crate::json::status_json;
+use crate::metrics::status_metrics;
+use crate::page::page;
+use crate::requests::{Answer, Format, Resource, answer_to};
+use crate::responses::{Kind, be_unavailable, fill, say, say_allowed};
+use crate::status::ExchangeStatus;
+use crate::table::status_table;
+use bytes::Bytes;
+use http::{Request, StatusCode};
+use http_server::{Response, Service};
+use std::alloc::{AllocError, Global};
+use std::net::IpAddr;
+
+/// What the console is over: it shows one moment of the exchange, and stops it.
+pub trait StatusSource {
+    // From the first state, what is shown may be this, and leaves the second state.
+    ghost shows: { Self → ExchangeStatus → Self → Type 0 };
+
+    // From the first state, a stop leaves the second.
+    ghost stops: { Self → Self → Type 0 };
+
+    /// What the exchange shows of this moment.
+    ///
+    /// # Errors
+    ///
+    /// `AllocError` if an allocation fails. Nothing is changed then.
+    fn status(&mut self, alloc: Global) -> Result<ExchangeStatus, AllocError>
+        ensures ok { IfOk result (λ status. shows self.old status self.new) }
+        ensures err { OnErr result (self.new ≡ self.old) };
+
+    /// Asks the exchange to stop: it ends its live calls, each with its record, and then ends. It does not wait for that.
+    fn stop(&mut self)
+        ensures { stops self.old self.new };
+}
+
+/// The console's service: it answers requests by what a source shows.
+#[derive(Drop)]
+pub struct ConsoleService<S> {
+    pub alloc: Global,
+    /// The address at which the console listens.
+    pub own: IpAddr,
+    pub source: S,
+}
+
+impl<S: StatusSource> ConsoleService<S> {
+    /// Answers a request by what the source shows.
+    pub fn answer(&mut self, request: &Request<Bytes>, response: &mut Response)
+        requires { IsBlank response.old }
+        ensures served { Serves S.shows S.stops self.old.own (head_of request.now) self.old.source response.new self.new.source }
+        ensures own { self.new.own ≡ self.old.own }
+    {
+        let answer = answer_to(self.own, request);
+        respond(self.alloc, &mut self.source, answer, response);
+    }
+}
+
+impl<S: StatusSource> Service for ConsoleService<S> {
+    ghost answers = { λ old request response new.
+        Serves S.shows S.stops old.own (head_of request) old.source response new.source × (new.own ≡ old.own) };
+
+    fn call(
+        &mut self,
+        request: &Request<Bytes>,
+        response: &mut Response,
+    ) -> Result<(), AllocError> {
+        self.answer(request, response);
+        Ok(())
+    }
+}
+
+/// Responds with an answer.
+fn respond<S: StatusSource>(alloc: Global, source: &mut S, answer: Answer, response: &mut Response)
+    requires { IsBlank response.old }
+    ensures { Responds S.shows S.stops answer source.old response.new source.new }
+{
+    match answer {
+        Answer::Granted(resource) => grant(alloc, source, resource, response),
+        Answer::Misdirected => refuse(
+            response,
+            StatusCode::MISDIRECTED_REQUEST,
+            b"not addressed to this console\n",
+        ),
+        Answer::NotFound => refuse(response, StatusCode::NOT_FOUND, b"not found\n"),
+        Answer::WrongMethod(Resource::Stop) => say_allowed(response, "POST"),
+        Answer::WrongMethod(_) => say_allowed(response, "GET, HEAD"),
+        Answer::Forbidden => refuse(
+            response,
+            StatusCode::FORBIDDEN,
+            b"a stop needs the header X-Gonukire: stop\n",
+        ),
+    }
+}
+
+fn refuse(response: &mut Response, status: StatusCode, why: &[u8])
+    requires { IsBlank response.old }
+    ensures { Says status Kind.Text [] why.now response.new }
+{
+    say(response, status, Kind::Text, why);
+}
+
+/// Responds with what a granted resource shows, or stops the exchange.
+fn grant<S: StatusSource>(
+    alloc: Global,
+    source: &mut S,
+    resource: Resource,
+    response: &mut Response,
+)
+    requires { IsBlank response.old }
+    ensures { Grants S.shows S.stops resource source.old response.new source.new }
+{
+    match resource {
+        Resource::Page => say(response, StatusCode::OK, Kind::Html, page()),
+        Resource::Health => say(response, StatusCode::OK, Kind::Text, b"ok\n"),
+        Resource::Status(format) => show(alloc, source, format, response),
+        Resource::Stop => take_stop(source, response),
+    }
+}
+
+/// Responds with what the source shows of this moment.
+fn show<S: StatusSource>(alloc: Global, source: &mut S, format: Format, response: &mut Response)
+    requires { IsBlank response.old }
+    ensures { Shows S.shows format source.old response.new source.new }
+{
+    match source.status(alloc) {
+        Ok(status) => tell(alloc, &status, format, response),
+        Err(_) => be_unavailable(response),
+    }
+}
+
+/// Responds with the text of a status.
+fn tell(alloc: Global, status: &ExchangeStatus, format: Format, response: &mut Response)
+    requires { IsBlank response.old }
+    ensures { Tells format status.now response.new }
+{
+    match text_in(alloc, status, format) {
+        Ok(text) => say(response, StatusCode::OK, kind_of(format), text.as_bytes()),
+        Err(_) => be_unavailable(response),
+    }
+}
+
+/// The status in a format.
+fn text_in(alloc: Global, status: &ExchangeStatus, format: Format) -> Result<String, AllocError>
+    ensures { IfOk result (λ text. IsTextOf format status.now (string_bytes text)) }
+{
+    match format {
+        Format::Json => status_json(alloc, status),
+        Format::Text => status_table(alloc, status),
+        Format::Metrics => status_metrics(alloc, status),
+    }
+}
+
+fn kind_of(format: Format) -> Kind
+    ensures { result ≡ kind_in format }
+{
+    match format {
+        Format::Json => Kind::Json,
+        Format::Text => Kind::Text,
+        Format::Metrics => Kind::Metrics,
+    }
+}
+
+/// Stops the exchange, once the response stands.
+fn take_stop<S: StatusSource>(source: &mut S, response: &mut Response)
+    requires { IsBlank response.old }
+    ensures { Stops S.stops source.old response.new source.new }
+{
+    match fill(response, StatusCode::ACCEPTED, Kind::Text, b"stopping\n") {
+        Ok(()) => source.stop(),
+        Err(_) => be_unavailable(response),
+    }
+}

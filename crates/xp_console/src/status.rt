@@ -1,0 +1,133 @@
+//! One moment of a serving exchange, as an operator is shown it.
+
+use crate::refused::RefusedCalls;
+use std::net::SocketAddr;
+
+/// What an exchange shows of itself: all of it is of one moment. Moments are in seconds since 1970.
+#[derive(Debug, Drop)]
+pub struct ExchangeStatus {
+    /// The moment at which the exchange began to serve.
+    pub started: u64,
+    /// The moment that is shown.
+    pub moment: u64,
+    /// The lines, in the order of the subscription file.
+    pub lines: Vec<LineStatus>,
+    /// The live calls.
+    pub calls: Vec<LiveCall>,
+    /// The calls that ended last, at most 100, the latest last.
+    pub recent: Vec<EndedCall>,
+    /// What was counted since the exchange began to serve.
+    pub totals: Totals,
+}
+
+/// A line, and what it is doing.
+#[derive(Debug, Drop)]
+pub struct LineStatus {
+    pub name: String,
+    pub state: LineState,
+    /// The far end of the line's connection.
+    pub peer: Option<SocketAddr>,
+    /// The moment since which the line is in this state.
+    pub since: u64,
+    /// The number of the call that it takes part in.
+    pub call: Option<u64>,
+}
+
+/// The state of a line's logical channel (X.25 Annex B).
+#[derive(Clone, Copy, Debug, Default, PartialEq, Eq)]
+pub enum LineState {
+    /// The line has no connection.
+    #[default]
+    OutOfService,
+    /// p1, ready.
+    Ready,
+    /// p2, DTE waiting: the line has requested a call.
+    DteWaiting,
+    /// p3, DCE waiting: the line has an incoming call to answer.
+    DceWaiting,
+    /// p4, data transfer.
+    DataTransfer,
+    /// p7, DCE clear indication: the line has a clear indication to confirm.
+    DceClearIndication,
+}
+
+/// A line's part in a call.
+#[derive(Debug, Drop)]
+pub struct Party {
+    /// The name of the line.
+    pub line: String,
+    /// The address of the line, in digits.
+    pub address: String,
+}
+
+/// A call that has not ended.
+#[derive(Debug, Drop)]
+pub struct LiveCall {
+    /// The call's number, from 1.
+    pub number: u64,
+    pub caller: Party,
+    pub called: Party,
+    /// The moment of the call request.
+    pub requested: u64,
+    /// The moment at which the call was accepted, if it was.
+    pub connected: Option<u64>,
+    pub segments_from_caller: u64,
+    pub segments_from_called: u64,
+    /// For how many seconds the call has been connected.
+    pub seconds: u64,
+}
+
+/// A call that has ended, with the fields of its call detail record.
+#[derive(Debug, Drop)]
+pub struct EndedCall {
+    /// The call's number, from 1.
+    pub number: u64,
+    pub caller: Party,
+    /// The line that the call was offered to, if it was.
+    pub called: Option<Party>,
+    /// The called address, as the caller gave it.
+    pub dialled: String,
+    pub payer: Payer,
+    pub segments_from_caller: u64,
+    pub segments_from_called: u64,
+    /// The moment of the call request.
+    pub requested: u64,
+    /// The moment at which the call was accepted, if it was.
+    pub connected: Option<u64>,
+    /// The moment at which the call ended.
+    pub ended: u64,
+    /// For how many seconds the call was connected.
+    pub seconds: u64,
+    /// The clearing cause (X.25 clause 5.2.4).
+    pub cause: u8,
+    /// The diagnostic (X.25 Annex E).
+    pub diagnostic: u8,
+}
+
+/// The end that pays for a call.
+#[derive(Clone, Copy, Debug, PartialEq, Eq)]
+pub enum Payer {
+    Caller,
+    Called,
+}
+
+/// What was counted since the exchange began to serve, and how many records wait.
+#[derive(Clone, Copy, Debug, Default, PartialEq, Eq)]
+pub struct Totals {
+    /// Call requests, with those that were refused.
+    pub calls: u64,
+    /// Call requests that were refused, by the cause.
+    pub refused: RefusedCalls,
+    pub segments_from_callers: u64,
+    pub segments_from_called: u64,
+    /// Events of lines.
+    pub events: u64,
+    /// Lines that were taken out of service since they did not take what was put out to them.
+    pub stalls: u64,
+    /// Records of ended calls that are not written yet.
+    pub records_waiting: u64,
+    /// Octets that came by the lines' connections.
+    pub octets_received: u64,
+    /// Octets that went out by the lines' connections.
+    pub octets_sent: u64,
+}

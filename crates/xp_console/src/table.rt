@@ -1,0 +1,136 @@
+//! One moment of the exchange as text, for a terminal of 80 columns.
+
+use crate::age::Age;
+use crate::status::{EndedCall, ExchangeStatus, LineStatus, LiveCall, Party, Totals};
+use crate::words::state_text;
+use std::alloc::{AllocError, Global};
+
+/// How many ended calls are told.
+const MOST_ENDED: usize = 10;
+
+/// What stands where there is nothing to tell.
+const NONE: &str = "-";
+
+/// What the exchange shows of one moment, as tables: the lines, the live calls, the calls that ended last, the totals.
+pub(crate) fn status_table(alloc: Global, status: &ExchangeStatus) -> Result<String, AllocError> {
+    let served = Age(status.moment.saturating_sub(status.started));
+    let mut text = format!(in alloc; "serving for {served}\n")?;
+    push_lines(alloc, &mut text, status)?;
+    push_calls(alloc, &mut text, &status.calls)?;
+    push_ended(alloc, &mut text, &status.recent)?;
+    push_totals(alloc, &mut text, &status.totals)?;
+    Ok(text)
+}
+
+fn push_lines(alloc: Global, text: &mut String, status: &ExchangeStatus) -> Result<(), AllocError> {
+    text.push_str("\nline             state                       for     call peer\n")?;
+    for line in &status.lines {
+        text.push_str(line_row(alloc, status.moment, line)?.as_str())?;
+    }
+    Ok(())
+}
+
+fn line_row(alloc: Global, moment: u64, line: &LineStatus) -> Result<String, AllocError> {
+    let name = line.name.as_str();
+    let state = state_text(line.state);
+    let age = Age(moment.saturating_sub(line.since)).to_string(alloc)?;
+    let age = age.as_str();
+    let call = match line.call {
+        Some(call) => call.to_string(alloc)?,
+        None => String::from_str(alloc, NONE)?,
+    };
+    let call = call.as_str();
+    match line.peer {
+        Some(peer) => format!(in alloc; "{name:<16} {state:<20} {age:>10} {call:>8} {peer}\n"),
+        None => format!(in alloc; "{name:<16} {state:<20} {age:>10} {call:>8} {NONE}\n"),
+    }
+}
+
+fn push_calls(alloc: Global, text: &mut String, calls: &[LiveCall]) -> Result<(), AllocError> {
+    text.push_str(
+        "\n   call caller           called                  for  from caller  from called\n",
+    )?;
+    for call in calls {
+        text.push_str(call_row(alloc, call)?.as_str())?;
+    }
+    Ok(())
+}
+
+fn call_row(alloc: Global, call: &LiveCall) -> Result<String, AllocError> {
+    let number = call.number;
+    let caller = call.caller.line.as_str();
+    let called = call.called.line.as_str();
+    let age = match call.connected {
+        Some(_) => Age(call.seconds).to_string(alloc)?,
+        None => String::from_str(alloc, "ringing")?,
+    };
+    let age = age.as_str();
+    let from_caller = call.segments_from_caller;
+    let from_called = call.segments_from_called;
+    format!(in alloc;
+        "{number:>7} {caller:<16} {called:<16} {age:>10} {from_caller:>12} {from_called:>12}\n"
+    )
+}
+
+/// The calls that ended last, the latest first.
+fn push_ended(alloc: Global, text: &mut String, calls: &[EndedCall]) -> Result<(), AllocError> {
+    text.push_str(
+        "\n  ended caller           called                  for  from caller  from called cause\n",
+    )?;
+    for call in calls.iter().rev().take(MOST_ENDED) {
+        text.push_str(ended_row(alloc, call)?.as_str())?;
+    }
+    Ok(())
+}
+
+fn ended_row(alloc: Global, call: &EndedCall) -> Result<String, AllocError> {
+    let number = call.number;
+    let caller = call.caller.line.as_str();
+    let called = line_of(&call.called);
+    let age = Age(call.seconds).to_string(alloc)?;
+    let age = age.as_str();
+    let from_caller = call.segments_from_caller;
+    let from_called = call.segments_from_called;
+    let cause = call.cause;
+    let diagnostic = call.diagnostic;
+    format!(in alloc;
+        "{number:>7} {caller:<16} {called:<16} {age:>10} {from_caller:>12} {from_called:>12} {cause:02x} {diagnostic}\n"
+    )
+}
+
+fn line_of(party: &Option<Party>) -> &str {
+    match party {
+        Some(party) => party.line.as_str(),
+        None => NONE,
+    }
+}
+
+fn push_totals(alloc: Global, text: &mut String, totals: &Totals) -> Result<(), AllocError> {
+    let refused = refused_count(totals);
+    let calls = totals.calls;
+    let events = totals.events;
+    let stalls = totals.stalls;
+    let waiting = totals.records_waiting;
+    let row = format!(in alloc;
+        "\ncalls {calls}, refused {refused}, events {events}, stalls {stalls}, records waiting {waiting}\n"
+    )?;
+    text.push_str(row.as_str())?;
+    let from_callers = totals.segments_from_callers;
+    let from_called = totals.segments_from_called;
+    let row = format!(in alloc;
+        "segments from callers {from_callers}, from called {from_called}\n"
+    )?;
+    text.push_str(row.as_str())?;
+    let received = totals.octets_received;
+    let sent = totals.octets_sent;
+    let row = format!(in alloc; "octets received {received}, sent {sent}\n")?;
+    text.push_str(row.as_str())
+}
+
+fn refused_count(totals: &Totals) -> u64 {
+    let mut sum = 0u64;
+    for count in &totals.refused.by_cause() {
+        sum = sum.saturating_add(count.1);
+    }
+    sum
+}

@@ -1,0 +1,12 @@
+//! What an operator is shown of a serving exchange: its lines, live calls and last records, as they are at one moment.
+#![tactic(auto)]
+
+mod board;
+mod calls;
+mod ended;
+mod lines;
+mod notes;
+mod observer;
+
+pub use board::{BoardSource, StatusBoard};
+pub use observer::{Observer, Traffic};

@@ -1,0 +1,92 @@
+//! What is kept of an exchange besides what it shows of itself.
+
+use crate::lines::LineNotes;
+use std::alloc::{AllocError, Global};
+use std::collections::VecDeque;
+use std::net::SocketAddr;
+use xp_charge::Record;
+use xp_console::RefusedCalls;
+use xp_subs::LineNo;
+use xp_view::ExchangeView;
+
+/// How many records of ended calls are kept.
+const MOST_RECORDS: usize = 100;
+
+/// The peers of the lines, the last records, and sums over all of them.
+#[derive(Drop)]
+pub(crate) struct Notes {
+    lines: Vec<LineNotes>,
+    /// The records of the calls that ended last, the latest last.
+    pub(crate) records: VecDeque<Record>,
+    /// How many calls have ended.
+    pub(crate) ended: u64,
+    pub(crate) refused: RefusedCalls,
+    /// The segments from the callers of the calls that have ended, and from the called lines.
+    pub(crate) from_callers: u64,
+    pub(crate) from_called: u64,
+}
+
+impl Notes {
+    /// No notes yet of so many lines.
+    pub(crate) fn new(alloc: Global, lines: usize, started: u64) -> Result<Notes, AllocError> {
+        let mut notes = Vec::with_capacity(alloc, lines)?;
+        for _line in 0..lines {
+            notes.push(LineNotes::new(started))?;
+        }
+        Ok(Notes {
+            lines: notes,
+            records: VecDeque::with_capacity(alloc, MOST_RECORDS)?,
+            ended: 0,
+            refused: RefusedCalls::default(),
+            from_callers: 0,
+            from_called: 0,
+        })
+    }
+
+    /// What is known of a line.
+    pub(crate) fn of_line(&self, line: usize) -> LineNotes {
+        match self.lines.get(line) {
+            Some(notes) => *notes,
+            None => LineNotes::new(0),
+        }
+    }
+
+    /// Takes note of a line's peer.
+    pub(crate) fn set_peer(&mut self, line: LineNo, peer: Option<SocketAddr>) {
+        if let Some(notes) = self.lines.get_mut(usize::from(line)) {
+            notes.peer = peer;
+        }
+    }
+
+    /// Takes note of what is seen of the lines at this moment.
+    pub(crate) fn see(&mut self, now: u64, view: &ExchangeView) {
+        for (notes, seen) in self.lines.iter_mut().zip(view.lines.iter()) {
+            notes.see(now, seen.line);
+        }
+    }
+
+    /// Takes note of the records of calls that have ended.
+    pub(crate) fn note_ended(&mut self, records: &[Record]) {
+        for record in records {
+            self.note_record(record);
+        }
+    }
+
+    fn note_record(&mut self, record: &Record) {
+        self.ended = self.ended.saturating_add(1);
+        self.from_callers = self
+            .from_callers
+            .saturating_add(u64::from(record.from_caller));
+        self.from_called = self
+            .from_called
+            .saturating_add(u64::from(record.from_called));
+        if record.called.is_none() {
+            self.refused.count(record.cause);
+        }
+        if self.records.len() >= MOST_RECORDS {
+            self.records.pop_front();
+        }
+        // There is room for them all.
+        let _ = self.records.push_back(record.copy());
+    }
+}

@@ -1,0 +1,172 @@
+//! What is kept to show an operator the exchange.
+
+ghost use Rattle.std.specs.Prelude.{◌≡◌, IfOk};
+ghost use Rattle.xp_observer.specs.Shown.{names_of};
+
+use crate::calls::live_calls;
+use crate::ended::ended_call;
+use crate::lines::NamedLine;
+use crate::notes::Notes;
+use std::alloc::{AllocError, Global};
+use std::marker::Model;
+use std::net::SocketAddr;
+use xp_charge::Record;
+use xp_console::{EndedCall, ExchangeStatus, LineStatus, Totals};
+use xp_subs::{LineNo, Subs};
+use xp_view::ExchangeView;
+
+/// The octets that the connections of all lines have moved.
+#[derive(Clone, Copy, Debug, Default, PartialEq, Eq)]
+pub struct Traffic {
+    pub received: u64,
+    pub sent: u64,
+}
+
+/// What is kept to show an operator the exchange: the names of its lines, and notes of their peers, the last records, and sums over
+/// all of them. Contracts see it as the names of the lines.
+#[derive(Drop)]
+pub struct Observer {
+    /// The moment at which the exchange began to serve, in seconds since 1970.
+    started: u64,
+    lines: Vec<NamedLine>,
+    notes: Notes,
+}
+
+impl Model for Observer {
+    ghost use Rattle.std.specs.Prelude.{List, ℕ, map};
+
+    ghost Value = { List (List ℕ) };
+
+    ghost view = { λ observer. map (λ line. line.name) observer.lines.items };
+}
+
+impl Observer {
+    /// The observer of an exchange of these subscriptions, which began to serve at this moment, in seconds since 1970.
+    ///
+    /// # Errors
+    ///
+    /// `AllocError` if an allocation fails.
+    pub fn new(alloc: Global, subs: &Subs, started: u64) -> Result<Observer, AllocError>
+        ensures { IfOk result (λ observer. observer ≡ names_of subs.now) }
+    {
+        let lines = named_lines(alloc, subs)?;
+        let notes = Notes::new(alloc, lines.len(), started)?;
+        Ok(Observer {
+            started,
+            lines,
+            notes,
+        })
+    }
+
+    /// Takes note that a line has a connection from or to this peer.
+    pub fn came_up(&mut self, line: LineNo, peer: SocketAddr)
+        ensures { self.new ≡ self.old }
+    {
+        self.notes.set_peer(line, Some(peer));
+    }
+
+    /// Takes note that a line has lost its connection.
+    pub fn went_down(&mut self, line: LineNo)
+        ensures { self.new ≡ self.old }
+    {
+        self.notes.set_peer(line, None);
+    }
+
+    /// Takes note of the records of calls that have ended.
+    pub fn note_ended(&mut self, records: &[Record])
+        ensures { self.new ≡ self.old }
+    {
+        self.notes.note_ended(records);
+    }
+
+    /// What is shown of the exchange at this moment, in seconds since 1970, where this can be seen of it, so many records wait to be
+    /// kept, and the connections have moved this.
+    ///
+    /// # Errors
+    ///
+    /// `AllocError` if an allocation fails.
+    pub fn status(
+        &mut self,
+        alloc: Global,
+        now: u64,
+        view: &ExchangeView,
+        waiting: usize,
+        traffic: Traffic,
+    ) -> Result<ExchangeStatus, AllocError>
+        ensures { self.new ≡ self.old }
+    {
+        self.notes.see(now, view);
+        let calls = live_calls(alloc, &self.lines, view, now)?;
+        let totals = totals_of(&self.notes, view, calls.len(), waiting, traffic);
+        Ok(ExchangeStatus {
+            started: self.started,
+            moment: now,
+            lines: line_statuses(alloc, &self.lines, &self.notes, view)?,
+            calls,
+            recent: recent_calls(alloc, &self.lines, &self.notes)?,
+            totals,
+        })
+    }
+}
+
+/// The lines of these subscriptions, in order.
+fn named_lines(alloc: Global, subs: &Subs) -> Result<Vec<NamedLine>, AllocError> {
+    let count = subs.counts().lines;
+    let mut lines = Vec::with_capacity(alloc, count)?;
+    for line in 0..count {
+        let line = line as LineNo;
+        lines.push(NamedLine {
+            name: subs.line(line).name.copy(),
+            address: subs.address_of(line).copy(),
+        })?;
+    }
+    Ok(lines)
+}
+
+/// What is shown of each line, in order.
+fn line_statuses(
+    alloc: Global,
+    lines: &[NamedLine],
+    notes: &Notes,
+    view: &ExchangeView,
+) -> Result<Vec<LineStatus>, AllocError> {
+    let mut statuses = Vec::with_capacity(alloc, lines.len())?;
+    for (place, (line, seen)) in lines.iter().zip(view.lines.iter()).enumerate() {
+        statuses.push(line.status(alloc, notes.of_line(place), seen.line)?)?;
+    }
+    Ok(statuses)
+}
+
+/// The calls that ended last, the latest last.
+fn recent_calls(
+    alloc: Global,
+    lines: &[NamedLine],
+    notes: &Notes,
+) -> Result<Vec<EndedCall>, AllocError> {
+    let mut recent = Vec::with_capacity(alloc, notes.records.len())?;
+    for record in &notes.records {
+        recent.push(ended_call(alloc, lines, record)?)?;
+    }
+    Ok(recent)
+}
+
+/// The sums over all calls, of which so many are live.
+fn totals_of(
+    notes: &Notes,
+    view: &ExchangeView,
+    live: usize,
+    waiting: usize,
+    traffic: Traffic,
+) -> Totals {
+    Totals {
+        calls: notes.ended.saturating_add(live as u64),
+        refused: notes.refused,
+        segments_from_callers: notes.from_callers,
+        segments_from_called: notes.from_called,
+        events: view.entries,
+        stalls: view.stalls,
+        records_waiting: waiting as u64,
+        octets_received: traffic.received,
+        octets_sent: traffic.sent,
+    }
+}
