@@ -24,6 +24,9 @@ pub enum Failure {
     /// The task failed.
     #[error("{0}")]
     Task(TaskFailure),
+    /// The subscription file is refused, and where in it.
+    #[error("{0}\n{1}")]
+    Refused(TaskFailure, String),
     /// The file of call detail records was not opened.
     #[error("xp: cdr: {0}")]
     Cdr(OpenFault),
@@ -46,7 +49,7 @@ impl Failure {
     {
         match self {
             Failure::Arguments(_) => 2,
-            Failure::Task(failure) => failure.status(),
+            Failure::Task(failure) | Failure::Refused(failure, _) => failure.status(),
             Failure::Cdr(_) | Failure::Console(_) | Failure::Ask(_) => 5,
             Failure::Serve(failure) => failure.status(),
         }
@@ -58,7 +61,10 @@ impl Failure {
             // clap ends the last line itself.
             Failure::Arguments(told) => rt.eprint(told),
             Failure::Task(failure) => rt.eprintln(failure),
-            Failure::Cdr(_) | Failure::Console(_) | Failure::Ask(_) => rt.eprintln(self),
+            Failure::Refused(_, _)
+            | Failure::Cdr(_)
+            | Failure::Console(_)
+            | Failure::Ask(_) => rt.eprintln(self),
             Failure::Serve(failure) => rt.eprintln(failure),
         }
     }

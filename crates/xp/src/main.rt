@@ -11,12 +11,14 @@ mod served_console;
 mod serving;
 mod status_feed;
 mod subcommand;
+mod subscribing;
 
 use crate::arguments::Arguments;
 use crate::console::ask_console;
 use crate::failure::Failure;
 use crate::serving::serve_lines;
 use crate::subcommand::{ServeOrder, Subcommand};
+use crate::subscribing::read_subscriptions;
 use log::Log;
 use std::fs::{File, Files};
 use std::io::{BufReader, BufWriter, ErrorKind};
@@ -28,7 +30,7 @@ use std::sync::Wait;
 use std::thread::Threads;
 use std::time::Clock;
 use std::{env, fs, io};
-use xp_tasks::{Task, TaskFailure, perform, subscriptions};
+use xp_tasks::{Task, TaskFailure, perform};
 
 fn main(rt: HostRuntime) -> ExitCode {
     match run(&rt) {
@@ -80,8 +82,8 @@ fn serve_file<
 >(rt: &R, order: &ServeOrder<'_>, file: &str) -> Result<(), Failure> {
     let alloc = rt.alloc();
     let text = fs::read_to_string(rt, file);
-    let subs = subscriptions(alloc, &text)?;
-    let names = subscriptions(alloc, &text)?;
+    let subs = read_subscriptions(alloc, &text)?;
+    let names = read_subscriptions(alloc, &text)?;
     serve_lines(rt, order, subs, names)
 }
 
@@ -92,7 +94,7 @@ fn do_task<R: AllocGlobal + Files<File = File> + Input + Print>(
     file: &str,
 ) -> Result<(), Failure> {
     let alloc = rt.alloc();
-    let subs = subscriptions(alloc, &fs::read_to_string(rt, file))?;
+    let subs = read_subscriptions(alloc, &fs::read_to_string(rt, file))?;
     let reader = BufReader::new(alloc, rt.reader()).map_err(|_| TaskFailure::Memory)?;
     let mut writer = BufWriter::new(alloc, io::writer(rt)).map_err(|_| TaskFailure::Memory)?;
     perform(alloc, task, subs, reader, &mut writer)?;

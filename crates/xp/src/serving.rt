@@ -14,7 +14,7 @@ use std::random::RandomSource;
 use std::sync::atomic::AtomicBool;
 use std::sync::atomic::Ordering::SeqCst;
 use std::sync::{Arc, Wait};
-use std::thread::Threads;
+use std::thread::{JoinHandle, Scope, Threads};
 use std::time::Clock;
 use std::{io, thread};
 use xp_cdr::{DetailFile, Opened};
@@ -148,7 +148,7 @@ fn serve_beside<
             requires names { K.named_by attending ≡ subs }
             requires new { K.received attending ≡ [] }
         {
-            let Ok(running) = scope.spawn(move || console.run(rt, &ends)) else {
+            let Some(running) = begin_console(rt, scope, console, ends) else {
                 return Err(Failure::Task(TaskFailure::Memory));
             };
             let outcome = serve(rt, rt.alloc(), subs, limits, notices, attending).outcome;
@@ -158,6 +158,16 @@ fn serve_beside<
             Ok(())
         },
     )
+}
+
+/// Starts the thread of the console, which ends when the flag is set. `None` where it cannot be started.
+fn begin_console<'s, E, R: Clock + Sync + Wait + 's>(
+    rt: &'s R,
+    scope: &Scope<'s, E>,
+    console: ServedConsole,
+    is_over: Arc<AtomicBool>,
+) -> Option<JoinHandle<()>> {
+    scope.spawn(move || console.run(rt, &is_over)).ok()
 }
 
 /// Tells that the torn last line of a file of call detail records was cut off.

@@ -1,5 +1,5 @@
 -- What is shown of the lines of an exchange.
-use Rattle.std.specs.Prelude.{◌≡◌, ℕ, List, [], ◌∷◌, map, string_bytes}
+use Rattle.std.specs.Prelude.{◌≡◌, ℕ, List, Some, length, map, min, slice_get, string_bytes}
 use Rattle.xp_channel.specs.declared.channel.Channel.{Channel}
 use Rattle.xp_channel.specs.declared.channel.Channel.TheVariants.{Off, P1, P2, P3, P4, P7}
 use Rattle.xp_console.specs.declared.status.LineState.{LineState}
@@ -27,3 +27,9 @@ pub record IsShownAs (name : List ℕ) (seen : LineView) (shown : LineStatus) : 
   pub name_is : string_bytes shown.name ≡ name
   pub state_is : shown.state ≡ state_of seen.channel
   pub call_is : shown.call ≡ seen.call
+
+-- lines of these names are shown as they are seen, in order: as many as have a name and are seen
+pub record AreShown (names : List (List ℕ)) (seen : List LineWithCall) (shown : List LineStatus) : Type 0 where
+  pub count : length shown ≡ min (length names) (length seen)
+  pub each : (line : ℕ) (name : List ℕ) (view : LineWithCall) (status : LineStatus) → slice_get names line ≡ Some name
+      → slice_get seen line ≡ Some view → slice_get shown line ≡ Some status → IsShownAs name view.line status

@@ -1,7 +1,7 @@
 //! What is kept to show an operator the exchange.
 
-ghost use Rattle.std.specs.Prelude.{◌≡◌, IfOk};
-ghost use Rattle.xp_observer.specs.Shown.{names_of};
+ghost use Rattle.std.specs.Prelude.{◌≡◌, IfOk, map};
+ghost use Rattle.xp_observer.specs.Shown.{AreShown, names_of};
 
 use crate::calls::live_calls;
 use crate::ended::ended_call;
@@ -93,7 +93,10 @@ impl Observer {
         waiting: usize,
         traffic: Traffic,
     ) -> Result<ExchangeStatus, AllocError>
-        ensures { self.new ≡ self.old }
+        ensures same { self.new ≡ self.old }
+        ensures lines { IfOk result (λ status. AreShown self.old view.now.lines.items status.lines.items) }
+        ensures moment { IfOk result (λ status. status.moment ≡ now) }
+        ensures counts { IfOk result (λ status. (status.totals.events ≡ view.now.entries) × (status.totals.stalls ≡ view.now.stalls) × (status.totals.records_waiting ≡ waiting)) }
     {
         self.notes.see(now, view);
         let calls = live_calls(alloc, &self.lines, view, now)?;
@@ -129,10 +132,14 @@ fn line_statuses(
     lines: &[NamedLine],
     notes: &Notes,
     view: &ExchangeView,
-) -> Result<Vec<LineStatus>, AllocError> {
-    let mut statuses = Vec::with_capacity(alloc, lines.len())?;
-    for (place, (line, seen)) in lines.iter().zip(view.lines.iter()).enumerate() {
-        statuses.push(line.status(alloc, notes.of_line(place), seen.line)?)?;
+) -> Result<Vec<LineStatus>, AllocError>
+    ensures { IfOk result (λ statuses. AreShown (map (λ line. line.name) lines.now) view.now.lines.items statuses.items) }
+{
+    let count = lines.len().min(view.lines.len());
+    let mut statuses = Vec::with_capacity(alloc, count)?;
+    for place in 0..count {
+        let seen = view.lines[place].line;
+        statuses.push(lines[place].status(alloc, notes.of_line(place), seen)?)?;
     }
     Ok(statuses)
 }
@@ -157,7 +164,11 @@ fn totals_of(
     live: usize,
     waiting: usize,
     traffic: Traffic,
-) -> Totals {
+) -> Totals
+    ensures events { result.events ≡ view.now.entries }
+    ensures stalls { result.stalls ≡ view.now.stalls }
+    ensures waiting { result.records_waiting ≡ waiting }
+{
     Totals {
         calls: notes.ended.saturating_add(live as u64),
         refused: notes.refused,

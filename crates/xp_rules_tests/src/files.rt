@@ -1,5 +1,6 @@
 //! What is told of subscription files.
 
+use crate::places::place_in;
 use crate::routers::{LONG_ROUTERS, ROUTER_LINES, ROUTERS, XOT_PORTS};
 use crate::sources::SOURCES;
 use crate::texts::{LINES, STATION, TOP, WHOLE};
@@ -40,6 +41,7 @@ fn are_told(
     for (text, expected) in texts {
         let file = format!(in alloc; "{front}{text}\n{back}")?;
         assert_eq!(rt; told(alloc, &file)?.as_str(), *expected, "{text}");
+        assert!(rt; !place_in(alloc, &file)?.is_empty(), "no place: {text}");
     }
     Ok(())
 }

@@ -2,7 +2,11 @@
 #![tactic(auto)]
 
 #[cfg(test)]
+mod broken;
+#[cfg(test)]
 mod files;
+#[cfg(test)]
+mod places;
 #[cfg(test)]
 mod routers;
 #[cfg(test)]

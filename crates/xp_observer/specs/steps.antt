@@ -1,0 +1,2 @@
+-- Definitions that only private steps cite.
+pub mod Shown

@@ -1,0 +1,10 @@
+//! Where the fault of a refused subscription file is, in words for a person.
+#![tactic(auto)]
+
+mod alone;
+mod place;
+mod refused;
+mod twice;
+mod wanted;
+
+pub use refused::place_of;

@@ -1,0 +1,112 @@
+//! Where a refused subscription file has its fault.
+
+use crate::alone::{array, refused_part};
+use crate::place::Place;
+use crate::twice::twice_used;
+use crate::wanted::{keys_at, wanted};
+use std::alloc::{AllocError, Global};
+use std::fmt::Write;
+use toml::Table;
+use xp_file::{Key, SubscriptionFault};
+
+/// Where the text of a subscription file has this fault, and what is wanted there, as one line without its end:
+/// `at station 2 (address 2080020), line 1 (name b1): a number from 1 to 65535 is wanted, found "x"`. Empty where no place is found.
+///
+/// The place is that of the first station, and of its first line, group or redirection, that is refused for this fault where it
+/// stands alone in a file. No contract says what the text tells.
+///
+/// # Errors
+///
+/// An allocation failed.
+pub fn place_of(alloc: Global, text: &str, fault: SubscriptionFault) -> Result<String, AllocError> {
+    let mut told = String::new(alloc);
+    match toml::table_from_str(alloc, text) {
+        Ok(file) => push_place(alloc, &mut told, &file, fault)?,
+        Err(error) if error.is_memory() => return Err(AllocError),
+        Err(error) => push_syntax(&mut told, text, &error)?,
+    }
+    Ok(told)
+}
+
+/// Where a text is no TOML.
+fn push_syntax(told: &mut String, text: &str, error: &toml::de::Error) -> Result<(), AllocError> {
+    let Some(span) = error.span() else {
+        return Ok(());
+    };
+    let before = text.as_bytes().iter().take(span.start);
+    let line = before.filter(|octet| **octet == b'\n').count();
+    write!(told, "at line {}: {}", line + 1, error.message())
+}
+
+fn push_place(
+    alloc: Global,
+    told: &mut String,
+    file: &Table,
+    fault: SubscriptionFault,
+) -> Result<(), AllocError> {
+    match fault {
+        SubscriptionFault::Toml | SubscriptionFault::Memory => Ok(()),
+        SubscriptionFault::TwiceUsed(key) => push_twice(alloc, told, file, key),
+        SubscriptionFault::Field(key) => {
+            let place = refused_part(alloc, file, fault)?.unwrap_or(Place::Top(file));
+            push_field(told, place, key)
+        }
+        SubscriptionFault::Index => match refused_part(alloc, file, fault)? {
+            Some(place) => write!(
+                told,
+                "at {place}: an index or a group stands there twice, or `preferential` is none of its indexes"
+            ),
+            None => Ok(()),
+        },
+        SubscriptionFault::Limit(key) => {
+            let place = refused_part(alloc, file, fault)?.unwrap_or(Place::Top(file));
+            push_limit(told, place, key)
+        }
+    }
+}
+
+fn push_twice(alloc: Global, told: &mut String, file: &Table, key: Key) -> Result<(), AllocError> {
+    match twice_used(alloc, file, key)? {
+        Some((first, second)) => write!(
+            told,
+            "at {} and {}: {}",
+            first.place, second.place, second.value
+        ),
+        None => Ok(()),
+    }
+}
+
+fn push_field(told: &mut String, place: Place<'_>, key: Key) -> Result<(), AllocError> {
+    write!(told, "at {place}: ")?;
+    match place.value(key.name()) {
+        _ if key == Key::Other => push_unknown(told, place),
+        Some(value) => write!(told, "{} is wanted, found {value}", wanted(place, key)),
+        None => write!(told, "`{key}` is missing"),
+    }
+}
+
+/// The keys that the table at this place may not have.
+fn push_unknown(told: &mut String, place: Place<'_>) -> Result<(), AllocError> {
+    told.push_str("there is no such key:")?;
+    for (key, _) in place.table().iter() {
+        if !keys_at(place).iter().any(|known| known.name() == key.as_str()) {
+            write!(told, " `{key}`")?;
+        }
+    }
+    Ok(())
+}
+
+fn push_limit(told: &mut String, place: Place<'_>, key: Key) -> Result<(), AllocError> {
+    let most = match (key, place) {
+        (Key::Station, _) => 256,
+        (Key::Line, Place::Top(_)) => 512,
+        (Key::Line, _) => 32,
+        _ => 64,
+    };
+    let found = array(place.table(), key.name()).len();
+    write!(told, "at {place}: at most {most} of `{key}`")?;
+    if !matches!((key, place), (Key::Line, Place::Top(_))) {
+        write!(told, ", found {found}")?;
+    }
+    Ok(())
+}
