@@ -1,0 +1,4 @@
+pub mod Capture
+pub mod Checksum
+pub mod FileHeader
+pub mod Segment

@@ -1,0 +1,120 @@
+//! A message in a ladder diagram.
+
+ghost use Rattle.std.specs.Prelude.{◌≡◌, IfOk};
+ghost use Rattle.std.specs.String.{string_bytes};
+
+use crate::repeated::{Repeated, width};
+use crate::side::Side;
+use std::alloc::{AllocError, Global};
+use std::fmt;
+use xp_words::Direction;
+
+/// The columns of the words on an arrow.
+const WORDS: usize = 29;
+
+/// The columns between two poles.
+const BETWEEN: usize = 33;
+
+/// A message between a line and the exchange: an arrow with words. It has 80 columns where the moment has at most 10 digits and the
+/// words at most 29 columns; nothing is cut off.
+#[derive(Clone, Copy, Debug)]
+pub struct Rung<'a> {
+    /// The second in which it goes.
+    pub moment: u64,
+    /// Where the line stands.
+    pub side: Side,
+    pub direction: Direction,
+    /// What the message says, in one line.
+    pub words: &'a str,
+}
+
+impl Rung<'_> {
+    ghost use Rattle.xp_ladder.specs.Ladder.{rung_text};
+
+    /// The row, without a line feed.
+    ///
+    /// # Errors
+    ///
+    /// An allocation failed.
+    pub fn text(&self, alloc: Global) -> Result<String, AllocError>
+        ensures { IfOk result (λ text. string_bytes text ≡ rung_text self.now) }
+    {
+        self.to_string(alloc)
+    }
+}
+
+impl fmt::Display for Rung<'_> {
+    ghost use Rattle.std.specs.Prelude.{Some};
+    ghost use Rattle.xp_ladder.specs.Ladder.{rung_text};
+
+    ghost output = { λ rung. Some (rung_text rung) };
+
+    fn fmt<W: fmt::Write>(&self, f: &mut fmt::Formatter<W>) -> fmt::Result {
+        let moment = self.moment;
+        let halves = Halves {
+            side: self.side,
+            direction: self.direction,
+            words: self.words,
+        };
+        write!(f, "{moment:>10} │{halves}│")
+    }
+}
+
+/// What stands between the outer poles.
+#[derive(Clone, Copy, Debug)]
+struct Halves<'a> {
+    side: Side,
+    direction: Direction,
+    words: &'a str,
+}
+
+impl fmt::Display for Halves<'_> {
+    ghost use Rattle.std.specs.Prelude.{Some};
+    ghost use Rattle.xp_ladder.specs.Ladder.{arrow, halves};
+
+    ghost output = { λ between. Some (halves between.side (arrow between.side between.direction between.words.now)) };
+
+    fn fmt<W: fmt::Write>(&self, f: &mut fmt::Formatter<W>) -> fmt::Result {
+        let empty = Repeated::spaces(BETWEEN);
+        let arrow = Arrow {
+            side: self.side,
+            direction: self.direction,
+            words: self.words,
+        };
+        match self.side {
+            Side::Left => write!(f, "{arrow}│{empty}"),
+            Side::Right => write!(f, "{empty}│{arrow}"),
+        }
+    }
+}
+
+/// An arrow from one pole to the other.
+#[derive(Clone, Copy, Debug)]
+struct Arrow<'a> {
+    side: Side,
+    direction: Direction,
+    words: &'a str,
+}
+
+impl fmt::Display for Arrow<'_> {
+    ghost use Rattle.std.specs.Prelude.{Some};
+    ghost use Rattle.xp_ladder.specs.Ladder.{arrow};
+
+    ghost output = { λ drawn. Some (arrow drawn.side drawn.direction drawn.words.now) };
+
+    fn fmt<W: fmt::Write>(&self, f: &mut fmt::Formatter<W>) -> fmt::Result {
+        let words = self.words;
+        let dashes = Repeated {
+            text: "─",
+            count: WORDS.saturating_sub(width(words)),
+        };
+        match (self.side, self.direction) {
+            (Side::Left, Direction::FromDte) | (Side::Right, Direction::FromDce) => {
+                write!(f, "─ {words} {dashes}►")
+            }
+            (Side::Left, Direction::FromDce) | (Side::Right, Direction::FromDte) => {
+                write!(f, "◄ {words} {dashes}─")
+            }
+        }
+    }
+}

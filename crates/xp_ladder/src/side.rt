@@ -1,0 +1,8 @@
+/// Where a line stands in a ladder diagram.
+#[derive(Clone, Copy, Debug, PartialEq, Eq)]
+pub enum Side {
+    /// At the left of the exchange.
+    Left,
+    /// At its right.
+    Right,
+}

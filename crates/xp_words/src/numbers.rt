@@ -1,0 +1,53 @@
+//! The numbers and the bits of a data packet in words.
+
+ghost use Rattle.xp_words.specs.Packets.{bit_text, numbers_text};
+
+use std::fmt;
+
+/// P(S), P(R), and the bits that are set, such as ` P(S)=2 P(R)=3 M`.
+#[derive(Clone, Copy, Debug)]
+pub(crate) struct NumberWords {
+    pub(crate) q: bool,
+    pub(crate) d: bool,
+    pub(crate) more: bool,
+    pub(crate) ps: u8,
+    pub(crate) pr: u8,
+}
+
+impl fmt::Display for NumberWords {
+    ghost use Rattle.std.specs.Prelude.{Some};
+
+    ghost output = { λ numbers. Some (numbers_text numbers.q numbers.d numbers.more numbers.ps numbers.pr) };
+
+    fn fmt<W: fmt::Write>(&self, f: &mut fmt::Formatter<W>) -> fmt::Result {
+        let ps = self.ps;
+        let pr = self.pr;
+        let bits = Bits {
+            q: self.q,
+            d: self.d,
+            more: self.more,
+        };
+        write!(f, " P(S)={ps} P(R)={pr}{bits}")
+    }
+}
+
+/// The bits that are set.
+#[derive(Clone, Copy, Debug)]
+struct Bits {
+    q: bool,
+    d: bool,
+    more: bool,
+}
+
+impl fmt::Display for Bits {
+    ghost use Rattle.std.specs.Prelude.{◌++◌, codes, Some};
+
+    ghost output = { λ bits. Some (bit_text (codes " Q") bits.q ++ bit_text (codes " D") bits.d ++ bit_text (codes " M") bits.more) };
+
+    fn fmt<W: fmt::Write>(&self, f: &mut fmt::Formatter<W>) -> fmt::Result {
+        let q = if self.q { " Q" } else { "" };
+        let d = if self.d { " D" } else { "" };
+        let more = if self.more { " M" } else { "" };
+        write!(f, "{q}{d}{more}")
+    }
+}

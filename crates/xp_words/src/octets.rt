@@ -1,0 +1,116 @@
+//! Octets in hexadecimal and as text.
+
+ghost use Rattle.std.specs.Prelude.{◌≡◌, ◌<◌, false};
+ghost use Rattle.std.specs.Fmt.{digit_glyph};
+ghost use Rattle.xp_words.specs.Octets.{both_texts, hex_pair, hex_text, octets_text, shown};
+
+use std::fmt;
+
+/// User data in words: how many octets, each in hexadecimal, and as text, such as `5 octets 68656c6c6f "hello"`. In the text a
+/// full stop stands for an octet that is no printable character of ASCII.
+#[derive(Clone, Copy, Debug)]
+pub struct OctetWords<'a> {
+    pub octets: &'a [u8],
+}
+
+impl fmt::Display for OctetWords<'_> {
+    ghost use Rattle.std.specs.Prelude.{Some};
+
+    ghost output = { λ words. Some (octets_text words.octets.now) };
+
+    fn fmt<W: fmt::Write>(&self, f: &mut fmt::Formatter<W>) -> fmt::Result {
+        let octets = self.octets;
+        match octets {
+            [] => f.write_str("no octets"),
+            [_] => write!(f, "1 octet {}", BothTexts(octets)),
+            [_, _, ..] => {
+                let count = octets.len();
+                write!(f, "{count} octets {}", BothTexts(octets))
+            }
+        }
+    }
+}
+
+/// Octets in hexadecimal, and behind them as text.
+#[derive(Clone, Copy, Debug)]
+pub(crate) struct BothTexts<'a>(pub(crate) &'a [u8]);
+
+impl fmt::Display for BothTexts<'_> {
+    ghost use Rattle.std.specs.Prelude.{Some};
+
+    ghost output = { λ words. Some (both_texts words.0.now) };
+
+    fn fmt<W: fmt::Write>(&self, f: &mut fmt::Formatter<W>) -> fmt::Result {
+        write!(f, "{} \"{}\"", HexOctets(self.0), OctetText(self.0))
+    }
+}
+
+/// An octet as two hexadecimal digits.
+#[derive(Clone, Copy, Debug)]
+pub(crate) struct HexOctet(pub(crate) u8);
+
+impl fmt::Display for HexOctet {
+    ghost use Rattle.std.specs.Prelude.{Some};
+
+    ghost output = { λ octet. Some (hex_pair octet.0) };
+
+    fn fmt<W: fmt::Write>(&self, f: &mut fmt::Formatter<W>) -> fmt::Result {
+        write!(f, "{}{}", hex_digit(self.0 / 16), hex_digit(self.0 % 16))
+    }
+}
+
+/// The hexadecimal digit of a half-octet, 0 to 15.
+pub(crate) fn hex_digit(half: u8) -> char
+    requires { half < 16 }
+    ensures { result ≡ digit_glyph false half }
+{
+    if half < 10 {
+        char::from(b'0' + half)
+    } else {
+        char::from(b'a' + (half - 10))
+    }
+}
+
+/// Octets in hexadecimal.
+#[derive(Clone, Copy, Debug)]
+pub(crate) struct HexOctets<'a>(pub(crate) &'a [u8]);
+
+impl fmt::Display for HexOctets<'_> {
+    ghost use Rattle.std.specs.Prelude.{Some};
+
+    ghost output = { λ octets. Some (hex_text octets.0.now) };
+
+    fn fmt<W: fmt::Write>(&self, f: &mut fmt::Formatter<W>) -> fmt::Result {
+        for octet in self.0 {
+            write!(f, "{}", HexOctet(*octet))?;
+        }
+        Ok(())
+    }
+}
+
+/// Octets as text.
+#[derive(Clone, Copy, Debug)]
+struct OctetText<'a>(&'a [u8]);
+
+impl fmt::Display for OctetText<'_> {
+    ghost use Rattle.std.specs.Prelude.{Some, map};
+
+    ghost output = { λ octets. Some (map shown octets.0.now) };
+
+    fn fmt<W: fmt::Write>(&self, f: &mut fmt::Formatter<W>) -> fmt::Result {
+        for octet in self.0 {
+            write!(f, "{}", shown(*octet))?;
+        }
+        Ok(())
+    }
+}
+
+/// A printable character of ASCII, or a full stop in the place of any other octet.
+fn shown(octet: u8) -> char
+    ensures { result ≡ shown octet }
+{
+    match octet {
+        b' '..=b'~' => char::from(octet),
+        _ => '.',
+    }
+}
