@@ -24,16 +24,24 @@ abbrev pub numbers_of : Flow → Direction → ℕ × ℕ
 numbers_of flow FromDte = (flow.from_line, flow.from_exchange)
 numbers_of flow FromDce = (flow.from_exchange, flow.from_line)
 
+-- what octets add to the file that go over the connection of a line
+abbrev pub sent_octets : List Flow → ℕ → ℕ → Direction → List ℕ → List ℕ
+sent_octets flows moment line direction octets =
+    segment_octets
+    moment
+    (ends_of line direction)
+    (numbers_of (flow_of flows line) direction).0
+    (numbers_of (flow_of flows line) direction).1
+    octets
+
+-- the connections behind so many octets of a line
+abbrev pub flows_behind : List Flow → ℕ → Direction → ℕ → List Flow
+flows_behind flows line direction count = slice_set flows line (flow_after (flow_of flows line) direction count)
+
 -- what a frame adds to the file, over these connections
 abbrev pub frame_octets : List Flow → Frame → List ℕ
-frame_octets flows frame =
-    segment_octets
-    frame.moment
-    (ends_of frame.line frame.direction)
-    (numbers_of (flow_of flows frame.line) frame.direction).0
-    (numbers_of (flow_of flows frame.line) frame.direction).1
-    frame.octets.now
+frame_octets flows frame = sent_octets flows frame.moment frame.line frame.direction frame.octets.now
 
 -- the connections behind a frame
 abbrev pub flows_after : List Flow → Frame → List Flow
-flows_after flows frame = slice_set flows frame.line (flow_after (flow_of flows frame.line) frame.direction (length frame.octets.now))
+flows_after flows frame = flows_behind flows frame.line frame.direction (length frame.octets.now)

@@ -52,10 +52,13 @@ halves Left drawn = drawn ++ pole ++ spaces 33
 halves Right drawn = spaces 33 ++ pole ++ drawn
 
 -- the moment in ten columns, then the three poles with what is between them
+abbrev pub row_text : ℕ → Side → Direction → List ℕ → List ℕ
+row_text moment side direction words =
+    padded_integral (format_spec 32 3 0 10 (2 ^ 64 - 1)) false [] (decimal moment)
+    ++ codes " " ++ pole ++ halves side (arrow side direction words) ++ pole
+
 abbrev pub rung_text : Rung → List ℕ
-rung_text rung =
-    padded_integral (format_spec 32 3 0 10 (2 ^ 64 - 1)) false [] (decimal rung.moment)
-    ++ codes " " ++ pole ++ halves rung.side (arrow rung.side rung.direction rung.words.now) ++ pole
+rung_text rung = row_text rung.moment rung.side rung.direction rung.words.now
 
 -- the names of the lines above their poles
 abbrev pub heading_text : List ℕ → List ℕ → List ℕ
