@@ -6,8 +6,7 @@ use Rattle.xp_packets.specs.declared.modulus.Modulus.{Modulus}
 use Rattle.xp_core.specs.declared.event.What.TheVariants.{Down}
 use Rattle.xp_core.specs.declared.event.Event.{Event}
 use Rattle.xp_exchange.specs.steps.Acting.{emptied, IsBetweenFrames, TakesWhole}
-use Rattle.xp_exchange.specs.FrameEvents.{AreRead, ReadsEvents, IsReadAs}
-use Rattle.xp_exchange.specs.steps.FrameEvents.{CanCome}
+use Rattle.xp_exchange.specs.FrameEvents.{AreRead, CanCome, ReadsEvents, IsReadAs}
 
 -- the waiting packets are those of the frames
 taken_waiting : (old between : DeframerState) (octets : List ℕ) → IsBetweenFrames old → (takes : Takes old octets between) → between.waiting ≡ takes.packets

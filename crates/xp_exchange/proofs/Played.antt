@@ -1,5 +1,5 @@
 -- One line that is played.
-use Rattle.std.proofs.Common.{◌≡◌, ◌⊎◌, ℕ, List, [], Option, Some, Result, Ok, Err, inl, inr, sym, subst, append-nil}
+use Rattle.std.proofs.Common.{◌≡◌, ◌⊎◌, ℕ, List, [], Option, Some, Result, Ok, Err, inl, inr, refl, sym, ◌∙◌, subst, append-nil}
 use Rattle.std.specs.Io.KnownBytes.{Appends, Keeps}
 use Rattle.xp_core.specs.declared.event.Event.{Event}
 use Rattle.xp_core.specs.Exchange.{Exchange}
@@ -8,7 +8,7 @@ use Rattle.xp_script.specs.Command.{said}
 use Rattle.xp_exchange.specs.declared.fault.ReplayFault.{ReplayFault}
 use Rattle.xp_exchange.specs.declared.fault.ReplayFault.TheVariants.{Script, Journal, Memory, Read, Write}
 use Rattle.xp_exchange.specs.steps.Acting.{Acted, ActsOnFirst}
-use Rattle.xp_exchange.specs.Play.{PlayState, Plays, BeginsLine, moment_after}
+use Rattle.xp_exchange.specs.Play.{PlayState, Plays, BeginsLine, ReadsLine, RefusesLine, moment_after}
 use Rattle.xp_exchange.specs.steps.Playing.{Played}
 use Rattle.xp_exchange.proofs.Bytes.{appends_kept}
 use Rattle.xp_exchange.proofs.Tellings.{told_whole}
@@ -43,6 +43,23 @@ module _ {A : Type 0} where
       (begins old line command events new.unfinished new.exchange says plays acted.0, acted.1)
   played (Err (Script found)) old new number line command events text says plays then acted = elim acted [ ]
   played (Err Read) old new number line command events text says plays then acted = elim acted [ ]
+
+  -- what came of its events is what came of the line that was read
+  pub played_read : (result : Result (Unit {0}) ReplayFault) (old read new : PlayState A) (number : ℕ) (line : List ℕ) (events : List (Event A)) (text : List ℕ)
+      → ReadsLine old line events read → new.unfinished ≡ read.unfinished → new.moment ≡ read.moment
+      → Acted read.exchange events result new.exchange text → Played old number line result new text
+  played_read result old read new number line events text reads rest moment acted =
+      played result old new number line reads.command events text reads.says (subst (Plays old reads.command events) (sym rest) reads.plays) (moment ∙ reads.moment)
+      (subst (λ exchange. Acted exchange events result new.exchange text) reads.exchange acted)
+
+  -- a line that is not read
+  pub not_read : (fault : ReplayFault) (old new : PlayState A) (number : ℕ) (line : List ℕ) → RefusesLine A old.exchange.subs number line fault → new.exchange ≡ old.exchange
+      → Played old number line (Err fault) new []
+  not_read (Script found) old new number line refused same = (refused.0, refused.1, (same, refl))
+  not_read Memory old new number line refused same = inl (same, refl)
+  not_read Journal old new number line refused same = elim refused [ ]
+  not_read Read old new number line refused same = elim refused [ ]
+  not_read Write old new number line refused same = elim refused [ ]
 
   -- what was played to its end was also begun
   pub played_in_part : (old new : PlayState A) (number : ℕ) (line text : List ℕ) → Played old number line (Ok tt) new text → Played old number line (Err Write) new text

@@ -1,14 +1,13 @@
 -- Acting on a list of events, one after the other, and what was written meanwhile.
-use Rattle.std.proofs.Common.{◌≡◌, ℕ, ◌<◌, List, [], ◌∷◌, ◌++◌, refl, sym, ap, ◌∙◌, append_assoc, append-nil, length-append, arith, subst, All, Option, Ok, Err}
+use Rattle.std.proofs.Common.{◌≡◌, ℕ, List, [], ◌∷◌, ◌++◌, refl, sym, ap, ◌∙◌, append_assoc, append-nil, length-append, arith, subst, All, Option, Ok, Err}
 use Rattle.std.proofs.lemmas.List.Elements.{All-head, All-tail}
 use Rattle.std.specs.Io.KnownBytes.{Appends}
-use Rattle.xp_subs.specs.Tables.{Tables, line_count}
 use Rattle.xp_core.specs.declared.event.Event.{Event}
 use Rattle.xp_core.specs.Exchange.{Exchange}
 use Rattle.xp_exchange.specs.declared.fault.ReplayFault.{ReplayFault}
 use Rattle.xp_exchange.specs.declared.fault.ReplayFault.TheVariants.{Script, Journal, Memory, Read, Write}
 use Rattle.xp_exchange.specs.steps.Acting.{Acted, Breaks}
-use Rattle.xp_exchange.specs.steps.FrameEvents.{CanCome}
+use Rattle.xp_exchange.specs.FrameEvents.{Fits}
 use Rattle.xp_exchange.specs.Play.{ActsOn}
 use Rattle.xp_exchange.specs.WholeScript.{IsWritten}
 use Rattle.xp_exchange.proofs.Acts.{acts_on_nothing, acts_on_both, first_after}
@@ -16,10 +15,6 @@ use Rattle.xp_exchange.proofs.Bytes.{appends_nothing, appends_both}
 use Rattle.xp_exchange.proofs.Tellings.{told_nothing, outputs_to_both, told_in_part, no_memory_after}
 
 module _ {A : Type 0} where
-  -- an event that the exchange takes
-  abbrev pub Fits : Tables → Event A → Type 0
-  Fits tables event = (event.line < line_count tables) × CanCome event.what
-
   pub record SoFar (first : Exchange A) (events left : List (Event A)) (now : Exchange A) (old new : Option (List ℕ)) : Type 0 where
     pub done : List (Event A)
     pub split : events ≡ done ++ left

@@ -1,5 +1,5 @@
 -- One step, and what is told of it.
-use Rattle.std.proofs.Common.{◌≡◌, ℕ, ◌+◌, ◌<◌, ◌≤◌, List, [], ◌∷◌, ◌++◌, length, take, refl, sym, ap, ◌∙◌, subst, Option, Result, Ok, Err, inl, inr, arith}
+use Rattle.std.proofs.Common.{◌≡◌, ℕ, ◌+◌, ◌<◌, ◌≤◌, List, [], ◌∷◌, length, take, refl, sym, ap, ◌∙◌, subst, Option, Result, Ok, Err, inl, inr, arith}
 use Rattle.std.proofs.lemmas.Bool.{cases_lt}
 use Rattle.std.specs.Io.KnownBytes.{Appends}
 use Rattle.xp_charge.specs.declared.record.Record.{Record}
@@ -12,7 +12,7 @@ use Rattle.xp_exchange.specs.declared.fault.ReplayFault.{ReplayFault}
 use Rattle.xp_exchange.specs.declared.fault.ReplayFault.TheVariants.{Script, Journal, Memory, Read, Write}
 use Rattle.xp_core.specs.declared.fault.StepFault.{StepFault}
 use Rattle.xp_core.specs.declared.fault.StepFault.TheVariants as steps
-use Rattle.xp_exchange.specs.Play.{ActsOn}
+use Rattle.xp_exchange.specs.Play.{ActsOn, Enters, RefusesEvent}
 use Rattle.xp_exchange.specs.WholeScript.{IsWritten}
 use Rattle.xp_exchange.specs.steps.Acting.{Tells, Acted, ActsOnFirst, reason}
 use Rattle.xp_exchange.proofs.Acts.{acts_on_one, first_of_all, first_of_none, told_one}
@@ -100,6 +100,24 @@ module _ {A : Type 0} where
     | inl less ↦ less
     | inr enough ↦ elim (subst IsFull (memory enough) tt) [ ]
   ]
+
+  -- One step, of whose records some may be handed over.
+  pub entered : (old now new : Exchange A) (event : Event A) (entry : Entry A) (given waiting : List Record) → new ≡ record now { given = given; waiting = waiting }
+      → Advances old event now entry → length old.history + 4 ≤ old.subs.journal → Enters old event new entry
+  entered old now new event entry given waiting same advances room = subst (λ last. Enters old event last entry) (sym same) (record {
+    event_is = advances.event_is;
+    acts = acts_alike old now (event ∷ []) given waiting (acts_on_one old event now entry advances room);
+    history = advances.history;
+  })
+
+  -- A refused step: why.
+  pub refused_event : (old : Exchange A) (event : Event A) (fault : StepFault A) (why : ReplayFault) → why ≡ reason fault
+      → (length old.history + 4 ≤ old.subs.journal → fault ≡ steps.Memory event) → RefusesEvent old why
+  refused_event old event fault why told memory = subst (RefusesEvent old) (sym told) (go fault memory)
+    where
+      go : (fault : StepFault A) → (length old.history + 4 ≤ old.subs.journal → fault ≡ steps.Memory event) → RefusesEvent old (reason fault)
+      go (steps.Memory back) memory = tt
+      go (steps.JournalFull back) memory = full_unless (length old.history + 4) old.subs.journal event back memory
 
   -- A refused step: the history is full, or memory was wanted.
   pub stopped : (old new : Exchange A) (event : Event A) (known : Option (List ℕ)) (fault : StepFault A) (why : ReplayFault) → why ≡ reason fault → new ≡ old

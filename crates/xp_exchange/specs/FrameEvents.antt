@@ -1,15 +1,26 @@
 -- The events of octets that come in on a line: one for each frame, and that the line goes down at a bad header.
-use Rattle.std.specs.Prelude.{◌≡◌, ℕ, List, [], ◌∷◌, ◌++◌}
+use Rattle.std.specs.Prelude.{◌≡◌, ◌<◌, ℕ, List, [], ◌∷◌, ◌++◌, false}
 use Rattle.xp_packets.specs.Examination.{IsMalformed}
 use Rattle.xp_packets.specs.Spelling.{Spells}
 use Rattle.xp_packets.specs.declared.modulus.Modulus.{Modulus}
 use Rattle.xp_frames.specs.declared.fault.FrameFault.{FrameFault}
 use Rattle.xp_frames.specs.Frame.{Stream, BadHeader, HasNoBadHeader}
+use Rattle.xp_subs.specs.Tables.{Tables, line_count}
+use Rattle.xp_core.specs.Exchange.{IsReadable}
+use Rattle.xp_core.specs.Stalls.{is_stall}
 use Rattle.xp_core.specs.declared.event.Event.{Event}
 use Rattle.xp_core.specs.declared.event.What.{What}
 use Rattle.xp_core.specs.declared.event.What.TheVariants.{Up, Down, Frame, WrongFrame, Expire, Stall}
 
 module _ {A : Type 0} where
+  -- what a line can raise: a frame is one that can be read, and no line raises a stall
+  abbrev pub CanCome : What A → Type 0
+  CanCome what = IsReadable what × (is_stall what ≡ false)
+
+  -- an event that the exchange of these subscriptions takes
+  abbrev pub Fits : Tables → Event A → Type 0
+  Fits tables event = (event.line < line_count tables) × CanCome event.what
+
   -- what a frame with these octets is to the exchange, by the modulus of its line: a packet, or a frame that holds none
   abbrev pub IsReadAs : Modulus → List ℕ → What A → Type 0
   IsReadAs modulus packet (Frame identifier read) = Spells modulus packet identifier read

@@ -1,5 +1,5 @@
 -- What the lines of a script do, in turn.
-use Rattle.std.specs.Prelude.{◌≡◌, ◌⊎◌, ◌+◌, ◌≤◌, ℕ, Bool, true, false, List, [], ◌∷◌, ◌++◌, length, map, replicate, slice_index_or, slice_set, Some}
+use Rattle.std.specs.Prelude.{◌≡◌, ◌⊎◌, ◌+◌, ◌<◌, ◌≤◌, ℕ, Bool, true, false, List, [], ◌∷◌, ◌++◌, length, map, replicate, slice_index_or, slice_set, None, Some}
 use Rattle.xp_packets.specs.declared.modulus.Modulus.{Modulus}
 use Rattle.xp_subs.specs.Tables.{Tables, line_count, modulus_of}
 use Rattle.xp_core.specs.declared.entry.Entry.{Entry}
@@ -14,6 +14,8 @@ use Rattle.xp_script.specs.declared.command.Command.{Command}
 use Rattle.xp_script.specs.declared.command.Command.TheVariants as commands
 use Rattle.xp_script.specs.Command.{said}
 use Rattle.xp_exchange.specs.FrameEvents.{ReadsEvents}
+use Rattle.xp_exchange.specs.declared.fault.ReplayFault.{ReplayFault}
+use Rattle.xp_exchange.specs.declared.fault.ReplayFault.TheVariants.{Script, Journal, Memory, Read, Write}
 
 -- the octets of an unfinished frame on the connection of a line
 abbrev pub unfinished_at : List (List ℕ) → ℕ → List ℕ
@@ -66,6 +68,14 @@ module _ {A : Type 0} where
   moment_after before (commands.At moment) = moment
   moment_after before command = before
 
+-- why the line of this number is not read
+abbrev pub RefusesLine : (A : Type 0) → Tables → ℕ → List ℕ → ReplayFault → Type 0
+RefusesLine A tables number line (Script found) = (found ≡ number) × (said {A = A} tables line ≡ None)
+RefusesLine A tables number line Memory = Unit {0}
+RefusesLine A tables number line Journal = ⊥
+RefusesLine A tables number line Read = ⊥
+RefusesLine A tables number line Write = ⊥
+
 module _ {A : Type 0} where
   -- a new exchange
   abbrev pub opened : Tables → Exchange A
@@ -84,6 +94,28 @@ module _ {A : Type 0} where
     pub subs : new.subs ≡ old.subs
     -- the history had four places left for each of them
     pub room : (entries ≡ []) ⊎ (length new.history + 3 ≤ old.subs.journal)
+
+  -- The exchange acts on one event, and enters this entry for it.
+  pub record Enters (old : Exchange A) (event : Event A) (new : Exchange A) (entry : Entry A) : Type 0 where
+    pub event_is : entry.event ≡ event
+    pub acts : ActsOn old (event ∷ []) new
+    pub history : new.history ≡ old.history ++ entry ∷ []
+
+  -- why the exchange does not act on an event
+  abbrev pub RefusesEvent : Exchange A → ReplayFault → Type 0
+  RefusesEvent exchange Journal = exchange.subs.journal < length exchange.history + 4
+  RefusesEvent exchange Memory = Unit {0}
+  RefusesEvent exchange (Script number) = ⊥
+  RefusesEvent exchange Read = ⊥
+  RefusesEvent exchange Write = ⊥
+
+  -- One line of a script is read: these are its events. The exchange has acted on none of them yet.
+  pub record ReadsLine (old : PlayState A) (line : List ℕ) (events : List (Event A)) (new : PlayState A) : Type 0 where
+    pub command : Command A
+    pub says : said old.exchange.subs line ≡ Some command
+    pub plays : Plays old command events new.unfinished
+    pub moment : new.moment ≡ moment_after old.moment command
+    pub exchange : new.exchange ≡ old.exchange
 
   -- One line of a script is played to its end.
   pub record PlaysLine (old : PlayState A) (line : List ℕ) (new : PlayState A) : Type 0 where

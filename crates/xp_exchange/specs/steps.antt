@@ -1,5 +1,4 @@
 -- What only private functions promise one another: no public contract cites it.
 pub mod Acting
-pub mod FrameEvents
 pub mod Playing
 pub mod Replaying

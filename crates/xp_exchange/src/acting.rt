@@ -1,10 +1,11 @@
 //! Acts on events, and writes the text of each entry.
 
-ghost use Rattle.std.specs.Prelude.{◌≡◌, ◌<◌, ℕ, List, [], ◌∷◌, All};
+ghost use Rattle.std.specs.Prelude.{◌≡◌, ◌<◌, ℕ, List, [], ◌∷◌, All, IfErr, IfOk, OnErr};
 ghost use Rattle.std.specs.Io.KnownBytes.{Appends};
 ghost use Rattle.xp_core.specs.Writable.{AreWritable};
 ghost use Rattle.xp_exchange.specs.steps.Acting.{Acted, Tells, reason};
-ghost use Rattle.xp_exchange.specs.steps.FrameEvents.{CanCome};
+ghost use Rattle.xp_exchange.specs.FrameEvents.{CanCome, Fits};
+ghost use Rattle.xp_exchange.specs.Play.{Enters, RefusesEvent};
 ghost use Rattle.xp_script.specs.Lines.{HasLines};
 ghost use Rattle.xp_script.specs.Text.{entry_text};
 ghost use Rattle.xp_subs.specs.Tables.{line_count};
@@ -70,6 +71,27 @@ fn drop_records<A: Allocator + Copy>(core: &mut Core<A>)
 {
     if core.records().len() >= MOST_WAITING {
         let _dropped = core.take_records();
+    }
+}
+
+/// Acts on one event, and returns its entry.
+pub fn enter<A: Allocator + Copy>(
+    core: &mut Core<A>,
+    event: Event<A>,
+) -> Result<Entry<A>, ReplayFault>
+    requires { Fits core.old.subs event }
+    ensures ok { IfOk result (Enters core.old event core.new) }
+    ensures lines { IfOk result (HasLines (line_count core.old.subs)) }
+    ensures refused { IfErr result (RefusesEvent core.old) }
+    ensures same { OnErr result (core.new ≡ core.old) }
+    ensures subs { core.new.subs ≡ core.old.subs }
+{
+    match core.step(event) {
+        Ok(entry) => {
+            drop_records(core);
+            Ok(entry)
+        }
+        Err(fault) => Err(reason_of(&fault)),
     }
 }
 

@@ -2,8 +2,7 @@
 
 ghost use Rattle.std.specs.Prelude.{◌≡◌, [], All, IfOk, OnOk};
 ghost use Rattle.xp_exchange.specs.steps.Acting.{emptied, IsBetweenFrames, TakesWhole};
-ghost use Rattle.xp_exchange.specs.FrameEvents.{AreRead, ReadsEvents, IsReadAs};
-ghost use Rattle.xp_exchange.specs.steps.FrameEvents.{CanCome};
+ghost use Rattle.xp_exchange.specs.FrameEvents.{AreRead, CanCome, ReadsEvents, IsReadAs};
 
 use std::alloc::{AllocError, Allocator};
 use std::collections::VecDeque;

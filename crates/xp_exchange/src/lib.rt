@@ -10,5 +10,6 @@ mod streams;
 mod writing;
 
 pub use fault::ReplayFault;
+pub use playing::ScriptPlayer;
 pub use replaying::{Replayed, replay, replay_on};
 pub use writing::write_out;

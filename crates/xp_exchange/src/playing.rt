@@ -1,15 +1,16 @@
 //! Plays the lines of a script.
 
-ghost use Rattle.std.specs.Prelude.{◌≡◌, ◌+◌, ◌<◌, ◌^◌, ℕ, List, [], ◌∷◌, ◌++◌, All, IfErr, IfOk, OnOk, length};
+ghost use Rattle.std.specs.Prelude.{◌≡◌, ◌+◌, ◌<◌, ◌^◌, ℕ, List, [], ◌∷◌, ◌++◌, All, IfErr, IfOk, OnErr, OnOk, length};
 ghost use Rattle.std.specs.Io.KnownBytes.{Appends};
 ghost use Rattle.xp_core.specs.Exchange.{world_of};
-ghost use Rattle.xp_exchange.specs.steps.FrameEvents.{CanCome};
-ghost use Rattle.xp_exchange.specs.Play.{Plays, event_of, is_off_at, moment_after};
+ghost use Rattle.xp_exchange.specs.FrameEvents.{CanCome, Fits};
+ghost use Rattle.xp_exchange.specs.Play.{Enters, Plays, ReadsLine, RefusesEvent, RefusesLine, event_of, is_off_at, moment_after};
 ghost use Rattle.xp_exchange.specs.steps.Playing.{Played};
 ghost use Rattle.xp_script.specs.Command.{HasLine};
+ghost use Rattle.xp_script.specs.Lines.{HasLines};
 ghost use Rattle.xp_subs.specs.Tables.{line_count};
 
-use crate::acting::act_on_all;
+use crate::acting::{act_on_all, enter};
 use crate::fault::ReplayFault;
 use crate::streams::Streams;
 use std::alloc::{AllocError, Allocator, Global};
@@ -17,13 +18,13 @@ use std::collections::VecDeque;
 use std::io::Write;
 use std::marker::Model;
 use std::mem;
-use xp_core::{Core, Event, What};
+use xp_core::{Core, Entry, Event, What};
 use xp_script::{Command, LineFault};
-use xp_subs::LineNo;
+use xp_subs::{LineNo, Subs};
 
-/// An exchange to which a script is played.
+/// An exchange to which the lines of a script are played.
 #[derive(Drop)]
-pub struct Playing<A: Allocator = Global> {
+pub struct ScriptPlayer<A: Allocator = Global> {
     alloc: A,
     core: Core<A>,
     streams: Streams<A>,
@@ -38,7 +39,7 @@ pub struct Playing<A: Allocator = Global> {
     text: Vec<u8, A>,
 }
 
-impl<A: Allocator> Model for Playing<A> {
+impl<A: Allocator> Model for ScriptPlayer<A> {
     ghost use Rattle.std.specs.Prelude.{◌≡◌, length};
     ghost use Rattle.xp_exchange.specs.Play.{PlayState};
     ghost use Rattle.xp_subs.specs.Tables.{line_count};
@@ -50,16 +51,16 @@ impl<A: Allocator> Model for Playing<A> {
     ghost invariant = { λ p. length p.streams ≡ line_count p.core.subs };
 }
 
-impl<A: Allocator + Copy> Playing<A> {
+impl<A: Allocator + Copy> ScriptPlayer<A> {
     ghost use Rattle.xp_exchange.specs.Play.{start};
 
     /// Begins to play a script to an exchange. Returns the exchange if there is no memory.
-    pub fn new(alloc: A, core: Core<A>) -> Result<Playing<A>, Core<A>>
+    pub fn new(alloc: A, core: Core<A>) -> Result<ScriptPlayer<A>, Core<A>>
         ensures ok { IfOk result (λ playing. playing ≡ start core) }
         ensures err { IfErr result (λ back. back ≡ core) }
     {
         match Streams::new(alloc, core.subs().counts().lines) {
-            Ok(streams) => Ok(Playing {
+            Ok(streams) => Ok(ScriptPlayer {
                 alloc,
                 core,
                 streams,
@@ -72,6 +73,13 @@ impl<A: Allocator + Copy> Playing<A> {
         }
     }
 
+    /// The subscriptions of the exchange.
+    pub fn subs(&self) -> &Subs
+        ensures { result.now ≡ self.now.exchange.subs }
+    {
+        self.core.subs()
+    }
+
     /// Returns the exchange.
     pub fn into_core(self) -> Core<A>
         ensures { result ≡ self.exchange }
@@ -79,14 +87,22 @@ impl<A: Allocator + Copy> Playing<A> {
         self.core
     }
 
-    /// Plays the line of this number, and writes the text of what the exchange sends and records.
-    pub fn play<W: Write>(
+    /// Reads the line of this number, and fills the queue with its events. The exchange acts on none of them yet; it is to
+    /// act on all before the next line is read. What the queue held is lost.
+    ///
+    /// # Errors
+    ///
+    /// `Script`, with the number, if it is not a line of a script; `Memory` if no memory was left. The exchange is as it was.
+    pub fn read_line(
         &mut self,
         number: u64,
         line: &[u8],
-        writer: &mut W,
+        events: &mut VecDeque<Event<A>, A>,
     ) -> Result<(), ReplayFault>
-        ensures { (text : List ℕ) × Appends (W.contents writer.old) (W.contents writer.new) text × Played self.old number line.now result self.new text }
+        ensures read { OnOk result (ReadsLine self.old line.now events.new.items self.new) }
+        ensures fit { OnOk result (All (Fits self.old.exchange.subs) events.new.items) }
+        ensures refused { IfErr result (RefusesLine A self.old.exchange.subs number line.now) }
+        ensures exchange { self.new.exchange ≡ self.old.exchange }
     {
         let memory = mem::replace(&mut self.octets, Vec::new(self.alloc));
         let command = match Command::read(self.core.subs(), line, memory) {
@@ -100,17 +116,50 @@ impl<A: Allocator + Copy> Playing<A> {
             &mut self.streams,
             self.moment,
             command,
-            &mut self.events,
+            events,
             &mut self.octets,
         )?;
         self.moment = next;
-        act_on_all(
+        Ok(())
+    }
+
+    /// Acts on an event, and returns its entry.
+    ///
+    /// # Errors
+    ///
+    /// `Journal` if fewer than four places of the history are left, else `Memory` if no memory was left. Nothing has
+    /// changed.
+    pub fn act_on(&mut self, event: Event<A>) -> Result<Entry<A>, ReplayFault>
+        requires { Fits self.old.exchange.subs event }
+        ensures ok { IfOk result (Enters self.old.exchange event self.new.exchange) }
+        ensures lines { IfOk result (HasLines (line_count self.old.exchange.subs)) }
+        ensures refused { IfErr result (RefusesEvent self.old.exchange) }
+        ensures same { OnErr result (self.new ≡ self.old) }
+        ensures kept { self.new ≡ record self.old { exchange = self.new.exchange } }
+    {
+        enter(&mut self.core, event)
+    }
+
+    /// Plays the line of this number, and writes the text of what the exchange sends and records.
+    pub(crate) fn play<W: Write>(
+        &mut self,
+        number: u64,
+        line: &[u8],
+        writer: &mut W,
+    ) -> Result<(), ReplayFault>
+        ensures { (text : List ℕ) × Appends (W.contents writer.old) (W.contents writer.new) text × Played self.old number line.now result self.new text }
+    {
+        let mut events = mem::replace(&mut self.events, VecDeque::new(self.alloc));
+        self.read_line(number, line, &mut events)?;
+        let ended = act_on_all(
             &mut self.core,
-            &mut self.events,
+            &mut events,
             &mut self.octets,
             &mut self.text,
             writer,
-        )
+        );
+        self.events = events;
+        ended
     }
 }
 

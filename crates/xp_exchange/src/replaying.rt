@@ -7,7 +7,7 @@ ghost use Rattle.xp_exchange.specs.WholeScript.{Replays, ReplaysAlone};
 ghost use Rattle.xp_exchange.specs.Splitting.{HasNoFeed};
 
 use crate::fault::ReplayFault;
-use crate::playing::Playing;
+use crate::playing::ScriptPlayer;
 use memchr::memchr;
 use std::alloc::{Allocator, Global};
 use std::io::{ErrorKind, Read, Write};
@@ -93,7 +93,7 @@ pub fn replay_on<A: Allocator + Copy, R: Read, W: Write>(
 /// A script of which a part was read.
 #[derive(Drop)]
 struct UnfinishedScript<A: Allocator = Global> {
-    playing: Playing<A>,
+    playing: ScriptPlayer<A>,
     /// The octets that were read of the line that is not over.
     line: Vec<u8, A>,
     /// The number of that line.
@@ -119,7 +119,7 @@ impl<A: Allocator + Copy> UnfinishedScript<A> {
         ensures ok { IfOk result (λ script. script ≡ record { state = start core; line = []; number = 1 }) }
         ensures err { IfErr result (λ back. back ≡ core) }
     {
-        let playing = Playing::new(alloc, core)?;
+        let playing = ScriptPlayer::new(alloc, core)?;
         Ok(UnfinishedScript {
             playing,
             line: Vec::new(alloc),

@@ -1,8 +1,7 @@
 //! Keeps the octet stream of each line, and cuts it into frames.
 
 ghost use Rattle.std.specs.Prelude.{◌≡◌, ◌<◌, [], All, IfOk, OnOk, length, replicate, slice_set};
-ghost use Rattle.xp_exchange.specs.FrameEvents.{ReadsEvents};
-ghost use Rattle.xp_exchange.specs.steps.FrameEvents.{CanCome};
+ghost use Rattle.xp_exchange.specs.FrameEvents.{CanCome, ReadsEvents};
 ghost use Rattle.xp_exchange.specs.Play.{unfinished_at};
 
 use crate::frames::read_events;
