@@ -1,0 +1,4 @@
+pub mod Explanation
+pub mod Stated
+pub mod Way
+pub mod steps
