@@ -1,5 +1,7 @@
 //! The texts of summaries, word by word.
 
+ghost use Rattle.std.specs.Prelude.{◌<◌};
+
 use std::alloc::{AllocError, Global};
 use std::fmt::Write;
 use std::test::Fail;
