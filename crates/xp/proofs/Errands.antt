@@ -1,17 +1,15 @@
 -- What the arguments of a command ask for.
-use Rattle.std.proofs.Common.{◌≡◌, ◌∙◌, [], arith, refl, sym, ap, subst, codes, option_map, Option, Some, None, IfNone, IfSome, List, ℕ, slice_index_or}
+use Rattle.std.proofs.Common.{◌≡◌, ◌∙◌, [], cond, refl, sym, ap, subst, codes, option_map, Option, Some, None, IfNone, IfSome, List, ℕ, Bool, true, false, nat_eq, slice_index_or}
 use Rattle.clap.specs.Words.{Row, Text, first_of}
-use Rattle.xp.specs.Commands.{AsksFor, HasLimits, IsOrder, IsSubcommand, operand_of, word_to}
-use Rattle.xp.specs.declared.subcommand.ConsoleRequest.{ConsoleRequest}
-use Rattle.xp.specs.declared.subcommand.ConsoleRequest.TheVariants.{Status, Stop}
+use Rattle.xp.specs.Commands.{AsksFor, HasLimits, HasReplayForm, IsOneForm, IsOrder, has_flag, IsQuestion, IsSubcommand, operand_of, verb_of, word_of}
+use Rattle.xp.specs.declared.subcommand.QuestionOrder.{QuestionOrder}
+use Rattle.xp.specs.declared.subcommand.ReplayForm.{ReplayForm}
 use Rattle.xp.specs.declared.subcommand.ServeOrder.{ServeOrder}
 use Rattle.xp.specs.declared.subcommand.Subcommand.{Subcommand}
-use Rattle.xp.specs.declared.subcommand.Subcommand.TheVariants.{Ask, Do, Serve}
+use Rattle.xp.specs.declared.subcommand.Verb.{Verb}
+use Rattle.xp.specs.declared.subcommand.Verb.TheVariants.{Check, Replay, Explain, Serve, Status, Stop}
 use Rattle.xp_serve.specs.Limits.{AreLimits}
 use Rattle.xp_serve.specs.declared.limits.Limits.{Limits}
-use Rattle.xp_tasks.specs.declared.task.Task.{Task}
-use Rattle.xp_tasks.specs.declared.task.Task.TheVariants.{Check, Replay}
-use Rattle.xp_tasks.specs.Tasks.{word_of}
 
 pub if_none : {X : Type 0} (o : Option X) (P : Type 0) → P → IfNone o P
 if_none None P p = p
@@ -42,59 +40,48 @@ module _ (rows : List Row) (records turns : Option (List ℕ)) (records_are : re
 pub no_order : (rows : List Row) → ((limits : Limits) → HasLimits rows limits → ⊥) → (order : ServeOrder) → IsOrder rows order → ⊥
 no_order rows none order is = none order.limits is.limits
 
-abbrev first_letter : List ℕ → ℕ
-first_letter word = slice_index_or word 0 0
+-- arguments without a calling line
+pub no_caller : (rows : List Row) → first_of (codes "CALLER") rows ≡ None → (question : QuestionOrder) → IsQuestion rows question → ⊥
+no_caller rows none question is =
+    let there : Some question.caller.now ≡ None = is.caller ∙ none in
+    absurd (cc)
 
-unlike_check : ◌≡◌ {A = ℕ} 115 99 → ⊥
-unlike_check same = omega (arith, same)
+-- arguments without an address that is called
+pub no_dialled : (rows : List Row) → first_of (codes "DIALLED") rows ≡ None → (question : QuestionOrder) → IsQuestion rows question → ⊥
+no_dialled rows none question is =
+    let there : Some question.dialled.now ≡ None = is.dialled ∙ none in
+    absurd (cc)
 
-unlike_replay : ◌≡◌ {A = ℕ} 115 114 → ⊥
-unlike_replay same = omega (arith, same)
+-- the forms of a replay for which the arguments ask
+module _ (rows : List Row) (words ladder : Bool) (capture : Option Text) (words_are : words ≡ has_flag (codes "words") rows)
+    (ladder_is : ladder ≡ has_flag (codes "ladder") rows) (capture_is : capture ≡ first_of (codes "pcap") rows) (found : Option ReplayForm) where
+  pub has_form : IfSome found (IsOneForm words ladder capture) → IfSome found (HasReplayForm rows)
+  has_form is =
+      subst (λ words. IfSome found (IsOneForm words (has_flag (codes "ladder") rows) (first_of (codes "pcap") rows))) words_are
+      (subst (λ ladder. IfSome found (IsOneForm words ladder (first_of (codes "pcap") rows))) ladder_is
+      (subst (λ capture. IfSome found (IsOneForm words ladder capture)) capture_is is))
 
-no_task : (task : Task) → codes "serve" ≡ word_of task → ⊥
-no_task Check same = unlike_check (ap first_letter same)
-no_task Replay same = unlike_replay (ap first_letter same)
+  pub has_no_form : IfNone found ((form : ReplayForm) → IsOneForm words ladder capture form → ⊥) → IfNone found ((form : ReplayForm) → HasReplayForm rows form → ⊥)
+  has_no_form none =
+      subst (λ words. IfNone found ((form : ReplayForm) → IsOneForm words (has_flag (codes "ladder") rows) (first_of (codes "pcap") rows) form → ⊥)) words_are
+      (subst (λ ladder. IfNone found ((form : ReplayForm) → IsOneForm words ladder (first_of (codes "pcap") rows) form → ⊥)) ladder_is
+      (subst (λ capture. IfNone found ((form : ReplayForm) → IsOneForm words ladder capture form → ⊥)) capture_is none))
 
-abbrev second_letter : List ℕ → ℕ
-second_letter word = slice_index_or word 1 0
+-- the name of the argument that has to be given first behind this word
+abbrev operand_behind : Text → Text
+operand_behind word = cond (nat_eq (slice_index_or word 1 0) 116) (codes "ADDRESS") (codes "FILE")
 
-unlike_console : ◌≡◌ {A = ℕ} 101 116 → ⊥
-unlike_console same = omega (arith, same)
-
-no_request : (request : ConsoleRequest) → codes "serve" ≡ word_to request → ⊥
-no_request Status same = unlike_console (ap second_letter same)
-no_request Stop same = unlike_console (ap second_letter same)
-
--- a command that asks for the lines to be served, and does not say how
-pub serves_not : (word : Text) (rows : List Row) → word ≡ codes "serve" → ((order : ServeOrder) → IsOrder rows order → ⊥) → (subcommand : Subcommand) → IsSubcommand word rows subcommand → ⊥
-serves_not word rows serve none (Do task) is = no_task task (sym serve ∙ is)
-serves_not word rows serve none (Serve order) is = none order is.1
-serves_not word rows serve none (Ask request) is = no_request request (sym serve ∙ is)
-
-unlike_status_check : ◌≡◌ {A = ℕ} 99 115 → ⊥
-unlike_status_check same = omega (arith, same)
-
-unlike_status_replay : ◌≡◌ {A = ℕ} 114 115 → ⊥
-unlike_status_replay same = omega (arith, same)
-
--- no task has the word of a request
-task_or_request : (task : Task) (request : ConsoleRequest) → word_of task ≡ word_to request → ⊥
-task_or_request Check Status same = unlike_status_check (ap first_letter same)
-task_or_request Check Stop same = unlike_status_check (ap first_letter same)
-task_or_request Replay Status same = unlike_status_replay (ap first_letter same)
-task_or_request Replay Stop same = unlike_status_replay (ap first_letter same)
+operand_is : (verb : Verb) → operand_of verb ≡ operand_behind (word_of verb)
+operand_is Check = refl
+operand_is Replay = refl
+operand_is Explain = refl
+operand_is Serve = refl
+operand_is Status = refl
+operand_is Stop = refl
 
 -- what a command of this word has to be given
-one_operand : (word : Text) (rows : List Row) (one other : Subcommand) → IsSubcommand word rows one → IsSubcommand word rows other → operand_of one ≡ operand_of other
-one_operand word rows (Do task) (Do second) is too = refl
-one_operand word rows (Do task) (Serve order) is too = refl
-one_operand word rows (Do task) (Ask request) is too = absurd (task_or_request task request (sym is ∙ too))
-one_operand word rows (Serve order) (Do task) is too = refl
-one_operand word rows (Serve order) (Serve second) is too = refl
-one_operand word rows (Serve order) (Ask request) is too = absurd (no_request request (sym is.0 ∙ too))
-one_operand word rows (Ask request) (Do task) is too = absurd (task_or_request task request (sym too ∙ is))
-one_operand word rows (Ask request) (Serve order) is too = absurd (no_request request (sym too.0 ∙ is))
-one_operand word rows (Ask request) (Ask second) is too = refl
+one_operand : (word : Text) (one other : Verb) → word ≡ word_of one → word ≡ word_of other → operand_of one ≡ operand_of other
+one_operand word one other is too = operand_is one ∙ ap operand_behind (sym is ∙ too) ∙ sym (operand_is other)
 
 -- a pair of which both parts are known
 pub pair_is : {X Y : Type 0} (o : Option (X × Y)) (x : X) (y : Y) → option_map (λ pair. pair.0) o ≡ Some x → option_map (λ pair. pair.1) o ≡ Some y → o ≡ Some (x, y)
@@ -132,10 +119,10 @@ module _ (found : Option (Text × List Row)) (word : Text) (rows : List Row) (fo
       (subst (λ word. IsSubcommand word asks.rows subcommand) (word_alike subcommand name asks) asks.subcommand_is)
 
   -- a command without its file or address
-  pub asks_without : (own : Subcommand) → IsSubcommand word rows own → first_of (operand_of own) rows ≡ None
+  pub asks_without : (own : Verb) → word ≡ word_of own → first_of (operand_of own) rows ≡ None
       → (subcommand : Subcommand) (name : List ℕ) → AsksFor found subcommand name → ⊥
   asks_without own is none subcommand name asks =
-      let alike = one_operand word rows own subcommand is (is_here subcommand name asks) in
+      let alike = one_operand word own (verb_of subcommand) is (is_here subcommand name asks).0 in
       let there : None ≡ Some name =
-      sym none ∙ ap (λ operand. first_of operand rows) alike ∙ ap (first_of (operand_of subcommand)) (sym (rows_alike subcommand name asks)) ∙ asks.named in
+      sym none ∙ ap (λ operand. first_of operand rows) alike ∙ ap (first_of (operand_of (verb_of subcommand))) (sym (rows_alike subcommand name asks)) ∙ asks.named in
       absurd (cc)

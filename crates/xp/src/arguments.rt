@@ -4,23 +4,23 @@ ghost use Rattle.std.specs.Prelude.{◌≡◌, ℕ, List, IfSome, IfNone, IfOk, 
 ghost use Rattle.clap.specs.Words.{app_of, kind_of, rule_of, subcommand_rows_of};
 ghost use Rattle.clap.specs.declared.error.kind.ErrorKind.TheVariants.{OutOfMemory};
 ghost use Rattle.clap.specs.declared.builder.command.Command.TheViews.{out-Command as fields_of};
-ghost use Rattle.xp.specs.Commands.{AreRight, Ask, AsksFor, address as address_rule, command_of, command_to, file as file_rule, flag as flag_rule, program, recording, serve, serving, tasks, valued as valued_rule};
+ghost use Rattle.xp.specs.Commands.{AreRight, Ask, AsksFor, call as call_app, check as check_app, command_of, explain as explain_app, flag as flag_rule, over_files as over_files_app, positional as positional_rule, program, recording, replay as replay_app, replaying as replaying_app, serve, serving, valued as valued_rule, verb_of};
 
 use crate::subcommand::{
-    ADDRESS, CDR, CONSOLE, ConsoleRequest, FILE, QUIET, RECORDS, SERVE, Subcommand, TURNS,
-    UNTIL_EOF,
+    BUSY, CALLER, CDR, CONSOLE, DIALLED, FACILITIES, LADDER, PCAP, QUIET, RECORDS, Subcommand,
+    TURNS, UNTIL_EOF, UP, USER, Verb, WORDS,
 };
 use clap::error::ErrorKind;
 use clap::{Arg, ArgAction, ArgMatches, Command, Error};
 use std::alloc::{AllocError, Global};
-use xp_tasks::Task;
 
 const ABOUT: &str = "The call-control exchange of an X.25 packet network.";
 
 const PROGRAM_DETAILS: &str = "\
 Examples:
   xp check examples/three-stations.toml
-  xp replay examples/three-stations.toml < examples/call.script
+  xp replay examples/three-stations.toml --words < examples/call.script
+  xp explain examples/three-stations.toml a1 2080030
   xp serve examples/three-stations.toml --cdr calls.csv --console 127.0.0.1:9980
   xp status 127.0.0.1:9980
 
@@ -32,10 +32,20 @@ const CHECK_ABOUT: &str = "Checks a subscription file, and counts what it sets u
 
 const CHECK_DETAILS: &str = "\
 Prints one line, as: stations 3 lines 5 groups 0
-A group that several stations share counts once.
+A group that several stations share counts once. With --words it prints a
+summary: stations, lines, groups, who may call whom, and what looks wrong.
 
 Example:
-  xp check examples/three-stations.toml";
+  xp check examples/three-stations.toml --words";
+
+const EXPLAIN_ABOUT: &str = "Explains how a call request is decided, rule by rule";
+
+const EXPLAIN_DETAILS: &str = "\
+CALLER is the name of the calling line, DIALLED the address that it calls. All
+lines are in service and idle where --up and --busy do not say otherwise.
+
+Example:
+  xp explain examples/three-stations.toml a1 2080030 --busy h1,h2";
 
 const REPLAY_ABOUT: &str = "Replays a script from standard input, and prints what comes of it";
 
@@ -48,7 +58,8 @@ A line of a script is one of these, where NAME is a line of the FILE:
 Empty lines, and those that begin with #, do nothing.
 
 Prints `out NAME DIGITS` for each frame that the exchange puts out, and
-`record ..` for each call that ended.
+`record ..` for each call that ended. One of --words, --ladder and --pcap shows
+the same in another form.
 
 Example:
   xp replay examples/three-stations.toml < examples/call.script";
@@ -69,6 +80,26 @@ With --console a page at that address shows the lines and the live calls.
 
 Example:
   xp serve examples/three-stations.toml --cdr calls.csv";
+
+const CHECK_WORDS_HELP: &str = "Prints a summary for a person";
+
+const REPLAY_WORDS_HELP: &str = "Prints each event, packet and record in words";
+
+const LADDER_HELP: &str = "Prints the packets as a ladder diagram, 80 columns wide";
+
+const PCAP_HELP: &str = "Writes the packets into this file, as a capture that Wireshark reads";
+
+const CALLER_HELP: &str = "The name of the calling line";
+
+const DIALLED_HELP: &str = "The address that it calls, in digits";
+
+const FACILITIES_HELP: &str = "The facility field of the call request, in hexadecimal digits";
+
+const USER_HELP: &str = "Its user data, in hexadecimal digits";
+
+const UP_HELP: &str = "The lines in service, as a1,b1";
+
+const BUSY_HELP: &str = "The lines that are in a call, as h1,h2";
 
 const CDR_HELP: &str = "Writes call detail records at the end of this file (CSV)";
 
@@ -122,7 +153,7 @@ impl<'a> Arguments<'a> {
         let matches = command(alloc)?.try_get_matches_from(words)?;
         match Arguments::named(&matches) {
             Some(arguments) => Ok(arguments),
-            None => Err(refused(alloc, "a command is missing")?),
+            None => Err(refused(alloc, "the arguments do not go together")?),
         }
     }
 
@@ -133,7 +164,7 @@ impl<'a> Arguments<'a> {
     {
         let (word, matches) = matches.subcommand()?;
         let subcommand = Subcommand::named(word, matches)?;
-        let operand = matches.get_str(subcommand.operand())?;
+        let operand = matches.get_str(subcommand.verb().operand())?;
         Some(Arguments {
             subcommand,
             operand,
@@ -150,8 +181,14 @@ pub fn refused(alloc: Global, reason: &str) -> Result<Error, Error> {
 fn command<'a>(alloc: Global) -> Result<Command<'a>, AllocError>
     ensures { IfOk result (λ command. app_of command ≡ program) }
 {
-    let status = console_command(alloc, ConsoleRequest::Status, STATUS_ABOUT, STATUS_DETAILS)?;
-    let stop = console_command(alloc, ConsoleRequest::Stop, STOP_ABOUT, STOP_DETAILS)?;
+    let status = over_operand(
+        alloc,
+        Verb::Status,
+        STATUS_ABOUT,
+        STATUS_DETAILS,
+        ADDRESS_HELP,
+    )?;
+    let stop = over_operand(alloc, Verb::Stop, STOP_ABOUT, STOP_DETAILS, ADDRESS_HELP)?;
     with_serving(alloc)?
         .subcommand(status)?
         .subcommand(stop)?
@@ -164,32 +201,25 @@ fn with_serving<'a>(alloc: Global) -> Result<Command<'a>, AllocError>
     ensures local { IfOk result (λ command. (fields_of command).has_globals ≡ false) }
 {
     let serve = serve_command(alloc)?;
-    with_tasks(alloc)?.subcommand(serve)
+    over_files(alloc)?.subcommand(serve)
 }
 
-/// The subcommand of a request to a console, with the text of its help before the arguments and after them.
-fn console_command<'a>(
-    alloc: Global,
-    request: ConsoleRequest,
-    about: &'a str,
-    details: &'a str,
-) -> Result<Command<'a>, AllocError>
-    ensures shape { IfOk result (λ command. app_of command ≡ command_to request) }
+/// The program's command line with the subcommands over a subscription file.
+fn over_files<'a>(alloc: Global) -> Result<Command<'a>, AllocError>
+    ensures shape { IfOk result (λ command. app_of command ≡ over_files_app) }
     ensures local { IfOk result (λ command. (fields_of command).has_globals ≡ false) }
 {
-    Command::new(alloc, request.word())
-        .about(about)
-        .after_help(details)
-        .arg(address(alloc))
+    let explain = explain_command(alloc)?;
+    replaying(alloc)?.subcommand(explain)
 }
 
-/// The program's command line with a subcommand for each task.
-fn with_tasks<'a>(alloc: Global) -> Result<Command<'a>, AllocError>
-    ensures shape { IfOk result (λ command. app_of command ≡ tasks) }
+/// The program's command line with the subcommands that check a file and replay a script.
+fn replaying<'a>(alloc: Global) -> Result<Command<'a>, AllocError>
+    ensures shape { IfOk result (λ command. app_of command ≡ replaying_app) }
     ensures local { IfOk result (λ command. (fields_of command).has_globals ≡ false) }
 {
-    let check = task_command(alloc, Task::Check, CHECK_ABOUT, CHECK_DETAILS)?;
-    let replay = task_command(alloc, Task::Replay, REPLAY_ABOUT, REPLAY_DETAILS)?;
+    let check = check_command(alloc)?;
+    let replay = replay_command(alloc)?;
     Command::new(alloc, "xp")
         .about(ABOUT)
         .after_help(PROGRAM_DETAILS)
@@ -199,20 +229,73 @@ fn with_tasks<'a>(alloc: Global) -> Result<Command<'a>, AllocError>
         .subcommand(replay)
 }
 
-/// The subcommand of a task, with the text of its help before the arguments and after them.
-fn task_command<'a>(
+/// The subcommand of a verb with the argument that it has to be given first, and with the text of its help before the arguments
+/// and after them.
+fn over_operand<'a>(
     alloc: Global,
-    task: Task,
+    verb: Verb,
     about: &'a str,
     details: &'a str,
+    help: &'a str,
 ) -> Result<Command<'a>, AllocError>
-    ensures shape { IfOk result (λ command. app_of command ≡ command_of task) }
+    ensures shape { IfOk result (λ command. app_of command ≡ command_of verb) }
     ensures local { IfOk result (λ command. (fields_of command).has_globals ≡ false) }
 {
-    Command::new(alloc, task.word())
+    Command::new(alloc, verb.word())
         .about(about)
         .after_help(details)
-        .arg(file(alloc))
+        .arg(positional(alloc, verb.operand(), help))
+}
+
+/// The subcommand that checks a file.
+fn check_command<'a>(alloc: Global) -> Result<Command<'a>, AllocError>
+    ensures shape { IfOk result (λ command. app_of command ≡ check_app) }
+    ensures local { IfOk result (λ command. (fields_of command).has_globals ≡ false) }
+{
+    over_operand(alloc, Verb::Check, CHECK_ABOUT, CHECK_DETAILS, FILE_HELP)?.arg(flag(
+        alloc,
+        WORDS,
+        CHECK_WORDS_HELP,
+    ))
+}
+
+/// The subcommand that replays a script.
+fn replay_command<'a>(alloc: Global) -> Result<Command<'a>, AllocError>
+    ensures shape { IfOk result (λ command. app_of command ≡ replay_app) }
+    ensures local { IfOk result (λ command. (fields_of command).has_globals ≡ false) }
+{
+    over_operand(alloc, Verb::Replay, REPLAY_ABOUT, REPLAY_DETAILS, FILE_HELP)?
+        .arg(flag(alloc, WORDS, REPLAY_WORDS_HELP))?
+        .arg(flag(alloc, LADDER, LADDER_HELP))?
+        .arg(valued(alloc, PCAP, "PATH", PCAP_HELP))
+}
+
+/// The subcommand that explains how a call request is decided.
+fn explain_command<'a>(alloc: Global) -> Result<Command<'a>, AllocError>
+    ensures shape { IfOk result (λ command. app_of command ≡ explain_app) }
+    ensures local { IfOk result (λ command. (fields_of command).has_globals ≡ false) }
+{
+    call_command(alloc)?
+        .arg(valued(alloc, FACILITIES, "HEX", FACILITIES_HELP))?
+        .arg(valued(alloc, USER, "HEX", USER_HELP))?
+        .arg(valued(alloc, UP, "LINES", UP_HELP))?
+        .arg(valued(alloc, BUSY, "LINES", BUSY_HELP))
+}
+
+/// The same with the calling line and the address alone.
+fn call_command<'a>(alloc: Global) -> Result<Command<'a>, AllocError>
+    ensures shape { IfOk result (λ command. app_of command ≡ call_app) }
+    ensures local { IfOk result (λ command. (fields_of command).has_globals ≡ false) }
+{
+    over_operand(
+        alloc,
+        Verb::Explain,
+        EXPLAIN_ABOUT,
+        EXPLAIN_DETAILS,
+        FILE_HELP,
+    )?
+    .arg(positional(alloc, CALLER, CALLER_HELP))?
+    .arg(positional(alloc, DIALLED, DIALLED_HELP))
 }
 
 /// The subcommand that serves the lines.
@@ -232,26 +315,17 @@ fn recording_command<'a>(alloc: Global) -> Result<Command<'a>, AllocError>
     ensures shape { IfOk result (λ command. app_of command ≡ recording) }
     ensures local { IfOk result (λ command. (fields_of command).has_globals ≡ false) }
 {
-    Command::new(alloc, SERVE)
-        .about(SERVE_ABOUT)
-        .after_help(SERVE_DETAILS)
-        .arg(file(alloc))?
+    over_operand(alloc, Verb::Serve, SERVE_ABOUT, SERVE_DETAILS, FILE_HELP)?
         .arg(valued(alloc, CDR, "PATH", CDR_HELP))?
         .arg(valued(alloc, RECORDS, "N", RECORDS_HELP))
 }
 
-fn file<'a>(alloc: Global) -> Arg<'a>
-    ensures rule { rule_of result ≡ file_rule }
+/// An argument that has to be there, as FILE.
+fn positional<'a>(alloc: Global, name: &'a str, help: &'a str) -> Arg<'a>
+    ensures rule { rule_of result ≡ positional_rule name.now }
     ensures local { result.global ≡ false }
 {
-    Arg::new(alloc, FILE).required(true).help(FILE_HELP)
-}
-
-fn address<'a>(alloc: Global) -> Arg<'a>
-    ensures rule { rule_of result ≡ address_rule }
-    ensures local { result.global ≡ false }
-{
-    Arg::new(alloc, ADDRESS).required(true).help(ADDRESS_HELP)
+    Arg::new(alloc, name).required(true).help(help)
 }
 
 /// An argument with a value, as `--records N`.

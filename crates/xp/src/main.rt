@@ -5,8 +5,10 @@ ghost use Rattle.std.specs.Prelude.{◌≡◌};
 
 mod arguments;
 mod console;
+mod explaining;
 mod failure;
 mod laws;
+mod replaying;
 mod served_console;
 mod serving;
 mod status_feed;
@@ -15,13 +17,15 @@ mod subscribing;
 
 use crate::arguments::Arguments;
 use crate::console::ask_console;
+use crate::explaining::explain_call;
 use crate::failure::Failure;
+use crate::replaying::{check_file, replay_script};
 use crate::serving::serve_lines;
 use crate::subcommand::{ServeOrder, Subcommand};
 use crate::subscribing::read_subscriptions;
 use log::Log;
 use std::fs::{File, Files};
-use std::io::{BufReader, BufWriter, ErrorKind};
+use std::io::ErrorKind;
 use std::net::{Net, TcpListener, TcpStream};
 use std::process::ExitCode;
 use std::random::RandomSource;
@@ -29,8 +33,9 @@ use std::rt::Env;
 use std::sync::Wait;
 use std::thread::Threads;
 use std::time::Clock;
-use std::{env, fs, io};
-use xp_tasks::{Task, TaskFailure, perform};
+use std::{env, fs};
+use xp_subs::Subs;
+use xp_tasks::TaskFailure;
 
 fn main(rt: HostRuntime) -> ExitCode {
     match run(&rt) {
@@ -60,10 +65,16 @@ fn run<
 >(rt: &R) -> Result<(), Failure> {
     let words = words(rt)?;
     let arguments = Arguments::read(rt.alloc(), &words)?;
+    let operand = arguments.operand;
     match arguments.subcommand {
-        Subcommand::Do(task) => do_task(rt, task, arguments.operand),
-        Subcommand::Serve(order) => serve_file(rt, &order, arguments.operand),
-        Subcommand::Ask(request) => ask_console(rt, request, arguments.operand),
+        Subcommand::Check(form) => check_file(rt, form, subscriptions_in(rt, operand)?),
+        Subcommand::Replay(form) => replay_script(rt, form, subscriptions_in(rt, operand)?),
+        Subcommand::Explain(question) => {
+            let subs = subscriptions_in(rt, operand)?;
+            explain_call(rt, &subs, &question)
+        }
+        Subcommand::Serve(order) => serve_file(rt, &order, operand),
+        Subcommand::Ask(request) => ask_console(rt, request, operand),
     }
 }
 
@@ -87,18 +98,12 @@ fn serve_file<
     serve_lines(rt, order, subs, names)
 }
 
-/// Performs a task on a subscription file, over the standard streams.
-fn do_task<R: AllocGlobal + Files<File = File> + Input + Print>(
+/// The subscriptions of the file of this name.
+fn subscriptions_in<R: AllocGlobal + Files<File = File>>(
     rt: &R,
-    task: Task,
     file: &str,
-) -> Result<(), Failure> {
-    let alloc = rt.alloc();
-    let subs = read_subscriptions(alloc, &fs::read_to_string(rt, file))?;
-    let reader = BufReader::new(alloc, rt.reader()).map_err(|_| TaskFailure::Memory)?;
-    let mut writer = BufWriter::new(alloc, io::writer(rt)).map_err(|_| TaskFailure::Memory)?;
-    perform(alloc, task, subs, reader, &mut writer)?;
-    Ok(())
+) -> Result<Subs, Failure> {
+    read_subscriptions(rt.alloc(), &fs::read_to_string(rt, file))
 }
 
 /// The words of the command line.

@@ -1,12 +1,11 @@
 //! The subcommands of the program.
 
-ghost use Rattle.std.specs.Prelude.{◌≡◌, ◌↔◌, IfNone, IfSome, Some, codes};
+ghost use Rattle.std.specs.Prelude.{◌≡◌, IfNone, IfSome, Some, codes, option_map};
 ghost use Rattle.clap.specs.Words.{first_of, found_of, rows_of};
-ghost use Rattle.xp.specs.Commands.{HasLimits, IsOrder, IsSubcommand, operand_of, says_true, word_to};
+ghost use Rattle.xp.specs.Commands.{HasCheckForm, HasLimits, HasReplayForm, IsOneForm, IsOrder, IsQuestion, IsSubcommand, Suits, operand_of, says_true, verb_of, word_of};
 
 use clap::ArgMatches;
 use xp_serve::Limits;
-use xp_tasks::Task;
 
 /// The name of the subscription file.
 pub const FILE: &str = "FILE";
@@ -14,8 +13,32 @@ pub const FILE: &str = "FILE";
 /// The address of a console.
 pub const ADDRESS: &str = "ADDRESS";
 
-/// The word of the subcommand that serves the lines.
-pub const SERVE: &str = "serve";
+/// The name of the calling line.
+pub const CALLER: &str = "CALLER";
+
+/// The address that is called.
+pub const DIALLED: &str = "DIALLED";
+
+/// The argument by which words for people are printed.
+pub const WORDS: &str = "words";
+
+/// The argument by which a ladder diagram is printed.
+pub const LADDER: &str = "ladder";
+
+/// The argument for the file of a capture.
+pub const PCAP: &str = "pcap";
+
+/// The argument for the facility field of a call request.
+pub const FACILITIES: &str = "facilities";
+
+/// The argument for the user data of a call request.
+pub const USER: &str = "user";
+
+/// The argument for the lines that are in service.
+pub const UP: &str = "up";
+
+/// The argument for the lines that are in a call.
+pub const BUSY: &str = "busy";
 
 /// The argument for the file of call detail records.
 pub const CDR: &str = "cdr";
@@ -34,6 +57,100 @@ pub const TURNS: &str = "turns";
 
 /// The argument by which serving ends cleanly as standard input ends.
 pub const UNTIL_EOF: &str = "until-eof";
+
+/// What a subcommand does.
+#[derive(Clone, Copy, Debug, PartialEq, Eq)]
+pub enum Verb {
+    Check,
+    Replay,
+    Explain,
+    Serve,
+    Status,
+    Stop,
+}
+
+impl Verb {
+    ghost use Rattle.xp.specs.declared.subcommand.Verb.{Verb};
+
+    /// Its word on the command line.
+    pub fn word<'a>(self) -> &'a str
+        ensures { result.now ≡ word_of self }
+    {
+        match self {
+            Verb::Check => "check",
+            Verb::Replay => "replay",
+            Verb::Explain => "explain",
+            Verb::Serve => "serve",
+            Verb::Status => "status",
+            Verb::Stop => "stop",
+        }
+    }
+
+    /// The verb of a word of the command line.
+    pub fn named(word: &str) -> Option<Verb>
+        ensures found { IfSome result (λ verb. word.now ≡ word_of verb) }
+        ensures none { IfNone result ((verb : Verb) → word.now ≡ word_of verb → ⊥) }
+    {
+        match word {
+            "check" => Some(Verb::Check),
+            "replay" => Some(Verb::Replay),
+            "explain" => Some(Verb::Explain),
+            "serve" => Some(Verb::Serve),
+            "status" => Some(Verb::Status),
+            "stop" => Some(Verb::Stop),
+            _ => None,
+        }
+    }
+
+    /// The name of the argument that it has to be given first: a file, or the address of a console.
+    pub fn operand<'a>(self) -> &'a str
+        ensures { result.now ≡ operand_of self }
+    {
+        match self {
+            Verb::Check | Verb::Replay | Verb::Explain | Verb::Serve => FILE,
+            Verb::Status | Verb::Stop => ADDRESS,
+        }
+    }
+}
+
+/// The form in which a subscription file that sets up is told.
+#[derive(Clone, Copy, Debug, PartialEq, Eq)]
+pub enum CheckForm {
+    /// A line of counts.
+    Counts,
+    /// A summary for a person.
+    Words,
+}
+
+/// The form in which a replay is told.
+#[derive(Clone, Copy, Debug, PartialEq, Eq)]
+pub enum ReplayForm<'a> {
+    /// Lines of frames in hexadecimal digits, and of charging records.
+    Digits,
+    /// Words for a person.
+    Words,
+    /// A ladder diagram.
+    Ladder,
+    /// A capture, in the file of this name.
+    Capture(&'a str),
+}
+
+/// A call request whose decision is to be explained.
+#[derive(Clone, Copy, Debug, PartialEq, Eq)]
+pub struct QuestionOrder<'a> {
+    /// The name of the calling line.
+    pub caller: &'a str,
+    /// The address that is called, in digits.
+    pub dialled: &'a str,
+    /// The facility field, in hexadecimal digits.
+    pub facilities: Option<&'a str>,
+    /// The user data, in hexadecimal digits.
+    pub user: Option<&'a str>,
+    /// The names of the lines that are in service, with commas between them; where absent all are.
+    pub up: Option<&'a str>,
+    /// The names of the lines that are in a call, with commas between them; where absent none is.
+    pub busy: Option<&'a str>,
+}
 
 /// How the lines are to be served.
 #[derive(Clone, Copy, Debug, PartialEq, Eq)]
@@ -58,34 +175,15 @@ pub enum ConsoleRequest {
     Stop,
 }
 
-impl ConsoleRequest {
-    ghost use Rattle.xp.specs.declared.subcommand.ConsoleRequest.{ConsoleRequest};
-
-    /// Its word on the command line.
-    pub fn word<'a>(self) -> &'a str
-        ensures { result.now ≡ word_to self }
-    {
-        match self {
-            ConsoleRequest::Status => "status",
-            ConsoleRequest::Stop => "stop",
-        }
-    }
-
-    /// The request of a word of the command line.
-    pub fn named(word: &str) -> Option<ConsoleRequest>
-        ensures { (request : ConsoleRequest) → (result ≡ Some request) ↔ (word.now ≡ word_to request) }
-    {
-        [ConsoleRequest::Status, ConsoleRequest::Stop]
-            .into_iter()
-            .find(|request| word == request.word())
-    }
-}
-
 /// A subcommand of the program.
 #[derive(Clone, Copy, Debug, PartialEq, Eq)]
 pub enum Subcommand<'a> {
-    /// Performs a task over the standard streams.
-    Do(Task),
+    /// Checks a subscription file.
+    Check(CheckForm),
+    /// Replays a script from standard input.
+    Replay(ReplayForm<'a>),
+    /// Explains how a call request is decided.
+    Explain(QuestionOrder<'a>),
     /// Serves the lines over TCP.
     Serve(ServeOrder<'a>),
     /// Asks the console of a serving exchange.
@@ -98,26 +196,104 @@ impl<'a> Subcommand<'a> {
         ensures found { IfSome result (λ subcommand. IsSubcommand word.now (rows_of (found_of matches.now)) subcommand) }
         ensures none { IfNone result ((subcommand : Subcommand) → IsSubcommand word.now (rows_of (found_of matches.now)) subcommand → ⊥) }
     {
-        if word == SERVE {
-            let order = order_of(matches)?;
-            return Some(Subcommand::Serve(order));
-        }
-        if let Some(request) = ConsoleRequest::named(word) {
-            return Some(Subcommand::Ask(request));
-        }
-        let task = Task::named(word)?;
-        Some(Subcommand::Do(task))
+        let verb = Verb::named(word)?;
+        Subcommand::with(verb, matches)
     }
 
-    /// The name of the one argument that the subcommand has to be given.
-    pub fn operand<'b>(&self) -> &'b str
-        ensures { result.now ≡ operand_of self.now }
+    /// The subcommand of a verb, with its arguments.
+    fn with(verb: Verb, matches: &ArgMatches<'a>) -> Option<Subcommand<'a>>
+        ensures found { IfSome result (λ subcommand. (verb_of subcommand ≡ verb) × Suits (rows_of (found_of matches.now)) subcommand) }
+        ensures none { IfNone result ((subcommand : Subcommand) → verb_of subcommand ≡ verb → Suits (rows_of (found_of matches.now)) subcommand → ⊥) }
     {
-        match self {
-            Subcommand::Do(_) | Subcommand::Serve(_) => FILE,
-            Subcommand::Ask(_) => ADDRESS,
+        match verb {
+            Verb::Check => Some(Subcommand::Check(check_form(matches))),
+            Verb::Replay => {
+                let form = replay_form(matches)?;
+                Some(Subcommand::Replay(form))
+            }
+            Verb::Explain => {
+                let question = question_of(matches)?;
+                Some(Subcommand::Explain(question))
+            }
+            Verb::Serve => {
+                let order = order_of(matches)?;
+                Some(Subcommand::Serve(order))
+            }
+            Verb::Status => Some(Subcommand::Ask(ConsoleRequest::Status)),
+            Verb::Stop => Some(Subcommand::Ask(ConsoleRequest::Stop)),
         }
     }
+
+    /// What it does.
+    pub fn verb(&self) -> Verb
+        ensures { result ≡ verb_of self.now }
+    {
+        match self {
+            Subcommand::Check(_) => Verb::Check,
+            Subcommand::Replay(_) => Verb::Replay,
+            Subcommand::Explain(_) => Verb::Explain,
+            Subcommand::Serve(_) => Verb::Serve,
+            Subcommand::Ask(ConsoleRequest::Status) => Verb::Status,
+            Subcommand::Ask(ConsoleRequest::Stop) => Verb::Stop,
+        }
+    }
+}
+
+/// The form in which the arguments ask for what a subscription file sets up.
+fn check_form(matches: &ArgMatches) -> CheckForm
+    ensures { HasCheckForm (rows_of (found_of matches.now)) result }
+{
+    if is_true(matches, WORDS) {
+        CheckForm::Words
+    } else {
+        CheckForm::Counts
+    }
+}
+
+/// The form in which the arguments ask for a replay: at most one of three.
+fn replay_form<'a>(matches: &ArgMatches<'a>) -> Option<ReplayForm<'a>>
+    ensures found { IfSome result (λ form. HasReplayForm (rows_of (found_of matches.now)) form) }
+    ensures none { IfNone result ((form : ReplayForm) → HasReplayForm (rows_of (found_of matches.now)) form → ⊥) }
+{
+    let words = is_true(matches, WORDS);
+    let ladder = is_true(matches, LADDER);
+    let capture = matches.get_str(PCAP);
+    one_form(words, ladder, capture)
+}
+
+/// The one form that is asked for. `None` where several are.
+fn one_form<'a>(words: bool, ladder: bool, capture: Option<&'a str>) -> Option<ReplayForm<'a>>
+    ensures found { IfSome result (IsOneForm words ladder (option_map (λ path. path.now) capture.entry)) }
+    ensures none { IfNone result ((form : ReplayForm) → IsOneForm words ladder (option_map (λ path. path.now) capture.entry) form → ⊥) }
+{
+    match (words, ladder, capture) {
+        (false, false, None) => Some(ReplayForm::Digits),
+        (true, false, None) => Some(ReplayForm::Words),
+        (false, true, None) => Some(ReplayForm::Ladder),
+        (false, false, Some(path)) => Some(ReplayForm::Capture(path)),
+        _ => None,
+    }
+}
+
+/// The call request whose decision the arguments ask to be explained.
+fn question_of<'a>(matches: &ArgMatches<'a>) -> Option<QuestionOrder<'a>>
+    ensures found { IfSome result (λ question. IsQuestion (rows_of (found_of matches.now)) question) }
+    ensures none { IfNone result ((question : QuestionOrder) → IsQuestion (rows_of (found_of matches.now)) question → ⊥) }
+{
+    let caller = matches.get_str(CALLER)?;
+    let dialled = matches.get_str(DIALLED)?;
+    let facilities = matches.get_str(FACILITIES);
+    let user = matches.get_str(USER);
+    let up = matches.get_str(UP);
+    let busy = matches.get_str(BUSY);
+    Some(QuestionOrder {
+        caller,
+        dialled,
+        facilities,
+        user,
+        up,
+        busy,
+    })
 }
 
 /// How the arguments ask the lines to be served.

@@ -1,15 +1,15 @@
-use Rattle.std.proofs.Common.{ap, arith, codes, option_map, refl}
+use Rattle.std.proofs.Common.{Some, ap, arith, codes, option_map, refl}
 use Rattle.xp_serve.specs.Limits.{IsNumber}
 use Rattle.clap.proofs.OnLiterals.{clap_on_literals}
 use Rattle.xp.proofs.laws.errands_can_be_asked_for.Goals as goal
 
 pub returns-clause-check : goal.returns-clause-check
 unfolding clap_on_literals
-returns-clause-check c = record { faultless = refl; asked = record { word = _; rows = _; found_is = refl; subcommand_is = refl; named = refl } }
+returns-clause-check c = record { faultless = refl; asked = record { word = _; rows = _; found_is = refl; subcommand_is = (refl, refl); named = refl } }
 
 pub returns-clause-replay : goal.returns-clause-replay
 unfolding clap_on_literals
-returns-clause-replay c = record { faultless = refl; asked = record { word = _; rows = _; found_is = refl; subcommand_is = refl; named = refl } }
+returns-clause-replay c = record { faultless = refl; asked = record { word = _; rows = _; found_is = refl; subcommand_is = (refl, (refl, refl, refl)); named = refl } }
 
 twelve : IsNumber (codes "12") 12
 twelve = record { numeral = (omega arith, (omega arith, (omega arith, tt))); value = refl; least = omega arith; most = omega arith }
@@ -61,8 +61,44 @@ returns-clause-details c =
 
 pub returns-clause-status : goal.returns-clause-status
 unfolding clap_on_literals
-returns-clause-status c = record { faultless = refl; asked = record { word = _; rows = _; found_is = refl; subcommand_is = refl; named = refl } }
+returns-clause-status c = record { faultless = refl; asked = record { word = _; rows = _; found_is = refl; subcommand_is = (refl, tt); named = refl } }
 
 pub returns-clause-stop : goal.returns-clause-stop
 unfolding clap_on_literals
-returns-clause-stop c = record { faultless = refl; asked = record { word = _; rows = _; found_is = refl; subcommand_is = refl; named = refl } }
+returns-clause-stop c = record { faultless = refl; asked = record { word = _; rows = _; found_is = refl; subcommand_is = (refl, tt); named = refl } }
+
+pub returns-clause-summary : goal.returns-clause-summary
+unfolding clap_on_literals
+returns-clause-summary c = record { faultless = refl; asked = record { word = _; rows = _; found_is = refl; subcommand_is = (refl, refl); named = refl } }
+
+pub returns-clause-words : goal.returns-clause-words
+unfolding clap_on_literals
+returns-clause-words c = record { faultless = refl; asked = record { word = _; rows = _; found_is = refl; subcommand_is = (refl, (refl, refl, refl)); named = refl } }
+
+pub returns-clause-ladder : goal.returns-clause-ladder
+unfolding clap_on_literals
+returns-clause-ladder c = record { faultless = refl; asked = record { word = _; rows = _; found_is = refl; subcommand_is = (refl, (refl, refl, refl)); named = refl } }
+
+pub returns-clause-explain : goal.returns-clause-explain
+unfolding clap_on_literals
+returns-clause-explain c =
+    λ question caller dialled facilities user up busy. record {
+      faultless = refl;
+      asked = record {
+        word = _;
+        rows = _;
+        found_is = refl;
+        subcommand_is = (
+          refl,
+          record {
+            caller = ap Some caller;
+            dialled = ap Some dialled;
+            facilities = facilities;
+            user = ap (option_map (λ text. text.now)) user;
+            up = ap (option_map (λ text. text.now)) up;
+            busy = busy;
+          },
+        );
+        named = refl;
+      };
+    }

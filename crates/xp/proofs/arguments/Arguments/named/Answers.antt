@@ -2,14 +2,14 @@ use Rattle.std.proofs.Common.{◌≡◌, ◌∙◌, None, Some, ap, option_map, 
 use Rattle.clap.specs.Words.{first_value, found_of, rows_of, subcommand_rows_of}
 use Rattle.clap.proofs.WalkLemmas.{first_value-rows}
 use Rattle.xp.proofs.Errands.{asks_without, asks_nothing, if_none, pair_is}
-use Rattle.xp.specs.Commands.{operand_of}
+use Rattle.xp.specs.Commands.{operand_of, verb_of}
 use Rattle.xp.proofs.arguments.Arguments.named.Goals as goal
 
 pub returns-clause-found : goal.returns-clause-found
 returns-clause-found c =
     let matches = found_of c.in_ok-word.matches.now in
-    let operand = operand_of c.in_ok-subcommand.subcommand in
-    let read : first_value matches operand ≡ Some c.in_ok-operand.operand.now = ap (first_value matches) (sym c.operand.ensures) ∙ sym c.in_ok-operand.ensures in
+    let operand = operand_of (verb_of c.in_ok-subcommand.subcommand) in
+    let read : first_value matches operand ≡ Some c.in_ok-operand.operand.now = search rules in
     let word : option_map (λ pair. pair.0) (subcommand_rows_of c.args.matches.now) ≡ Some c.in_ok-word.word.now = search rules in
     let rows : option_map (λ pair. pair.1) (subcommand_rows_of c.args.matches.now) ≡ Some (rows_of matches) = search rules in
     record {
@@ -30,8 +30,8 @@ returns-in_err-subcommand-clause-none c =
 pub returns-in_err-operand-clause-none : goal.returns-in_err-operand-clause-none
 returns-in_err-operand-clause-none c =
     let matches = found_of c.in_ok-word.matches.now in
-    let own = c.in_ok-subcommand.subcommand in
-    let read : first_value matches (operand_of own) ≡ None = ap (first_value matches) (sym c.operand.ensures) ∙ sym c.in_err-operand.ensures in
+    let own = verb_of c.in_ok-subcommand.subcommand in
+    let read : first_value matches (operand_of own) ≡ None = search rules in
     let word : option_map (λ pair. pair.0) (subcommand_rows_of c.args.matches.now) ≡ Some c.in_ok-word.word.now = search rules in
     let rows : option_map (λ pair. pair.1) (subcommand_rows_of c.args.matches.now) ≡ Some (rows_of matches) = search rules in
-    if_none _ _ (asks_without _ _ _ (pair_is _ _ _ word rows) own c.in_ok-subcommand.ensures.found (sym (first_value-rows matches (operand_of own)) ∙ read))
+    if_none _ _ (asks_without _ _ _ (pair_is _ _ _ word rows) own c.in_ok-subcommand.ensures.found.0 (sym (first_value-rows matches (operand_of own)) ∙ read))
