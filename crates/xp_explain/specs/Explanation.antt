@@ -8,9 +8,11 @@ use Rattle.xp_decide.specs.Decided.{Decided}
 use Rattle.xp_decide.specs.LinesForCaller.{state_for_caller}
 use Rattle.xp_decide.specs.declared.verdict.Verdict.{Verdict}
 use Rattle.xp_decide.specs.declared.verdict.Verdict.TheVariants.{Take, Refuse}
+use Rattle.xp_explain.specs.Rules.{TellsRule}
 use Rattle.xp_explain.specs.Way.{IsWay}
 use Rattle.xp_explain.specs.declared.explanation.Asked.{Asked}
 use Rattle.xp_explain.specs.declared.explanation.Explanation.{Explanation}
+use Rattle.xp_explain.specs.declared.explanation.Reasons.{Reasons}
 use Rattle.xp_hunt.specs.declared.lines.LineState.{LineState}
 use Rattle.xp_packets.specs.declared.block.Block.{Block}
 use Rattle.xp_subs.specs.Tables.{Tables, line_at}
@@ -35,7 +37,12 @@ verdict_text tables (Refuse refusal) =
 abbrev pub EndsWithVerdict : Tables → Verdict Global → List ℕ → Type 0
 EndsWithVerdict tables verdict text = (reasons : List ℕ) × (text ≡ reasons ++ (verdict_text tables verdict ++ codes "\n"))
 
+pub record AreReasons (tables : Tables) (states : ℕ → LineState) (from : ℕ) (block : Block Global) (reasons : Reasons) : Type 0 where
+  pub asked : TellsAsked tables states from block reasons.asked
+  -- the rule that refuses, by the definition's own reason
+  pub refused_by : TellsRule tables (state_for_caller from states) from block reasons.asked reasons.refused_by
+
 pub record Explains (tables : Tables) (states : ℕ → LineState) (from : ℕ) (block : Block Global) (told : Explanation) : Type 0 where
   pub verdict : Decided tables states from block told.verdict
-  pub asked : TellsAsked tables states from block told.asked
+  pub reasons : AreReasons tables states from block told.reasons
   pub text : EndsWithVerdict tables told.verdict (string_bytes told.text)

@@ -4,7 +4,6 @@ use crate::question::{Question, push_rule};
 use crate::rule::Rule;
 use std::alloc::{AllocError, Global};
 use std::fmt::Write;
-use xp_causes::Refusal;
 use xp_decide::Request;
 use xp_facilities::{FacilityFault, Selection, parse};
 use xp_groups::Intent;
@@ -28,24 +27,30 @@ impl<'q, L: Lines> Question<'q, L> {
         &self,
         alloc: Global,
         text: &mut String,
-        refusal: Refusal,
+        refused_by: Option<Rule>,
     ) -> Result<(), AllocError> {
-        let selection = match parse(alloc, self.block.facilities.as_slice()) {
-            Ok(asked) => Some(asked.selection),
-            Err(FacilityFault::Memory) => return Err(AllocError),
-            Err(_) => None,
+        let Some(rule) = refused_by else {
+            return Ok(());
         };
-        let barred = self.station.facilities.outgoing_barred;
-        let rule = Rule::for_caller(refusal, selection.is_some(), barred);
         if !rule.is_of_caller_station() {
             return push_rule(text, rule, None);
         }
         self.push_packet_rules(text)?;
         if rule != Rule::OutgoingBarred {
             self.push_outgoing(text)?;
-            self.push_selection(text, selection.unwrap_or(Selection::Nothing))?;
+            let selection = self.selection(alloc)?;
+            self.push_selection(text, selection)?;
         }
         push_rule(text, rule, Some(self.station))
+    }
+
+    /// The selection of the call request.
+    fn selection(&self, alloc: Global) -> Result<Selection, AllocError> {
+        match parse(alloc, self.block.facilities.as_slice()) {
+            Ok(asked) => Ok(asked.selection),
+            Err(FacilityFault::Memory) => Err(AllocError),
+            Err(_) => Ok(Selection::Nothing),
+        }
     }
 
     fn push_packet_rules(&self, text: &mut String) -> Result<(), AllocError> {

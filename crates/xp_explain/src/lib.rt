@@ -11,5 +11,6 @@ mod verdict;
 mod way;
 
 pub use explanation::{Asked, Explanation, explain};
+pub use rule::Rule;
 pub use stated_lines::StatedLines;
-pub use way::{Hop, Way};
+pub use way::{End, Hop, Way};

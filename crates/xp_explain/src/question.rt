@@ -7,7 +7,7 @@ ghost use Rattle.xp_explain.specs.Explanation.{EndsWithVerdict, verdict_text};
 ghost use Rattle.xp_explain.specs.steps.Words.{words_text};
 ghost use Rattle.xp_subs.specs.Tables.{line_count};
 
-use crate::explanation::Asked;
+use crate::explanation::{Asked, Reasons};
 use crate::rule::Rule;
 use crate::verdict::VerdictWords;
 use std::alloc::{AllocError, Global};
@@ -39,35 +39,36 @@ impl<'q, L: Lines> Question<'q, L> {
     pub(crate) fn text(
         &self,
         alloc: Global,
-        asked: &Result<Asked<'_>, Refusal>,
+        reasons: &Reasons<'_>,
         verdict: &Verdict,
     ) -> Result<String, AllocError>
         requires { IfTaken verdict.now (λ ring. ring.line < line_count self.now.subs.now) }
         ensures { IfOk result (λ text. EndsWithVerdict self.now.subs.now verdict.now (string_bytes text)) }
     {
-        let mut text = self.reasons(alloc, asked, verdict)?;
+        let mut text = self.rules(alloc, reasons, verdict)?;
         let words = verdict_words(self.subs, verdict);
         writeln!(text, "{words}")?;
         Ok(text)
     }
 
     /// The rules one by one.
-    fn reasons(
+    fn rules(
         &self,
         alloc: Global,
-        asked: &Result<Asked<'_>, Refusal>,
+        reasons: &Reasons<'_>,
         verdict: &Verdict,
     ) -> Result<String, AllocError>
         requires { IfTaken verdict.now (λ ring. ring.line < line_count self.now.subs.now) }
     {
         let mut text = String::new(alloc);
         self.push_request(&mut text)?;
-        match asked {
-            Err(refusal) => self.push_caller_refused(alloc, &mut text, *refusal)?,
+        let refused_by = reasons.refused_by;
+        match &reasons.asked {
+            Err(_) => self.push_caller_refused(alloc, &mut text, refused_by)?,
             Ok(asked) => {
                 self.push_asked(&mut text, &asked.request)?;
                 self.push_way(&mut text, asked)?;
-                self.push_end(alloc, &mut text, asked, verdict)?;
+                self.push_end(alloc, &mut text, asked, refused_by, verdict)?;
             }
         }
         Ok(text)
@@ -98,19 +99,19 @@ impl<'q, L: Lines> Question<'q, L> {
         alloc: Global,
         text: &mut String,
         asked: &Asked<'_>,
+        refused_by: Option<Rule>,
         verdict: &Verdict,
     ) -> Result<(), AllocError>
         requires { IfTaken verdict.now (λ ring. ring.line < line_count self.now.subs.now) }
     {
         let wanted = asked.request.wanted();
+        if let Some(rule) = refused_by {
+            return self.push_refused_at(text, &wanted, asked.way.last, rule);
+        }
+        self.push_taken_at(text, &wanted, asked.way.last)?;
         match verdict {
-            Verdict::Refuse(refusal) => {
-                self.push_refused_at(text, &wanted, asked.way.last, Rule::for_address(*refusal))
-            }
-            Verdict::Take(ring) => {
-                self.push_taken_at(text, &wanted, asked.way.last)?;
-                self.push_incoming_call(alloc, text, ring)
-            }
+            Verdict::Take(ring) => self.push_incoming_call(alloc, text, ring),
+            Verdict::Refuse(_) => Ok(()),
         }
     }
 

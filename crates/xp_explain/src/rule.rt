@@ -1,10 +1,13 @@
 //! The rules by which call requests are refused, as docs/PROTOCOL.md numbers them.
 
+ghost use Rattle.std.specs.Prelude.{◌≡◌};
+ghost use Rattle.xp_explain.specs.steps.Rules.{rule_for_address, rule_for_caller};
+
 use xp_causes::Refusal;
 
 /// A rule that refuses a call request: a row of the table in docs/PROTOCOL.md.
 #[derive(Clone, Copy, Debug, PartialEq, Eq)]
-pub(crate) enum Rule {
+pub enum Rule {
     /// The facility field is cut off within a facility.
     FacilityLength,
     /// A facility that is not offered.
@@ -44,7 +47,9 @@ pub(crate) enum Rule {
 impl Rule {
     /// The rule for the caller behind a refusal. Where several rules share a refusal, they are told apart by whether the
     /// facility field was read, and by whether the station has outgoing calls barred.
-    pub(crate) fn for_caller(refusal: Refusal, is_read: bool, outgoing_barred: bool) -> Rule {
+    pub(crate) fn for_caller(refusal: Refusal, is_read: bool, outgoing_barred: bool) -> Rule
+        ensures { result ≡ rule_for_caller refusal is_read outgoing_barred }
+    {
         if refusal == Refusal::FACILITY_LENGTH {
             Rule::FacilityLength
         } else if refusal == Refusal::FACILITY_NOT_ALLOWED {
@@ -71,7 +76,9 @@ impl Rule {
     }
 
     /// The rule at an address behind a refusal.
-    pub(crate) fn for_address(refusal: Refusal) -> Rule {
+    pub(crate) fn for_address(refusal: Refusal) -> Rule
+        ensures { result ≡ rule_for_address refusal }
+    {
         if refusal == Refusal::ADDRESS_NOT_KNOWN {
             Rule::Address
         } else if refusal == Refusal::INCOMING_CALLS_BARRED {
@@ -84,10 +91,8 @@ impl Rule {
             Rule::FastSelect
         } else if refusal == Refusal::OUT_OF_ORDER {
             Rule::OutOfService
-        } else if refusal == Refusal::NUMBER_BUSY {
-            Rule::NoneIdle
         } else {
-            Rule::Redirections
+            Rule::NoneIdle
         }
     }
 

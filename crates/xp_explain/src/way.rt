@@ -1,13 +1,17 @@
 //! The addresses through which a call goes.
 
-ghost use Rattle.std.specs.Prelude.{IfOk};
+ghost use Rattle.std.specs.Prelude.{◌≡◌, IfOk};
+ghost use Rattle.xp_explain.specs.steps.Rules.{rule_at_end};
 
+use crate::rule::Rule;
 use std::alloc::{AllocError, Global};
+use xp_causes::Refusal;
 use xp_decide::{AddressOutcome, Wanted, call_at};
 use xp_facilities::Reason;
+use xp_groups::Admission;
 use xp_hunt::Lines;
 use xp_packets::Digits;
-use xp_subs::Subs;
+use xp_subs::{LineNo, Subs};
 
 /// The most redirections of a way. The fifth refuses the call (X.25 clause 6.25).
 const MOST_HOPS: usize = 5;
@@ -19,6 +23,29 @@ pub struct Hop<'a> {
     pub reason: Reason,
 }
 
+/// What comes of a call where its way ends.
+#[derive(Clone, Copy, Debug, PartialEq, Eq)]
+pub enum End {
+    /// This idle line takes the call.
+    Taken(LineNo, Admission),
+    Refused(Refusal),
+    /// The call would be redirected a fifth time.
+    RedirectedTooOften,
+}
+
+impl End {
+    /// The rule that refuses the call, if it is refused.
+    pub(crate) fn rule(self) -> Option<Rule>
+        ensures { result ≡ rule_at_end self }
+    {
+        match self {
+            End::Taken(_, _) => None,
+            End::Refused(refusal) => Some(Rule::for_address(refusal)),
+            End::RedirectedTooOften => Some(Rule::Redirections),
+        }
+    }
+}
+
 /// The addresses through which a call goes.
 #[derive(Drop)]
 pub struct Way<'a> {
@@ -26,6 +53,7 @@ pub struct Way<'a> {
     pub hops: Vec<Hop<'a>>,
     /// Where it ends.
     pub last: &'a Digits,
+    pub end: End,
 }
 
 impl<'a> Way<'a> {
@@ -56,9 +84,20 @@ impl<'a> Way<'a> {
                     })?;
                     last = to;
                 }
-                Ok(AddressOutcome::Taken(_, _)) | Err(_) => return Ok(Way { hops, last }),
+                Ok(AddressOutcome::Taken(line, admission)) => {
+                    let end = End::Taken(line, admission);
+                    return Ok(Way { hops, last, end });
+                }
+                Err(refusal) => {
+                    let end = End::Refused(refusal);
+                    return Ok(Way { hops, last, end });
+                }
             }
         }
-        Ok(Way { hops, last })
+        Ok(Way {
+            hops,
+            last,
+            end: End::RedirectedTooOften,
+        })
     }
 }
