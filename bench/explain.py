@@ -26,11 +26,12 @@ GROUPS = ("Bank", "Till", "Audit")
 RIGHTS = ("outgoing_barred", "incoming_barred", "reverse_charging", "fast_select", "outgoing_access", "incoming_access")
 REASONS = ("systematic", "busy", "out_of_order")
 
-# What a request asks for: often nothing, and now and then a field that is faulty.
-SELECTIONS = ("", "", "", "0301", "0302", "0309", "0901", "0902", "47001f", "479999", "480001", "03010901")
-OPTIONS = ("", "", "", "0101", "0180", "01c1", "0100")
-SIZES = ("", "", "420707", "420c0c", "420303", "430303", "430808", "430f0f", "431010")
-ENDS = ("", "", "", "", "0401", "0208", "0800", "42", "000f01", "0005")
+# What a request asks for: mostly nothing, and now and then what is faulty.
+SELECTIONS = 8 * ("",) + ("0301", "0302", "0309", "0901", "0902", "479999", "480001", "03010901")
+OPTIONS = 6 * ("",) + ("0101", "0180", "01c1", "0100")
+SIZES = 8 * ("",) + ("420707", "420c0c", "420303", "430303", "430808", "430f0f", "431010")
+ENDS = 12 * ("",) + ("0401", "0208", "0800", "42", "000f0101", "0005")
+USER_LENGTHS = (0, 0, 0, 0, 4, 16, 17, 128)
 
 
 @dataclass(frozen=True)
@@ -63,7 +64,7 @@ def random_file(chance):
 def random_station(chance, number, addresses):
     lines = ["[[station]]", f'address = "{addresses[number]}"', "line = ["]
     for place in range(chance.choice((1, 1, 2, 3))):
-        own = f', address = "2080{number:02}{place}"' if chance.random() < 0.3 else ""
+        own = f', address = "2090{number:02}{place}"' if chance.random() < 0.3 else ""
         modulus = chance.choice((8, 8, 128))
         lines.append(f'  {{ name = "l{number}x{place}", port = {20_000 + 10 * number + place}{own}, modulus = {modulus} }},')
     lines.append("]")
@@ -104,7 +105,7 @@ def random_request(chance, lines, addresses):
     """A call request, and the states of the lines."""
     caller = chance.choice(lines)
     facilities = "".join(chance.choice(choices) for choices in (SELECTIONS, OPTIONS, SIZES, ENDS))
-    user = chance.randbytes(chance.choice((0, 0, 4, 16, 17, 128)))
+    user = chance.randbytes(chance.choice(USER_LENGTHS))
     share = chance.choice((0, 0, 0.3, 0.7))
     up = tuple(line for line in lines if line == caller or chance.random() >= share)
     most_busy = chance.choice((0, 0.2, 0.7))

@@ -12,7 +12,6 @@ use crate::rule::Rule;
 use crate::verdict::VerdictWords;
 use std::alloc::{AllocError, Global};
 use std::fmt::Write;
-use xp_causes::Refusal;
 use xp_decide::{IncomingCall, Verdict};
 use xp_facilities::write;
 use xp_hunt::Lines;
