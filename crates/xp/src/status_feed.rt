@@ -64,7 +64,8 @@ impl ConsoleFeed for StatusFeed {
     }
 
     fn wants_look(&self) -> bool {
-        self.board.is_wanted() || self.clock.seconds() > self.seen
+        let mut clock = self.clock;
+        self.board.is_wanted() || clock.now() > self.seen
     }
 
     fn show(&mut self, now: u64, view: &ExchangeView, waiting: usize) {
