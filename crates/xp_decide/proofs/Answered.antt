@@ -6,7 +6,7 @@ use Rattle.xp_packets.specs.declared.block.Block.{Block}
 use Rattle.xp_packets.specs.declared.modulus.Modulus.{Modulus}
 use Rattle.xp_subs.specs.Tables.{Tables, modulus_of}
 use Rattle.xp_decide.specs.Asks.{Asks, wanted_of}
-use Rattle.xp_decide.specs.steps.Asks.{Opens}
+use Rattle.xp_decide.specs.Asks.{Opens}
 use Rattle.xp_decide.specs.Decided.{Decided}
 use Rattle.xp_decide.specs.steps.Decided.{PutsThrough}
 use Rattle.xp_decide.specs.Decided as decided

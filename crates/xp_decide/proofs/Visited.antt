@@ -13,7 +13,8 @@ use Rattle.xp_subs.specs.declared.target.Target.{Target}
 use Rattle.xp_decide.proofs.Last.{declining_keeps, idle_keeps, off_keeps, busy_keeps, is_last}
 use Rattle.xp_decide.specs.Accepts.{Accepts, Declines}
 use Rattle.xp_decide.specs.Routes.{Place, lines_of, place_of, place_at, alternate, Redirects, LeavesAt, RefusesAt}
-use Rattle.xp_decide.specs.steps.Routes.{IsRedirected, Visits}
+use Rattle.xp_decide.specs.Routes.{Visits}
+use Rattle.xp_decide.specs.steps.Routes.{IsRedirected}
 use Rattle.xp_decide.specs.Routes as routes
 use Rattle.xp_decide.specs.declared.acceptance.Wanted.{Wanted}
 use Rattle.xp_decide.specs.declared.visit.AddressOutcome.{AddressOutcome}

@@ -1,6 +1,6 @@
 -- What a call request asks for, and whether the caller's line and station may make it (X.25 clauses 5.2.2, 6.6, 6.12 and
 -- 6.14).
-use Rattle.std.specs.Prelude.{◌≡◌, ℕ, ◌<◌, ◌≤◌, length, nat_le, ◌&&◌, Bool, true, false, Option, None, Some, Ok, Err, ◌⊎◌}
+use Rattle.std.specs.Prelude.{◌≡◌, ℕ, ◌<◌, ◌≤◌, length, nat_le, ◌&&◌, Bool, true, false, Option, None, Some, Result, Ok, Err, ◌⊎◌}
 use Rattle.xp_facilities.specs.Requested.{Means, IsFaulty}
 use Rattle.xp_facilities.specs.declared.direction_sizes.DirectionSizes.{DirectionSizes}
 use Rattle.xp_facilities.specs.declared.requested.RequestedFacilities.{RequestedFacilities}
@@ -16,6 +16,8 @@ use Rattle.xp_subs.specs.Tables.{Tables, modulus_of, station_at, station_of}
 use Rattle.xp_subs.specs.declared.station.Station.{Station}
 use Rattle.xp_decide.specs.Indicated.{largest_window_on}
 use Rattle.xp_decide.specs.declared.acceptance.Wanted.{Wanted}
+use Rattle.xp_decide.specs.declared.fault.CallFault.{CallFault}
+use Rattle.xp_decide.specs.declared.fault.CallFault.TheVariants as faults
 use Rattle.xp_decide.specs.declared.request.Request.{Request}
 
 -- the station of a line
@@ -75,3 +77,9 @@ module _ {A : Type 0} where
         → windows_fit (modulus_of tables from) asked.window ≡ true → HasRoom block asked
         → (station_of_line tables from).facilities.outgoing_barred ≡ false
         → Intends (station_of_line tables from) asked.selection (Err refusal) → MayNotAsk tables from block refusal
+
+  -- the result of reading a call request: the request, or its first fault; memory may be wanting
+  abbrev pub Opens : Tables → ℕ → Block A → Result (Request A) CallFault → Type 0
+  Opens tables from block (Ok request) = Asks tables from block request
+  Opens tables from block (Err (faults.Refused refusal)) = MayNotAsk tables from block refusal
+  Opens tables from block (Err faults.Memory) = Unit {0}

@@ -14,6 +14,8 @@ use Rattle.xp_subs.specs.declared.target.Target.{Target}
 use Rattle.xp_decide.specs.Accepts.{Accepts, Declines}
 use Rattle.xp_decide.specs.declared.acceptance.Wanted.{Wanted}
 use Rattle.xp_decide.specs.declared.route.Destination.{Destination}
+use Rattle.xp_decide.specs.declared.visit.AddressOutcome.{AddressOutcome}
+use Rattle.xp_decide.specs.declared.visit.AddressOutcome.TheVariants as visits
 
 -- whether the station's calls are redirected for this reason
 abbrev pub serves : Redirection → Reason → Bool
@@ -126,3 +128,9 @@ module _ (tables : Tables) (states : ℕ → LineState) (wanted : Wanted) where
     too_many : (hops : List Hop) (last : List ℕ)
         → Follows dialled hops last → length hops ≡ 5
         → result ≡ Err TOO_MANY_REDIRECTIONS → Reaches dialled result
+
+  -- the outcome of the call at one address
+  abbrev pub Visits : List ℕ → Result AddressOutcome Refusal → Type 0
+  Visits address (Ok (visits.RedirectedTo reason to)) = LeavesAt address reason to.now
+  Visits address (Ok (visits.Taken line admission)) = IsLast address × TakesAt address line admission
+  Visits address (Err refusal) = IsLast address × RefusesAt address refusal

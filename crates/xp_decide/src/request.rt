@@ -1,6 +1,5 @@
 ghost use Rattle.std.specs.Prelude.{◌≡◌, ◌<◌, false, IsTrue};
-ghost use Rattle.xp_decide.specs.Asks.{HasRoom, HasNoRoom, is_fast, wanted_of};
-ghost use Rattle.xp_decide.specs.steps.Asks.{Opens};
+ghost use Rattle.xp_decide.specs.Asks.{HasRoom, HasNoRoom, is_fast, Opens, wanted_of};
 ghost use Rattle.xp_subs.specs.Tables.{line_count};
 
 use crate::acceptance::Wanted;

@@ -1,6 +1,6 @@
 ghost use Rattle.std.specs.Prelude.{◌<◌};
-ghost use Rattle.xp_decide.specs.Routes.{lines_of};
-ghost use Rattle.xp_decide.specs.steps.Routes.{Visits, IsRedirected};
+ghost use Rattle.xp_decide.specs.Routes.{lines_of, Visits};
+ghost use Rattle.xp_decide.specs.steps.Routes.{IsRedirected};
 ghost use Rattle.xp_hunt.specs.Picks.{Picks};
 ghost use Rattle.xp_subs.specs.Tables.{station_at, station_count};
 

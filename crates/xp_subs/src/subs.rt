@@ -1,11 +1,11 @@
-ghost use Rattle.std.specs.Prelude.{◌≡◌, ◌<◌, IfSome};
+ghost use Rattle.std.specs.Prelude.{◌≡◌, ◌<◌, IfSome, option_map, slice_get};
 ghost use Rattle.xp_subs.specs.Sound.{IsSound, IsTarget};
 ghost use Rattle.xp_subs.specs.Tables.{line_count, station_count, group_count, station_at, line_at, station_of, address_of, modulus_of, target_of, line_named_of, has_routers};
 
 use crate::line::Line;
 use crate::station::Station;
 use crate::target::{Counts, Target};
-use crate::{LineNo, StationNo};
+use crate::{GroupNo, LineNo, StationNo};
 use indexmap::{IndexMap, IndexSet};
 use std::marker::Model;
 use xp_file::{Access, Name, Sources};
@@ -98,6 +98,14 @@ impl Subs {
         ensures { result.now ≡ (line_at self.now line).name }
     {
         self.line(line).name.as_str()
+    }
+
+    /// The name of a closed user group. `None` for a number that no group has.
+    pub fn group_name(&self, group: GroupNo) -> Option<&str>
+        ensures { option_map (λ name. name.now) result ≡ slice_get self.now.groups group }
+    {
+        let name = self.groups.get_index(usize::from(group))?;
+        Some(name.as_str())
     }
 
     /// The port or the router of a line.

@@ -1,7 +1,7 @@
 use Rattle.std.proofs.Common.{Ok, refl, subst, arith}
 use Rattle.std.proofs.lemmas.Result.{err_from_is_err_and}
 use Rattle.xp_decide.proofs.Hops.{earlier_is}
-use Rattle.xp_decide.specs.steps.Routes.{Visits}
+use Rattle.xp_decide.specs.Routes.{Visits}
 use Rattle.xp_decide.specs.Routes as routes
 use Rattle.xp_decide.specs.declared.visit.AddressOutcome.{AddressOutcome}
 use Rattle.xp_decide.proofs.route.reach.Goals as goal

@@ -1,0 +1,4 @@
+pub mod FieldLemmas
+pub mod JoinLemmas
+pub mod LineLemmas
+pub mod RedirectionLemmas

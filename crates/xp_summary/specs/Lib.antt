@@ -1,0 +1,4 @@
+pub mod Matrix
+pub mod Redirections
+pub mod Warnings
+pub mod steps

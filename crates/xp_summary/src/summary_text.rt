@@ -1,0 +1,44 @@
+//! The summary as text.
+
+use crate::matrix::push_matrix;
+use crate::stations::{push_station, push_warnings};
+use std::alloc::{AllocError, Global};
+use std::fmt::Write;
+use xp_subs::{StationNo, Subs};
+
+/// A summary of the subscriptions: each station, who may call whom, and what to look at again.
+///
+/// # Errors
+///
+/// An allocation failed.
+pub fn summary(alloc: Global, subs: &Subs) -> Result<String, AllocError> {
+    let mut text = String::new(alloc);
+    let counts = subs.counts();
+    writeln!(
+        text,
+        "stations {} lines {} groups {}",
+        counts.stations, counts.lines, counts.groups
+    )?;
+    push_stations(&mut text, subs)?;
+    writeln!(
+        text,
+        "who may call whom: a row for each caller, with x where it may call the station"
+    )?;
+    push_matrix(alloc, &mut text, subs)?;
+    push_all_warnings(&mut text, subs)?;
+    Ok(text)
+}
+
+fn push_stations(text: &mut String, subs: &Subs) -> Result<(), AllocError> {
+    for number in 0..subs.counts().stations {
+        push_station(text, subs, number as StationNo)?;
+    }
+    Ok(())
+}
+
+fn push_all_warnings(text: &mut String, subs: &Subs) -> Result<(), AllocError> {
+    for number in 0..subs.counts().stations {
+        push_warnings(text, subs, number as StationNo)?;
+    }
+    Ok(())
+}
