@@ -12,16 +12,27 @@ word_octets word = (word / 256) ∷ (word % 256) ∷ []
 abbrev pub octets_of_words : List ℕ → List ℕ
 octets_of_words words = flat_map word_octets words
 
--- the exchange is 10.0.0.1, port 1998; line 0 is 10.1.0.0, and line n is n addresses behind it, port 49152
+-- the exchange is 10.0.0.1, port 1998; line 0 is 10.1.0.0, and line n is n addresses behind it
 abbrev pub exchange_address : ℕ
 exchange_address = 0x0a00_0001
 
 abbrev pub line_address : ℕ → ℕ
 line_address line = 0x0a01_0000 + line
 
+-- the ports from 49152 on are those of a line's connections, one behind the other; the first one's follows the last
+abbrev pub line_port : ℕ → ℕ
+line_port connection = 49_152 + connection % 16_384
+
+-- where the octets of a connection of a line come from, and where they go
+abbrev pub connection_ends : ℕ → ℕ → Direction → Ends
+connection_ends line connection FromDte =
+    record { from = line_address line; to = exchange_address; from_port = line_port connection; to_port = 1_998 }
+connection_ends line connection FromDce =
+    record { from = exchange_address; to = line_address line; from_port = 1_998; to_port = line_port connection }
+
+-- of a line that has one connection
 abbrev pub ends_of : ℕ → Direction → Ends
-ends_of line FromDte = record { from = line_address line; to = exchange_address; from_port = 49_152; to_port = 1_998 }
-ends_of line FromDce = record { from = exchange_address; to = line_address line; from_port = 1_998; to_port = 49_152 }
+ends_of line direction = connection_ends line 0 direction
 
 -- the header of an IPv4 packet that carries a TCP segment of so many octets of data (RFC 791)
 abbrev pub ip_words : ℕ → Ends → ℕ → List ℕ

@@ -5,7 +5,7 @@ ghost use Rattle.xp_capture.specs.Segment.{ends_of};
 
 use crate::ends::Ends;
 use crate::flow::Flow;
-use crate::segment::{Segment, push_segment};
+use crate::segment::{Segment, write_segment};
 use std::alloc::{AllocError, Allocator, Global};
 use std::marker::Model;
 use xp_words::Direction;
@@ -72,7 +72,7 @@ impl Capture {
         ensures lines { length self.new ≡ length self.old }
     {
         let flow = self.flow(frame.line);
-        push_segment(out, &frame.segment(flow))?;
+        write_segment(out, &frame.segment(flow))?;
         self.flows[usize::from(frame.line)] = flow.after(
             frame.direction,
             frame.octets.len() as u32,

@@ -10,4 +10,6 @@ mod segment;
 mod words;
 
 pub use capture::{Capture, Frame};
+pub use ends::Ends;
 pub use file_header::write_file_header;
+pub use segment::{Segment, write_segment};

@@ -13,16 +13,16 @@ const HEADERS: u16 = 40;
 
 /// A segment of one end of a connection.
 #[derive(Clone, Copy, Debug)]
-pub(crate) struct Segment<'a> {
-    /// The second of the capture.
-    pub(crate) moment: u64,
-    pub(crate) ends: Ends,
+pub struct Segment<'a> {
+    /// The second in which it goes. A file tells seconds up to 4,294,967,295, and that one in the place of later ones.
+    pub moment: u64,
+    pub ends: Ends,
     /// The sequence number of its first octet.
-    pub(crate) sequence: u32,
+    pub sequence: u32,
     /// The sequence number that is expected from the other end.
-    pub(crate) acknowledged: u32,
+    pub acknowledged: u32,
     /// At most 65,495 octets of data.
-    pub(crate) octets: &'a [u8],
+    pub octets: &'a [u8],
 }
 
 impl Segment<'_> {
@@ -54,12 +54,12 @@ impl Segment<'_> {
     }
 }
 
-/// Appends a segment, with its record.
+/// Appends a segment to the octets of a capture file, with its record.
 ///
 /// # Errors
 ///
 /// An allocation failed. Then `out` is as it was.
-pub(crate) fn push_segment<A: Allocator>(
+pub fn write_segment<A: Allocator>(
     out: &mut Vec<u8, A>,
     segment: &Segment<'_>,
 ) -> Result<(), AllocError>

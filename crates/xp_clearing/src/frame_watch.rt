@@ -111,6 +111,13 @@ impl FrameWatch {
         }
     }
 
+    /// Whether the stream is between two frames, or at its start.
+    pub fn is_between_frames(&self) -> bool
+        ensures { IsTrue result ↔ (self.now ≡ []) }
+    {
+        self.seen == 0
+    }
+
     /// An octet passes. The frame that is whole by it, if one is.
     pub fn pass(&mut self, octet: u8) -> Option<PassedFrame>
         ensures rest { IsUnfinished self.new }
