@@ -1,0 +1,4 @@
+pub mod Names
+pub mod Pieces
+pub mod Streams
+pub mod steps

@@ -1,0 +1,3 @@
+-- The definitions that no public contract cites.
+pub mod Finishing
+pub mod Naming
