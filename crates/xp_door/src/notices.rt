@@ -6,14 +6,16 @@ ghost use Rattle.xp_door.specs.Notices.{line_of};
 
 use crate::connect_fault::ConnectFault;
 use crate::locks::hold;
+use crate::tap::Tap;
+use crate::trace::Trace;
 use crate::traffic::Traffic;
 use circular_buffer::HeapCircularBuffer;
 use std::alloc::{AllocError, Global};
 use std::fmt;
 use std::net::SocketAddr;
-use std::sync::Mutex;
 use std::sync::atomic::AtomicU64;
 use std::sync::atomic::Ordering::SeqCst;
+use std::sync::{Arc, Mutex};
 use xp_subs::LineNo;
 
 /// How many notices wait at most.
@@ -102,23 +104,32 @@ impl fmt::Display for Notice {
     }
 }
 
-/// The notices that wait to be taken, oldest first, at most 1,024, and the octets that the connections have moved. The threads of
-/// all lines share them.
+/// The notices that wait to be taken, oldest first, at most 1,024, the octets that the connections have moved, and the trace of
+/// what they move, if there is one. The threads of all lines share them.
 #[derive(Drop)]
 pub struct Notices {
+    alloc: Global,
     waiting: Mutex<HeapCircularBuffer<Notice>>,
     /// How many were lost since that was last asked for.
     lost: AtomicU64,
     traffic: Traffic,
+    trace: Option<Arc<Trace>>,
 }
 
 impl Notices {
-    /// No notices yet.
+    /// No notices yet. No line is traced.
     pub fn new(alloc: Global) -> Result<Notices, AllocError> {
+        Notices::with_trace(alloc, None)
+    }
+
+    /// No notices yet. What the lines of a trace receive and send goes there.
+    pub fn with_trace(alloc: Global, trace: Option<Arc<Trace>>) -> Result<Notices, AllocError> {
         Ok(Notices {
+            alloc,
             waiting: Mutex::new(HeapCircularBuffer::with_capacity(alloc, MOST_WAITING)?),
             lost: AtomicU64::new(0),
             traffic: Traffic::new(alloc)?,
+            trace,
         })
     }
 
@@ -147,6 +158,14 @@ impl Notices {
     /// Counts octets that a line has sent.
     pub(crate) fn send(&self, line: LineNo, octets: usize) {
         self.traffic.send(line, octets);
+    }
+
+    /// The tap of a line's next connection. `None` where the line is not traced.
+    pub(crate) fn tap(&self, line: LineNo) -> Option<Tap> {
+        match &self.trace {
+            Some(trace) => Tap::of(self.alloc, trace, line),
+            None => None,
+        }
     }
 
     /// How many octets the connections of all lines have received so far, and how many they have sent.

@@ -3,6 +3,7 @@
 ghost use Rattle.std.specs.Prelude.{◌≡◌, IfOk};
 
 use crate::notices::{Notice, Notices};
+use crate::tap::Tap;
 use crate::wakers::LineWaker;
 use std::alloc::AllocError;
 use std::sync::Arc;
@@ -42,6 +43,11 @@ impl LineShare {
     /// The waker of the line's own thread.
     pub fn waker(&self) -> Option<&LineWaker> {
         self.wakers.get(self.line as usize)
+    }
+
+    /// The tap of the line's next connection. `None` where the line is not traced.
+    pub fn tap(&self) -> Option<Tap> {
+        self.notices.tap(self.line)
     }
 
     /// Counts octets that the line has received.

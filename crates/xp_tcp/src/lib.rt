@@ -29,4 +29,7 @@ pub use router_link::RouterLink;
 pub use router_port::RouterPort;
 pub use sockets::{Ends, ListenFault, Sockets};
 pub use wall_clock::WallClock;
-pub use xp_door::{Candidate, ConnectFault, Door, DoorBell, Notice, Notices, is_router, line_for};
+pub use xp_door::{
+    Candidate, ConnectFault, Door, DoorBell, Notice, Notices, Trace, is_router, line_for,
+};
+pub use xp_trace::{NamesFault, TracedLines};

@@ -10,7 +10,7 @@ use mio::{Interest, Registry, Token};
 use std::io;
 use std::io::{ErrorKind, Read, Write};
 use std::net::SocketAddr;
-use xp_door::{LineShare, LineWaker, Notice};
+use xp_door::{LineShare, LineWaker, Notice, Tap};
 use xp_lines::{Link, Pulled, Pushed};
 
 /// Names a line's connection among what its thread waits for.
@@ -21,11 +21,17 @@ const STREAM: Token = Token(2);
 pub struct TcpLink {
     stream: TcpStream,
     share: LineShare,
+    /// Where the line is traced.
+    tap: Option<Tap>,
 }
 
 impl Drop for TcpLink {
     fn drop(self) {
-        let TcpLink { stream: _, share } = self;
+        let TcpLink {
+            stream: _,
+            share,
+            tap: _,
+        } = self;
         share.tell(Notice::Down { line: share.line });
     }
 }
@@ -42,7 +48,8 @@ impl TcpLink {
         wait_for(&mut stream, waits, &share, Patience::Line)?;
         let line = share.line;
         share.tell(Notice::Up { line, peer });
-        Ok(TcpLink { stream, share })
+        let tap = share.tap();
+        Ok(TcpLink { stream, share, tap })
     }
 }
 
@@ -131,6 +138,24 @@ pub(crate) fn count_pushed(share: &LineShare, pushed: Pushed) -> Pushed
     pushed
 }
 
+/// Traces the octets that a connection has received.
+pub(crate) fn trace_pulled(tap: &mut Option<Tap>, into: &[u8], pulled: Pulled)
+    requires { pulled_count pulled ≤ length into.now }
+{
+    if let (Some(tap), Pulled::Octets(count)) = (tap, pulled) {
+        tap.receive(&into[..count]);
+    }
+}
+
+/// Traces the octets that a connection has sent.
+pub(crate) fn trace_pushed(tap: &mut Option<Tap>, from: &[u8], pushed: Pushed)
+    requires { pushed_count pushed ≤ length from.now }
+{
+    if let (Some(tap), Pushed::Took(count)) = (tap, pushed) {
+        tap.send(&from[..count]);
+    }
+}
+
 impl Link for TcpLink {
     fn pull(&mut self, into: &mut [u8]) -> Pulled
         ensures bound { pulled_count result ≤ length into.new }
@@ -143,6 +168,7 @@ impl Link for TcpLink {
         match self.share.waker() {
             Some(waker) => {
                 let pulled = read_from(&mut self.stream, waker, into);
+                trace_pulled(&mut self.tap, into, pulled);
                 count_pulled(&self.share, pulled)
             }
             None => Pulled::Fault,
@@ -151,6 +177,7 @@ impl Link for TcpLink {
 
     fn push(&mut self, from: &[u8]) -> Pushed {
         let pushed = write_to(&mut self.stream, from);
+        trace_pushed(&mut self.tap, from, pushed);
         count_pushed(&self.share, pushed)
     }
 }

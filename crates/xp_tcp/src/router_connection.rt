@@ -4,12 +4,12 @@ ghost use Rattle.std.specs.Prelude.{◌≡◌, ◌≢◌, ◌<◌, ◌≤◌, fa
 ghost use Rattle.xp_clearing.specs.Clearings.{is_settled};
 ghost use Rattle.xp_lines.specs.Counts.{pulled_count, pushed_count};
 
-use crate::link::{read_from, write_to};
+use crate::link::{read_from, trace_pulled, trace_pushed, write_to};
 use mio::net::TcpStream;
 use std::io::Read;
 use std::net::{Shutdown, SocketAddr};
 use xp_clearing::{CallWatch, Clearing, begins_with_call, front_length};
-use xp_door::LineWaker;
+use xp_door::{LineWaker, Tap};
 use xp_lines::{Pulled, Pushed};
 
 /// How many reads drop what a router sent that belongs to no call, before its connection is closed.
@@ -22,24 +22,32 @@ pub(crate) struct RouterConnection {
     /// Who has made it, where the router has.
     from: Option<SocketAddr>,
     watch: CallWatch,
+    /// Where its line is traced.
+    tap: Option<Tap>,
 }
 
 impl RouterConnection {
     /// A connection that the exchange has made.
-    pub(crate) fn to_router(stream: TcpStream) -> RouterConnection {
+    pub(crate) fn to_router(stream: TcpStream, tap: Option<Tap>) -> RouterConnection {
         RouterConnection {
             stream,
             from: None,
             watch: CallWatch::new(),
+            tap,
         }
     }
 
     /// A connection that the router has made, from this peer.
-    pub(crate) fn from_router(stream: TcpStream, peer: SocketAddr) -> RouterConnection {
+    pub(crate) fn from_router(
+        stream: TcpStream,
+        peer: SocketAddr,
+        tap: Option<Tap>,
+    ) -> RouterConnection {
         RouterConnection {
             stream,
             from: Some(peer),
             watch: CallWatch::new(),
+            tap,
         }
     }
 
@@ -68,10 +76,12 @@ impl RouterConnection {
         if self.watch.clearing.takes_no_more() {
             return Pulled::Nothing;
         }
-        match read_from(&mut self.stream, waker, into) {
+        let pulled = match read_from(&mut self.stream, waker, into) {
             Pulled::Octets(count) => Pulled::Octets(self.watch.receive(&into[..count])),
             other => other,
-        }
+        };
+        trace_pulled(&mut self.tap, into, pulled);
+        pulled
     }
 
     /// Writes octets of the call, to the end of the packet by which it is cleared at most. A call that the exchange has put to the
@@ -87,6 +97,7 @@ impl RouterConnection {
         }
         let most = self.watch.may_send(from);
         let pushed = write_to(&mut self.stream, &from[..most]);
+        trace_pushed(&mut self.tap, from, pushed);
         match pushed {
             Pushed::Took(count) => {
                 self.watch.send(&from[..count]);

@@ -91,7 +91,8 @@ impl RouterLink {
         }
         let line = self.share.line;
         self.share.tell(Notice::Up { line, peer });
-        self.circuit = Circuit::Connected(RouterConnection::from_router(stream, peer));
+        let tap = self.share.tap();
+        self.circuit = Circuit::Connected(RouterConnection::from_router(stream, peer, tap));
     }
 
     /// Makes the next step to a connection for these octets, which are to be pushed.
@@ -140,7 +141,8 @@ impl RouterLink {
         if let Ok(peer) = stream.peer_addr() {
             let line = self.share.line;
             self.share.tell(Notice::Connected { line, peer });
-            self.circuit = Circuit::Connected(RouterConnection::to_router(stream));
+            let tap = self.share.tap();
+            self.circuit = Circuit::Connected(RouterConnection::to_router(stream, tap));
         } else if is_late(since) {
             self.fail(ConnectFault::NoAnswer);
         } else {
