@@ -14,7 +14,7 @@ abbrev pub AppendsFront : Option (List ℕ) → Option (List ℕ) → List ℕ �
 AppendsFront old new whole = (text : List ℕ) × Appends old new text × IsFront text whole
 
 -- all of the text is written, or a front of it where memory was wanting or the writer failed
-abbrev pub Prints : Option (List ℕ) → Option (List ℕ) → List ℕ → Result (Unit {0}) KeepFault → Type 0
+abbrev pub Prints : {F : Type 0} → Option (List ℕ) → Option (List ℕ) → List ℕ → Result (Unit {0}) F → Type 0
 Prints old new whole (Ok done) = Appends old new whole
 Prints old new whole (Err fault) = AppendsFront old new whole
 

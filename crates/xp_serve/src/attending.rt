@@ -19,6 +19,9 @@ pub trait Watch: Drop {
 
     /// Takes what can be seen of the exchange, and how many records wait to be kept.
     fn see(&mut self, view: &ExchangeView, waiting: usize);
+
+    /// Looks for the last time: all lines have ended.
+    fn end(&mut self);
 }
 
 /// A keeper of charging records, and what is looked at beside it.
@@ -74,6 +77,8 @@ impl<K: RecordKeeper, W: Watch> RecordKeeper for Attending<K, W> {
     }
 
     fn finish(&mut self, rest: &[Record]) -> Result<(), KeepFault> {
-        self.keeper.finish(rest)
+        let kept = self.keeper.finish(rest);
+        self.watch.end();
+        kept
     }
 }

@@ -19,6 +19,8 @@ mod served;
 mod serving;
 mod stop_input;
 mod telling;
+mod traced_watch;
+mod tracing;
 mod watching;
 
 pub use attending::{Attending, Watch};
@@ -35,4 +37,6 @@ pub use printing::RecordPrinter;
 pub use served::{NotServed, Recorded, Served};
 pub use serving::{ServeEnd, TcpThreadInputs, TcpThreads, serve, serve_on, thread_inputs};
 pub use stop_input::StopInput;
+pub use traced_watch::TracedWatch;
+pub use tracing::{TraceFault, TraceWriter, create_trace_file, write_pieces};
 pub use watching::OperatorWatch;

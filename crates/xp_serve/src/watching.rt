@@ -145,6 +145,8 @@ impl<L: Log + Drop, F: ConsoleFeed> Watch for OperatorWatch<L, F> {
         let now = self.clock.now();
         self.console.show(now, view, waiting);
     }
+
+    fn end(&mut self) {}
 }
 
 /// The names of the lines, in order.
