@@ -6,6 +6,7 @@ ghost use Rattle.xp.specs.steps.Failures.{IsOfArguments};
 ghost use Rattle.xp.specs.declared.failure.Failure.TheVariants.{Ask as OfAsking, Cdr as OfDetails, Console as OfConsole, Serve as OfServing, Task as OfTask};
 ghost use Rattle.xp_tasks.specs.declared.failure.TaskFailure.TheVariants.{Memory as OutOfMemory};
 
+use crate::explaining::QuestionFault;
 use clap::error::ErrorKind;
 use std::alloc::AllocError;
 use std::io;
@@ -21,6 +22,9 @@ pub enum Failure {
     /// The arguments are faulty, or ask for help.
     #[error("{0}")]
     Arguments(clap::Error),
+    /// A call request that is asked about is faulty.
+    #[error("xp: explain: {0}")]
+    Question(QuestionFault),
     /// The task failed.
     #[error("{0}")]
     Task(TaskFailure),
@@ -48,7 +52,7 @@ impl Failure {
         ensures { result ≡ status_of self.now }
     {
         match self {
-            Failure::Arguments(_) => 2,
+            Failure::Arguments(_) | Failure::Question(_) => 2,
             Failure::Task(failure) | Failure::Refused(failure, _) => failure.status(),
             Failure::Cdr(_) | Failure::Console(_) | Failure::Ask(_) => 5,
             Failure::Serve(failure) => failure.status(),
@@ -61,8 +65,11 @@ impl Failure {
             // clap ends the last line itself.
             Failure::Arguments(told) => rt.eprint(told),
             Failure::Task(failure) => rt.eprintln(failure),
-            Failure::Refused(_, _) | Failure::Cdr(_) | Failure::Console(_) | Failure::Ask(_) =>
-                rt.eprintln(self),
+            Failure::Question(_)
+            | Failure::Refused(_, _)
+            | Failure::Cdr(_)
+            | Failure::Console(_)
+            | Failure::Ask(_) => rt.eprintln(self),
             Failure::Serve(failure) => rt.eprintln(failure),
         }
     }

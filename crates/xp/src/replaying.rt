@@ -1,14 +1,33 @@
 //! Checking a subscription file, and replaying a script.
 
 use crate::failure::Failure;
-use crate::subcommand::ReplayForm;
+use crate::subcommand::{CheckForm, ReplayForm};
 use std::alloc::AllocGlobal;
 use std::fs::{File, Files};
 use std::io;
 use std::io::{BufReader, BufWriter, Write};
 use xp_subs::Subs;
+use xp_summary::summary;
 use xp_tasks::{Task, TaskFailure, perform};
 use xp_transcript::{Form, tell};
+
+/// Prints what a subscription file sets up.
+pub(crate) fn check_file<R: AllocGlobal + Input + Print>(
+    rt: &R,
+    form: CheckForm,
+    subs: Subs,
+) -> Result<(), Failure> {
+    match form {
+        CheckForm::Counts => perform_task(rt, Task::Check, subs),
+        CheckForm::Words => {
+            let text = summary(rt.alloc(), &subs)?;
+            match rt.print(&text) {
+                Ok(()) => Ok(()),
+                Err(_) => Err(Failure::Task(TaskFailure::Output)),
+            }
+        }
+    }
+}
 
 /// Replays a script from standard input, and tells what comes of it.
 pub(crate) fn replay_script<R: AllocGlobal + Files<File = File> + Input + Print>(
@@ -28,7 +47,7 @@ pub(crate) fn replay_script<R: AllocGlobal + Files<File = File> + Input + Print>
 }
 
 /// Performs a task over the standard streams.
-pub(crate) fn perform_task<R: AllocGlobal + Input + Print>(
+fn perform_task<R: AllocGlobal + Input + Print>(
     rt: &R,
     task: Task,
     subs: Subs,

@@ -2,7 +2,7 @@
 
 ghost use Rattle.std.specs.Prelude.{◌≡◌, IfNone, IfSome, Some, codes, option_map};
 ghost use Rattle.clap.specs.Words.{first_of, found_of, rows_of};
-ghost use Rattle.xp.specs.Commands.{HasLimits, HasReplayForm, IsOneForm, IsOrder, IsSubcommand, Suits, operand_of, says_true, verb_of, word_of};
+ghost use Rattle.xp.specs.Commands.{HasCheckForm, HasLimits, HasReplayForm, IsOneForm, IsOrder, IsQuestion, IsSubcommand, Suits, operand_of, says_true, verb_of, word_of};
 
 use clap::ArgMatches;
 use xp_serve::Limits;
@@ -13,6 +13,12 @@ pub const FILE: &str = "FILE";
 /// The address of a console.
 pub const ADDRESS: &str = "ADDRESS";
 
+/// The name of the calling line.
+pub const CALLER: &str = "CALLER";
+
+/// The address that is called.
+pub const DIALLED: &str = "DIALLED";
+
 /// The argument by which words for people are printed.
 pub const WORDS: &str = "words";
 
@@ -21,6 +27,18 @@ pub const LADDER: &str = "ladder";
 
 /// The argument for the file of a capture.
 pub const PCAP: &str = "pcap";
+
+/// The argument for the facility field of a call request.
+pub const FACILITIES: &str = "facilities";
+
+/// The argument for the user data of a call request.
+pub const USER: &str = "user";
+
+/// The argument for the lines that are in service.
+pub const UP: &str = "up";
+
+/// The argument for the lines that are in a call.
+pub const BUSY: &str = "busy";
 
 /// The argument for the file of call detail records.
 pub const CDR: &str = "cdr";
@@ -45,6 +63,7 @@ pub const UNTIL_EOF: &str = "until-eof";
 pub enum Verb {
     Check,
     Replay,
+    Explain,
     Serve,
     Status,
     Stop,
@@ -60,6 +79,7 @@ impl Verb {
         match self {
             Verb::Check => "check",
             Verb::Replay => "replay",
+            Verb::Explain => "explain",
             Verb::Serve => "serve",
             Verb::Status => "status",
             Verb::Stop => "stop",
@@ -74,6 +94,7 @@ impl Verb {
         match word {
             "check" => Some(Verb::Check),
             "replay" => Some(Verb::Replay),
+            "explain" => Some(Verb::Explain),
             "serve" => Some(Verb::Serve),
             "status" => Some(Verb::Status),
             "stop" => Some(Verb::Stop),
@@ -86,10 +107,19 @@ impl Verb {
         ensures { result.now ≡ operand_of self }
     {
         match self {
-            Verb::Check | Verb::Replay | Verb::Serve => FILE,
+            Verb::Check | Verb::Replay | Verb::Explain | Verb::Serve => FILE,
             Verb::Status | Verb::Stop => ADDRESS,
         }
     }
+}
+
+/// The form in which a subscription file that sets up is told.
+#[derive(Clone, Copy, Debug, PartialEq, Eq)]
+pub enum CheckForm {
+    /// A line of counts.
+    Counts,
+    /// A summary for a person.
+    Words,
 }
 
 /// The form in which a replay is told.
@@ -103,6 +133,23 @@ pub enum ReplayForm<'a> {
     Ladder,
     /// A capture, in the file of this name.
     Capture(&'a str),
+}
+
+/// A call request whose decision is to be explained.
+#[derive(Clone, Copy, Debug, PartialEq, Eq)]
+pub struct QuestionOrder<'a> {
+    /// The name of the calling line.
+    pub caller: &'a str,
+    /// The address that is called, in digits.
+    pub dialled: &'a str,
+    /// The facility field, in hexadecimal digits.
+    pub facilities: Option<&'a str>,
+    /// The user data, in hexadecimal digits.
+    pub user: Option<&'a str>,
+    /// The names of the lines that are in service, with commas between them; where absent all are.
+    pub up: Option<&'a str>,
+    /// The names of the lines that are in a call, with commas between them; where absent none is.
+    pub busy: Option<&'a str>,
 }
 
 /// How the lines are to be served.
@@ -132,9 +179,11 @@ pub enum ConsoleRequest {
 #[derive(Clone, Copy, Debug, PartialEq, Eq)]
 pub enum Subcommand<'a> {
     /// Checks a subscription file.
-    Check,
+    Check(CheckForm),
     /// Replays a script from standard input.
     Replay(ReplayForm<'a>),
+    /// Explains how a call request is decided.
+    Explain(QuestionOrder<'a>),
     /// Serves the lines over TCP.
     Serve(ServeOrder<'a>),
     /// Asks the console of a serving exchange.
@@ -157,10 +206,14 @@ impl<'a> Subcommand<'a> {
         ensures none { IfNone result ((subcommand : Subcommand) → verb_of subcommand ≡ verb → Suits (rows_of (found_of matches.now)) subcommand → ⊥) }
     {
         match verb {
-            Verb::Check => Some(Subcommand::Check),
+            Verb::Check => Some(Subcommand::Check(check_form(matches))),
             Verb::Replay => {
                 let form = replay_form(matches)?;
                 Some(Subcommand::Replay(form))
+            }
+            Verb::Explain => {
+                let question = question_of(matches)?;
+                Some(Subcommand::Explain(question))
             }
             Verb::Serve => {
                 let order = order_of(matches)?;
@@ -176,12 +229,24 @@ impl<'a> Subcommand<'a> {
         ensures { result ≡ verb_of self.now }
     {
         match self {
-            Subcommand::Check => Verb::Check,
+            Subcommand::Check(_) => Verb::Check,
             Subcommand::Replay(_) => Verb::Replay,
+            Subcommand::Explain(_) => Verb::Explain,
             Subcommand::Serve(_) => Verb::Serve,
             Subcommand::Ask(ConsoleRequest::Status) => Verb::Status,
             Subcommand::Ask(ConsoleRequest::Stop) => Verb::Stop,
         }
+    }
+}
+
+/// The form in which the arguments ask for what a subscription file sets up.
+fn check_form(matches: &ArgMatches) -> CheckForm
+    ensures { HasCheckForm (rows_of (found_of matches.now)) result }
+{
+    if is_true(matches, WORDS) {
+        CheckForm::Words
+    } else {
+        CheckForm::Counts
     }
 }
 
@@ -208,6 +273,27 @@ fn one_form<'a>(words: bool, ladder: bool, capture: Option<&'a str>) -> Option<R
         (false, false, Some(path)) => Some(ReplayForm::Capture(path)),
         _ => None,
     }
+}
+
+/// The call request whose decision the arguments ask to be explained.
+fn question_of<'a>(matches: &ArgMatches<'a>) -> Option<QuestionOrder<'a>>
+    ensures found { IfSome result (λ question. IsQuestion (rows_of (found_of matches.now)) question) }
+    ensures none { IfNone result ((question : QuestionOrder) → IsQuestion (rows_of (found_of matches.now)) question → ⊥) }
+{
+    let caller = matches.get_str(CALLER)?;
+    let dialled = matches.get_str(DIALLED)?;
+    let facilities = matches.get_str(FACILITIES);
+    let user = matches.get_str(USER);
+    let up = matches.get_str(UP);
+    let busy = matches.get_str(BUSY);
+    Some(QuestionOrder {
+        caller,
+        dialled,
+        facilities,
+        user,
+        up,
+        busy,
+    })
 }
 
 /// How the arguments ask the lines to be served.

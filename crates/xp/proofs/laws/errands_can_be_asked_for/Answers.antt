@@ -5,7 +5,7 @@ use Rattle.xp.proofs.laws.errands_can_be_asked_for.Goals as goal
 
 pub returns-clause-check : goal.returns-clause-check
 unfolding clap_on_literals
-returns-clause-check c = record { faultless = refl; asked = record { word = _; rows = _; found_is = refl; subcommand_is = (refl, tt); named = refl } }
+returns-clause-check c = record { faultless = refl; asked = record { word = _; rows = _; found_is = refl; subcommand_is = (refl, refl); named = refl } }
 
 pub returns-clause-replay : goal.returns-clause-replay
 unfolding clap_on_literals
@@ -67,6 +67,10 @@ pub returns-clause-stop : goal.returns-clause-stop
 unfolding clap_on_literals
 returns-clause-stop c = record { faultless = refl; asked = record { word = _; rows = _; found_is = refl; subcommand_is = (refl, tt); named = refl } }
 
+pub returns-clause-summary : goal.returns-clause-summary
+unfolding clap_on_literals
+returns-clause-summary c = record { faultless = refl; asked = record { word = _; rows = _; found_is = refl; subcommand_is = (refl, refl); named = refl } }
+
 pub returns-clause-words : goal.returns-clause-words
 unfolding clap_on_literals
 returns-clause-words c = record { faultless = refl; asked = record { word = _; rows = _; found_is = refl; subcommand_is = (refl, (refl, refl, refl)); named = refl } }
@@ -74,3 +78,27 @@ returns-clause-words c = record { faultless = refl; asked = record { word = _; r
 pub returns-clause-ladder : goal.returns-clause-ladder
 unfolding clap_on_literals
 returns-clause-ladder c = record { faultless = refl; asked = record { word = _; rows = _; found_is = refl; subcommand_is = (refl, (refl, refl, refl)); named = refl } }
+
+pub returns-clause-explain : goal.returns-clause-explain
+unfolding clap_on_literals
+returns-clause-explain c =
+    λ question caller dialled facilities user up busy. record {
+      faultless = refl;
+      asked = record {
+        word = _;
+        rows = _;
+        found_is = refl;
+        subcommand_is = (
+          refl,
+          record {
+            caller = ap Some caller;
+            dialled = ap Some dialled;
+            facilities = facilities;
+            user = ap (option_map (λ text. text.now)) user;
+            up = ap (option_map (λ text. text.now)) up;
+            busy = busy;
+          },
+        );
+        named = refl;
+      };
+    }
