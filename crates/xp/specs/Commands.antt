@@ -12,6 +12,7 @@ use Rattle.xp.specs.declared.subcommand.ReplayForm.TheVariants as replay_forms
 use Rattle.xp.specs.declared.subcommand.ServeOrder.{ServeOrder}
 use Rattle.xp.specs.declared.subcommand.Subcommand.{Subcommand}
 use Rattle.xp.specs.declared.subcommand.Subcommand.TheVariants as subcommands
+use Rattle.xp.specs.declared.subcommand.TraceOrder.{TraceOrder}
 use Rattle.xp.specs.declared.subcommand.Verb.{Verb}
 use Rattle.xp.specs.declared.subcommand.Verb.TheVariants.{Check, Replay, Explain, Serve, Status, Stop}
 use Rattle.xp_serve.specs.Limits.{AreLimits}
@@ -74,10 +75,14 @@ explain =
 abbrev pub recording : App
 recording = with_rule (with_rule (command_of Serve) (valued (codes "cdr"))) (valued (codes "records"))
 
+-- with those that tell of a trace
+abbrev pub tracing : App
+tracing = with_rule (with_rule recording (valued (codes "trace"))) (valued (codes "trace-lines"))
+
 -- the command that asks for the lines to be served
 abbrev pub serve : App
 serve =
-    with_rule (with_rule (with_rule (with_rule recording (valued (codes "turns"))) (valued (codes "console"))) (flag (codes "quiet")))
+    with_rule (with_rule (with_rule (with_rule tracing (valued (codes "turns"))) (valued (codes "console"))) (flag (codes "quiet")))
     (flag (codes "until-eof"))
 
 -- a command of which something has to be asked
@@ -137,10 +142,20 @@ pub record IsQuestion (rows : List Row) (question : QuestionOrder) : Type 0 wher
 abbrev pub HasLimits : List Row → Limits → Type 0
 HasLimits rows limits = AreLimits (first_of (codes "records") rows) (first_of (codes "turns") rows) limits
 
+-- a trace into the file of this name, of these lines or of all; nothing is traced where neither is there
+abbrev pub IsTrace : Option Text → Option Text → Option TraceOrder → Type 0
+IsTrace path lines None = (path ≡ None) × (lines ≡ None)
+IsTrace path lines (Some trace) = (path ≡ Some trace.path.now) × (option_map (λ names. names.now) trace.lines ≡ lines)
+
+-- the arguments say what is to be traced
+abbrev pub HasTrace : List Row → Option TraceOrder → Type 0
+HasTrace rows trace = IsTrace (first_of (codes "trace") rows) (first_of (codes "trace-lines") rows) trace
+
 -- the arguments say how the lines are to be served
 pub record IsOrder (rows : List Row) (order : ServeOrder) : Type 0 where
   pub limits : HasLimits rows order.limits
   pub details : option_map (λ name. name.now) order.details ≡ first_of (codes "cdr") rows
+  pub trace : HasTrace rows order.trace
   pub console : option_map (λ address. address.now) order.console ≡ first_of (codes "console") rows
   pub quiet : order.quiet ≡ has_flag (codes "quiet") rows
   pub until_eof : order.until_eof ≡ has_flag (codes "until-eof") rows

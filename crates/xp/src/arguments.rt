@@ -4,11 +4,11 @@ ghost use Rattle.std.specs.Prelude.{◌≡◌, ℕ, List, IfSome, IfNone, IfOk, 
 ghost use Rattle.clap.specs.Words.{app_of, kind_of, rule_of, subcommand_rows_of};
 ghost use Rattle.clap.specs.declared.error.kind.ErrorKind.TheVariants.{OutOfMemory};
 ghost use Rattle.clap.specs.declared.builder.command.Command.TheViews.{out-Command as fields_of};
-ghost use Rattle.xp.specs.Commands.{AreRight, Ask, AsksFor, call as call_app, check as check_app, command_of, explain as explain_app, flag as flag_rule, over_files as over_files_app, positional as positional_rule, program, recording, replay as replay_app, replaying as replaying_app, serve, serving, valued as valued_rule, verb_of};
+ghost use Rattle.xp.specs.Commands.{AreRight, Ask, AsksFor, call as call_app, check as check_app, command_of, explain as explain_app, flag as flag_rule, over_files as over_files_app, positional as positional_rule, program, recording, replay as replay_app, replaying as replaying_app, serve, serving, tracing, valued as valued_rule, verb_of};
 
 use crate::subcommand::{
     BUSY, CALLER, CDR, CONSOLE, DIALLED, FACILITIES, LADDER, PCAP, QUIET, RECORDS, Subcommand,
-    TURNS, UNTIL_EOF, UP, USER, Verb, WORDS,
+    TRACE, TRACE_LINES, TURNS, UNTIL_EOF, UP, USER, Verb, WORDS,
 };
 use clap::error::ErrorKind;
 use clap::{Arg, ArgAction, ArgMatches, Command, Error};
@@ -102,6 +102,10 @@ const UP_HELP: &str = "The lines in service, as a1,b1";
 const BUSY_HELP: &str = "The lines that are in a call, as h1,h2";
 
 const CDR_HELP: &str = "Writes call detail records at the end of this file (CSV)";
+
+const TRACE_HELP: &str = "Writes what passes on the lines into this file";
+
+const TRACE_LINES_HELP: &str = "Traces these lines alone, as a1,b1; needs --trace";
 
 const RECORDS_HELP: &str = "For tests: ends with so many charging records, 1 to 1000000000000";
 
@@ -303,11 +307,21 @@ fn serve_command<'a>(alloc: Global) -> Result<Command<'a>, AllocError>
     ensures shape { IfOk result (λ command. app_of command ≡ serve) }
     ensures local { IfOk result (λ command. (fields_of command).has_globals ≡ false) }
 {
-    recording_command(alloc)?
+    tracing_command(alloc)?
         .arg(valued(alloc, TURNS, "M", TURNS_HELP))?
         .arg(valued(alloc, CONSOLE, "ADDRESS", CONSOLE_HELP))?
         .arg(flag(alloc, QUIET, QUIET_HELP))?
         .arg(flag(alloc, UNTIL_EOF, UNTIL_EOF_HELP))
+}
+
+/// The same with the arguments that tell of records and of a trace alone.
+fn tracing_command<'a>(alloc: Global) -> Result<Command<'a>, AllocError>
+    ensures shape { IfOk result (λ command. app_of command ≡ tracing) }
+    ensures local { IfOk result (λ command. (fields_of command).has_globals ≡ false) }
+{
+    recording_command(alloc)?
+        .arg(valued(alloc, TRACE, "PATH", TRACE_HELP))?
+        .arg(valued(alloc, TRACE_LINES, "LINES", TRACE_LINES_HELP))
 }
 
 /// The same with the arguments that tell of records alone.

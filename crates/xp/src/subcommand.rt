@@ -1,8 +1,8 @@
 //! The subcommands of the program.
 
-ghost use Rattle.std.specs.Prelude.{◌≡◌, IfNone, IfSome, Some, codes, option_map};
+ghost use Rattle.std.specs.Prelude.{◌≡◌, IfNone, IfSome, Option, Some, codes, option_map};
 ghost use Rattle.clap.specs.Words.{first_of, found_of, rows_of};
-ghost use Rattle.xp.specs.Commands.{HasCheckForm, HasLimits, HasReplayForm, IsOneForm, IsOrder, IsQuestion, IsSubcommand, Suits, operand_of, says_true, verb_of, word_of};
+ghost use Rattle.xp.specs.Commands.{HasCheckForm, HasLimits, HasReplayForm, HasTrace, IsOneForm, IsOrder, IsQuestion, IsSubcommand, IsTrace, Suits, operand_of, says_true, verb_of, word_of};
 
 use clap::ArgMatches;
 use xp_serve::Limits;
@@ -42,6 +42,12 @@ pub const BUSY: &str = "busy";
 
 /// The argument for the file of call detail records.
 pub const CDR: &str = "cdr";
+
+/// The argument for the file of the trace.
+pub const TRACE: &str = "trace";
+
+/// The argument for the lines that are traced.
+pub const TRACE_LINES: &str = "trace-lines";
 
 /// The argument for the address of the console.
 pub const CONSOLE: &str = "console";
@@ -152,12 +158,23 @@ pub struct QuestionOrder<'a> {
     pub busy: Option<&'a str>,
 }
 
+/// What is to be traced as lines are served.
+#[derive(Clone, Copy, Debug, PartialEq, Eq)]
+pub struct TraceOrder<'a> {
+    /// The name of the file of the trace.
+    pub path: &'a str,
+    /// The names of the lines that are traced, with commas between them; where absent all are.
+    pub lines: Option<&'a str>,
+}
+
 /// How the lines are to be served.
 #[derive(Clone, Copy, Debug, PartialEq, Eq)]
 pub struct ServeOrder<'a> {
     pub limits: Limits,
     /// The name of the file of call detail records, if there is to be one.
     pub details: Option<&'a str>,
+    /// What is to be traced, if anything.
+    pub trace: Option<TraceOrder<'a>>,
     /// The address at which the console is to be, if there is to be one.
     pub console: Option<&'a str>,
     /// Whether only failures are told on standard error.
@@ -302,6 +319,7 @@ fn order_of<'a>(matches: &ArgMatches<'a>) -> Option<ServeOrder<'a>>
     ensures none { IfNone result ((order : ServeOrder) → IsOrder (rows_of (found_of matches.now)) order → ⊥) }
 {
     let limits = limits_of(matches)?;
+    let trace = trace_of(matches)?;
     let details = matches.get_str(CDR);
     let console = matches.get_str(CONSOLE);
     let quiet = is_true(matches, QUIET);
@@ -309,10 +327,33 @@ fn order_of<'a>(matches: &ArgMatches<'a>) -> Option<ServeOrder<'a>>
     Some(ServeOrder {
         limits,
         details,
+        trace,
         console,
         quiet,
         until_eof,
     })
+}
+
+/// What the arguments ask to be traced, if anything. `None` where they name lines and no file.
+fn trace_of<'a>(matches: &ArgMatches<'a>) -> Option<Option<TraceOrder<'a>>>
+    ensures found { IfSome result (λ trace. HasTrace (rows_of (found_of matches.now)) trace) }
+    ensures none { IfNone result ((trace : Option TraceOrder) → HasTrace (rows_of (found_of matches.now)) trace → ⊥) }
+{
+    let path = matches.get_str(TRACE);
+    let lines = matches.get_str(TRACE_LINES);
+    trace_into(path, lines)
+}
+
+/// What is traced into a file, of these lines. `None` where there are lines and no file.
+fn trace_into<'a>(path: Option<&'a str>, lines: Option<&'a str>) -> Option<Option<TraceOrder<'a>>>
+    ensures found { IfSome result (IsTrace (option_map (λ path. path.now) path.entry) (option_map (λ names. names.now) lines.entry)) }
+    ensures none { IfNone result ((trace : Option TraceOrder) → IsTrace (option_map (λ path. path.now) path.entry) (option_map (λ names. names.now) lines.entry) trace → ⊥) }
+{
+    match (path, lines) {
+        (Some(path), lines) => Some(Some(TraceOrder { path, lines })),
+        (None, None) => Some(None),
+        (None, Some(_)) => None,
+    }
 }
 
 /// The limits that the arguments set to serving.

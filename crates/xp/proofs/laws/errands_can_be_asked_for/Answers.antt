@@ -1,4 +1,4 @@
-use Rattle.std.proofs.Common.{Some, ap, arith, codes, option_map, refl}
+use Rattle.std.proofs.Common.{Some, ap, arith, codes, option_map, refl, sym}
 use Rattle.xp_serve.specs.Limits.{IsNumber}
 use Rattle.clap.proofs.OnLiterals.{clap_on_literals}
 use Rattle.xp.proofs.laws.errands_can_be_asked_for.Goals as goal
@@ -26,7 +26,7 @@ returns-clause-serve c =
         word = _;
         rows = _;
         found_is = refl;
-        subcommand_is = (refl, record { limits = record { records_are = refl; turns_are = refl }; details = refl; console = refl; quiet = refl; until_eof = refl });
+        subcommand_is = (refl, record { limits = record { records_are = refl; turns_are = refl }; details = refl; trace = (refl, refl); console = refl; quiet = refl; until_eof = refl });
         named = refl;
       };
     }
@@ -40,7 +40,7 @@ returns-clause-limits c =
         word = _;
         rows = _;
         found_is = refl;
-        subcommand_is = (refl, record { limits = record { records_are = twelve; turns_are = three }; details = refl; console = refl; quiet = refl; until_eof = refl });
+        subcommand_is = (refl, record { limits = record { records_are = twelve; turns_are = three }; details = refl; trace = (refl, refl); console = refl; quiet = refl; until_eof = refl });
         named = refl;
       };
     }
@@ -48,13 +48,37 @@ returns-clause-limits c =
 pub returns-clause-details : goal.returns-clause-details
 unfolding clap_on_literals
 returns-clause-details c =
-    λ order details limits console quiet until_eof. record {
+    λ order details limits trace console quiet until_eof. record {
       faultless = refl;
       asked = record {
         word = _;
         rows = _;
         found_is = refl;
-        subcommand_is = (refl, record { limits = rw (limits) (record { records_are = refl; turns_are = refl }); details = details; console = ap (option_map (λ address. address.now)) console; quiet = quiet; until_eof = until_eof });
+        subcommand_is = (refl, record { limits = rw (limits) (record { records_are = refl; turns_are = refl }); details = details; trace = rw (trace) ((refl, refl)); console = ap (option_map (λ address. address.now)) console; quiet = quiet; until_eof = until_eof });
+        named = refl;
+      };
+    }
+
+pub returns-clause-trace : goal.returns-clause-trace
+unfolding clap_on_literals
+returns-clause-trace c =
+    λ order trace traced path lines limits details console quiet until_eof. record {
+      faultless = refl;
+      asked = record {
+        word = _;
+        rows = _;
+        found_is = refl;
+        subcommand_is = (
+          refl,
+          record {
+            limits = rw (limits) (record { records_are = refl; turns_are = refl });
+            details = ap (option_map (λ name. name.now)) details;
+            trace = rw (traced) ((ap Some (sym path), lines));
+            console = ap (option_map (λ address. address.now)) console;
+            quiet = quiet;
+            until_eof = until_eof;
+          },
+        );
         named = refl;
       };
     }
