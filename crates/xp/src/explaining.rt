@@ -4,6 +4,7 @@ ghost use Rattle.std.specs.Prelude.{◌<◌, IfOk};
 ghost use Rattle.xp_subs.specs.Tables.{line_count};
 
 use crate::failure::Failure;
+use crate::output::print_text;
 use crate::subcommand::QuestionOrder;
 use hex::FromHexError;
 use std::alloc::{AllocGlobal, Global};
@@ -52,10 +53,7 @@ pub(crate) fn explain_call<R: AllocGlobal + Print>(
         busy: &busy,
     };
     let explanation = explain(alloc, subs, &states, from, &block)?;
-    match rt.print(&explanation.text) {
-        Ok(()) => Ok(()),
-        Err(_) => Err(Failure::Task(TaskFailure::Output)),
-    }
+    print_text(rt, &explanation.text)
 }
 
 /// The line of this name.
@@ -75,7 +73,8 @@ fn lines_in(alloc: Global, subs: &Subs, names: Option<&str>) -> Result<Vec<LineN
         return Ok(lines);
     };
     for name in names.split(',') {
-        lines.push(line_in(subs, name)?)?;
+        let line = line_in(subs, name)?;
+        lines.push(line).map_err(|_| TaskFailure::Memory)?;
     }
     Ok(lines)
 }
@@ -94,7 +93,12 @@ fn block_of(alloc: Global, question: &QuestionOrder<'_>) -> Result<Block, Failur
         MOST_FACILITIES,
         QuestionFault::Facilities,
     )?;
-    let user = octets_in(alloc, question.user, MOST_USER_DATA, QuestionFault::UserData)?;
+    let user = octets_in(
+        alloc,
+        question.user,
+        MOST_USER_DATA,
+        QuestionFault::UserData,
+    )?;
     Ok(Block {
         called,
         calling: Digits::new(),

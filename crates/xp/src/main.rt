@@ -4,10 +4,12 @@
 ghost use Rattle.std.specs.Prelude.{◌≡◌};
 
 mod arguments;
+mod checking;
 mod console;
 mod explaining;
 mod failure;
 mod laws;
+mod output;
 mod replaying;
 mod served_console;
 mod serving;
@@ -16,10 +18,11 @@ mod subcommand;
 mod subscribing;
 
 use crate::arguments::Arguments;
+use crate::checking::check_file;
 use crate::console::ask_console;
 use crate::explaining::explain_call;
 use crate::failure::Failure;
-use crate::replaying::{check_file, replay_script};
+use crate::replaying::replay_script;
 use crate::serving::serve_lines;
 use crate::subcommand::{ServeOrder, Subcommand};
 use crate::subscribing::read_subscriptions;
@@ -68,7 +71,7 @@ fn run<
     let operand = arguments.operand;
     match arguments.subcommand {
         Subcommand::Check(form) => check_file(rt, form, subscriptions_in(rt, operand)?),
-        Subcommand::Replay(form) => replay_script(rt, form, subscriptions_in(rt, operand)?),
+        Subcommand::Replay(form) => replay_script(rt, form, operand),
         Subcommand::Explain(question) => {
             let subs = subscriptions_in(rt, operand)?;
             explain_call(rt, &subs, &question)
