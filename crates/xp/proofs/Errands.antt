@@ -1,12 +1,14 @@
 -- What the arguments of a command ask for.
 use Rattle.std.proofs.Common.{◌≡◌, ◌∙◌, [], cond, refl, sym, ap, subst, codes, option_map, Option, Some, None, IfNone, IfSome, List, ℕ, Bool, true, false, nat_eq, slice_index_or}
 use Rattle.clap.specs.Words.{Row, Text, first_of}
-use Rattle.xp.specs.Commands.{AsksFor, HasLimits, HasReplayForm, IsOneForm, IsOrder, has_flag, IsSubcommand, operand_of, verb_of, word_of}
+use Rattle.xp.specs.Commands.{AsksFor, HasLimits, HasReplayForm, HasTrace, IsOneForm, IsOrder, has_flag, IsQuestion, IsSubcommand, IsTrace, operand_of, verb_of, word_of}
+use Rattle.xp.specs.declared.subcommand.QuestionOrder.{QuestionOrder}
 use Rattle.xp.specs.declared.subcommand.ReplayForm.{ReplayForm}
 use Rattle.xp.specs.declared.subcommand.ServeOrder.{ServeOrder}
 use Rattle.xp.specs.declared.subcommand.Subcommand.{Subcommand}
+use Rattle.xp.specs.declared.subcommand.TraceOrder.{TraceOrder}
 use Rattle.xp.specs.declared.subcommand.Verb.{Verb}
-use Rattle.xp.specs.declared.subcommand.Verb.TheVariants.{Check, Replay, Serve, Status, Stop}
+use Rattle.xp.specs.declared.subcommand.Verb.TheVariants.{Check, Replay, Explain, Serve, Status, Stop}
 use Rattle.xp_serve.specs.Limits.{AreLimits}
 use Rattle.xp_serve.specs.declared.limits.Limits.{Limits}
 
@@ -39,6 +41,34 @@ module _ (rows : List Row) (records turns : Option (List ℕ)) (records_are : re
 pub no_order : (rows : List Row) → ((limits : Limits) → HasLimits rows limits → ⊥) → (order : ServeOrder) → IsOrder rows order → ⊥
 no_order rows none order is = none order.limits is.limits
 
+-- arguments that name lines to be traced, and no file
+pub no_trace : (rows : List Row) → ((trace : Option TraceOrder) → HasTrace rows trace → ⊥) → (order : ServeOrder) → IsOrder rows order → ⊥
+no_trace rows none order is = none order.trace is.trace
+
+-- the trace for which the arguments ask
+module _ (rows : List Row) (path lines : Option Text) (path_is : path ≡ first_of (codes "trace") rows) (lines_are : lines ≡ first_of (codes "trace-lines") rows)
+    (found : Option (Option TraceOrder)) where
+  pub has_trace : IfSome found (IsTrace path lines) → IfSome found (HasTrace rows)
+  has_trace is =
+      subst (λ path. IfSome found (IsTrace path (first_of (codes "trace-lines") rows))) path_is (subst (λ lines. IfSome found (IsTrace path lines)) lines_are is)
+
+  pub has_no_trace : IfNone found ((trace : Option TraceOrder) → IsTrace path lines trace → ⊥) → IfNone found ((trace : Option TraceOrder) → HasTrace rows trace → ⊥)
+  has_no_trace none =
+      subst (λ path. IfNone found ((trace : Option TraceOrder) → IsTrace path (first_of (codes "trace-lines") rows) trace → ⊥)) path_is
+      (subst (λ lines. IfNone found ((trace : Option TraceOrder) → IsTrace path lines trace → ⊥)) lines_are none)
+
+-- arguments without a calling line
+pub no_caller : (rows : List Row) → first_of (codes "CALLER") rows ≡ None → (question : QuestionOrder) → IsQuestion rows question → ⊥
+no_caller rows none question is =
+    let there : Some question.caller.now ≡ None = is.caller ∙ none in
+    absurd (cc)
+
+-- arguments without an address that is called
+pub no_dialled : (rows : List Row) → first_of (codes "DIALLED") rows ≡ None → (question : QuestionOrder) → IsQuestion rows question → ⊥
+no_dialled rows none question is =
+    let there : Some question.dialled.now ≡ None = is.dialled ∙ none in
+    absurd (cc)
+
 -- the forms of a replay for which the arguments ask
 module _ (rows : List Row) (words ladder : Bool) (capture : Option Text) (words_are : words ≡ has_flag (codes "words") rows)
     (ladder_is : ladder ≡ has_flag (codes "ladder") rows) (capture_is : capture ≡ first_of (codes "pcap") rows) (found : Option ReplayForm) where
@@ -61,6 +91,7 @@ operand_behind word = cond (nat_eq (slice_index_or word 1 0) 116) (codes "ADDRES
 operand_is : (verb : Verb) → operand_of verb ≡ operand_behind (word_of verb)
 operand_is Check = refl
 operand_is Replay = refl
+operand_is Explain = refl
 operand_is Serve = refl
 operand_is Status = refl
 operand_is Stop = refl

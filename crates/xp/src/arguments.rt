@@ -4,10 +4,11 @@ ghost use Rattle.std.specs.Prelude.{◌≡◌, ℕ, List, IfSome, IfNone, IfOk, 
 ghost use Rattle.clap.specs.Words.{app_of, kind_of, rule_of, subcommand_rows_of};
 ghost use Rattle.clap.specs.declared.error.kind.ErrorKind.TheVariants.{OutOfMemory};
 ghost use Rattle.clap.specs.declared.builder.command.Command.TheViews.{out-Command as fields_of};
-ghost use Rattle.xp.specs.Commands.{AreRight, Ask, AsksFor, command_of, flag as flag_rule, over_files as over_files_app, positional as positional_rule, program, recording, replay as replay_app, serve, serving, valued as valued_rule, verb_of};
+ghost use Rattle.xp.specs.Commands.{AreRight, Ask, AsksFor, call as call_app, check as check_app, command_of, explain as explain_app, flag as flag_rule, over_files as over_files_app, positional as positional_rule, program, recording, replay as replay_app, replaying as replaying_app, serve, serving, tracing, valued as valued_rule, verb_of};
 
 use crate::subcommand::{
-    CDR, CONSOLE, LADDER, PCAP, QUIET, RECORDS, Subcommand, TURNS, UNTIL_EOF, Verb, WORDS,
+    BUSY, CALLER, CDR, CONSOLE, DIALLED, FACILITIES, LADDER, PCAP, QUIET, RECORDS, Subcommand,
+    TRACE, TRACE_LINES, TURNS, UNTIL_EOF, UP, USER, Verb, WORDS,
 };
 use clap::error::ErrorKind;
 use clap::{Arg, ArgAction, ArgMatches, Command, Error};
@@ -19,6 +20,7 @@ const PROGRAM_DETAILS: &str = "\
 Examples:
   xp check examples/three-stations.toml
   xp replay examples/three-stations.toml --words < examples/call.script
+  xp explain examples/three-stations.toml a1 2080030
   xp serve examples/three-stations.toml --cdr calls.csv --console 127.0.0.1:9980
   xp status 127.0.0.1:9980
 
@@ -30,10 +32,20 @@ const CHECK_ABOUT: &str = "Checks a subscription file, and counts what it sets u
 
 const CHECK_DETAILS: &str = "\
 Prints one line, as: stations 3 lines 5 groups 0
-A group that several stations share counts once.
+A group that several stations share counts once. With --words it prints a
+summary: stations, lines, groups, who may call whom, and what looks wrong.
 
 Example:
-  xp check examples/three-stations.toml";
+  xp check examples/three-stations.toml --words";
+
+const EXPLAIN_ABOUT: &str = "Explains how a call request is decided, rule by rule";
+
+const EXPLAIN_DETAILS: &str = "\
+CALLER is the name of the calling line, DIALLED the address that it calls. All
+lines are in service and idle where --up and --busy do not say otherwise.
+
+Example:
+  xp explain examples/three-stations.toml a1 2080030 --busy h1,h2";
 
 const REPLAY_ABOUT: &str = "Replays a script from standard input, and prints what comes of it";
 
@@ -69,13 +81,31 @@ With --console a page at that address shows the lines and the live calls.
 Example:
   xp serve examples/three-stations.toml --cdr calls.csv";
 
+const CHECK_WORDS_HELP: &str = "Prints a summary for a person";
+
 const REPLAY_WORDS_HELP: &str = "Prints each event, packet and record in words";
 
 const LADDER_HELP: &str = "Prints the packets as a ladder diagram, 80 columns wide";
 
 const PCAP_HELP: &str = "Writes the packets into this file, as a capture that Wireshark reads";
 
+const CALLER_HELP: &str = "The name of the calling line";
+
+const DIALLED_HELP: &str = "The address that it calls, in digits";
+
+const FACILITIES_HELP: &str = "The facility field of the call request, in hexadecimal digits";
+
+const USER_HELP: &str = "Its user data, in hexadecimal digits";
+
+const UP_HELP: &str = "The lines in service, as a1,b1";
+
+const BUSY_HELP: &str = "The lines that are in a call, as h1,h2";
+
 const CDR_HELP: &str = "Writes call detail records at the end of this file (CSV)";
+
+const TRACE_HELP: &str = "Writes what passes on the lines into this file";
+
+const TRACE_LINES_HELP: &str = "Traces these lines alone, as a1,b1; needs --trace";
 
 const RECORDS_HELP: &str = "For tests: ends with so many charging records, 1 to 1000000000000";
 
@@ -178,12 +208,21 @@ fn with_serving<'a>(alloc: Global) -> Result<Command<'a>, AllocError>
     over_files(alloc)?.subcommand(serve)
 }
 
-/// The program's command line with the subcommands over a subscription file and a script.
+/// The program's command line with the subcommands over a subscription file.
 fn over_files<'a>(alloc: Global) -> Result<Command<'a>, AllocError>
     ensures shape { IfOk result (λ command. app_of command ≡ over_files_app) }
     ensures local { IfOk result (λ command. (fields_of command).has_globals ≡ false) }
 {
-    let check = over_operand(alloc, Verb::Check, CHECK_ABOUT, CHECK_DETAILS, FILE_HELP)?;
+    let explain = explain_command(alloc)?;
+    replaying(alloc)?.subcommand(explain)
+}
+
+/// The program's command line with the subcommands that check a file and replay a script.
+fn replaying<'a>(alloc: Global) -> Result<Command<'a>, AllocError>
+    ensures shape { IfOk result (λ command. app_of command ≡ replaying_app) }
+    ensures local { IfOk result (λ command. (fields_of command).has_globals ≡ false) }
+{
+    let check = check_command(alloc)?;
     let replay = replay_command(alloc)?;
     Command::new(alloc, "xp")
         .about(ABOUT)
@@ -212,6 +251,18 @@ fn over_operand<'a>(
         .arg(positional(alloc, verb.operand(), help))
 }
 
+/// The subcommand that checks a file.
+fn check_command<'a>(alloc: Global) -> Result<Command<'a>, AllocError>
+    ensures shape { IfOk result (λ command. app_of command ≡ check_app) }
+    ensures local { IfOk result (λ command. (fields_of command).has_globals ≡ false) }
+{
+    over_operand(alloc, Verb::Check, CHECK_ABOUT, CHECK_DETAILS, FILE_HELP)?.arg(flag(
+        alloc,
+        WORDS,
+        CHECK_WORDS_HELP,
+    ))
+}
+
 /// The subcommand that replays a script.
 fn replay_command<'a>(alloc: Global) -> Result<Command<'a>, AllocError>
     ensures shape { IfOk result (λ command. app_of command ≡ replay_app) }
@@ -223,16 +274,54 @@ fn replay_command<'a>(alloc: Global) -> Result<Command<'a>, AllocError>
         .arg(valued(alloc, PCAP, "PATH", PCAP_HELP))
 }
 
+/// The subcommand that explains how a call request is decided.
+fn explain_command<'a>(alloc: Global) -> Result<Command<'a>, AllocError>
+    ensures shape { IfOk result (λ command. app_of command ≡ explain_app) }
+    ensures local { IfOk result (λ command. (fields_of command).has_globals ≡ false) }
+{
+    call_command(alloc)?
+        .arg(valued(alloc, FACILITIES, "HEX", FACILITIES_HELP))?
+        .arg(valued(alloc, USER, "HEX", USER_HELP))?
+        .arg(valued(alloc, UP, "LINES", UP_HELP))?
+        .arg(valued(alloc, BUSY, "LINES", BUSY_HELP))
+}
+
+/// The same with the calling line and the address alone.
+fn call_command<'a>(alloc: Global) -> Result<Command<'a>, AllocError>
+    ensures shape { IfOk result (λ command. app_of command ≡ call_app) }
+    ensures local { IfOk result (λ command. (fields_of command).has_globals ≡ false) }
+{
+    over_operand(
+        alloc,
+        Verb::Explain,
+        EXPLAIN_ABOUT,
+        EXPLAIN_DETAILS,
+        FILE_HELP,
+    )?
+    .arg(positional(alloc, CALLER, CALLER_HELP))?
+    .arg(positional(alloc, DIALLED, DIALLED_HELP))
+}
+
 /// The subcommand that serves the lines.
 fn serve_command<'a>(alloc: Global) -> Result<Command<'a>, AllocError>
     ensures shape { IfOk result (λ command. app_of command ≡ serve) }
     ensures local { IfOk result (λ command. (fields_of command).has_globals ≡ false) }
 {
-    recording_command(alloc)?
+    tracing_command(alloc)?
         .arg(valued(alloc, TURNS, "M", TURNS_HELP))?
         .arg(valued(alloc, CONSOLE, "ADDRESS", CONSOLE_HELP))?
         .arg(flag(alloc, QUIET, QUIET_HELP))?
         .arg(flag(alloc, UNTIL_EOF, UNTIL_EOF_HELP))
+}
+
+/// The same with the arguments that tell of records and of a trace alone.
+fn tracing_command<'a>(alloc: Global) -> Result<Command<'a>, AllocError>
+    ensures shape { IfOk result (λ command. app_of command ≡ tracing) }
+    ensures local { IfOk result (λ command. (fields_of command).has_globals ≡ false) }
+{
+    recording_command(alloc)?
+        .arg(valued(alloc, TRACE, "PATH", TRACE_HELP))?
+        .arg(valued(alloc, TRACE_LINES, "LINES", TRACE_LINES_HELP))
 }
 
 /// The same with the arguments that tell of records alone.

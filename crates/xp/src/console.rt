@@ -1,12 +1,12 @@
 //! Asking the console of a serving exchange.
 
 use crate::failure::Failure;
+use crate::output::print_text;
 use crate::subcommand::ConsoleRequest;
 use std::alloc::AllocGlobal;
 use std::net::{Net, SocketAddr, TcpStream};
 use std::time::Clock;
 use xp_console::{AskFault, ask_status, ask_stop};
-use xp_tasks::TaskFailure;
 
 /// Asks the console at this address, and prints what it shows.
 pub(crate) fn ask_console<R: AllocGlobal + Clock + Net<Stream = TcpStream> + Print>(
@@ -18,10 +18,7 @@ pub(crate) fn ask_console<R: AllocGlobal + Clock + Net<Stream = TcpStream> + Pri
     match request {
         ConsoleRequest::Status => {
             let status = ask_status(rt, rt.alloc(), address)?;
-            match rt.print(&status) {
-                Ok(()) => Ok(()),
-                Err(_) => Err(Failure::Task(TaskFailure::Output)),
-            }
+            print_text(rt, &status)
         }
         ConsoleRequest::Stop => {
             ask_stop(rt, rt.alloc(), address)?;

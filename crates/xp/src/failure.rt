@@ -6,6 +6,7 @@ ghost use Rattle.xp.specs.steps.Failures.{IsOfArguments};
 ghost use Rattle.xp.specs.declared.failure.Failure.TheVariants.{Ask as OfAsking, Cdr as OfDetails, Console as OfConsole, Serve as OfServing, Task as OfTask};
 ghost use Rattle.xp_tasks.specs.declared.failure.TaskFailure.TheVariants.{Memory as OutOfMemory};
 
+use crate::explaining::QuestionFault;
 use clap::error::ErrorKind;
 use std::alloc::AllocError;
 use std::io;
@@ -21,12 +22,18 @@ pub enum Failure {
     /// The arguments are faulty, or ask for help.
     #[error("{0}")]
     Arguments(clap::Error),
+    /// A call request that is asked about is faulty.
+    #[error("xp: explain: {0}")]
+    Question(QuestionFault),
     /// The task failed.
     #[error("{0}")]
     Task(TaskFailure),
-    /// The subscription file is refused, and where in it.
+    /// The subscription file is refused, and where in it; or a line of the script is, and what was wanted there.
     #[error("{0}\n{1}")]
     Refused(TaskFailure, String),
+    /// Nobody reads standard output any more. Nothing is told of it.
+    #[error("xp: output")]
+    Unread,
     /// The file of call detail records was not opened.
     #[error("xp: cdr: {0}")]
     Cdr(OpenFault),
@@ -42,27 +49,31 @@ pub enum Failure {
 }
 
 impl Failure {
-    /// The exit status: 2 for arguments, 5 for the file of call detail records and for a console, else that of the task or of
-    /// serving.
+    /// The exit status: 2 for arguments, 5 for output that nobody reads, for the file of call detail records and for a console, else
+    /// that of the task or of serving.
     pub fn status(&self) -> u8
         ensures { result ≡ status_of self.now }
     {
         match self {
-            Failure::Arguments(_) => 2,
+            Failure::Arguments(_) | Failure::Question(_) => 2,
             Failure::Task(failure) | Failure::Refused(failure, _) => failure.status(),
-            Failure::Cdr(_) | Failure::Console(_) | Failure::Ask(_) => 5,
+            Failure::Unread | Failure::Cdr(_) | Failure::Console(_) | Failure::Ask(_) => 5,
             Failure::Serve(failure) => failure.status(),
         }
     }
 
-    /// Prints it on standard error.
+    /// Prints it on standard error, except that nobody reads standard output.
     pub fn tell(&self, rt: &impl Eprint) -> io::Result<()> {
         match self {
             // clap ends the last line itself.
             Failure::Arguments(told) => rt.eprint(told),
+            Failure::Unread => Ok(()),
             Failure::Task(failure) => rt.eprintln(failure),
-            Failure::Refused(_, _) | Failure::Cdr(_) | Failure::Console(_) | Failure::Ask(_) =>
-                rt.eprintln(self),
+            Failure::Question(_)
+            | Failure::Refused(_, _)
+            | Failure::Cdr(_)
+            | Failure::Console(_)
+            | Failure::Ask(_) => rt.eprintln(self),
             Failure::Serve(failure) => rt.eprintln(failure),
         }
     }

@@ -4,9 +4,12 @@
 ghost use Rattle.std.specs.Prelude.{◌≡◌};
 
 mod arguments;
+mod checking;
 mod console;
+mod explaining;
 mod failure;
 mod laws;
+mod output;
 mod replaying;
 mod served_console;
 mod serving;
@@ -15,9 +18,11 @@ mod subcommand;
 mod subscribing;
 
 use crate::arguments::Arguments;
+use crate::checking::check_file;
 use crate::console::ask_console;
+use crate::explaining::explain_call;
 use crate::failure::Failure;
-use crate::replaying::{perform_task, replay_script};
+use crate::replaying::replay_script;
 use crate::serving::serve_lines;
 use crate::subcommand::{ServeOrder, Subcommand};
 use crate::subscribing::read_subscriptions;
@@ -33,7 +38,7 @@ use std::thread::Threads;
 use std::time::Clock;
 use std::{env, fs};
 use xp_subs::Subs;
-use xp_tasks::{Task, TaskFailure};
+use xp_tasks::TaskFailure;
 
 fn main(rt: HostRuntime) -> ExitCode {
     match run(&rt) {
@@ -65,8 +70,12 @@ fn run<
     let arguments = Arguments::read(rt.alloc(), &words)?;
     let operand = arguments.operand;
     match arguments.subcommand {
-        Subcommand::Check => perform_task(rt, Task::Check, subscriptions_in(rt, operand)?),
-        Subcommand::Replay(form) => replay_script(rt, form, subscriptions_in(rt, operand)?),
+        Subcommand::Check(form) => check_file(rt, form, subscriptions_in(rt, operand)?),
+        Subcommand::Replay(form) => replay_script(rt, form, operand),
+        Subcommand::Explain(question) => {
+            let subs = subscriptions_in(rt, operand)?;
+            explain_call(rt, &subs, &question)
+        }
         Subcommand::Serve(order) => serve_file(rt, &order, operand),
         Subcommand::Ask(request) => ask_console(rt, request, operand),
     }

@@ -44,6 +44,8 @@ pub(crate) fn serve_lines<
 {
     let alloc = rt.alloc();
     let clock = WallClock::start();
+    // TRACE: what `order.trace` asks for is to be joined here; nothing is traced yet.
+    let _ = order.trace;
     match order.details {
         Some(path) => {
             let (file, opened) = DetailFile::open(rt, path)?;

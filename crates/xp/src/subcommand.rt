@@ -1,8 +1,8 @@
 //! The subcommands of the program.
 
-ghost use Rattle.std.specs.Prelude.{◌≡◌, IfNone, IfSome, Some, codes, option_map};
+ghost use Rattle.std.specs.Prelude.{◌≡◌, IfNone, IfSome, Option, Some, codes, option_map};
 ghost use Rattle.clap.specs.Words.{first_of, found_of, rows_of};
-ghost use Rattle.xp.specs.Commands.{HasLimits, HasReplayForm, IsOneForm, IsOrder, IsSubcommand, Suits, operand_of, says_true, verb_of, word_of};
+ghost use Rattle.xp.specs.Commands.{HasCheckForm, HasLimits, HasReplayForm, HasTrace, IsOneForm, IsOrder, IsQuestion, IsSubcommand, IsTrace, Suits, operand_of, says_true, verb_of, word_of};
 
 use clap::ArgMatches;
 use xp_serve::Limits;
@@ -13,6 +13,12 @@ pub const FILE: &str = "FILE";
 /// The address of a console.
 pub const ADDRESS: &str = "ADDRESS";
 
+/// The name of the calling line.
+pub const CALLER: &str = "CALLER";
+
+/// The address that is called.
+pub const DIALLED: &str = "DIALLED";
+
 /// The argument by which words for people are printed.
 pub const WORDS: &str = "words";
 
@@ -22,8 +28,26 @@ pub const LADDER: &str = "ladder";
 /// The argument for the file of a capture.
 pub const PCAP: &str = "pcap";
 
+/// The argument for the facility field of a call request.
+pub const FACILITIES: &str = "facilities";
+
+/// The argument for the user data of a call request.
+pub const USER: &str = "user";
+
+/// The argument for the lines that are in service.
+pub const UP: &str = "up";
+
+/// The argument for the lines that are in a call.
+pub const BUSY: &str = "busy";
+
 /// The argument for the file of call detail records.
 pub const CDR: &str = "cdr";
+
+/// The argument for the file of the trace.
+pub const TRACE: &str = "trace";
+
+/// The argument for the lines that are traced.
+pub const TRACE_LINES: &str = "trace-lines";
 
 /// The argument for the address of the console.
 pub const CONSOLE: &str = "console";
@@ -45,6 +69,7 @@ pub const UNTIL_EOF: &str = "until-eof";
 pub enum Verb {
     Check,
     Replay,
+    Explain,
     Serve,
     Status,
     Stop,
@@ -60,6 +85,7 @@ impl Verb {
         match self {
             Verb::Check => "check",
             Verb::Replay => "replay",
+            Verb::Explain => "explain",
             Verb::Serve => "serve",
             Verb::Status => "status",
             Verb::Stop => "stop",
@@ -74,6 +100,7 @@ impl Verb {
         match word {
             "check" => Some(Verb::Check),
             "replay" => Some(Verb::Replay),
+            "explain" => Some(Verb::Explain),
             "serve" => Some(Verb::Serve),
             "status" => Some(Verb::Status),
             "stop" => Some(Verb::Stop),
@@ -86,10 +113,19 @@ impl Verb {
         ensures { result.now ≡ operand_of self }
     {
         match self {
-            Verb::Check | Verb::Replay | Verb::Serve => FILE,
+            Verb::Check | Verb::Replay | Verb::Explain | Verb::Serve => FILE,
             Verb::Status | Verb::Stop => ADDRESS,
         }
     }
+}
+
+/// The form in which a subscription file that sets up is told.
+#[derive(Clone, Copy, Debug, PartialEq, Eq)]
+pub enum CheckForm {
+    /// A line of counts.
+    Counts,
+    /// A summary for a person.
+    Words,
 }
 
 /// The form in which a replay is told.
@@ -105,12 +141,40 @@ pub enum ReplayForm<'a> {
     Capture(&'a str),
 }
 
+/// A call request whose decision is to be explained.
+#[derive(Clone, Copy, Debug, PartialEq, Eq)]
+pub struct QuestionOrder<'a> {
+    /// The name of the calling line.
+    pub caller: &'a str,
+    /// The address that is called, in digits.
+    pub dialled: &'a str,
+    /// The facility field, in hexadecimal digits.
+    pub facilities: Option<&'a str>,
+    /// The user data, in hexadecimal digits.
+    pub user: Option<&'a str>,
+    /// The names of the lines that are in service, with commas between them; where absent all are.
+    pub up: Option<&'a str>,
+    /// The names of the lines that are in a call, with commas between them; where absent none is.
+    pub busy: Option<&'a str>,
+}
+
+/// What is to be traced as lines are served.
+#[derive(Clone, Copy, Debug, PartialEq, Eq)]
+pub struct TraceOrder<'a> {
+    /// The name of the file of the trace.
+    pub path: &'a str,
+    /// The names of the lines that are traced, with commas between them; where absent all are.
+    pub lines: Option<&'a str>,
+}
+
 /// How the lines are to be served.
 #[derive(Clone, Copy, Debug, PartialEq, Eq)]
 pub struct ServeOrder<'a> {
     pub limits: Limits,
     /// The name of the file of call detail records, if there is to be one.
     pub details: Option<&'a str>,
+    /// What is to be traced, if anything.
+    pub trace: Option<TraceOrder<'a>>,
     /// The address at which the console is to be, if there is to be one.
     pub console: Option<&'a str>,
     /// Whether only failures are told on standard error.
@@ -132,9 +196,11 @@ pub enum ConsoleRequest {
 #[derive(Clone, Copy, Debug, PartialEq, Eq)]
 pub enum Subcommand<'a> {
     /// Checks a subscription file.
-    Check,
+    Check(CheckForm),
     /// Replays a script from standard input.
     Replay(ReplayForm<'a>),
+    /// Explains how a call request is decided.
+    Explain(QuestionOrder<'a>),
     /// Serves the lines over TCP.
     Serve(ServeOrder<'a>),
     /// Asks the console of a serving exchange.
@@ -157,10 +223,14 @@ impl<'a> Subcommand<'a> {
         ensures none { IfNone result ((subcommand : Subcommand) → verb_of subcommand ≡ verb → Suits (rows_of (found_of matches.now)) subcommand → ⊥) }
     {
         match verb {
-            Verb::Check => Some(Subcommand::Check),
+            Verb::Check => Some(Subcommand::Check(check_form(matches))),
             Verb::Replay => {
                 let form = replay_form(matches)?;
                 Some(Subcommand::Replay(form))
+            }
+            Verb::Explain => {
+                let question = question_of(matches)?;
+                Some(Subcommand::Explain(question))
             }
             Verb::Serve => {
                 let order = order_of(matches)?;
@@ -176,12 +246,24 @@ impl<'a> Subcommand<'a> {
         ensures { result ≡ verb_of self.now }
     {
         match self {
-            Subcommand::Check => Verb::Check,
+            Subcommand::Check(_) => Verb::Check,
             Subcommand::Replay(_) => Verb::Replay,
+            Subcommand::Explain(_) => Verb::Explain,
             Subcommand::Serve(_) => Verb::Serve,
             Subcommand::Ask(ConsoleRequest::Status) => Verb::Status,
             Subcommand::Ask(ConsoleRequest::Stop) => Verb::Stop,
         }
+    }
+}
+
+/// The form in which the arguments ask for what a subscription file sets up.
+fn check_form(matches: &ArgMatches) -> CheckForm
+    ensures { HasCheckForm (rows_of (found_of matches.now)) result }
+{
+    if is_true(matches, WORDS) {
+        CheckForm::Words
+    } else {
+        CheckForm::Counts
     }
 }
 
@@ -210,12 +292,34 @@ fn one_form<'a>(words: bool, ladder: bool, capture: Option<&'a str>) -> Option<R
     }
 }
 
+/// The call request whose decision the arguments ask to be explained.
+fn question_of<'a>(matches: &ArgMatches<'a>) -> Option<QuestionOrder<'a>>
+    ensures found { IfSome result (λ question. IsQuestion (rows_of (found_of matches.now)) question) }
+    ensures none { IfNone result ((question : QuestionOrder) → IsQuestion (rows_of (found_of matches.now)) question → ⊥) }
+{
+    let caller = matches.get_str(CALLER)?;
+    let dialled = matches.get_str(DIALLED)?;
+    let facilities = matches.get_str(FACILITIES);
+    let user = matches.get_str(USER);
+    let up = matches.get_str(UP);
+    let busy = matches.get_str(BUSY);
+    Some(QuestionOrder {
+        caller,
+        dialled,
+        facilities,
+        user,
+        up,
+        busy,
+    })
+}
+
 /// How the arguments ask the lines to be served.
 fn order_of<'a>(matches: &ArgMatches<'a>) -> Option<ServeOrder<'a>>
     ensures found { IfSome result (λ order. IsOrder (rows_of (found_of matches.now)) order) }
     ensures none { IfNone result ((order : ServeOrder) → IsOrder (rows_of (found_of matches.now)) order → ⊥) }
 {
     let limits = limits_of(matches)?;
+    let trace = trace_of(matches)?;
     let details = matches.get_str(CDR);
     let console = matches.get_str(CONSOLE);
     let quiet = is_true(matches, QUIET);
@@ -223,10 +327,33 @@ fn order_of<'a>(matches: &ArgMatches<'a>) -> Option<ServeOrder<'a>>
     Some(ServeOrder {
         limits,
         details,
+        trace,
         console,
         quiet,
         until_eof,
     })
+}
+
+/// What the arguments ask to be traced, if anything. `None` where they name lines and no file.
+fn trace_of<'a>(matches: &ArgMatches<'a>) -> Option<Option<TraceOrder<'a>>>
+    ensures found { IfSome result (λ trace. HasTrace (rows_of (found_of matches.now)) trace) }
+    ensures none { IfNone result ((trace : Option TraceOrder) → HasTrace (rows_of (found_of matches.now)) trace → ⊥) }
+{
+    let path = matches.get_str(TRACE);
+    let lines = matches.get_str(TRACE_LINES);
+    trace_into(path, lines)
+}
+
+/// What is traced into a file, of these lines. `None` where there are lines and no file.
+fn trace_into<'a>(path: Option<&'a str>, lines: Option<&'a str>) -> Option<Option<TraceOrder<'a>>>
+    ensures found { IfSome result (IsTrace (option_map (λ path. path.now) path.entry) (option_map (λ names. names.now) lines.entry)) }
+    ensures none { IfNone result ((trace : Option TraceOrder) → IsTrace (option_map (λ path. path.now) path.entry) (option_map (λ names. names.now) lines.entry) trace → ⊥) }
+{
+    match (path, lines) {
+        (Some(path), lines) => Some(Some(TraceOrder { path, lines })),
+        (None, None) => Some(None),
+        (None, Some(_)) => None,
+    }
 }
 
 /// The limits that the arguments set to serving.

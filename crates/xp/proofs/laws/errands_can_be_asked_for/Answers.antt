@@ -1,11 +1,11 @@
-use Rattle.std.proofs.Common.{Some, ap, arith, codes, option_map, refl}
+use Rattle.std.proofs.Common.{Some, ap, arith, codes, option_map, refl, sym}
 use Rattle.xp_serve.specs.Limits.{IsNumber}
 use Rattle.clap.proofs.OnLiterals.{clap_on_literals}
 use Rattle.xp.proofs.laws.errands_can_be_asked_for.Goals as goal
 
 pub returns-clause-check : goal.returns-clause-check
 unfolding clap_on_literals
-returns-clause-check c = record { faultless = refl; asked = record { word = _; rows = _; found_is = refl; subcommand_is = (refl, tt); named = refl } }
+returns-clause-check c = record { faultless = refl; asked = record { word = _; rows = _; found_is = refl; subcommand_is = (refl, refl); named = refl } }
 
 pub returns-clause-replay : goal.returns-clause-replay
 unfolding clap_on_literals
@@ -26,7 +26,7 @@ returns-clause-serve c =
         word = _;
         rows = _;
         found_is = refl;
-        subcommand_is = (refl, record { limits = record { records_are = refl; turns_are = refl }; details = refl; console = refl; quiet = refl; until_eof = refl });
+        subcommand_is = (refl, record { limits = record { records_are = refl; turns_are = refl }; details = refl; trace = (refl, refl); console = refl; quiet = refl; until_eof = refl });
         named = refl;
       };
     }
@@ -40,7 +40,7 @@ returns-clause-limits c =
         word = _;
         rows = _;
         found_is = refl;
-        subcommand_is = (refl, record { limits = record { records_are = twelve; turns_are = three }; details = refl; console = refl; quiet = refl; until_eof = refl });
+        subcommand_is = (refl, record { limits = record { records_are = twelve; turns_are = three }; details = refl; trace = (refl, refl); console = refl; quiet = refl; until_eof = refl });
         named = refl;
       };
     }
@@ -48,13 +48,37 @@ returns-clause-limits c =
 pub returns-clause-details : goal.returns-clause-details
 unfolding clap_on_literals
 returns-clause-details c =
-    λ order details limits console quiet until_eof. record {
+    λ order details limits trace console quiet until_eof. record {
       faultless = refl;
       asked = record {
         word = _;
         rows = _;
         found_is = refl;
-        subcommand_is = (refl, record { limits = rw (limits) (record { records_are = refl; turns_are = refl }); details = details; console = ap (option_map (λ address. address.now)) console; quiet = quiet; until_eof = until_eof });
+        subcommand_is = (refl, record { limits = rw (limits) (record { records_are = refl; turns_are = refl }); details = details; trace = rw (trace) ((refl, refl)); console = ap (option_map (λ address. address.now)) console; quiet = quiet; until_eof = until_eof });
+        named = refl;
+      };
+    }
+
+pub returns-clause-trace : goal.returns-clause-trace
+unfolding clap_on_literals
+returns-clause-trace c =
+    λ order trace traced path lines limits details console quiet until_eof. record {
+      faultless = refl;
+      asked = record {
+        word = _;
+        rows = _;
+        found_is = refl;
+        subcommand_is = (
+          refl,
+          record {
+            limits = rw (limits) (record { records_are = refl; turns_are = refl });
+            details = ap (option_map (λ name. name.now)) details;
+            trace = rw (traced) ((ap Some (sym path), lines));
+            console = ap (option_map (λ address. address.now)) console;
+            quiet = quiet;
+            until_eof = until_eof;
+          },
+        );
         named = refl;
       };
     }
@@ -67,6 +91,10 @@ pub returns-clause-stop : goal.returns-clause-stop
 unfolding clap_on_literals
 returns-clause-stop c = record { faultless = refl; asked = record { word = _; rows = _; found_is = refl; subcommand_is = (refl, tt); named = refl } }
 
+pub returns-clause-summary : goal.returns-clause-summary
+unfolding clap_on_literals
+returns-clause-summary c = record { faultless = refl; asked = record { word = _; rows = _; found_is = refl; subcommand_is = (refl, refl); named = refl } }
+
 pub returns-clause-words : goal.returns-clause-words
 unfolding clap_on_literals
 returns-clause-words c = record { faultless = refl; asked = record { word = _; rows = _; found_is = refl; subcommand_is = (refl, (refl, refl, refl)); named = refl } }
@@ -74,3 +102,27 @@ returns-clause-words c = record { faultless = refl; asked = record { word = _; r
 pub returns-clause-ladder : goal.returns-clause-ladder
 unfolding clap_on_literals
 returns-clause-ladder c = record { faultless = refl; asked = record { word = _; rows = _; found_is = refl; subcommand_is = (refl, (refl, refl, refl)); named = refl } }
+
+pub returns-clause-explain : goal.returns-clause-explain
+unfolding clap_on_literals
+returns-clause-explain c =
+    λ question caller dialled facilities user up busy. record {
+      faultless = refl;
+      asked = record {
+        word = _;
+        rows = _;
+        found_is = refl;
+        subcommand_is = (
+          refl,
+          record {
+            caller = ap Some caller;
+            dialled = ap Some dialled;
+            facilities = facilities;
+            user = ap (option_map (λ text. text.now)) user;
+            up = ap (option_map (λ text. text.now)) up;
+            busy = busy;
+          },
+        );
+        named = refl;
+      };
+    }

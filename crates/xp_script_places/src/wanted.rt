@@ -1,0 +1,139 @@
+//! What was wanted at the faulty line of a script.
+
+use crate::shown::Shown;
+use crate::trial::{Form, Trial};
+use std::alloc::{AllocError, Global};
+use std::fmt::Write;
+use xp_script::MAX_LINE_OCTETS;
+use xp_subs::Subs;
+
+/// What was wanted at the first of these lines that is no line of a script over these subscriptions, as one line without its end:
+/// `no line is named "x9"`. Empty where each of them is a line of a script.
+///
+/// What is told is found by reading the line again with a part of it changed. No contract says what the text tells.
+///
+/// # Errors
+///
+/// An allocation failed.
+pub fn wanted_at(alloc: Global, subs: &Subs, lines: &[u8]) -> Result<String, AllocError> {
+    let trial = Trial { alloc, subs };
+    let mut told = String::new(alloc);
+    for line in lines.split(|octet| *octet == b'\n') {
+        if !trial.is_line(line)? {
+            push_wanted(trial, &mut told, line)?;
+            return Ok(told);
+        }
+    }
+    Ok(told)
+}
+
+/// What was wanted at a faulty line.
+fn push_wanted(trial: Trial<'_>, told: &mut String, line: &[u8]) -> Result<(), AllocError> {
+    if line.len() > MAX_LINE_OCTETS {
+        return write!(told, "the line is longer than {MAX_LINE_OCTETS} octets");
+    }
+    if let Some((b'\r', front)) = line.split_last() {
+        if trial.is_line(front)? {
+            return told.push_str(
+                "a line feed alone is wanted behind the line, found a carriage return before it",
+            );
+        }
+    }
+    let words = words_of(trial.alloc, line)?;
+    if trial.are_line(&words)? {
+        return write!(
+            told,
+            "one space is wanted between the words, and none before or behind them, found {}",
+            Shown(line)
+        );
+    }
+    push_form(trial, told, line, &words)
+}
+
+/// The words of a line, whatever spaces stand around them.
+fn words_of<'a>(alloc: Global, line: &'a [u8]) -> Result<Vec<&'a [u8]>, AllocError> {
+    let mut words = Vec::new(alloc);
+    for word in line.split(|octet| *octet == b' ') {
+        if !word.is_empty() {
+            words.push(word)?;
+        }
+    }
+    Ok(words)
+}
+
+/// What was wanted at a faulty line of these words, by its first word.
+fn push_form(
+    trial: Trial<'_>,
+    told: &mut String,
+    line: &[u8],
+    words: &[&[u8]],
+) -> Result<(), AllocError> {
+    let Some((word, behind)) = words.split_first() else {
+        return push_any(told, line);
+    };
+    match (trial.form_of(word)?, behind) {
+        (Some(Form::Moment), [digits]) => write!(
+            told,
+            "a number of 1 to 20 digits up to {} is wanted, found {}",
+            u64::MAX,
+            Shown(digits)
+        ),
+        (Some(Form::Line), [name]) => push_name(told, name),
+        (Some(Form::Octets), [name, digits]) => push_octets(trial, told, word, name, digits),
+        (Some(Form::Moment), _) => push_usage(told, word, "N", line),
+        (Some(Form::Line), _) => push_usage(told, word, "LINE", line),
+        (Some(Form::Octets), _) => push_usage(told, word, "LINE HEX", line),
+        (None, _) => push_any(told, line),
+    }
+}
+
+/// Any line is wanted.
+fn push_any(told: &mut String, line: &[u8]) -> Result<(), AllocError> {
+    write!(
+        told,
+        "wanted: up LINE, down LINE, expire LINE, in LINE HEX, at N, or a comment (#), found {}",
+        Shown(line)
+    )
+}
+
+/// A line of this form is wanted.
+fn push_usage(told: &mut String, word: &[u8], behind: &str, line: &[u8]) -> Result<(), AllocError> {
+    write!(
+        told,
+        "wanted: {} {behind}, found {}",
+        word.escape_ascii(),
+        Shown(line)
+    )
+}
+
+/// The name of a line is wanted.
+fn push_name(told: &mut String, name: &[u8]) -> Result<(), AllocError> {
+    write!(told, "no line is named {}", Shown(name))
+}
+
+/// The name of a line is wanted, or digits behind it.
+fn push_octets(
+    trial: Trial<'_>,
+    told: &mut String,
+    word: &[u8],
+    name: &[u8],
+    digits: &[u8],
+) -> Result<(), AllocError> {
+    if !trial.are_line(&[word, name, b"00"])? {
+        return push_name(told, name);
+    }
+    for octet in digits {
+        if !trial.are_line(&[word, name, &[*octet, b'0']])? {
+            return write!(
+                told,
+                "hexadecimal digits are wanted, found {}",
+                Shown(&[*octet])
+            );
+        }
+    }
+    write!(
+        told,
+        "an even number of hexadecimal digits is wanted, found {}",
+        digits.len()
+    )
+}
