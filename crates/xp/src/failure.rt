@@ -13,7 +13,7 @@ use std::io;
 use thiserror::Error;
 use xp_cdr::OpenFault;
 use xp_console::{AskFault, ConsoleFault};
-use xp_serve::ServeFailure;
+use xp_serve::{ServeFailure, TraceFault};
 use xp_tasks::TaskFailure;
 
 /// Why the program failed.
@@ -37,6 +37,12 @@ pub enum Failure {
     /// The file of call detail records was not opened.
     #[error("xp: cdr: {0}")]
     Cdr(OpenFault),
+    /// The file of the trace can't be made.
+    #[error("xp: trace: {0}")]
+    Trace(TraceFault),
+    /// No line has this name, of those that were to be traced.
+    #[error("xp: trace-lines {0}")]
+    TraceLines(String),
     /// The console can't be served.
     #[error("xp: console: {0}")]
     Console(ConsoleFault),
@@ -49,15 +55,20 @@ pub enum Failure {
 }
 
 impl Failure {
-    /// The exit status: 2 for arguments, 5 for output that nobody reads, for the file of call detail records and for a console, else
-    /// that of the task or of serving.
+    /// The exit status: 2 for arguments, 5 for output that nobody reads, for the file of call detail records, for a trace and for a
+    /// console, else that of the task or of serving.
     pub fn status(&self) -> u8
         ensures { result ≡ status_of self.now }
     {
         match self {
             Failure::Arguments(_) | Failure::Question(_) => 2,
             Failure::Task(failure) | Failure::Refused(failure, _) => failure.status(),
-            Failure::Unread | Failure::Cdr(_) | Failure::Console(_) | Failure::Ask(_) => 5,
+            Failure::Unread
+            | Failure::Cdr(_)
+            | Failure::Trace(_)
+            | Failure::TraceLines(_)
+            | Failure::Console(_)
+            | Failure::Ask(_) => 5,
             Failure::Serve(failure) => failure.status(),
         }
     }
@@ -72,6 +83,8 @@ impl Failure {
             Failure::Question(_)
             | Failure::Refused(_, _)
             | Failure::Cdr(_)
+            | Failure::Trace(_)
+            | Failure::TraceLines(_)
             | Failure::Console(_)
             | Failure::Ask(_) => rt.eprintln(self),
             Failure::Serve(failure) => rt.eprintln(failure),

@@ -16,6 +16,7 @@ mod serving;
 mod status_feed;
 mod subcommand;
 mod subscribing;
+mod tracing;
 
 use crate::arguments::Arguments;
 use crate::checking::check_file;

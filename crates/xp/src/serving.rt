@@ -5,6 +5,7 @@ ghost use Rattle.std.specs.Prelude.{◌≡◌, []};
 use crate::failure::Failure;
 use crate::served_console::ServedConsole;
 use crate::subcommand::ServeOrder;
+use crate::tracing::Tracing;
 use log::Log;
 use std::alloc::AllocGlobal;
 use std::fs::{File, Files};
@@ -20,7 +21,7 @@ use std::{io, thread};
 use xp_cdr::{DetailFile, Opened};
 use xp_serve::{
     Attending, ConsoleFeed, DetailKeeper, NoConsole, OperatorLog, OperatorWatch, RecordKeeper,
-    RecordPrinter, StopInput, serve,
+    RecordPrinter, StopInput, TracedWatch, serve,
 };
 use xp_subs::Subs;
 use xp_tasks::TaskFailure;
@@ -44,8 +45,7 @@ pub(crate) fn serve_lines<
 {
     let alloc = rt.alloc();
     let clock = WallClock::start();
-    // TRACE: what `order.trace` asks for is to be joined here; nothing is traced yet.
-    let _ = order.trace;
+    let tracing = Tracing::begin(rt, order.trace.as_ref(), &subs)?;
     match order.details {
         Some(path) => {
             let (file, opened) = DetailFile::open(rt, path)?;
@@ -60,12 +60,12 @@ pub(crate) fn serve_lines<
                 OperatorLog::new(rt, order.quiet),
                 output,
             );
-            attend(rt, order, clock, subs, keeper)
+            attend(rt, order, clock, subs, tracing, keeper)
         }
         None => {
             let output = BufWriter::new(alloc, io::writer(rt)).map_err(|_| TaskFailure::Memory)?;
             let keeper = RecordPrinter::new(alloc, names, output);
-            attend(rt, order, clock, subs, keeper)
+            attend(rt, order, clock, subs, tracing, keeper)
         }
     }
 }
@@ -82,41 +82,52 @@ fn attend<
         + Threads
         + Wait,
     K: RecordKeeper,
->(rt: &R, order: &ServeOrder<'_>, clock: WallClock, subs: Subs, keeper: K) -> Result<(), Failure>
+>(
+    rt: &R,
+    order: &ServeOrder<'_>,
+    clock: WallClock,
+    subs: Subs,
+    tracing: Tracing,
+    keeper: K,
+) -> Result<(), Failure>
     requires names { K.named_by keeper ≡ subs }
     requires new { K.received keeper ≡ [] }
 {
-    let notices = Arc::new(rt.alloc(), Notices::new(rt.alloc())?).map_err(|_| TaskFailure::Memory)?;
+    let alloc = rt.alloc();
+    let notices = Arc::new(alloc, tracing.notices(alloc)?).map_err(|_| TaskFailure::Memory)?;
     match order.console {
         Some(address) => {
             let served = ServedConsole::listen(rt, address)?;
-            let feed = served.feed(rt.alloc(), &subs, clock, &notices)?;
-            let watch = watch_over(rt, order, clock, &subs, &notices, feed)?;
+            let feed = served.feed(alloc, &subs, clock, &notices)?;
+            let watch = watch_over(rt, order, clock, &subs, &notices, tracing, feed)?;
             let attending = Attending { keeper, watch };
             serve_beside(rt, order, served, subs, notices, attending)
         }
         None => {
-            let watch = watch_over(rt, order, clock, &subs, &notices, NoConsole)?;
+            let watch = watch_over(rt, order, clock, &subs, &notices, tracing, NoConsole)?;
             let attending = Attending { keeper, watch };
-            serve(rt, rt.alloc(), subs, order.limits, notices, attending).outcome?;
+            serve(rt, alloc, subs, order.limits, notices, attending).outcome?;
             Ok(())
         }
     }
 }
 
-/// What watches over the lines.
+/// What watches over the lines, and writes their trace.
 fn watch_over<'a, R: AllocGlobal + Log, F: ConsoleFeed>(
     rt: &'a R,
     order: &ServeOrder<'_>,
     clock: WallClock,
     subs: &Subs,
     notices: &Arc<Notices>,
+    tracing: Tracing,
     console: F,
-) -> Result<OperatorWatch<&'a R, F>, Failure> {
+) -> Result<TracedWatch<OperatorWatch<&'a R, F>, BufWriter<File>, &'a R>, Failure> {
     let stop = order.until_eof.then_some(StopInput::default());
     let log = OperatorLog::new(rt, order.quiet);
     let notices = Arc::try_clone(notices)?;
-    Ok(OperatorWatch::new(rt.alloc(), subs, notices, stop, console, clock, log)?)
+    let watch = OperatorWatch::new(rt.alloc(), subs, notices, stop, console, clock, log)?;
+    let log = OperatorLog::new(rt, order.quiet);
+    Ok(TracedWatch::new(watch, tracing.writer, clock, log))
 }
 
 /// Serves the lines, and the console on a thread of its own beside them.
