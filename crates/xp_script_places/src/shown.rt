@@ -10,10 +10,8 @@ pub(crate) struct Shown<'a>(pub(crate) &'a [u8]);
 impl fmt::Display for Shown<'_> {
     fn fmt<W: fmt::Write>(&self, f: &mut fmt::Formatter<W>) -> fmt::Result {
         let octets = self.0;
-        if octets.len() <= MOST_SHOWN {
-            write!(f, "\"{}\"", octets.escape_ascii())
-        } else {
-            write!(f, "\"{}..\"", octets[..MOST_SHOWN].escape_ascii())
-        }
+        let front = octets.get(..MOST_SHOWN).unwrap_or(octets);
+        let rest = if front.len() < octets.len() { ".." } else { "" };
+        write!(f, "\"{}{rest}\"", front.escape_ascii())
     }
 }
