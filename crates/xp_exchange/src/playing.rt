@@ -104,23 +104,15 @@ impl<A: Allocator + Copy> ScriptPlayer<A> {
         ensures refused { IfErr result (RefusesLine A self.old.exchange.subs number line.now) }
         ensures exchange { self.new.exchange ≡ self.old.exchange }
     {
-        let memory = mem::replace(&mut self.octets, Vec::new(self.alloc));
-        let command = match Command::read(self.core.subs(), line, memory) {
-            Ok(command) => command,
-            Err(LineFault::Faulty) => return Err(ReplayFault::Script(number)),
-            Err(LineFault::Memory) => return Err(ReplayFault::Memory),
-        };
-        let next = moment_after(self.moment, &command);
-        read_events(
-            &self.core,
-            &mut self.streams,
-            self.moment,
-            command,
-            events,
-            &mut self.octets,
-        )?;
-        self.moment = next;
-        Ok(())
+        let ScriptPlayer {
+            alloc,
+            core,
+            streams,
+            moment,
+            octets,
+            ..
+        } = self;
+        read_line(*alloc, core, streams, moment, octets, number, line, events)
     }
 
     /// Acts on an event, and returns its entry.
@@ -149,18 +141,49 @@ impl<A: Allocator + Copy> ScriptPlayer<A> {
     ) -> Result<(), ReplayFault>
         ensures { (text : List ℕ) × Appends (W.contents writer.old) (W.contents writer.new) text × Played self.old number line.now result self.new text }
     {
-        let mut events = mem::replace(&mut self.events, VecDeque::new(self.alloc));
-        self.read_line(number, line, &mut events)?;
-        let ended = act_on_all(
-            &mut self.core,
-            &mut events,
-            &mut self.octets,
-            &mut self.text,
-            writer,
-        );
-        self.events = events;
-        ended
+        let ScriptPlayer {
+            alloc,
+            core,
+            streams,
+            moment,
+            octets,
+            events,
+            text,
+        } = self;
+        read_line(*alloc, core, streams, moment, octets, number, line, events)?;
+        act_on_all(core, events, octets, text, writer)
     }
+}
+
+/// Reads the line of this number, and fills the queue with its events. `memory` is for the octets that come in on a line. What it
+/// and the queue held is lost.
+#[inline(always)]
+fn read_line<A: Allocator + Copy>(
+    alloc: A,
+    core: &Core<A>,
+    streams: &mut Streams<A>,
+    moment: &mut u64,
+    memory: &mut Vec<u8, A>,
+    number: u64,
+    line: &[u8],
+    events: &mut VecDeque<Event<A>, A>,
+) -> Result<(), ReplayFault>
+    requires lines { length streams.old ≡ line_count core.now.subs }
+    ensures read { OnOk result (ReadsLine (record { exchange = core.now; unfinished = streams.old; moment = moment.old }) line.now events.new.items (record { exchange = core.now; unfinished = streams.new; moment = moment.new })) }
+    ensures fit { OnOk result (All (Fits core.now.subs) events.new.items) }
+    ensures refused { IfErr result (RefusesLine A core.now.subs number line.now) }
+    ensures lines { length streams.new ≡ length streams.old }
+{
+    let octets = mem::replace(memory, Vec::new(alloc));
+    let command = match Command::read(core.subs(), line, octets) {
+        Ok(command) => command,
+        Err(LineFault::Faulty) => return Err(ReplayFault::Script(number)),
+        Err(LineFault::Memory) => return Err(ReplayFault::Memory),
+    };
+    let next = moment_after(*moment, &command);
+    read_events(core, streams, *moment, command, events, memory)?;
+    *moment = next;
+    Ok(())
 }
 
 /// Returns the moment of the events that follow a command.
