@@ -211,9 +211,11 @@ fn read_events<A: Allocator + Copy>(
     ensures fit { OnOk result (All (λ event. (event.line < line_count core.now.subs) × CanCome event.what) events.new.items) }
     ensures lines { length streams.new ≡ length streams.old }
 {
-    events.clear();
     let (line, what) = match command {
-        Command::Nothing | Command::At(_) => return Ok(()),
+        Command::Nothing | Command::At(_) => {
+            events.clear();
+            return Ok(());
+        }
         Command::Up(line) => {
             if is_off(core, line) {
                 streams.begin(line);
@@ -224,6 +226,7 @@ fn read_events<A: Allocator + Copy>(
         Command::Expire(line) => (line, What::Expire),
         Command::In(line, octets) => {
             if is_off(core, line) {
+                events.clear();
                 return Ok(());
             }
             let modulus = core.subs().modulus_of(line);
@@ -242,15 +245,16 @@ fn is_off<A: Allocator>(core: &Core<A>, line: LineNo) -> bool
     core.is_out_of_service(line)
 }
 
-/// Adds an event to the queue.
+/// Fills the queue with one event.
 fn put<A: Allocator>(
     line: LineNo,
     moment: u64,
     what: What<A>,
     events: &mut VecDeque<Event<A>, A>,
 ) -> Result<(), AllocError>
-    ensures { OnOk result (events.new.items ≡ events.old.items ++ event_of line moment what ∷ []) }
+    ensures { OnOk result (events.new.items ≡ event_of line moment what ∷ []) }
 {
+    events.clear();
     events.push_back(Event { line, moment, what })?;
     Ok(())
 }

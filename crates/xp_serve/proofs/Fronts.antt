@@ -1,5 +1,5 @@
 -- Texts of which a front is written.
-use Rattle.std.proofs.Common.{◌≡◌, ℕ, ◌+◌, ◌<◌, List, [], ◌∷◌, ◌++◌, refl, sym, ap, ◌∙◌, append_assoc, arith, drop, flat_map, get_or, length, take}
+use Rattle.std.proofs.Common.{◌≡◌, ℕ, ◌+◌, ◌<◌, List, [], ◌∷◌, ◌++◌, sym, ap, ◌∙◌, append_assoc, arith, drop, flat_map, get_or, length, take}
 use Rattle.std.proofs.lemmas.Grind.{common_steps, flat_map-append}
 use Rattle.xp_serve.specs.Printing.{IsFront}
 
@@ -14,6 +14,10 @@ front_of count text = (drop count text, both_parts count text)
 pub front_behind : (first front second rest : List ℕ) → IsFront front second → IsFront (first ++ front) ((first ++ second) ++ rest)
 front_behind first front second rest is =
     (is.0 ++ rest, ap (λ text. (first ++ text) ++ rest) is.1 ∙ ap (λ text. text ++ rest) (sym (append_assoc first front is.0)) ∙ append_assoc (first ++ front) is.0 rest)
+
+-- the first of two texts, and a front of the second
+pub front_after : (first front second : List ℕ) → IsFront front second → IsFront (first ++ front) (first ++ second)
+front_after first front second is = (is.0, ap (λ text. first ++ text) is.1 ∙ sym (append_assoc first front is.0))
 
 module _ {X : Type 0} (f : X → List ℕ) (xs : List X) (i : ℕ) (x : X) (within : i < length xs) (is : x ≡ get_or xs i x) where
   -- one item more

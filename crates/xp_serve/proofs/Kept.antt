@@ -1,7 +1,7 @@
 -- Records that are given to a keeper of call detail records, some after the others.
-use Rattle.std.proofs.Common.{◌≡◌, ◌⊎◌, Bool, Err, true, false, List, [], ◌++◌, Option, ℕ, ap, append-nil, append_assoc, inl, inr, refl, subst, sym, true≢false, ◌∙◌}
+use Rattle.std.proofs.Common.{◌≡◌, Bool, Err, List, [], ◌++◌, Option, ℕ, ap, append-nil, append_assoc, inl, inr, subst, sym, true≢false, ◌∙◌}
 use Rattle.std.specs.Io.KnownBytes.{Appends}
-use Rattle.xp_cdr.specs.Ledger.{Ledger, Takes, with_given}
+use Rattle.xp_cdr.specs.Ledger.{Ledger, Takes}
 use Rattle.xp_charge.specs.declared.record.Record.{Record}
 use Rattle.xp_exchange.proofs.Bytes.{appends_both}
 use Rattle.xp_serve.specs.Details.{AreKept, IsFirstOf, Keeping}

@@ -1,6 +1,7 @@
 mod Accesses
 mod Addresses
 mod EarlyEnds
+mod Flushed
 mod Fronts
 mod Kept
 mod Passes

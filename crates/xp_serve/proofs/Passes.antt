@@ -1,6 +1,5 @@
 -- The passes of all lines come back.
 use Rattle.std.proofs.Common.{◌≡◌, ℕ, zero, suc, ◌+◌, ◌<◌, ◌==◌, ◌||◌, Bool, true, false, List, [], ◌∷◌, Option, Some, ap, arith, eq-eqb, length, map, option_map, refl, slice_get, subst, sym, true≢false, ◌∙◌}
-use mathlib.Core.List.{map-map}
 use Rattle.std.proofs.lemmas.List.{length-map}
 use Rattle.std.proofs.lemmas.Option.{slice_get-map}
 use Rattle.std.specs.declared.alloc.Global.{Global as Alloc}

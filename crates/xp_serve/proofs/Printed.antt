@@ -1,10 +1,11 @@
 -- Records that a printer is given, some after the others.
-use Rattle.std.proofs.Common.{◌≡◌, ℕ, List, ◌++◌, Option, Result, Ok, Err, ap, append_assoc, flat_map, subst, sym, ◌∙◌}
+use Rattle.std.proofs.Common.{ℕ, List, ◌++◌, Option, Result, Ok, Err, ap, append_assoc, flat_map, subst, sym, ◌∙◌}
 use Rattle.std.proofs.lemmas.Grind.{flat_map-append}
 use Rattle.std.specs.Io.KnownBytes.{Appends}
 use Rattle.xp_charge.specs.Text.{record_text}
 use Rattle.xp_charge.specs.declared.record.Record.{Record}
 use Rattle.xp_exchange.proofs.Bytes.{appends_both}
+use Rattle.xp_serve.proofs.Fronts.{front_after}
 use Rattle.xp_serve.specs.Printing.{IsFront, Prints}
 use Rattle.xp_serve.specs.declared.keep_fault.KeepFault.{KeepFault}
 use Rattle.xp_serve.specs.steps.Printing.{PrintsOn}
@@ -13,10 +14,6 @@ use Rattle.xp_subs.specs.Tables.{Tables}
 -- a front of the first of two texts
 front_before : (front first second : List ℕ) → IsFront front first → IsFront front (first ++ second)
 front_before front first second is = (is.0 ++ second, ap (λ text. text ++ second) is.1 ∙ append_assoc front is.0 second)
-
--- the first of two texts, and a front of the second
-front_after : (first front second : List ℕ) → IsFront front second → IsFront (first ++ front) (first ++ second)
-front_after first front second is = (is.0, ap (λ text. first ++ text) is.1 ∙ sym (append_assoc first front is.0))
 
 prints_both : (before between after : Option (List ℕ)) (first second : List ℕ) (so_far result : Result (Unit {0}) KeepFault)
     → Prints before between first so_far → PrintsOn so_far between after second result → Prints before after (first ++ second) result

@@ -1,5 +1,5 @@
 -- What is told of what was served.
-use Rattle.std.proofs.Common.{◌≡◌, ◌⊎◌, ◌↔◌, ℕ, ◌<◌, List, IfSome, Option, Some, None, Result, Err, Ok, ap, inl, inr, length, refl, subst, sym, zero-add, ◌∙◌}
+use Rattle.std.proofs.Common.{◌≡◌, ◌↔◌, ℕ, ◌<◌, List, IfSome, Option, Some, None, Result, Err, Ok, ap, inl, inr, length, subst, sym, zero-add, ◌∙◌}
 use Rattle.std.specs.declared.net.ip_addr.IpAddr.{IpAddr}
 use Rattle.xp_charge.specs.declared.record.Record.{Record}
 use Rattle.xp_serve.proofs.EarlyEnds.{early_within}

@@ -1,5 +1,5 @@
 -- What is kept of charging records in a file of call detail records (`AreKept`).
-use Rattle.std.specs.Prelude.{◌≡◌, ℕ, List, [], ◌++◌, Bool, Option, Result, Ok, Err}
+use Rattle.std.specs.Prelude.{◌≡◌, ℕ, List, ◌++◌, Bool, Option, Result, Ok, Err}
 use Rattle.std.specs.Io.KnownBytes.{Appends}
 use Rattle.xp_cdr.specs.Ledger.{HasAll, IsUnfinished, IsWhole, Ledger}
 use Rattle.xp_charge.specs.declared.record.Record.{Record}

@@ -1,5 +1,5 @@
 -- For private steps. What a keeper of call detail records always keeps, and how further records are given to the writer of its file.
-use Rattle.std.specs.Prelude.{◌≡◌, ◌⊎◌, ℕ, List, ◌++◌, Bool, true, false, Option}
+use Rattle.std.specs.Prelude.{◌≡◌, ◌⊎◌, ℕ, List, Bool, true, false, Option}
 use Rattle.std.specs.Io.KnownBytes.{Appends}
 use Rattle.xp_cdr.specs.Ledger.{IsUnfinished, IsWhole, Ledger, with_given}
 use Rattle.xp_charge.specs.declared.record.Record.{Record}

@@ -1,4 +1,4 @@
-use Rattle.std.proofs.Common.{◌+◌, ◌<◌, ◌++◌, ◌∷◌, [], arith, length, subst, sym, take}
+use Rattle.std.proofs.Common.{◌+◌, arith, subst, sym, take}
 use Rattle.std.proofs.lemmas.List.{length-take-le}
 use Rattle.xp_tcp.specs.Admissions.{IsRefused}
 use Rattle.xp_serve.specs.steps.Addresses.{AreAddresses}

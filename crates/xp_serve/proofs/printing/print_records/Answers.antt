@@ -1,4 +1,4 @@
-use Rattle.std.proofs.Common.{◌≡◌, ◌++◌, Err, ap, drop, flat_map, subst, sym, take, ◌+◌, ◌∙◌}
+use Rattle.std.proofs.Common.{◌++◌, Err, ap, drop, flat_map, subst, sym, take, ◌+◌, ◌∙◌}
 use Rattle.std.proofs.lemmas.Result.{err_from_is_err_and}
 use Rattle.std.specs.Io.KnownBytes.{Appends}
 use Rattle.xp_charge.specs.Text.{record_text}

@@ -1,4 +1,4 @@
-use Rattle.std.proofs.Common.{[], ◌++◌, ap, inl, inr, refl, sym, ◌∙◌}
+use Rattle.std.proofs.Common.{◌++◌, ap, inl, inr, refl, sym, ◌∙◌}
 use Rattle.xp_subs.specs.Tables.{line_count}
 use Rattle.xp_serve.proofs.Accesses.{served_count}
 use Rattle.xp_serve.proofs.Told.{early_line, wants_memory}

@@ -1,5 +1,5 @@
 use Rattle.std.proofs.Common.{subst, sym}
-use Rattle.xp_serve.specs.Printing.{IsPrinted, Printer}
+use Rattle.xp_serve.specs.Printing.{IsPrinted}
 use Rattle.xp_serve.proofs.Printed.{printed_more}
 use Rattle.xp_serve.proofs.printing.RecordPrinter.print.Goals as goal
 
