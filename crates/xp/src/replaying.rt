@@ -11,7 +11,7 @@ use std::{fs, io};
 use xp_exchange::ReplayFault;
 use xp_script_places::{KeptLines, wanted_at};
 use xp_subs::Subs;
-use xp_tasks::{Task, TaskFailure, perform};
+use xp_tasks::{Task, TaskFailure, perform, subscriptions};
 use xp_transcript::{Form, tell};
 
 /// Replays a script from standard input over the subscription file of this name, and tells what comes of it.
@@ -102,7 +102,11 @@ fn with_wanted(
 }
 
 /// What was wanted at the first faulty line among these, over the subscriptions of this file.
-fn wanted_among(alloc: Global, file: &io::Result<String>, lines: &[u8]) -> Result<String, Failure> {
-    let subs = read_subscriptions(alloc, file)?;
+fn wanted_among(
+    alloc: Global,
+    file: &io::Result<String>,
+    lines: &[u8],
+) -> Result<String, TaskFailure> {
+    let subs = subscriptions(alloc, file)?;
     Ok(wanted_at(alloc, &subs, lines)?)
 }

@@ -21,7 +21,7 @@ pub const FAULTY: [(&str, &str); 30] = [
     ),
     (
         "a comment that has no number sign in front of it",
-        r#"wanted: up LINE, down LINE, expire LINE, in LINE HEX, at N, or a comment (#), found "a comment that has no number sign in fron..""#,
+        r#"wanted: up LINE, down LINE, expire LINE, in LINE HEX, at N, or a comment (#), found "a comment that has no number sign in fro..""#,
     ),
     (
         "é",
