@@ -92,7 +92,10 @@ impl<W: Write + Drop> TraceWriter<W> {
         self.room.clear();
         write_file_header(&mut self.room)?;
         write_all(&mut self.output, self.room.as_slice())?;
-        flush(&mut self.output)
+        match self.output.flush() {
+            Ok(()) => Ok(()),
+            Err(_) => Err(TraceFault::Write),
+        }
     }
 
     /// Writes the pieces that wait, with this moment, in seconds since 1970. After a failure nothing is traced any more.
@@ -156,7 +159,10 @@ pub fn write_pieces<W: Write>(
     for piece in pieces {
         write_one(output, room, moment, piece)?;
     }
-    flush(output)
+    match output.flush() {
+        Ok(()) => Ok(()),
+        Err(_) => Err(TraceFault::Write),
+    }
 }
 
 /// Writes what a piece adds to a capture file.
@@ -178,16 +184,6 @@ fn write_all<W: Write>(output: &mut W, octets: &[u8]) -> Result<(), TraceFault>
     ensures { Prints (W.contents output.old) (W.contents output.new) octets.now result }
 {
     match write_out(output, octets) {
-        Ok(()) => Ok(()),
-        Err(_) => Err(TraceFault::Write),
-    }
-}
-
-/// Flushes an output.
-fn flush<W: Write>(output: &mut W) -> Result<(), TraceFault>
-    ensures { Prints (W.contents output.old) (W.contents output.new) [] result }
-{
-    match output.flush() {
         Ok(()) => Ok(()),
         Err(_) => Err(TraceFault::Write),
     }
