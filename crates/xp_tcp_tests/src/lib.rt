@@ -13,3 +13,5 @@ mod incoming;
 mod outgoing;
 #[cfg(test)]
 mod scene;
+#[cfg(test)]
+mod traces;

@@ -9,7 +9,7 @@ use std::thread;
 use std::thread::Threads;
 use std::time::Duration;
 use xp_lines::{Arrived, Clock, Link, Port, Pulled, Pushed};
-use xp_tcp::{Door, LineLink, LinePort, Notice, Notices, Sockets, TcpClock};
+use xp_tcp::{Door, LineLink, LinePort, Notice, Notices, Sockets, TcpClock, Trace, TracedLines};
 
 /// How many seconds a router waits for octets.
 const PATIENCE: u64 = 10;
@@ -20,15 +20,18 @@ const MOST_TRIES: u32 = 1_000;
 /// The line and its router. The router listens at 127.0.0.1.
 #[derive(Drop)]
 pub struct Scene {
+    pub alloc: Global,
     pub router: TcpListener,
     pub port: LinePort,
     pub link: LineLink,
     pub clock: TcpClock,
     pub notices: Arc<Notices>,
+    pub trace: Arc<Trace>,
     pub door_at: SocketAddr,
 }
 
-fn local(port: u16) -> SocketAddr {
+/// A port of 127.0.0.1.
+pub fn local(port: u16) -> SocketAddr {
     SocketAddr::V4(SocketAddrV4::new(Ipv4Addr::LOCALHOST, port))
 }
 
@@ -40,7 +43,9 @@ pub fn set<R: Net<Listener = TcpListener, Stream = TcpStream>>(
 ) -> Result<(Scene, Door), Fail> {
     let router = TcpListener::bind(rt, local(0))?;
     let at = SocketAddr::V4(SocketAddrV4::new(address, router.local_addr()?.port()));
-    let notices = Arc::new(alloc, Notices::new(alloc)?)?;
+    let trace = Arc::new(alloc, Trace::new(alloc, TracedLines::All, 1)?)?;
+    let traced = Notices::with_trace(alloc, Some(Arc::try_clone(&trace)?))?;
+    let notices = Arc::new(alloc, traced)?;
     let mut sockets = Sockets::new(alloc, 1, Arc::try_clone(&notices)?)?;
     sockets.add_router(rt, at)?;
     sockets.open_door(rt, alloc, IpAddr::V4(Ipv4Addr::LOCALHOST), 0)?;
@@ -53,11 +58,13 @@ pub fn set<R: Net<Listener = TcpListener, Stream = TcpStream>>(
     };
     let door = ends.door.ok_or("no door")?;
     let scene = Scene {
+        alloc,
         router,
         port,
         link,
         clock,
         notices,
+        trace,
         door_at,
     };
     Ok((scene, door))
