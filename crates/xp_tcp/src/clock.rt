@@ -3,7 +3,6 @@
 ghost use Rattle.std.specs.Prelude.{◌≡◌, ◌≤◌, ◌/◌};
 ghost use Rattle.std.specs.Duration.{as_nanos};
 
-use crate::line_sockets::WAKER;
 use crate::start::Start;
 use mio::{Events, Poll};
 use std::marker::Model;
@@ -101,8 +100,7 @@ impl TcpClock {
     }
 }
 
-/// Sleeps until something comes to the line's sockets or another line wakes it. False where the time was up before that. Where another
-/// line alone woke it, nothing has come to the sockets, and no read is tried.
+/// Sleeps until something comes to the line's sockets or another line wakes it. False where the time was up before that.
 fn sleep(poll: &mut Poll, events: &mut Events, waker: &LineWaker) -> bool {
     let mut came = true;
     if waker.begin_sleep() {
@@ -110,9 +108,6 @@ fn sleep(poll: &mut Poll, events: &mut Events, waker: &LineWaker) -> bool {
         // Where the wait fails, the turn that follows finds nothing, and the thread waits again.
         let _ = poll.poll(events, Some(most));
         came = !events.is_empty();
-        if !came || events.iter().any(|event| event.token() != WAKER) {
-            waker.refill();
-        }
     }
     waker.end_sleep();
     came
@@ -162,10 +157,10 @@ impl Clock for TcpClock {
         if self.looks < MOST_LOOKS {
             self.looks += 1;
             thread::yield_now();
-            waker.refill();
         } else if sleep(&mut self.poll, &mut self.events, waker) {
             self.looks = 0;
         }
+        waker.refill();
     }
 
     fn wake(&mut self, line: LineNo)
