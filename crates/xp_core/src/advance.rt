@@ -1,6 +1,6 @@
 //! Enters one event.
 
-ghost use Rattle.std.specs.Prelude.{◌≡◌, ◌+◌, ◌<◌, ◌≤◌, ◌^◌, true, IfNone, IfSome, IfOk, IfErr, IsOk, OnOk, OnErr, length};
+ghost use Rattle.std.specs.Prelude.{◌≡◌, ◌+◌, ◌<◌, ◌≤◌, ◌^◌, true, Err, IfNone, IfSome, IfOk, IfErr, IsOk, OnOk, OnErr, length};
 ghost use Rattle.xp_subs.specs.Sound.{IsSound as IsSubs};
 ghost use Rattle.xp_subs.specs.Tables.{line_count};
 ghost use Rattle.xp_core.specs.Agreed.{AllHaveTerms};
@@ -65,8 +65,17 @@ pub fn advance<A: Allocator + Copy>(
 {
     match prepare_entry(alloc, subs, machine, relays, journal, workspace, &event) {
         Ok(work) => Ok(journal.enter(event, work)),
-        Err(_) => Err(StepFault::Memory(event)),
+        Err(_) => refuse_for_memory(event),
     }
+}
+
+/// Refuses an event for want of memory. A function clears the room of its values as it begins, so this one is kept out of its caller.
+#[cold]
+#[inline(never)]
+fn refuse_for_memory<A: Allocator>(event: Event<A>) -> Result<Entry<A>, StepFault<A>>
+    ensures { result ≡ Err (StepFault.Memory event) }
+{
+    Err(StepFault::Memory(event))
 }
 
 /// Prepares all that an event needs, and changes the state last.

@@ -87,6 +87,7 @@ impl<A: Allocator + Copy> Core<A> {
     ///
     /// `JournalFull` if fewer than four places of the history are left, for a stall if none is left. Else `Memory` if
     /// memory is wanting. The event comes back, and nothing has changed.
+    #[inline(always)]
     pub fn step(&mut self, event: Event<A>) -> Result<Entry<A>, StepFault<A>>
         requires line { event.line < line_count self.old.subs }
         requires readable { IsReadable event.what }
@@ -101,7 +102,7 @@ impl<A: Allocator + Copy> Core<A> {
         ensures err { OnErr result (self.new ≡ self.old) }
     {
         if self.journal.count() + event.what.places() > self.subs.journal() {
-            return Err(StepFault::JournalFull(event));
+            return refuse_for_places(event);
         }
         let Core {
             alloc,
@@ -243,4 +244,14 @@ impl<A: Allocator> Core<A> {
     {
         &self.subs
     }
+}
+
+/// Refuses an event for which the history has too few places. A function clears the room of its values as it begins, so this one is
+/// kept out of its caller.
+#[cold]
+#[inline(never)]
+fn refuse_for_places<A: Allocator>(event: Event<A>) -> Result<Entry<A>, StepFault<A>>
+    ensures { result ≡ Err (StepFault.JournalFull event) }
+{
+    Err(StepFault::JournalFull(event))
 }

@@ -151,6 +151,7 @@ impl<A: Allocator> Journal<A> {
     }
 
     /// Enters an event that leads to this, and returns the new entry. It allocates nothing.
+    #[inline(always)]
     pub fn enter(&mut self, event: Event<A>, work: PreparedEntry<A>) -> Entry<A>
         requires records { self.old.stalls + length work.records.items ≤ self.old.record_room }
         requires few { length self.old.history < 2 ^ 60 }

@@ -12,6 +12,7 @@ use xp_channel::{Action, EventKind};
 use xp_machine::ChannelState;
 
 /// Returns the action that the table has for an event on a line in this state.
+#[inline(always)]
 pub fn action_of<A: Allocator>(state: ChannelState, what: &What<A>) -> Action
     ensures { result ≡ cell (channel_of (state_of state)) (kind_of what.now) }
 {

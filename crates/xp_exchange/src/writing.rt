@@ -7,6 +7,7 @@ use std::io::{ErrorKind, Write};
 
 /// Writes the whole text. If the writer fails, a prefix of the text is written. This does not call `write_all`, whose
 /// contract does not say what is written when the writer fails.
+#[inline(always)]
 pub fn write_out<W: Write>(writer: &mut W, text: &[u8]) -> Result<(), ReplayFault>
     ensures { Puts (W.contents writer.old) (W.contents writer.new) text.now result }
 {

@@ -24,18 +24,18 @@ use crate::name::Name;
 use crate::pass::LinePass;
 use crate::receipt::Receipt;
 use crate::recorder::Recorder;
+use crossbeam_utils::Backoff;
 use std::alloc::{AllocError, Allocator, Global};
 use std::marker::Model;
 use std::sync::atomic::AtomicBool;
 use std::sync::atomic::Ordering::SeqCst;
 use std::sync::{Mutex, Wait};
-use std::thread;
 use xp_charge::Record;
 use xp_core::{Event, Outgoing};
 use xp_subs::LineNo;
 
-/// How often a thread tries to take the lock before it sleeps until the lock is free. Between two tries it lets other
-/// threads run.
+/// How often a thread tries to take the lock before it sleeps until the lock is free. Between two tries it waits for a moment, and
+/// after some tries lets other threads run.
 const MOST_TRIES: u32 = 100;
 
 /// The exchange that threads share. `N` names it.
@@ -104,13 +104,14 @@ impl<N: Name, A: Allocator + Copy> Exchange<N, A> {
     }
 
     /// Takes the lock. A thread holds it for some microseconds. To put a thread to sleep costs more than many tries, and
-    /// between two tries other threads run: the one that holds the lock, or those that packets come from.
+    /// between later tries other threads run: the one that holds the lock, or those that packets come from.
     pub fn lock<R: Wait>(&self, rt: &R) -> ExchangeGuard<'_, N, A> {
+        let backoff = Backoff::new();
         for _try in 0..MOST_TRIES {
             if let Some(keeper) = self.lock.try_lock() {
                 return ExchangeGuard::new(keeper, &self.history_length);
             }
-            thread::yield_now();
+            backoff.snooze();
         }
         ExchangeGuard::new(self.lock.lock(rt), &self.history_length)
     }

@@ -93,6 +93,7 @@ impl<A: Allocator> Machine<A> {
 
     /// Cancels the call that was put to the line `cancelled`, if a line is given, and then makes the change, if one is
     /// given. It allocates first: if memory is wanting, nothing has changed.
+    #[inline(always)]
     pub fn apply(
         &mut self,
         cancelled: Option<LineNo>,

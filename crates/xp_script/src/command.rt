@@ -43,6 +43,7 @@ impl<A: Allocator> Command<A> {
     ///
     /// `Faulty` where the line is too long or says nothing that a script may say; `Memory` where there is none for
     /// the octets that come in.
+    #[inline(always)]
     pub fn read(subs: &Subs, line: &[u8], memory: Vec<u8, A>) -> Result<Command<A>, LineFault>
         ensures said { Reads subs.now line.now result }
         ensures line { IfOk result (HasLine (line_count subs.now)) }
@@ -65,6 +66,7 @@ fn is_skipped(line: &[u8]) -> bool
     matches!(line, [] | [b'#', ..])
 }
 
+#[inline(always)]
 fn read_words<A: Allocator>(
     subs: &Subs,
     text: &[u8],
@@ -106,6 +108,7 @@ fn about_moment<A: Allocator>(digits: &[u8]) -> Option<Command<A>>
 }
 
 /// `in` of a line, with the octets that come in.
+#[inline(always)]
 fn about_octets<A: Allocator>(
     verb: &[u8],
     line: Option<LineNo>,

@@ -36,6 +36,7 @@ use xp_past::Past;
 use xp_subs::Subs;
 
 /// Plans what an event does. It fails only if memory is wanting.
+#[inline(always)]
 pub fn plan_of<A: Allocator + Copy>(
     alloc: A,
     subs: &Subs,

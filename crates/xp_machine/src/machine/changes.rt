@@ -52,6 +52,7 @@ pub fn free_if_any<A: Allocator>(
 }
 
 /// Makes the change, if one is given.
+#[inline(always)]
 pub fn make_if_any<A: Allocator>(
     lines: &mut Vec<LogicalChannel, A>,
     calls: &mut Slab<LiveCall, A>,
