@@ -47,7 +47,7 @@ fn write_file(alloc: Global, writes: u64) -> Result<Written, Fail> {
     tap.send(SENT);
     // After a failure the second finds nothing to do.
     for _look in 0..2 {
-        failures += usize::from(writer.write_waiting(MOMENT).is_err());
+        failures = failures.wrapping_add(usize::from(writer.write_waiting(MOMENT).is_err()));
     }
     Ok(Written {
         octets: writer.into_output().text,
