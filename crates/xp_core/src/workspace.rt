@@ -38,6 +38,7 @@ impl<A: Allocator> Workspace<A> {
     }
 
     /// Returns no outputs, with room for this many.
+    #[inline(always)]
     pub fn buffer(&mut self, alloc: A, room: usize) -> Result<Buffer<A>, AllocError>
         ensures { IfOk result (λ buffer. buffer ≡ record { outputs = []; room = room }) }
     {

@@ -126,6 +126,7 @@ fn about_octets<A: Allocator>(
 }
 
 /// The octets that hexadecimal digits stand for, at least one, in this vector, whatever it holds.
+#[inline(always)]
 fn octets_of<A: Allocator>(digits: &[u8], memory: Vec<u8, A>) -> Result<InputOctets<A>, LineFault>
     ensures octets { Answers (octets_of digits.now) result }
     ensures memory { LacksMemory result → IsSome (octets_of digits.now) }

@@ -119,6 +119,7 @@ fn count<T>(some: &Option<T>) -> usize
 }
 
 /// Plans that the call is put to a line.
+#[inline(always)]
 fn put<A: Allocator>(
     found: &EventLine<'_, A>,
     request: &CallRequest<'_, A>,

@@ -74,6 +74,7 @@ pub fn make_if_any<A: Allocator>(
 }
 
 /// Makes a change.
+#[inline(always)]
 fn make<A: Allocator>(
     lines: &mut Vec<LogicalChannel, A>,
     calls: &mut Slab<LiveCall, A>,
