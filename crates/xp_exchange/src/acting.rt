@@ -24,6 +24,7 @@ const MOST_WAITING: usize = 1_000;
 
 /// Takes the events off the queue and acts on them in turn. Writes the text of each entry before it acts on the next
 /// event. `memory` is for the octets of a frame, and `text` for the text of an entry. What they held is lost.
+#[inline(always)]
 pub fn act_on_all<A: Allocator + Copy, W: Write>(
     core: &mut Core<A>,
     events: &mut VecDeque<Event<A>, A>,
