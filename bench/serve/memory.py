@@ -9,6 +9,7 @@ import json
 import multiprocessing
 import os
 import pathlib
+import select
 import socket
 import subprocess
 import sys
@@ -87,8 +88,7 @@ def calls_of(pair, base, wanted, done):
     request = server.frame(server.call_request(server.address(pair)))
     accepted, clear, confirmation = (server.frame(packet) for packet in (ACCEPTED, server.CLEAR_REQUEST, server.CLEAR_CONFIRMATION))
     for _ in range(wanted):
-        caller.sendall(request)
-        receive(called, 0x0B)
+        ring(caller, called, request, confirmation)
         called.sendall(accepted)
         receive(caller, 0x0F)
         caller.sendall(clear)
@@ -96,6 +96,18 @@ def calls_of(pair, base, wanted, done):
         called.sendall(confirmation)
         receive(caller, 0x17)
         done[pair] += 1
+
+
+def ring(caller, called, request, confirmation):
+    """Calls until the called line rings: it is busy for as long as its clear confirmation is under way."""
+    while True:
+        caller.sendall(request)
+        ready, _, _ = select.select([caller, called], [], [])
+        if called in ready:
+            receive(called, 0x0B)
+            return
+        receive(caller, 0x13)
+        caller.sendall(confirmation)
 
 
 def receive(end, kind):
