@@ -4,8 +4,11 @@
     python3 bench/words_tshark.py [PROGRAM]
 
 PROGRAM, `crates/xp/out/xp` if none is given, replays each row with --words and with --pcap; `tshark` reads the capture. Both must
-have the same packets in the same order: the way, the line, the channel, the type, and the numbers of data and flow control. What
-the words call malformed is compared by its place alone. Exit status 0: they are the same in every row.
+have the same packets in the same order: the way, the line, the channel, the type, and the numbers of data and flow control.
+
+What the dissector (Wireshark 4.0) calls malformed is compared by its way and its line alone: clear and reset requests without a
+diagnostic, which X.25 allows, and packets that rows break on purpose. Of data with modulo 128 it names the third octet P(R) and the
+fourth P(S), where X.25 has P(S) first: these two are exchanged. Rows that end with a fault are left out. Exit status 0: no difference.
 """
 import os
 import re
