@@ -5,6 +5,7 @@ It must not grow with what was served. README.md says what is compared.
 """
 
 import argparse
+import itertools
 import json
 import multiprocessing
 import os
@@ -29,9 +30,20 @@ class Exchange(server.Process):
 
     def __init__(self, program, folder, pairs):
         self.base = server.free_ports(2 * pairs)
+        self.details = pathlib.Path(folder) / "calls.csv"
+        self.seen = self.octets = 0
         file = pathlib.Path(folder) / "subscriptions.toml"
         file.write_text(server.subscriptions(pairs, self.base))
-        super().__init__([program, "serve", file, "--cdr", pathlib.Path(folder) / "calls.csv"], folder)
+        super().__init__([program, "serve", file, "--cdr", self.details], folder)
+
+    def records(self):
+        """How many call detail records its file has, behind the header."""
+        with self.details.open("rb") as file:
+            file.seek(self.octets)
+            more = file.read()
+        self.octets += len(more)
+        self.seen += more.count(b"\n")
+        return max(0, self.seen - 1)
 
 
 class Samples:
@@ -77,8 +89,9 @@ def data(arguments, load, folder):
         return samples.tell("events")
 
 
-def calls_of(pair, base, wanted, done):
-    """So many calls of a pair of lines, one after the other: accepted, and cleared by the caller."""
+def calls_of(pair, base, wanted, done, refused):
+    """So many calls of a pair of lines, one after the other: accepted, and cleared by the caller. Counts them, and the tries that
+    were refused."""
     ends = [socket.create_connection(("127.0.0.1", base + 2 * pair + side)) for side in range(2)]
     for end in ends:
         end.setsockopt(socket.IPPROTO_TCP, socket.TCP_NODELAY, 1)
@@ -88,7 +101,7 @@ def calls_of(pair, base, wanted, done):
     request = server.frame(server.call_request(server.address(pair)))
     accepted, clear, confirmation = (server.frame(packet) for packet in (ACCEPTED, server.CLEAR_REQUEST, server.CLEAR_CONFIRMATION))
     for _ in range(wanted):
-        ring(caller, called, request, confirmation)
+        refused[pair] += ring(caller, called, request, confirmation)
         called.sendall(accepted)
         receive(caller, 0x0F)
         caller.sendall(clear)
@@ -99,13 +112,14 @@ def calls_of(pair, base, wanted, done):
 
 
 def ring(caller, called, request, confirmation):
-    """Calls until the called line rings: it is busy for as long as its clear confirmation is under way."""
-    while True:
+    """Calls until the called line rings: it is busy for as long as its clear confirmation is under way. Returns how many tries were
+    refused."""
+    for refused in itertools.count():
         caller.sendall(request)
         ready, _, _ = select.select([caller, called], [], [])
         if called in ready:
             receive(called, 0x0B)
-            return
+            return refused
         receive(caller, 0x13)
         caller.sendall(confirmation)
 
@@ -117,24 +131,55 @@ def receive(end, kind):
         sys.exit(f"got {packet.hex()} where {kind:02x} is due")
 
 
+class Lag:
+    """How far the file of call detail records lagged behind the calls that ended."""
+
+    def __init__(self, exchange):
+        self.exchange, self.most, self.longest, self.last, self.moved = exchange, 0, 0, 0, time.monotonic()
+
+    def take(self, ended):
+        """There were so many records to write, at least. Returns how many the file has not."""
+        now, records = time.monotonic(), self.exchange.records()
+        lag = max(0, ended - records)
+        self.most = max(self.most, lag)
+        if lag == 0 or records > self.last:
+            self.last, self.moved = records, now
+        self.longest = max(self.longest, now - self.moved)
+        return lag
+
+
 def calls(arguments, folder):
-    """Pairs of lines have calls that come and go, one after the other."""
+    """Pairs of lines have calls that come and go, one after the other. Each call has a record in the end, and so has each try that
+    was refused."""
     with Exchange(arguments.xp, folder, PAIRS) as exchange:
         exchange.connect(exchange.base).close()
         time.sleep(1)
         samples = Samples("calls", exchange, arguments.first // EVENTS_OF_A_CALL, arguments.most)
-        done = multiprocessing.Array("Q", PAIRS, lock=False)
+        lag = Lag(exchange)
+        done, refused = (multiprocessing.Array("Q", PAIRS, lock=False) for _ in range(2))
         playing = [
-            multiprocessing.Process(target=calls_of, args=(pair, exchange.base, arguments.calls // PAIRS, done)) for pair in range(PAIRS)
+            multiprocessing.Process(target=calls_of, args=(pair, exchange.base, arguments.calls // PAIRS, done, refused))
+            for pair in range(PAIRS)
         ]
         for it in playing:
             it.start()
         while any(it.is_alive() for it in playing):
             samples.take(sum(done))
+            lag.take(sum(done) + sum(refused))
             time.sleep(0.1)
         if any(it.exitcode for it in playing):
             sys.exit(f"calls failed; {exchange.said()}")
         samples.take(sum(done))
+        ended = sum(done) + sum(refused)
+        patience = time.monotonic() + 60
+        while lag.take(ended) and time.monotonic() < patience:
+            time.sleep(0.1)
+        print(
+            f"calls: {sum(done):,} and {sum(refused):,} tries that were refused; {exchange.records():,} records, of which the file"
+            f" lacked {lag.most:,} at most, and took none for {lag.longest:.1f} s at most", flush=True
+        )
+        if exchange.records() != ended:
+            sys.exit(f"{ended:,} records are due")
         return samples.tell("calls")
 
 

@@ -20,8 +20,8 @@ use std::time::Clock;
 use std::{io, thread};
 use xp_cdr::{DetailFile, Opened};
 use xp_serve::{
-    Attending, ConsoleFeed, DetailKeeper, NoConsole, OperatorLog, OperatorWatch, RecordKeeper,
-    RecordPrinter, StopInput, TracedWatch, serve,
+    Attending, ConsoleFeed, DetailKeeper, FileSyncer, NoConsole, OperatorLog, OperatorWatch,
+    RecordKeeper, RecordPrinter, StopInput, SyncSignal, TracedWatch, serve,
 };
 use xp_subs::Subs;
 use xp_tasks::TaskFailure;
@@ -50,6 +50,8 @@ pub(crate) fn serve_lines<
         Some(path) => {
             let (file, opened) = DetailFile::open(rt, path)?;
             tell_torn(rt, clock, &opened);
+            let syncer = FileSyncer::new(file.handle()?, clock, OperatorLog::new(rt, order.quiet));
+            let signal = Arc::new(alloc, SyncSignal::new()).map_err(|_| TaskFailure::Memory)?;
             let output = io::writer(rt);
             let keeper = DetailKeeper::new(
                 alloc,
@@ -58,9 +60,10 @@ pub(crate) fn serve_lines<
                 clock.seconds(),
                 clock,
                 OperatorLog::new(rt, order.quiet),
+                Arc::try_clone(&signal)?,
                 output,
             );
-            attend(rt, order, clock, subs, tracing, keeper)
+            attend_and_sync(rt, order, clock, subs, tracing, keeper, syncer, signal)
         }
         None => {
             let output = BufWriter::new(alloc, io::writer(rt)).map_err(|_| TaskFailure::Memory)?;
@@ -68,6 +71,60 @@ pub(crate) fn serve_lines<
             attend(rt, order, clock, subs, tracing, keeper)
         }
     }
+}
+
+/// Serves the lines with this keeper of their charging records, as `attend` does, and syncs the file of these on a thread of its own
+/// beside them.
+fn attend_and_sync<
+    R: AllocGlobal
+        + Clock
+        + Log
+        + Net<Listener = TcpListener, Stream = TcpStream>
+        + RandomSource
+        + Sync
+        + Threads
+        + Wait,
+    K: RecordKeeper,
+>(
+    rt: &R,
+    order: &ServeOrder<'_>,
+    clock: WallClock,
+    subs: Subs,
+    tracing: Tracing,
+    keeper: K,
+    syncer: FileSyncer<&R>,
+    signal: Arc<SyncSignal>,
+) -> Result<(), Failure>
+    requires names { K.named_by keeper ≡ subs }
+    requires new { K.received keeper ≡ [] }
+{
+    let ends = Arc::try_clone(&signal)?;
+    thread::scope(
+        thread::scope_env(),
+        rt,
+        |scope| -> Result<(), Failure>
+            requires names { K.named_by keeper ≡ subs }
+            requires new { K.received keeper ≡ [] }
+        {
+            let Some(running) = begin_sync(rt, scope, syncer, signal) else {
+                return Err(Failure::Task(TaskFailure::Memory));
+            };
+            let outcome = attend(rt, order, clock, subs, tracing, keeper);
+            ends.end();
+            running.join(rt);
+            outcome
+        },
+    )
+}
+
+/// Starts the thread that syncs the file of call detail records. `None` where it cannot be started.
+fn begin_sync<'s, E, R: Log + Sync + Wait + 's>(
+    rt: &'s R,
+    scope: &Scope<'s, E>,
+    syncer: FileSyncer<&'s R>,
+    signal: Arc<SyncSignal>,
+) -> Option<JoinHandle<()>> {
+    scope.spawn(move || syncer.run(rt, &signal)).ok()
 }
 
 /// Serves the lines with this keeper of their charging records, tells what the operator has to know, and looks whether to stop.

@@ -113,6 +113,15 @@ impl DetailFile {
         Ok((file, opened))
     }
 
+    /// Another handle of the file, by which it can be synced.
+    ///
+    /// # Errors
+    ///
+    /// None can be had.
+    pub fn handle(&self) -> Result<File, OpenFault> {
+        self.file.try_clone().map_err(OpenFault::Open)
+    }
+
     /// Notes a failure, and passes it on.
     fn failed(&mut self, error: io::Error) -> io::Error
         ensures taken { self.new.taken ≡ self.old.taken }

@@ -91,7 +91,7 @@ impl<F: RecordFile> DetailWriter<F> {
         ensures flushes { Flushes self.old result self.new }
         ensures whole { IsWhole self.new }
     {
-        self.write_out()?;
+        self.write()?;
         if self.is_synced {
             return Ok(());
         }
@@ -100,8 +100,12 @@ impl<F: RecordFile> DetailWriter<F> {
         Ok(())
     }
 
-    /// Offers all that waits to the file.
-    fn write_out(&mut self) -> io::Result<()>
+    /// Writes out all that waits, and does not wait until it is on the disk.
+    ///
+    /// # Errors
+    ///
+    /// What the file tells. It may have taken a part. The next call goes on behind the last octet that it has taken.
+    pub fn write(&mut self) -> io::Result<()>
         ensures takes { Takes self.old self.new }
         ensures all { OnOk result (self.new.waiting ≡ []) }
         ensures whole { IsWhole self.new }

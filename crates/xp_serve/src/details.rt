@@ -10,11 +10,13 @@ ghost use Rattle.xp_subs.specs.Tables.{line_count};
 use crate::keep_fault::KeepFault;
 use crate::keeping::RecordKeeper;
 use crate::operator_log::OperatorLog;
+use crate::syncing::SyncSignal;
 use log::Log;
 use std::alloc::Global;
 use std::io::Write;
 use std::marker::Model;
 use std::snapshot::Snapshot;
+use std::sync::Arc;
 use xp_cdr::{DetailWriter, RecordFile};
 use xp_charge::Record;
 use xp_exchange::write_out;
@@ -41,6 +43,8 @@ pub struct DetailKeeper<F: RecordFile, L: Log, W: Write> {
     output: W,
     clock: WallClock,
     log: OperatorLog<L>,
+    /// Asks for a sync of the file, which is waited for only at the end.
+    sync: Arc<SyncSignal>,
     /// From which second on the file is tried again, where its last write failed.
     retry_at: Option<u64>,
     /// Whether memory was wanting.
@@ -73,6 +77,7 @@ impl<F: RecordFile, L: Log, W: Write> DetailKeeper<F, L, W> {
         started: u64,
         clock: WallClock,
         log: OperatorLog<L>,
+        sync: Arc<SyncSignal>,
         output: W,
     ) -> DetailKeeper<F, L, W>
         requires taken { F.taken file ≡ [] }
@@ -87,6 +92,7 @@ impl<F: RecordFile, L: Log, W: Write> DetailKeeper<F, L, W> {
             output,
             clock,
             log,
+            sync,
             retry_at: None,
             is_short: false,
             given: Past::new(),
@@ -118,7 +124,7 @@ impl<F: RecordFile, L: Log, W: Write> DetailKeeper<F, L, W> {
         }
     }
 
-    /// Offers what waits to the file, unless its last write failed within this second.
+    /// Offers what waits to the file, unless its last write failed within this second, and asks for a sync of it.
     fn offer(&mut self)
         ensures given { self.new.given ≡ self.old.given }
         ensures keeps { GoesOnAs self.old self.new }
@@ -127,7 +133,12 @@ impl<F: RecordFile, L: Log, W: Write> DetailKeeper<F, L, W> {
         if self.retry_at.is_some_and(|at| now < at) {
             return;
         }
-        match self.writer.flush() {
+        if self.writer.waiting_octets() == 0 {
+            return;
+        }
+        let written = self.writer.write();
+        self.sync.want();
+        match written {
             Ok(()) => {
                 if self.retry_at.take().is_some() {
                     self.log.warn(now, "call detail records are written again");

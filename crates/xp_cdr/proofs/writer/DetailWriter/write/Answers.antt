@@ -3,7 +3,7 @@ use Rattle.std.proofs.lemmas.Bool.{false≢true}
 use Rattle.std.proofs.lemmas.List.{length-drop, take_all, take_rest}
 use Rattle.std.proofs.lemmas.Result.{IfOk-at_ok}
 use Rattle.xp_cdr.proofs.WriterLemmas.{all_taken, fewer_waiting, is_whole, more_taken}
-use Rattle.xp_cdr.proofs.writer.DetailWriter.write_out.Goals as goal
+use Rattle.xp_cdr.proofs.writer.DetailWriter.write.Goals as goal
 
 pub invariant_of-self : goal.invariant_of-self
 invariant_of-self g c =
