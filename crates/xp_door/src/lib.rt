@@ -27,5 +27,5 @@ pub use router_line::{Arrival, Attempt, RouterLine};
 pub use share::LineShare;
 pub use tap::Tap;
 pub use trace::Trace;
-pub use wakers::{LineWaker, wake_if_asleep};
+pub use wakers::{LineWaker, ThreadWaker, wake_if_asleep};
 pub use want::is_in_want;

@@ -1,29 +1,66 @@
-//! How the thread of a line is woken by those of other lines.
+//! How the thread that serves a line is woken by others.
 
 use mio::Waker;
+use std::sync::Arc;
 use std::sync::atomic::AtomicBool;
 use std::sync::atomic::Ordering::SeqCst;
 use xp_subs::LineNo;
 
-/// Wakes the thread of one line, and knows whether that has octets to read. To wake a thread that is not asleep, and to know
-/// that there are no octets, takes no call of the system.
+/// Wakes a thread that serves lines. To wake one that is not asleep takes no call of the system.
 #[derive(Drop)]
-pub struct LineWaker {
+pub struct ThreadWaker {
     waker: Waker,
-    /// The line has something to do that its thread may not have seen.
-    has_work: AtomicBool,
     /// The thread is asleep, or about to be, and no one has woken it.
     asleep: AtomicBool,
+}
+
+impl ThreadWaker {
+    pub fn new(waker: Waker) -> ThreadWaker {
+        ThreadWaker {
+            waker,
+            asleep: AtomicBool::new(false),
+        }
+    }
+
+    /// Wakes the thread where it sleeps, or is about to.
+    pub fn wake_if_asleep(&self) {
+        if self.asleep.load(SeqCst) && self.asleep.swap(false, SeqCst) {
+            // It fails only where the thread is woken already.
+            let _ = self.waker.wake();
+        }
+    }
+
+    /// The thread is about to sleep. From now on until `end_sleep` it is woken. It has to look once more whether a line of it has
+    /// work, and then to sleep or not.
+    pub fn begin_sleep(&self) {
+        self.asleep.store(true, SeqCst);
+    }
+
+    /// The thread is up.
+    pub fn end_sleep(&self) {
+        self.asleep.store(false, SeqCst);
+    }
+}
+
+/// What other threads tell the thread of a line, and what that knows of the line's connection.
+#[derive(Drop)]
+pub struct LineWaker {
+    thread: Arc<ThreadWaker>,
+    /// The line has something to do that its thread may not have seen.
+    has_work: AtomicBool,
+    /// The last turn of the line had something to do, or it has had none yet.
+    busy: AtomicBool,
     /// All octets that were there are read.
     emptied: AtomicBool,
 }
 
 impl LineWaker {
-    pub fn new(waker: Waker) -> LineWaker {
+    /// The waker of a line that this thread serves. Its first turn is due.
+    pub fn new(thread: Arc<ThreadWaker>) -> LineWaker {
         LineWaker {
-            waker,
+            thread,
             has_work: AtomicBool::new(false),
-            asleep: AtomicBool::new(false),
+            busy: AtomicBool::new(true),
             emptied: AtomicBool::new(false),
         }
     }
@@ -38,30 +75,32 @@ impl LineWaker {
 
     /// Wakes the line's thread where it sleeps, or is about to.
     pub fn wake_if_asleep(&self) {
-        if self.asleep.swap(false, SeqCst) {
-            // It fails only where the thread is woken already.
-            let _ = self.waker.wake();
+        self.thread.wake_if_asleep();
+    }
+
+    /// Whether work was marked. From now on it is not: the turn that follows looks at all that was put out to the line before this.
+    pub fn take_work(&self) -> bool {
+        self.has_work.load(SeqCst) && self.has_work.swap(false, SeqCst)
+    }
+
+    /// Whether the line may have something to do.
+    pub fn is_due(&self) -> bool {
+        self.has_work.load(SeqCst) || self.busy.load(SeqCst)
+    }
+
+    /// Whether the last turn of the line had something to do. Only the line's own thread sets it.
+    pub fn is_busy(&self) -> bool {
+        self.busy.load(SeqCst)
+    }
+
+    /// Sets whether the last turn of the line had something to do.
+    pub fn set_busy(&self, busy: bool) {
+        if self.busy.load(SeqCst) != busy {
+            self.busy.store(busy, SeqCst);
         }
     }
 
-    /// Whether work was marked. From now on it is not: the line's thread looks at all that was put out to it before this.
-    pub fn take_work(&self) -> bool {
-        self.has_work.swap(false, SeqCst)
-    }
-
-    /// Whether the line's thread may go to sleep. From now on until `end_sleep` it is woken.
-    pub fn begin_sleep(&self) -> bool {
-        self.asleep.store(true, SeqCst);
-        !self.take_work()
-    }
-
-    /// The line's thread is up, and looks at all that was put out to it before this.
-    pub fn end_sleep(&self) {
-        self.asleep.store(false, SeqCst);
-        self.has_work.store(false, SeqCst);
-    }
-
-    /// Whether the last read left no octets, and no time has passed since.
+    /// Whether the last read left no octets, and nothing was heard of the connection since.
     pub fn is_emptied(&self) -> bool {
         self.emptied.load(SeqCst)
     }
@@ -71,9 +110,11 @@ impl LineWaker {
         self.emptied.store(true, SeqCst);
     }
 
-    /// Time has passed, so that octets may have come, or their end.
+    /// Octets may have come, or their end.
     pub fn refill(&self) {
-        self.emptied.store(false, SeqCst);
+        if self.emptied.load(SeqCst) {
+            self.emptied.store(false, SeqCst);
+        }
     }
 }
 

@@ -5,6 +5,7 @@ mod Offered
 mod Pulling
 mod Recorded
 pub mod Served
+pub mod Serving
 pub mod Sessions
 mod Sums
 mod Together

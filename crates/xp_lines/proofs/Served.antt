@@ -3,13 +3,16 @@ use Rattle.std.proofs.Common.{◌≡◌, List, [], ◌∷◌, ◌++◌, ℕ, Opt
 use Rattle.std.proofs.lemmas.List.{map-append, map-id}
 use Rattle.std.specs.declared.alloc.Global.{Global as Alloc}
 use Rattle.std.specs.declared.thread.PromisedHandle.{PromisedHandle}
+use Rattle.std.specs.declared.vec.Vec.{Vec}
 use Rattle.xp_subs.specs.Tables.{Tables}
 use Rattle.xp_lock.specs.Passes.{Pass}
 use Rattle.xp_lines.specs.Pairs.{AreEach}
-use Rattle.xp_lines.specs.Sessions.{IsLineServed}
-use Rattle.xp_lines.specs.steps.Threads.{Begins, Ends, IsDownIfStopped}
+use Rattle.xp_lines.specs.Sessions.{IsLineDown, IsLineServed}
+use Rattle.xp_lines.specs.steps.Serving.{EndsSo}
+use Rattle.xp_lines.specs.steps.Threads.{Adds, begun_lines, lines_of}
+use Rattle.xp_lines.specs.declared.line.EndReason.TheVariants.{Stopped}
 use Rattle.xp_lines.specs.declared.line.LineEnd.{LineEnd}
-use Rattle.xp_lines.specs.declared.threads.OfLine.{OfLine}
+use Rattle.xp_lines.specs.declared.threads.OfLines.{OfLines}
 
 module _ {X Y Z : Type 0} (f : X → Z) (g : Y → Z) where
   -- the first of those that are left is the last of those that were moved
@@ -28,7 +31,7 @@ none_behind xs ys all none was = sym (append-nil xs) ∙ ap (λ zs. xs ++ zs) (s
 
 module _ {X Y : Type 0} (R : X → Y → Type 0) where
   -- one pair more
-  each_more : (xs : List X) (ys : List Y) (x : X) (y : Y) → AreEach R xs ys → R x y → AreEach R (xs ++ x ∷ []) (ys ++ y ∷ [])
+  pub each_more : (xs : List X) (ys : List Y) (x : X) (y : Y) → AreEach R xs ys → R x y → AreEach R (xs ++ x ∷ []) (ys ++ y ∷ [])
   each_more [] [] x y each one = (one, tt)
   each_more (first ∷ xs) (other ∷ ys) x y each one = (each.0, each_more xs ys x y each.1 one)
   each_more [] (other ∷ ys) x y each one = absurd each
@@ -53,15 +56,48 @@ module _ {X Y : Type 0} (R : X → Y → Type 0) where
     so_far_all all zs ys so_far none =
         subst (λ xs. AreEach R xs ys) (sym (append-nil so_far.0) ∙ ap (λ zs. so_far.0 ++ map f zs) (sym none) ∙ so_far.1) so_far.2
 
--- what holds by way of a list between holds of both ends
-pub each_through : {X Y Z W : Type 0} (R : X → Y → Type 0) (S : Y → Z → Type 0) (f : Z → W) (T : X → W → Type 0) (xs : List X) (ys : List Y) (zs : List Z)
-    → ((x : X) (y : Y) (z : Z) → R x y → S y z → T x (f z)) → AreEach R xs ys → AreEach S ys zs → AreEach T xs (map f zs)
-each_through R S f T [] [] [] by first second = tt
-each_through R S f T [] [] (z ∷ zs) by first second = absurd second
-each_through R S f T [] (y ∷ ys) zs by first second = absurd first
-each_through R S f T (x ∷ xs) [] zs by first second = absurd first
-each_through R S f T (x ∷ xs) (y ∷ ys) [] by first second = absurd second
-each_through R S f T (x ∷ xs) (y ∷ ys) (z ∷ zs) by first second = (by x y z first.0 second.0, each_through R S f T xs ys zs by first.1 second.1)
+-- to what belongs together these were added, but for the rest of them
+module _ {X Y : Type 0} (R : X → Y → Type 0) where
+  abbrev pub AddsSoFar : List Y → List X → List X → List Y → Type 0
+  AddsSoFar old all rest new = (done : List X) → AreEach R done old → (so : List X) × (so ++ rest ≡ all) × AreEach R (done ++ so) new
+
+  pub adds_none : (old : List Y) (all rest : List X) → rest ≡ all → AddsSoFar old all rest old
+  adds_none old all rest is done each = ([], is, subst (λ xs. AreEach R xs old) (sym (append-nil done)) each)
+
+  pub adds_more : (old : List Y) (all xs rest : List X) (new : List Y) (x : X) (y : Y) → AddsSoFar old all xs new → xs ≡ x ∷ rest → R x y → AddsSoFar old all rest (new ++ y ∷ [])
+  adds_more old all xs rest new x y so_far first one done each =
+      let so = so_far done each in (
+        so.0 ++ x ∷ [],
+        append_assoc so.0 (x ∷ []) rest ∙ ap (λ zs. so.0 ++ zs) (sym first) ∙ so.1,
+        subst (λ zs. AreEach R zs (new ++ y ∷ [])) (append_assoc done so.0 (x ∷ [])) (each_more R (done ++ so.0) new x y so.2 one),
+      )
+
+  pub adds_all : (old : List Y) (all rest : List X) (new : List Y) → AddsSoFar old all rest new → rest ≡ [] → Adds R old all new
+  adds_all old all rest new so_far none done each =
+      let so = so_far done each in
+      subst (λ xs. AreEach R (done ++ xs) new) (sym (append-nil so.0) ∙ ap (λ xs. so.0 ++ xs) (sym none) ∙ so.1) so.2
+
+module _ {N P C G L : Type 0} where
+  -- the lines of one thread more
+  pub begun_more : (begun : List (Result (PromisedHandle (Vec (Pass Alloc) Alloc) (OfLines N P C G L)) (Vec (Pass Alloc) Alloc))) (one : Result (PromisedHandle (Vec (Pass Alloc) Alloc) (OfLines N P C G L)) (Vec (Pass Alloc) Alloc))
+      → begun_lines (begun ++ one ∷ []) ≡ begun_lines begun ++ lines_of one
+  begun_more [] one = append-nil (lines_of one)
+  begun_more (first ∷ more) one = ap (λ rest. lines_of first ++ rest) (begun_more more one) ∙ sym (append_assoc (lines_of first) (begun_lines more) (lines_of one))
+
+module _ {N : Type 0} (subs : Tables) (of_link : Option (List ℕ) → Option (List ℕ) → Type 0) where
+  pub each_served : (lines : List (Pass Alloc)) (ends : List (LineEnd N Alloc)) → AreEach (EndsSo subs of_link) lines ends
+      → AreEach (IsLineServed subs of_link) lines (map (λ end. end.pass) ends)
+  each_served [] [] each = tt
+  each_served [] (end ∷ ends) each = absurd each
+  each_served (line ∷ lines) [] each = absurd each
+  each_served (line ∷ lines) (end ∷ ends) each = (each.0.0, each_served lines ends each.1)
+
+  pub each_down : (lines : List (Pass Alloc)) (ends : List (LineEnd N Alloc)) → AreEach (EndsSo subs of_link) lines ends
+      → AreEach (λ line end. end.why ≡ Stopped → IsLineDown subs of_link line end.pass) lines ends
+  each_down [] [] each = tt
+  each_down [] (end ∷ ends) each = absurd each
+  each_down (line ∷ lines) [] each = absurd each
+  each_down (line ∷ lines) (end ∷ ends) each = (each.0.1, each_down lines ends each.1)
 
 module _ {A : Type 0} (subs : Tables) (of_link : Option (List ℕ) → Option (List ℕ) → Type 0) where
   -- the passes that come back are of the same lines
@@ -71,17 +107,3 @@ module _ {A : Type 0} (subs : Tables) (of_link : Option (List ℕ) → Option (L
   same_lines f g [] (y ∷ ys) each = absurd each
   same_lines f g (x ∷ xs) [] each = absurd each
   same_lines f g (x ∷ xs) (y ∷ ys) each = ap (λ line. line ∷ map (λ y. (g y).line) ys) each.0.0 ∙ ap (λ lines. (f x).line ∷ lines) (same_lines f g xs ys each.1)
-
-module _ {N L : Type 0} (subs : Tables) (of_link : Option (List ℕ) → Option (List ℕ) → Type 0) where
-  -- each line was begun, and has ended
-  pub each_ended : (firsts : List (Pass Alloc)) (begun : List (Result (PromisedHandle (LineEnd N Alloc) (OfLine N L)) (LineEnd N Alloc))) (ends : List (LineEnd N Alloc))
-      → AreEach (Begins subs of_link) firsts begun → AreEach (Ends subs of_link) begun ends → AreEach (IsLineServed subs of_link) firsts (map (λ end. end.pass) ends)
-  each_ended firsts begun ends first second =
-      each_through (Begins subs of_link) (Ends subs of_link) (λ end. end.pass) (IsLineServed subs of_link) firsts begun ends (λ pass begun end begins ends. (ends pass begins).0) first second
-
-  -- and each that was stopped is down
-  pub each_down : (firsts : List (Pass Alloc)) (begun : List (Result (PromisedHandle (LineEnd N Alloc) (OfLine N L)) (LineEnd N Alloc))) (ends : List (LineEnd N Alloc))
-      → AreEach (Begins subs of_link) firsts begun → AreEach (Ends subs of_link) begun ends → AreEach (IsDownIfStopped subs of_link) firsts ends
-  each_down firsts begun ends first second =
-      subst (AreEach (IsDownIfStopped subs of_link) firsts) (map-id ends)
-      (each_through (Begins subs of_link) (Ends subs of_link) (λ end. end) (IsDownIfStopped subs of_link) firsts begun ends (λ pass begun end begins ends. (ends pass begins).1) first second)

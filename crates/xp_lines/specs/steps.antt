@@ -3,6 +3,7 @@ pub mod Ended
 pub mod Offering
 pub mod Offers
 pub mod Reads
+pub mod Serving
 pub mod Sessions
 pub mod Threads
 pub mod Wire

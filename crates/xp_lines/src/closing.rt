@@ -1,95 +1,108 @@
 //! How the last link of a line goes.
 
-ghost use Rattle.std.specs.Prelude.{◌≡◌, ℕ, List};
-ghost use Rattle.xp_core.specs.declared.event.What.TheVariants.{Down as WentDown};
-ghost use Rattle.xp_lines.specs.steps.Ended.{reason_at};
-ghost use Rattle.xp_lines.specs.steps.Offering.{Tells};
-ghost use Rattle.xp_lines.specs.steps.Sessions.{Closes, GoesBy, here};
-ghost use Rattle.xp_lines.specs.steps.Wire.{WritesRest};
-ghost use Rattle.xp_subs.specs.Tables.{modulus_of};
+ghost use Rattle.std.specs.Prelude.{◌≡◌, ◌≢◌};
+ghost use Rattle.xp_lines.specs.Sessions.{Drops};
+ghost use Rattle.xp_lines.specs.steps.Sessions.{Closes, here};
+ghost use Rattle.xp_lines.specs.steps.Serving.{GoesOnTo};
 
 use crate::answer_timer::AnswerTimer;
 use crate::line::EndReason;
+use crate::line_state::{LineState, Unwritten};
 use crate::link::{Clock, Link};
 use crate::offering::{Stop, offer};
 use crate::session::Session;
 use crate::signals::Signals;
 use crate::waiting::Waiting;
 use crate::writing::{Ended, write_out};
-use std::alloc::Allocator;
+use std::alloc::{Allocator, Global};
 use std::sync::Wait;
-use xp_lock::{Exchange, LinePass, Name, Receipt};
-
-/// How often the Down of a line that is to stop is offered at most.
-const MOST_OFFERS: u32 = 100;
-
-/// For how many seconds a stopped line writes at most.
-const MOST_SECONDS: u64 = 5;
-
-/// How often it writes in that time at most, since a clock may stand still.
-const MOST_WRITES: u32 = 10_000;
+use xp_lock::{Exchange, LinePass, Name};
 
 /// Offers that the line's last link went, and drops it, if there is one. Returns why the line has ended. Where it is to stop, but
 /// the exchange refuses the Down, that is why.
-pub fn close<N: Name, L: Link, C: Clock, A: Allocator + Copy, R: Wait>(
+pub(crate) fn close<N: Name, L: Link, C: Clock, A: Allocator + Copy, R: Wait>(
     rt: &R,
     exchange: &Exchange<N, A>,
     pass: &mut LinePass<N, A>,
     clock: &mut C,
-    signals: &Signals,
     why: EndReason,
     session: Option<Session<L, A>>,
 ) -> EndReason
     ensures line { pass.new.line ≡ pass.old.line }
     ensures closes { Closes (here L.pushed L.pulled session) result pass.old pass.new }
 {
-    let Some(linked) = session else {
+    let Some(_linked) = session else {
         return why;
     };
-    if why == EndReason::Stopped {
-        return stop(rt, exchange, pass, clock, signals, linked);
-    }
-    // The link goes even if the exchange refuses the event.
     let moment = clock.now();
-    let _ = offer(rt, exchange, pass, clock, moment, Waiting::down());
-    why
+    // The link goes even if the exchange refuses the event.
+    match offer(rt, exchange, pass, clock, moment, Waiting::down()) {
+        Ok(_) => why,
+        Err(refused) => why_without_down(why, refused),
+    }
 }
 
-/// Offers that the link of a line that is to stop went. If the exchange accepts that, it writes what still waits for the link.
-fn stop<N: Name, L: Link, C: Clock, A: Allocator + Copy, R: Wait>(
+/// Why a line ends where the exchange refused its Down: a line that is to stop was not stopped then.
+fn why_without_down(why: EndReason, refused: Stop) -> EndReason
+    ensures { result ≢ EndReason.Stopped }
+{
+    if why == EndReason::Stopped {
+        reason_at(refused)
+    } else {
+        why
+    }
+}
+
+/// Offers that the link of a line that is to stop went. If the exchange accepts that, what still waits for the link is left to be
+/// written. Where an allocation fails the line stays as it is, and the Down is to be offered again.
+pub(crate) fn stop<N: Name, L: Link, C: Clock, R: Wait>(
     rt: &R,
-    exchange: &Exchange<N, A>,
-    pass: &mut LinePass<N, A>,
+    exchange: &Exchange<N>,
+    pass: &mut LinePass<N>,
     clock: &mut C,
     signals: &Signals,
-    session: Session<L, A>,
-) -> EndReason
-    ensures line { pass.new.line ≡ pass.old.line }
-    ensures goes { GoesBy result pass.old pass.new }
+    session: Option<Session<L>>,
+) -> LineState<L>
+    ensures { GoesOnTo N.subs L.pushed L.pulled session pass.old result pass.new }
 {
-    match offer_down(rt, exchange, pass, clock) {
+    let Some(linked) = session else {
+        return LineState::Ended(EndReason::Stopped);
+    };
+    let moment = clock.now();
+    match offer(rt, exchange, pass, clock, moment, Waiting::down()) {
         Ok(done) => {
             signals.records_made(done.records() as u64);
-            let mut link = session.link;
-            let mut unwritten = session.unwritten;
-            write_rest(
-                rt,
-                exchange,
-                pass,
-                session.connection,
-                &mut link,
-                &mut unwritten,
-                clock,
-            );
-            EndReason::Stopped
+            LineState::Stopped(unwritten_of(linked))
         }
-        Err(refused) => reason_at(refused),
+        Err(Stop::Halted) => LineState::Ended(EndReason::Halted),
+        Err(Stop::Journal) => {
+            exchange.halt(rt);
+            LineState::Ended(EndReason::Journal)
+        }
+        Err(Stop::Memory | Stop::Held) => LineState::Open(Some(linked)),
+    }
+}
+
+/// What still waits for the link of a line.
+fn unwritten_of<L: Link>(session: Session<L>) -> Unwritten<L> {
+    let Session {
+        link,
+        connection,
+        frames: _,
+        waiting: _,
+        unwritten,
+        unanswered_since: _,
+    } = session;
+    Unwritten {
+        link,
+        connection,
+        octets: unwritten,
     }
 }
 
 /// Why a line that is to stop ends where the exchange refused its Down.
 fn reason_at(refused: Stop) -> EndReason
-    ensures { result ≡ reason_at refused }
+    ensures { result ≢ EndReason.Stopped }
 {
     match refused {
         Stop::Halted => EndReason::Halted,
@@ -99,63 +112,35 @@ fn reason_at(refused: Stop) -> EndReason
     }
 }
 
-/// Offers that the link went, and offers it again after some time where an allocation fails, at most 100 times in all.
-///
-/// # Errors
-///
-/// Those of `offer`, which changes nothing. `Memory` if an allocation failed each time.
-fn offer_down<N: Name, C: Clock, A: Allocator + Copy, R: Wait>(
+/// Writes what still waits for a link whose Down the exchange has accepted, as far as the link takes it: the octets that are left,
+/// and the outputs for this connection that the outbox has. Those are the last ones. `None` where none of them is left, the link is
+/// broken or closed, or an allocation fails.
+pub(crate) fn write_rest<N: Name, L: Link, C: Clock, R: Wait>(
     rt: &R,
-    exchange: &Exchange<N, A>,
-    pass: &mut LinePass<N, A>,
+    exchange: &Exchange<N>,
+    pass: &mut LinePass<N>,
     clock: &mut C,
-) -> Result<Receipt, Stop>
-    ensures { Tells pass.old WentDown result pass.new }
+    rest: Unwritten<L>,
+) -> Option<Unwritten<L>>
+    ensures { Drops pass.old pass.new }
 {
-    for _offer in 1..MOST_OFFERS {
-        let moment = clock.now();
-        match offer(rt, exchange, pass, clock, moment, Waiting::down()) {
-            Ok(done) => return Ok(done),
-            Err(Stop::Halted) => return Err(Stop::Halted),
-            Err(Stop::Journal) => return Err(Stop::Journal),
-            Err(Stop::Memory | Stop::Held) => clock.idle(),
-        }
-    }
-    let moment = clock.now();
-    offer(rt, exchange, pass, clock, moment, Waiting::down())
-}
-
-/// Writes what still waits for a link whose Down the exchange has accepted: the unwritten octets, and the outputs for this
-/// connection that the outbox has. Those are the last ones. It ends where none of them is left, the link is broken or closed, an
-/// allocation fails, or the time is up.
-fn write_rest<N: Name, L: Link, C: Clock, A: Allocator + Copy, R: Wait>(
-    rt: &R,
-    exchange: &Exchange<N, A>,
-    pass: &mut LinePass<N, A>,
-    connection: u64,
-    link: &mut L,
-    unwritten: &mut Vec<u8, A>,
-    clock: &mut C,
-)
-    ensures { (lost : List ℕ) × WritesRest (modulus_of N.subs pass.old.line) connection pass.old unwritten.old.items (L.pushed link.old) pass.new unwritten.new.items (L.pushed link.new) lost }
-{
-    let start = clock.now();
+    let mut rest = rest;
     // No incoming call waits for its answer any more.
     let mut timer = AnswerTimer {
         since: None,
-        now: start,
+        now: clock.now(),
     };
-    for _write in 0..MOST_WRITES {
-        let written = write_out(rt, exchange, pass, connection, link, unwritten, &mut timer);
-        match written.ended {
-            Ended::Open => {}
-            Ended::Over => return,
-            Ended::Lost => return,
-        }
-        let all_written = !written.more && unwritten.is_empty();
-        if all_written || clock.now().saturating_sub(start) >= MOST_SECONDS {
-            return;
-        }
-        clock.idle();
+    let written = write_out(
+        rt,
+        exchange,
+        pass,
+        rest.connection,
+        &mut rest.link,
+        &mut rest.octets,
+        &mut timer,
+    );
+    match written.ended {
+        Ended::Open if written.more || !rest.octets.is_empty() => Some(rest),
+        Ended::Open | Ended::Over | Ended::Lost => None,
     }
 }

@@ -1,23 +1,28 @@
 //! The threads of lines.
 //!
-//! A line's thread takes connections from the line's port, one at a time. It reads packets from the connection and offers them
-//! to the exchange, and it writes to the connection the packets that the exchange puts out to the line.
-//! [`serve_all`] starts one thread for each line, [`serve_line`] is what such a thread runs, and [`turn`] is one turn on a
-//! connection, which is called a link here. The thread that calls [`serve_all`] hands the charging records to a
+//! A thread serves some of the lines, in turn. It takes the connections of a line from the line's port, one at a time. It reads
+//! packets from the connection and offers them to the exchange, and it writes to the connection the packets that the exchange puts
+//! out to the line. [`serve_all`] starts the threads, and [`turn`] is one turn of a line
+//! on a connection, which is called a link here. The thread that calls [`serve_all`] hands the charging records to a
 //! [`RecordSink`] as calls end. Where the sink asks for a stop, each line offers the Down of its link, writes what still waits
 //! for the link, and ends.
 #![tactic(auto)]
 
 mod answer_timer;
 mod closing;
+mod ends;
 mod flow;
 mod gathering;
+mod groups;
 mod laws;
 mod line;
+mod line_state;
 mod link;
 mod offering;
 mod reading;
 mod recording;
+mod rounds;
+mod served_line;
 mod session;
 mod signals;
 mod threads;
@@ -27,11 +32,12 @@ mod writing;
 
 pub use flow::{Flow, push_rest};
 pub use laws::{links_add_up, turns_add_up};
-pub use line::{EndReason, LineEnd, serve_line};
-pub use link::{Arrived, Clock, Gate, Link, Port, Pulled, Pushed};
+pub use line::{EndReason, LineEnd};
+pub use link::{Arrived, Clock, Gate, Link, Poller, Port, Pulled, Pushed};
 pub use recording::{Received, RecordSink};
+pub use served_line::LineInputs;
 pub use session::Session;
 pub use signals::Signals;
-pub use threads::{LinesServed, ServeFault, ThreadInputs, serve_all};
+pub use threads::{LinesServed, ServeFault, serve_all};
 pub use turning::{TurnOutcome, Turned, turn};
 pub use waiting::Waiting;

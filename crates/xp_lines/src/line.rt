@@ -1,14 +1,12 @@
-//! The thread of one line.
+//! A turn of a line, with a link or without one.
 
-ghost use Rattle.std.specs.Prelude.{◌≡◌, List, None};
-ghost use Rattle.xp_lines.specs.Sessions.{AreMoved, AreSessions, Drops, IsLineDown, PastSession};
-ghost use Rattle.xp_lines.specs.steps.Sessions.{Connects, IsOn, IsThere, Steps, TurnsOn, here, seen_on};
+ghost use Rattle.std.specs.Prelude.{◌≡◌, None};
+ghost use Rattle.xp_lines.specs.Sessions.{AreMoved, Drops};
+ghost use Rattle.xp_lines.specs.steps.Sessions.{Connects, Steps, TurnsOn, here, seen_on};
 
-use crate::closing::close;
 use crate::link::{Arrived, Clock, Gate, Link, Port};
 use crate::offering::{Stop, offer};
 use crate::session::Session;
-use crate::signals::Signals;
 use crate::turning::{TurnOutcome, turn};
 use crate::waiting::Waiting;
 use std::alloc::{Allocator, Global};
@@ -19,7 +17,7 @@ use xp_lock::{Exchange, LinePass, Name};
 /// The most outputs that are dropped before a link comes up: as many as an outbox has places.
 const MOST_DRAINED: usize = 64;
 
-/// Why a line's thread has ended.
+/// Why a line has ended.
 #[derive(Clone, Copy, Debug, PartialEq)]
 pub enum EndReason {
     /// The line has had all its turns.
@@ -30,7 +28,7 @@ pub enum EndReason {
     Journal,
     /// No link can come any more.
     Port,
-    /// The thread could not be started.
+    /// The line has no thread, or that could not be started.
     NotStarted,
     /// The line was asked to stop. The exchange has accepted the Down of its last link, or it had no link.
     Stopped,
@@ -38,7 +36,7 @@ pub enum EndReason {
     Memory,
 }
 
-/// What a line's thread returns as it ends.
+/// What is left of a line that has ended.
 #[derive(Drop)]
 pub struct LineEnd<N: Name, A: Allocator = Global> {
     /// The pass of the line.
@@ -47,104 +45,8 @@ pub struct LineEnd<N: Name, A: Allocator = Global> {
     pub why: EndReason,
 }
 
-/// Serves a line for at most `turns` turns, with the links that come from its port, one at a time. It halts the exchange where
-/// `records` charging records are made, or the journal is full. It tells the recording thread of the records that were made, and
-/// that the line has ended.
-///
-/// At the end it offers the Down of a link that is still there. Where an allocation fails, a line that was asked to stop offers it
-/// again, at most 100 times. Once the exchange has accepted the Down, such a line writes what still waits for the link, for at
-/// most 5 seconds, and only then drops it.
-pub fn serve_line<N: Name, P: Port, C: Clock, G: Gate, A: Allocator + Copy, R: Wait>(
-    rt: &R,
-    alloc: A,
-    exchange: &Exchange<N, A>,
-    pass: LinePass<N, A>,
-    port: P,
-    clock: C,
-    gate: G,
-    signals: &Signals,
-    turns: u64,
-    records: u64,
-) -> LineEnd<N, A>
-    ensures line { result.pass.line ≡ pass.line }
-    ensures sessions { (sessions : List (PastSession A)) × AreSessions N.subs (AreMoved P.Link.pushed P.Link.pulled) pass sessions result.pass }
-    ensures stopped { result.why ≡ EndReason.Stopped → IsLineDown N.subs (AreMoved P.Link.pushed P.Link.pulled) pass result.pass }
-{
-    let mut pass = pass;
-    let mut port = port;
-    let mut clock = clock;
-    let mut gate = gate;
-    let last = have_turns(
-        rt, alloc, exchange, &mut pass, &mut port, &mut clock, &mut gate, signals, turns, records,
-    );
-    let why = close(
-        rt,
-        exchange,
-        &mut pass,
-        &mut clock,
-        signals,
-        last.why,
-        last.session,
-    );
-    if why == EndReason::Journal {
-        exchange.halt(rt);
-    }
-    signals.line_ended();
-    LineEnd { pass, why }
-}
-
-/// How a line's turns ended.
-#[derive(Drop)]
-struct Last<L: Link, A: Allocator> {
-    /// The line with its link, if it has one still.
-    session: Option<Session<L, A>>,
-    /// Why there are no more turns.
-    why: EndReason,
-}
-
-/// The turns of a line, until it has had so many, is to stop, or has ended.
-fn have_turns<N: Name, P: Port, C: Clock, G: Gate, A: Allocator + Copy, R: Wait>(
-    rt: &R,
-    alloc: A,
-    exchange: &Exchange<N, A>,
-    pass: &mut LinePass<N, A>,
-    port: &mut P,
-    clock: &mut C,
-    gate: &mut G,
-    signals: &Signals,
-    turns: u64,
-    records: u64,
-) -> Last<P::Link, A>
-    ensures line { pass.new.line ≡ pass.old.line }
-    ensures on { IsOn N.subs (AreMoved P.Link.pushed P.Link.pulled) IsThere pass.old (here P.Link.pushed P.Link.pulled result.session) pass.new }
-{
-    let mut session = None;
-    for _turn in 0..turns {
-        if signals.is_stopping() {
-            return Last {
-                session,
-                why: EndReason::Stopped,
-            };
-        }
-        let step = have_turn(rt, alloc, exchange, pass, port, clock, gate, session);
-        signals.records_made(step.records);
-        halt_at(rt, exchange, step.records, records);
-        if let Some(why) = step.end {
-            return Last {
-                session: step.session,
-                why,
-            };
-        }
-        session = step.session;
-    }
-    Last {
-        session,
-        why: EndReason::Turns,
-    }
-}
-
 /// Halts the exchange where so many charging records are made.
-fn halt_at<N: Name, A: Allocator + Copy, R: Wait>(
+pub(crate) fn halt_at<N: Name, A: Allocator + Copy, R: Wait>(
     rt: &R,
     exchange: &Exchange<N, A>,
     made: u64,
@@ -157,17 +59,17 @@ fn halt_at<N: Name, A: Allocator + Copy, R: Wait>(
 
 /// The result of one turn of a line, with a link or without one.
 #[derive(Drop)]
-struct Step<L: Link, A: Allocator> {
+pub(crate) struct Step<L: Link, A: Allocator> {
     /// The line with its link, if it has one.
-    session: Option<Session<L, A>>,
+    pub(crate) session: Option<Session<L, A>>,
     /// How many charging records there were after the last event that the exchange accepted; 0 if it accepted none.
-    records: u64,
+    pub(crate) records: u64,
     /// Why the line has ended, if it has.
-    end: Option<EndReason>,
+    pub(crate) end: Option<EndReason>,
 }
 
 /// One turn of a line, on its link if it has one.
-fn have_turn<N: Name, P: Port, C: Clock, G: Gate, A: Allocator + Copy, R: Wait>(
+pub(crate) fn have_turn<N: Name, P: Port, C: Clock, G: Gate, A: Allocator + Copy, R: Wait>(
     rt: &R,
     alloc: A,
     exchange: &Exchange<N, A>,

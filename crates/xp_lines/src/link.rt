@@ -1,4 +1,4 @@
-//! What a line's thread works with: links and the port that they come from, a clock and a gate.
+//! What a line is served with: links and the port that they come from, a clock and a gate; and what its thread waits on.
 
 ghost use Rattle.std.specs.Prelude.{◌≡◌, ◌≤◌, length, take};
 ghost use Rattle.std.specs.Io.KnownBytes.{Appends};
@@ -71,7 +71,7 @@ pub trait Port: Drop {
     fn next(&mut self) -> Arrived<Self::Link>;
 }
 
-/// The clock of a line's thread.
+/// The clock of a line.
 pub trait Clock: Drop {
     ghost use Rattle.std.specs.Prelude.{ℕ, ⊤};
 
@@ -82,12 +82,31 @@ pub trait Clock: Drop {
     fn now(&mut self) -> u64
         ensures { tells self.old result self.new };
 
-    /// Lets time pass. The line has nothing to do until octets come from its link or another line's thread wakes it.
+    /// Notes that the line has nothing to do until octets come from its link or another line's thread wakes it. It does not wait:
+    /// the thread may have other lines.
     fn idle(&mut self);
+
+    /// Whether a turn of the line may find something to do. The thread asks before each turn, and leaves the turn out where the
+    /// answer is no.
+    fn is_due(&self) -> bool {
+        true
+    }
 
     /// Wakes the thread of another line, which may be asleep, since the exchange put something out to that line. A clock that lets
     /// no time pass has no thread to wake. It does not wait, since a thread may call it while it holds the exchange's lock.
     fn wake(&mut self, _line: LineNo) {}
+}
+
+/// What a thread does between the turns of its lines.
+pub trait Poller: Drop {
+    /// How many lines the thread serves at most.
+    fn lines(&self) -> usize;
+
+    /// Looks at what has come to the lines. Where no line is due it waits for that, or for another thread, for some time at most.
+    fn poll(&mut self);
+
+    /// Waits for a moment, while the lines of the thread end.
+    fn pause(&mut self);
 }
 
 /// Says when the packets of a line may go to the exchange.

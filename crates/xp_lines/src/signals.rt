@@ -8,11 +8,11 @@ use std::time::Duration;
 /// For how long the recording thread waits at most, in milliseconds.
 const PATIENCE: u64 = 50;
 
-/// Tells the recording thread that charging records were made, and that lines have ended. Tells the lines that they are to
-/// stop.
+/// Tells the recording thread that charging records were made, and that threads of lines have ended. Tells these that their lines
+/// are to stop.
 #[derive(Drop)]
 pub struct Signals {
-    /// How many lines have not ended yet.
+    /// How many threads of lines have not ended yet.
     running: AtomicUsize,
     /// The number of records that the recording thread was last told of.
     told: AtomicU64,
@@ -23,10 +23,10 @@ pub struct Signals {
 }
 
 impl Signals {
-    /// The signals of so many lines.
-    pub fn new(lines: usize) -> Signals {
+    /// The signals of so many threads of lines.
+    pub fn new(threads: usize) -> Signals {
         Signals {
-            running: AtomicUsize::new(lines),
+            running: AtomicUsize::new(threads),
             told: AtomicU64::new(0),
             stopping: AtomicBool::new(false),
             parker: Parker::new(),
@@ -42,13 +42,13 @@ impl Signals {
         }
     }
 
-    /// Tells that a line has ended.
-    pub fn line_ended(&self) {
+    /// Tells that a thread has ended, with all its lines.
+    pub fn thread_ended(&self) {
         self.running.fetch_sub(1, Ordering::SeqCst);
         self.parker.unpark();
     }
 
-    /// Asks all lines to stop. It wakes none: each sees it before its next turn.
+    /// Asks all lines to stop. It wakes no thread: each sees it before its next round of turns.
     pub fn ask_to_stop(&self) {
         self.stopping.store(true, Ordering::SeqCst);
     }
@@ -58,7 +58,7 @@ impl Signals {
         self.stopping.load(Ordering::SeqCst)
     }
 
-    /// Whether all lines have ended.
+    /// Whether all threads of lines have ended.
     pub(crate) fn all_ended(&self) -> bool {
         self.running.load(Ordering::SeqCst) == 0
     }

@@ -1,32 +1,29 @@
-//! All lines of an exchange, each on its own thread, and their charging records on the thread that serves them.
+//! All lines of an exchange, some on each thread, and their charging records on the thread that serves them.
 
-ghost use Rattle.std.specs.Prelude.{◌≡◌, IfErr, IfOk, [], map, vec_len, vec_capacity, ◌+◌, ◌≤◌};
+ghost use Rattle.std.specs.Prelude.{◌≡◌, IfErr, IfOk, [], ◌++◌, length, map, vec_len, vec_capacity, ◌+◌, ◌≤◌};
+ghost use Rattle.std.specs.Vec.Iter.{into_iter_items, into_iter_len};
 ghost use Rattle.xp_lines.specs.Pairs.{AreEach};
 ghost use Rattle.xp_lines.specs.Recorded.{HandsOn};
 ghost use Rattle.xp_lines.specs.Sessions.{AreMoved, IsLineDown, IsLineServed};
-ghost use Rattle.xp_lines.specs.steps.Threads.{Begins, Ends, EndsSo};
+ghost use Rattle.xp_lines.specs.steps.Serving.{EndsSo};
+ghost use Rattle.xp_lines.specs.steps.Threads.{Adds, begun_lines, lines_of};
 ghost use Rattle.xp_subs.specs.Tables.{line_count};
 
-use crate::line::{EndReason, LineEnd, serve_line};
-use crate::link::{Clock, Gate, Link, Port};
+use crate::ends::{add_ends, add_unstarted};
+use crate::groups::{ThreadGroup, fill, groups_of, served_of};
+use crate::line::{EndReason, LineEnd};
+use crate::link::{Clock, Gate, Poller, Port};
 use crate::recording::{RecordSink, keep_recording};
+use crate::rounds::serve_lines;
+use crate::served_line::{LineInputs, ServedLine};
 use crate::signals::Signals;
-use std::alloc::Global;
-use std::marker::PhantomData;
+use std::alloc::{AllocError, Global};
 use std::snapshot::Snapshot;
 use std::sync::Wait;
 use std::thread;
 use std::thread::{Promise, PromisedHandle, Scope, Threads};
-use xp_lock::{Exchange, LinePass, Name, Recorder};
-
-/// What the thread of a line works with.
-#[derive(Drop)]
-pub struct ThreadInputs<N: Name, P: Port, C: Clock, G: Gate> {
-    pub pass: LinePass<N>,
-    pub port: P,
-    pub clock: C,
-    pub gate: G,
-}
+use std::vec::IntoIter;
+use xp_lock::{Exchange, Name, Recorder};
 
 /// What is left as all lines have ended.
 #[derive(Drop)]
@@ -38,35 +35,37 @@ pub struct LinesServed<N: Name, S: RecordSink> {
     pub sink: S,
 }
 
-/// An allocation failed, and no line was served. All that was given comes back.
+/// An allocation failed, and no line was served. The lines, the recorder and the sink come back.
 #[derive(Drop)]
 pub struct ServeFault<N: Name, P: Port, C: Clock, G: Gate, S: RecordSink> {
-    pub parts: Vec<ThreadInputs<N, P, C, G>>,
+    pub lines: Vec<LineInputs<N, P, C, G>>,
     pub recorder: Recorder<N>,
     pub sink: S,
 }
 
-/// The promise that a thread returns the pass of its line as serving leaves it.
+/// The promise that a thread returns the lines that it was given.
 #[derive(Drop)]
-struct OfLine<N: Name, L: Link> {
-    /// The pass that the thread is given.
-    first: Snapshot<LinePass<N>>,
-    link: PhantomData<L>,
+struct OfLines<N: Name, P: Port, C: Clock, G: Gate> {
+    /// The lines that the thread is given.
+    first: Snapshot<Vec<ServedLine<N, P, C, G>>>,
 }
 
-impl<N: Name, L: Link> Promise<LineEnd<N>> for OfLine<N, L> {
-    ghost use Rattle.xp_lines.specs.Sessions.{AreMoved};
-    ghost use Rattle.xp_lines.specs.steps.Threads.{EndsSo};
+impl<N: Name, P: Port, C: Clock, G: Gate> Promise<Vec<ServedLine<N, P, C, G>>>
+    for OfLines<N, P, C, G> {
+    ghost use Rattle.std.specs.Prelude.{◌≡◌};
 
-    ghost kept_by = { λ promise end. EndsSo N.subs (AreMoved L.pushed L.pulled) promise.first.value end };
+    ghost kept_by = { λ promise lines. lines.items ≡ promise.first.value.items };
 }
 
-/// A line whose thread runs, or a line whose thread could not be started.
-type Begun<N, L> = Result<PromisedHandle<LineEnd<N>, OfLine<N, L>>, LineEnd<N>>;
+/// The lines of a thread that runs, or those of a thread that could not be started.
+type Begun<N, P, C, G> = Result<
+    PromisedHandle<Vec<ServedLine<N, P, C, G>>, OfLines<N, P, C, G>>,
+    Vec<ServedLine<N, P, C, G>>,
+>;
 
-/// Serves all lines, each on its own thread by [`serve_line`], until all have ended. `turns` is the most turns of each line, and
-/// `records` the number of charging records at which the exchange is halted. If the thread of a line cannot be started, the
-/// exchange is halted. The ends are in the order of the parts.
+/// Serves all lines until all have ended. There is a thread for each poller, which serves as many of the next lines as the poller
+/// says. `turns` is the most turns of each line, and `records` the number of charging records at which the exchange is halted. If a
+/// thread cannot be started, or there is none for a line, the exchange is halted. The ends are in the order of the lines.
 ///
 /// The recorder takes the charging records of calls as they end, and the sink is given them. It is given the rest once all lines
 /// have ended; those that no memory could be had for stay with the exchange. Where the sink answers that serving stops, the lines
@@ -74,74 +73,145 @@ type Begun<N, L> = Result<PromisedHandle<LineEnd<N>, OfLine<N, L>>, LineEnd<N>>;
 ///
 /// # Errors
 ///
-/// `ServeFault` if an allocation fails. Then no line was served, and all that was given comes back.
+/// `ServeFault` if an allocation fails. Then no line was served, and the lines, the recorder and the sink come back.
 pub fn serve_all<
     N: Name + Send + Sync,
     P: Port + Send,
     C: Clock + Send,
     G: Gate + Send,
+    T: Poller + Send,
     S: RecordSink,
     R: Threads + Wait + Sync,
 >(
     rt: &R,
     alloc: Global,
     exchange: &Exchange<N>,
-    parts: Vec<ThreadInputs<N, P, C, G>>,
+    lines: Vec<LineInputs<N, P, C, G>>,
+    pollers: Vec<T>,
     recorder: Recorder<N>,
     sink: S,
     turns: u64,
     records: u64,
 ) -> Result<LinesServed<N, S>, ServeFault<N, P, C, G, S>>
     requires { S.lines sink ≡ line_count N.subs }
-    ensures ok { IfOk result (λ served. map (λ end. end.pass.line) served.ends.items ≡ map (λ part. part.pass.line) parts.items) }
-    ensures served { IfOk result (λ served. AreEach (IsLineServed N.subs (AreMoved P.Link.pushed P.Link.pulled)) (map (λ part. part.pass) parts.items) (map (λ end. end.pass) served.ends.items)) }
-    ensures stopped { IfOk result (λ served. AreEach (λ first end. end.why ≡ EndReason.Stopped → IsLineDown N.subs (AreMoved P.Link.pushed P.Link.pulled) first end.pass) (map (λ part. part.pass) parts.items) served.ends.items) }
+    ensures ok { IfOk result (λ served. map (λ end. end.pass.line) served.ends.items ≡ map (λ line. line.pass.line) lines.items) }
+    ensures served { IfOk result (λ served. AreEach (IsLineServed N.subs (AreMoved P.Link.pushed P.Link.pulled)) (map (λ line. line.pass) lines.items) (map (λ end. end.pass) served.ends.items)) }
+    ensures stopped { IfOk result (λ served. AreEach (λ first end. end.why ≡ EndReason.Stopped → IsLineDown N.subs (AreMoved P.Link.pushed P.Link.pulled) first end.pass) (map (λ line. line.pass) lines.items) served.ends.items) }
     ensures recorded { IfOk result (λ served. HandsOn S.received S.keeps recorder sink served.recorder served.sink) }
-    ensures err { IfErr result (λ fault. fault.parts ≡ parts) }
+    ensures err { IfErr result (λ fault. fault.lines ≡ lines) }
     ensures kept { IfErr result (λ fault. (fault.recorder ≡ recorder) × (fault.sink ≡ sink)) }
 {
-    let Ok(begun) = Vec::with_capacity(alloc, parts.len()) else {
-        return Err(ServeFault {
-            parts,
-            recorder,
-            sink,
-        });
-    };
-    let Ok(ends) = Vec::with_capacity(alloc, parts.len()) else {
-        return Err(ServeFault {
-            parts,
-            recorder,
-            sink,
-        });
-    };
-    let signals = Signals::new(parts.len());
+    let signals = Signals::new(pollers.len());
     let shared = &signals;
-    Ok(thread::scope(
+    thread::scope(
         thread::scope_env(),
         rt,
-        |scope| -> LinesServed<N, S>
-            requires begun { vec_len parts ≤ vec_capacity begun }
-            requires ends { vec_len parts ≤ vec_capacity ends }
-            requires none { (begun.items ≡ []) × (ends.items ≡ []) }
+        |scope| -> Result<LinesServed<N, S>, ServeFault<N, P, C, G, S>>
             requires lines { S.lines sink ≡ line_count N.subs }
-            ensures served { AreEach (IsLineServed N.subs (AreMoved P.Link.pushed P.Link.pulled)) (map (λ part. part.pass) parts.items) (map (λ end. end.pass) result.ends.items) }
-            ensures stopped { AreEach (λ first end. end.why ≡ EndReason.Stopped → IsLineDown N.subs (AreMoved P.Link.pushed P.Link.pulled) first end.pass) (map (λ part. part.pass) parts.items) result.ends.items }
-            ensures recorded { HandsOn S.received S.keeps recorder sink result.recorder result.sink }
+            ensures ok { IfOk result (λ served. map (λ end. end.pass.line) served.ends.items ≡ map (λ line. line.pass.line) lines.items) }
+            ensures served { IfOk result (λ served. AreEach (IsLineServed N.subs (AreMoved P.Link.pushed P.Link.pulled)) (map (λ line. line.pass) lines.items) (map (λ end. end.pass) served.ends.items)) }
+            ensures stopped { IfOk result (λ served. AreEach (λ first end. end.why ≡ EndReason.Stopped → IsLineDown N.subs (AreMoved P.Link.pushed P.Link.pulled) first end.pass) (map (λ line. line.pass) lines.items) served.ends.items) }
+            ensures recorded { IfOk result (λ served. HandsOn S.received S.keeps recorder sink served.recorder served.sink) }
+            ensures err { IfErr result (λ fault. fault.lines ≡ lines) }
+            ensures kept { IfErr result (λ fault. (fault.recorder ≡ recorder) × (fault.sink ≡ sink)) }
         {
-            let begun = begin_all(
-                rt, scope, alloc, exchange, shared, parts, begun, turns, records,
-            );
-            let recorded = keep_recording(rt, alloc, exchange, recorder, sink, shared);
-            LinesServed {
-                ends: end_all(rt, begun, ends),
-                recorder: recorded.recorder,
-                sink: recorded.sink,
-            }
+            serve_in(
+                rt, scope, alloc, exchange, shared, lines, pollers, recorder, sink, turns, records,
+            )
         },
-    ))
+    )
 }
 
-/// Starts the thread of each line.
+/// Serves all lines by threads of this scope.
+fn serve_in<
+    's,
+    E,
+    N: Name + Send + Sync + 's,
+    P: Port + Send + 's,
+    C: Clock + Send + 's,
+    G: Gate + Send + 's,
+    T: Poller + Send + 's,
+    S: RecordSink,
+    R: Threads + Wait + Sync + 's,
+>(
+    rt: &'s R,
+    scope: &Scope<'s, E>,
+    alloc: Global,
+    exchange: &'s Exchange<N>,
+    signals: &'s Signals,
+    lines: Vec<LineInputs<N, P, C, G>>,
+    pollers: Vec<T>,
+    recorder: Recorder<N>,
+    sink: S,
+    turns: u64,
+    records: u64,
+) -> Result<LinesServed<N, S>, ServeFault<N, P, C, G, S>>
+    requires lines { S.lines sink ≡ line_count N.subs }
+    ensures ok { IfOk result (λ served. map (λ end. end.pass.line) served.ends.items ≡ map (λ line. line.pass.line) lines.items) }
+    ensures served { IfOk result (λ served. AreEach (IsLineServed N.subs (AreMoved P.Link.pushed P.Link.pulled)) (map (λ line. line.pass) lines.items) (map (λ end. end.pass) served.ends.items)) }
+    ensures stopped { IfOk result (λ served. AreEach (λ first end. end.why ≡ EndReason.Stopped → IsLineDown N.subs (AreMoved P.Link.pushed P.Link.pulled) first end.pass) (map (λ line. line.pass) lines.items) served.ends.items) }
+    ensures recorded { IfOk result (λ served. HandsOn S.received S.keeps recorder sink served.recorder served.sink) }
+    ensures err { IfErr result (λ fault. fault.lines ≡ lines) }
+    ensures kept { IfErr result (λ fault. (fault.recorder ≡ recorder) × (fault.sink ≡ sink)) }
+{
+    let Ok(rooms) = rooms_for(alloc, lines.len(), pollers) else {
+        return Err(ServeFault {
+            lines,
+            recorder,
+            sink,
+        });
+    };
+    let Rooms {
+        served,
+        groups,
+        begun,
+        ends,
+    } = rooms;
+    let mut left = served_of(lines, served).into_iter();
+    let begun = begin_all(
+        rt, scope, alloc, exchange, signals, &mut left, groups, begun, turns, records,
+    );
+    if left.len() > 0 {
+        exchange.halt(rt);
+    }
+    let recorded = keep_recording(rt, alloc, exchange, recorder, sink, signals);
+    Ok(LinesServed {
+        ends: end_all(rt, begun, left, ends),
+        recorder: recorded.recorder,
+        sink: recorded.sink,
+    })
+}
+
+/// Room for what serving makes of its lines.
+#[derive(Drop)]
+struct Rooms<N: Name, P: Port, C: Clock, G: Gate, T: Poller> {
+    served: Vec<ServedLine<N, P, C, G>>,
+    groups: Vec<ThreadGroup<N, P, C, G, T>>,
+    begun: Vec<Begun<N, P, C, G>>,
+    ends: Vec<LineEnd<N>>,
+}
+
+/// Room for so many lines, and for the threads of these pollers.
+fn rooms_for<N: Name, P: Port, C: Clock, G: Gate, T: Poller>(
+    alloc: Global,
+    lines: usize,
+    pollers: Vec<T>,
+) -> Result<Rooms<N, P, C, G, T>, AllocError>
+    ensures served { IfOk result (λ rooms. (rooms.served.items ≡ []) × (lines ≤ vec_capacity rooms.served)) }
+    ensures begun { IfOk result (λ rooms. (rooms.begun.items ≡ []) × (vec_len rooms.groups ≤ vec_capacity rooms.begun)) }
+    ensures ends { IfOk result (λ rooms. (rooms.ends.items ≡ []) × (lines ≤ vec_capacity rooms.ends)) }
+{
+    let groups = groups_of(alloc, pollers)?;
+    let begun = Vec::with_capacity(alloc, groups.len())?;
+    Ok(Rooms {
+        served: Vec::with_capacity(alloc, lines)?,
+        groups,
+        begun,
+        ends: Vec::with_capacity(alloc, lines)?,
+    })
+}
+
+/// Starts each thread with the next lines.
 fn begin_all<
     's,
     E,
@@ -149,6 +219,7 @@ fn begin_all<
     P: Port + Send + 's,
     C: Clock + Send + 's,
     G: Gate + Send + 's,
+    T: Poller + Send + 's,
     R: Threads + Wait + Sync + 's,
 >(
     rt: &'s R,
@@ -156,24 +227,30 @@ fn begin_all<
     alloc: Global,
     exchange: &'s Exchange<N>,
     signals: &'s Signals,
-    parts: Vec<ThreadInputs<N, P, C, G>>,
-    begun: Vec<Begun<N, P::Link>>,
+    left: &mut IntoIter<ServedLine<N, P, C, G>, Global>,
+    groups: Vec<ThreadGroup<N, P, C, G, T>>,
+    begun: Vec<Begun<N, P, C, G>>,
     turns: u64,
     records: u64,
-) -> Vec<Begun<N, P::Link>>
-    requires room { vec_len begun + vec_len parts ≤ vec_capacity begun }
+) -> Vec<Begun<N, P, C, G>>
+    requires room { vec_len begun + vec_len groups ≤ vec_capacity begun }
     requires none { begun.items ≡ [] }
-    ensures begin { AreEach (Begins N.subs (AreMoved P.Link.pushed P.Link.pulled)) (map (λ part. part.pass) parts.items) result.items }
-    ensures count { vec_len result ≡ vec_len parts }
+    requires many { length (into_iter_items left.old) ≡ into_iter_len left.old }
+    ensures lines { into_iter_items left.old ≡ begun_lines result.items ++ into_iter_items left.new }
+    ensures many { length (into_iter_items left.new) ≡ into_iter_len left.new }
 {
     let mut begun = begun;
-    for part in parts {
-        begun.push_reserved(begin_one(rt, scope, alloc, exchange, signals, part, turns, records));
+    for group in groups {
+        let ThreadGroup { poller, room } = group;
+        let lines = fill(room, poller.lines(), left);
+        begun.push_reserved(begin_one(
+            rt, scope, alloc, exchange, signals, lines, poller, turns, records,
+        ));
     }
     begun
 }
 
-/// Starts the thread of a line. If it cannot be started, the exchange is halted, so that the line ends at once.
+/// Starts a thread with its lines. If it cannot be started, the exchange is halted, so that the lines end at once.
 fn begin_one<
     's,
     E,
@@ -181,6 +258,7 @@ fn begin_one<
     P: Port + Send + 's,
     C: Clock + Send + 's,
     G: Gate + Send + 's,
+    T: Poller + Send + 's,
     R: Threads + Wait + Sync + 's,
 >(
     rt: &'s R,
@@ -188,65 +266,60 @@ fn begin_one<
     alloc: Global,
     exchange: &'s Exchange<N>,
     signals: &'s Signals,
-    part: ThreadInputs<N, P, C, G>,
+    lines: Vec<ServedLine<N, P, C, G>>,
+    poller: T,
     turns: u64,
     records: u64,
-) -> Begun<N, P::Link>
-    ensures { Begins N.subs (AreMoved P.Link.pushed P.Link.pulled) part.pass result }
+) -> Begun<N, P, C, G>
+    ensures { lines_of result ≡ lines.items }
 {
-    let ThreadInputs {
-        pass,
-        port,
-        clock,
-        gate,
-    } = part;
-    let promise = OfLine::<N, P::Link> {
-        first: Snapshot::of(&pass),
-        link: PhantomData,
+    let promise = OfLines::<N, P, C, G> {
+        first: Snapshot::of(&lines),
     };
-    let run = move || -> LineEnd<N>
-        ensures { EndsSo N.subs (AreMoved P.Link.pushed P.Link.pulled) pass result }
-    {
-        serve_line(
-            rt, alloc, exchange, pass, port, clock, gate, signals, turns, records,
-        )
-    };
+    let run = move || -> Vec<ServedLine<N, P, C, G>>
+        ensures { result.items ≡ lines.items }
+    { serve_lines(rt, alloc, exchange, lines, poller, signals, turns, records) };
     match scope.spawn_with(promise, run) {
         Ok(handle) => Ok(handle),
         Err(refused) => {
             exchange.halt(rt);
-            let end = (refused.value)();
-            Err(LineEnd {
-                pass: end.pass,
-                why: EndReason::NotStarted,
-            })
+            Err((refused.value)())
         }
     }
 }
 
-/// Waits for the end of each line.
-fn end_all<N: Name, L: Link, R: Threads>(
+/// Waits for the end of each thread. A line that had no thread has ended as well.
+fn end_all<N: Name, P: Port, C: Clock, G: Gate, R: Threads>(
     rt: &R,
-    begun: Vec<Begun<N, L>>,
+    begun: Vec<Begun<N, P, C, G>>,
+    left: IntoIter<ServedLine<N, P, C, G>, Global>,
     ends: Vec<LineEnd<N>>,
 ) -> Vec<LineEnd<N>>
-    requires room { vec_len ends + vec_len begun ≤ vec_capacity ends }
+    requires room { length (begun_lines begun.items ++ into_iter_items left) ≤ vec_capacity ends }
     requires none { ends.items ≡ [] }
-    ensures { AreEach (Ends N.subs (AreMoved L.pushed L.pulled)) begun.items result.items }
+    requires many { length (into_iter_items left) ≡ into_iter_len left }
+    ensures { AreEach (EndsSo N.subs (AreMoved P.Link.pushed P.Link.pulled)) (begun_lines begun.items ++ into_iter_items left) result.items }
 {
     let mut ends = ends;
-    for line in begun {
-        ends.push_reserved(end_one(rt, line));
+    for lines in begun {
+        ends = end_one(rt, lines, ends);
     }
-    ends
+    add_unstarted(left, ends)
 }
 
-/// Waits for the end of a line.
-fn end_one<N: Name, L: Link, R: Threads>(rt: &R, begun: Begun<N, L>) -> LineEnd<N>
-    ensures { Ends N.subs (AreMoved L.pushed L.pulled) begun result }
+/// Waits for the end of a thread, and adds how its lines ended.
+fn end_one<N: Name, P: Port, C: Clock, G: Gate, R: Threads>(
+    rt: &R,
+    begun: Begun<N, P, C, G>,
+    ends: Vec<LineEnd<N>>,
+) -> Vec<LineEnd<N>>
+    requires room { vec_len ends + length (lines_of begun) ≤ vec_capacity ends }
+    ensures adds { Adds (EndsSo N.subs (AreMoved P.Link.pushed P.Link.pulled)) ends.items (lines_of begun) result.items }
+    ensures capacity { vec_capacity result ≡ vec_capacity ends }
+    ensures len { vec_len result ≡ vec_len ends + length (lines_of begun) }
 {
     match begun {
-        Ok(handle) => handle.join(rt),
-        Err(end) => end,
+        Ok(handle) => add_ends(handle.join(rt), ends),
+        Err(lines) => add_unstarted(lines.into_iter(), ends),
     }
 }

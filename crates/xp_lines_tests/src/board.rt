@@ -19,6 +19,8 @@ pub struct Seen {
     /// How often its clock let time pass, and how often it was woken.
     pub idles: AtomicU64,
     pub wakes: AtomicU64,
+    /// How often its thread paused as its lines ended.
+    pub pauses: AtomicU64,
     /// Whether its gate was asked.
     pub entered: AtomicBool,
     /// Whether its link met a fault.
@@ -35,6 +37,7 @@ impl Seen {
             last: AtomicU64::new(0),
             idles: AtomicU64::new(0),
             wakes: AtomicU64::new(0),
+            pauses: AtomicU64::new(0),
             entered: AtomicBool::new(false),
             failed: AtomicBool::new(false),
         }

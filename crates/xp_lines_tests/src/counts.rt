@@ -46,7 +46,7 @@ pub static REFUSED: [Plan; 5] = [
 /// How many turns a line has at most, how many records are wanted, why the lines have ended and how many entries
 /// there are, and how often a1 was pulled from, time passed there and it was woken.
 static COUNTED: [(u64, u64, &str, (u64, u64, u64)); 2] = [
-    (5_000_000, 1, "HHHHH\n2", (1, 0, 0)),
+    (5_000_000, 1, "HHHHH\n2", (1, 1, 0)),
     (10, 2, "TTTTT\n3", (9, 8, 0)),
 ];
 

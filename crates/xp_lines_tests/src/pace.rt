@@ -1,4 +1,4 @@
-//! Clocks and gates of the lines.
+//! Clocks and gates of the lines, and what their threads do between the turns.
 
 use crate::board::{Board, Seen};
 use crate::plan::Scenario;
@@ -6,13 +6,14 @@ use std::alloc::AllocError;
 use std::sync::Arc;
 use std::sync::atomic::{AtomicBool, Ordering};
 use std::thread;
-use xp_lines::{Clock, Gate};
+use xp_lines::{Clock, Gate, Poller};
 use xp_subs::LineNo;
 
 /// How often a gate looks whether another one was asked.
 const MOST_LOOKS: u32 = 5_000_000;
 
-/// A clock that begins at 0, and goes on by so many seconds each time that it is read, and where its line has nothing to do.
+/// A clock that begins at 0, and goes on by so many seconds each time that it is read, where its line has nothing to do, and
+/// where its thread pauses.
 #[derive(Drop)]
 pub struct Ticking {
     board: Arc<Board>,
@@ -20,6 +21,7 @@ pub struct Ticking {
     now: u64,
     when_read: u64,
     when_idle: u64,
+    when_paused: u64,
 }
 
 impl Ticking {
@@ -28,6 +30,7 @@ impl Ticking {
         line: LineNo,
         when_read: u64,
         when_idle: u64,
+        when_paused: u64,
     ) -> Result<Ticking, AllocError> {
         Ok(Ticking {
             board: Arc::try_clone(board)?,
@@ -35,15 +38,17 @@ impl Ticking {
             now: 0,
             when_read,
             when_idle,
+            when_paused,
         })
     }
 }
 
 impl Clock for Ticking {
     fn now(&mut self) -> u64 {
+        let pauses = self.board.of(self.line).pauses.load(Ordering::SeqCst);
         let now = self.now;
         self.now = now.saturating_add(self.when_read);
-        now
+        now.saturating_add(pauses.saturating_mul(self.when_paused))
     }
 
     fn idle(&mut self) {
@@ -57,6 +62,39 @@ impl Clock for Ticking {
 
     fn wake(&mut self, line: LineNo) {
         self.board.of(line).wakes.fetch_add(1, Ordering::SeqCst);
+    }
+}
+
+/// Between the turns of these lines their thread lets others run.
+#[derive(Drop)]
+pub struct Yielding {
+    board: Arc<Board>,
+    lines: Vec<LineNo>,
+}
+
+impl Yielding {
+    pub fn new(board: &Arc<Board>, lines: Vec<LineNo>) -> Result<Yielding, AllocError> {
+        Ok(Yielding {
+            board: Arc::try_clone(board)?,
+            lines,
+        })
+    }
+}
+
+impl Poller for Yielding {
+    fn lines(&self) -> usize {
+        self.lines.len()
+    }
+
+    fn poll(&mut self) {
+        thread::yield_now();
+    }
+
+    fn pause(&mut self) {
+        for line in &self.lines {
+            self.board.of(*line).pauses.fetch_add(1, Ordering::SeqCst);
+        }
+        thread::yield_now();
     }
 }
 

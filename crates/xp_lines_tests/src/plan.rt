@@ -4,7 +4,8 @@ use crate::counts::REFUSED;
 use crate::faults::FAULTS;
 use crate::recorded::RECORDED;
 use crate::served::{
-    BROKEN_PORT, FIVE_AT_ONCE, FULL_JOURNAL, HALTED, LOST_LINK, NO_ANSWER, TWO_CALLS,
+    BROKEN_PORT, DATA_AND_CLEAR, FIVE_AT_ONCE, FULL_JOURNAL, HALTED, LOST_LINK, NO_ANSWER,
+    TWO_CALLS,
 };
 use crate::slow::SLOW;
 use crate::stopped::{BLOCKED, RESETTING, RINGING, TALKING};
@@ -96,6 +97,7 @@ pub enum Scenario {
     NoAnswer,
     LostLink,
     BrokenPort,
+    DataAndClear,
     FullJournal,
     Halted,
     Refused,
@@ -103,7 +105,7 @@ pub enum Scenario {
     Faults,
     Slow,
     Unlike,
-    /// Calls of a1 and b1 that are live as their lines stop, this line after the other.
+    /// Calls of a1 and b1 that are live as their lines stop, this line after the other. A third line: neither waits for the other.
     Ringing(LineNo),
     Talking(LineNo),
     Resetting(LineNo),
@@ -119,6 +121,7 @@ impl Scenario {
             Scenario::NoAnswer => &NO_ANSWER,
             Scenario::LostLink => &LOST_LINK,
             Scenario::BrokenPort => &BROKEN_PORT,
+            Scenario::DataAndClear => &DATA_AND_CLEAR,
             Scenario::FullJournal => &FULL_JOURNAL,
             Scenario::Halted => &HALTED,
             Scenario::Refused => &REFUSED,

@@ -1,18 +1,21 @@
-//! Lines on threads of their own: calls, an expiry, a halt, a broken port and a full journal.
+//! Lines on threads of their own, and on one thread: calls, an expiry, a halt, a broken port and a full journal.
 
 use crate::board::Board;
 use crate::frames::{
     ACCEPTED, CALL_B, CALL_H, CALL_WITH_DATA, CALLER_EXPIRED, CLEAR, CONFIRMATION, CONFIRMED_IDLE,
-    CONNECTED, CONNECTED_AND_CONFIRMATION, INCOMING_AND_CLEAR, INCOMING_AND_EXPIRED, INCOMING_AT_B,
-    INCOMING_AT_H, INCOMING_WITH_DATA, OUT_OF_ORDER,
+    CONNECTED, CONNECTED_AND_CONFIRMATION, FIRST_DATA, INCOMING_AND_CLEAR, INCOMING_AND_EXPIRED,
+    INCOMING_AT_B, INCOMING_AT_H, INCOMING_WITH_DATA, OUT_OF_ORDER,
 };
 use crate::plan::{
     Comes, FLAWLESS, FREELY, Flaws, GateRule, NO_LINK, Piece, Plan, SILENT, Scenario,
 };
 use crate::serving::{Serving, USUALLY, serve};
-use std::sync::Arc;
+use std::alloc::Global;
+use std::process::Abort;
 use std::sync::atomic::Ordering;
+use std::sync::{Arc, Wait};
 use std::test::Fail;
+use std::thread::Threads;
 
 /// A port that is broken.
 const BROKEN: Plan = Plan {
@@ -172,6 +175,56 @@ const ACCEPTS: Plan = Plan {
 
 pub static BROKEN_PORT: [Plan; 5] = [CALLS_LAST, ACCEPTS, SILENT, SILENT, BROKEN];
 
+/// a1 and b1 send each other a data packet before a1 clears the call.
+pub static DATA_AND_CLEAR: [Plan; 5] = [
+    Plan {
+        gives: &[
+            Piece {
+                after: 0,
+                octets: CALL_WITH_DATA,
+            },
+            Piece {
+                after: 15,
+                octets: FIRST_DATA,
+            },
+            Piece {
+                after: 23,
+                octets: CLEAR,
+            },
+        ],
+        count: 3,
+        wants: &[
+            0x00, 0x00, 0x00, 0x0b, 0x10, 0x01, 0x0f, 0x00, 0x06, 0x42, 0x07, 0x07, 0x43, 0x02,
+            0x02, 0x00, 0x00, 0x00, 0x04, 0x10, 0x01, 0x00, 0x41, 0x00, 0x00, 0x00, 0x03, 0x10,
+            0x01, 0x17,
+        ],
+        ..CALLS_LAST
+    },
+    Plan {
+        gives: &[
+            Piece {
+                after: 26,
+                octets: ACCEPTED,
+            },
+            Piece {
+                after: 34,
+                octets: FIRST_DATA,
+            },
+        ],
+        count: 2,
+        wants: &[
+            0x00, 0x00, 0x00, 0x16, 0x10, 0x01, 0x0b, 0x77, 0x20, 0x80, 0x02, 0x02, 0x08, 0x00,
+            0x10, 0x06, 0x42, 0x07, 0x07, 0x43, 0x02, 0x02, 0x01, 0x00, 0x00, 0x00, 0x00, 0x00,
+            0x00, 0x04, 0x10, 0x01, 0x00, 0x41, 0x00, 0x00, 0x00, 0x05, 0x10, 0x01, 0x13, 0x00,
+            0x00,
+        ],
+        ..SILENT
+    },
+    SILENT,
+    SILENT,
+    SILENT,
+];
+
 /// The answer finds the journal full, and the caller is told nothing.
 pub static FULL_JOURNAL: [Plan; 5] = [
     Plan {
@@ -199,8 +252,8 @@ pub static HALTED: [Plan; 5] = [
     NO_LINK,
 ];
 
-/// How the lines are served, and why each has ended, how many entries there are and the records.
-static SERVED: [(Serving, &str); 7] = [
+/// How lines are served whose gates wait for one another, and why each has ended, how many entries there are and the records.
+static AT_ONCE: [(Serving, &str); 2] = [
     (
         Serving {
             scenario: Scenario::TwoCalls,
@@ -216,6 +269,10 @@ static SERVED: [(Serving, &str); 7] = [
         },
         "TTTTT\n15\n",
     ),
+];
+
+/// The same of lines that wait for nothing. It is all the same whether each has a thread of its own.
+static SERVED: [(Serving, &str); 6] = [
     (
         Serving {
             scenario: Scenario::NoAnswer,
@@ -248,6 +305,13 @@ static SERVED: [(Serving, &str); 7] = [
     ),
     (
         Serving {
+            scenario: Scenario::DataAndClear,
+            ..USUALLY
+        },
+        "HHHHH\n10\nrecord 1 a1 b1 2080020 caller 1 1 00 0 0\n",
+    ),
+    (
+        Serving {
             scenario: Scenario::FullJournal,
             ..USUALLY
         },
@@ -255,14 +319,45 @@ static SERVED: [(Serving, &str); 7] = [
     ),
 ];
 
+/// Serves the lines: what is told, and that each link is given what it wants.
+fn serve_as_told(
+    rt: &(impl Threads + Wait + Sync + Abort),
+    alloc: Global,
+    serving: &Serving,
+    told: &str,
+) -> Result<(), Fail> {
+    let board = Arc::new(alloc, Board::new())?;
+    let text = serve(rt, alloc, serving, &board)?;
+    assert_eq!(rt; text.as_str(), told);
+    assert!(rt; board.as_wanted(serving.scenario), "{told}");
+    assert!(rt; !board.late.load(Ordering::SeqCst), "{told}");
+    Ok(())
+}
+
+#[test]
+fn lines_at_once(rt: HostRuntime) -> Result<(), Fail> {
+    for (serving, told) in &AT_ONCE {
+        serve_as_told(&rt, rt.alloc(), serving, told)?;
+    }
+    Ok(())
+}
+
 #[test]
 fn lines_on_threads(rt: HostRuntime) -> Result<(), Fail> {
     for (serving, told) in &SERVED {
-        let board = Arc::new(rt.alloc(), Board::new())?;
-        let text = serve(&rt, rt.alloc(), serving, &board)?;
-        assert_eq!(rt; text.as_str(), *told);
-        assert!(rt; board.as_wanted(serving.scenario), "{told}");
-        assert!(rt; !board.late.load(Ordering::SeqCst), "{told}");
+        serve_as_told(&rt, rt.alloc(), serving, told)?;
+    }
+    Ok(())
+}
+
+#[test]
+fn lines_on_one_thread(rt: HostRuntime) -> Result<(), Fail> {
+    for (serving, told) in &SERVED {
+        let together = Serving {
+            together: true,
+            ..*serving
+        };
+        serve_as_told(&rt, rt.alloc(), &together, told)?;
     }
     Ok(())
 }

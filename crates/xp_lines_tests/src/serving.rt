@@ -1,4 +1,4 @@
-//! Lines that are served, each by a thread of its own.
+//! Lines that are served, each by a thread of its own or all by one.
 
 ghost use Rattle.std.specs.Prelude.{◌≡◌};
 ghost use Rattle.xp_subs.specs.Tables.{line_count};
@@ -6,7 +6,7 @@ ghost use Rattle.xp_subs.specs.Tables.{line_count};
 use crate::account::{subs, tell_records, why_letter};
 use crate::board::Board;
 use crate::kept::Kept;
-use crate::pace::{PlannedGate, Ticking};
+use crate::pace::{PlannedGate, Ticking, Yielding};
 use crate::plan::Scenario;
 use crate::wire::PlannedPort;
 use std::alloc::{AllocError, Global};
@@ -14,16 +14,21 @@ use std::marker::Brand;
 use std::sync::{Arc, Wait};
 use std::test::Fail;
 use std::thread::Threads;
-use xp_lines::{LineEnd, LinesServed, ThreadInputs, serve_all};
+use xp_lines::{LineEnd, LineInputs, LinesServed, serve_all};
 use xp_lock::{Book, Exchange, LinePass, Name, PreparedExchange, prepare};
+use xp_subs::LineNo;
 
 /// How lines are served.
 #[derive(Clone, Copy)]
 pub struct Serving {
     /// What their links do.
     pub scenario: Scenario,
+    /// Whether one thread serves them all. Their gates must not wait for one another then.
+    pub together: bool,
     /// By how many seconds a clock goes on where its line has nothing to do.
     pub step: u64,
+    /// And by how many each time that its thread pauses, as lines end.
+    pub pause: u64,
     /// Whether the exchange is halted before they are served.
     pub halted: bool,
     pub turns: u64,
@@ -37,7 +42,9 @@ pub struct Serving {
 /// Two calls, served as most acts are.
 pub const USUALLY: Serving = Serving {
     scenario: Scenario::TwoCalls,
+    together: false,
     step: 0,
+    pause: 0,
     halted: false,
     turns: 5_000_000,
     records: 1,
@@ -45,31 +52,86 @@ pub const USUALLY: Serving = Serving {
     stops: false,
 };
 
-fn part<N: Name>(
+/// A line that is served.
+type Line<N> = LineInputs<N, PlannedPort, Ticking, PlannedGate>;
+
+fn line<N: Name>(
     pass: LinePass<N>,
     serving: &Serving,
     board: &Arc<Board>,
-) -> Result<ThreadInputs<N, PlannedPort, Ticking, PlannedGate>, AllocError> {
+) -> Result<Line<N>, AllocError> {
     let line = pass.line();
-    Ok(ThreadInputs {
+    let port = PlannedPort::new(serving.scenario, line, board)?;
+    let clock = Ticking::new(board, line, 0, serving.step, serving.pause)?;
+    let gate = PlannedGate::new(board, serving.scenario)?;
+    Ok(LineInputs {
         pass,
-        port: PlannedPort::new(serving.scenario, line, board)?,
-        clock: Ticking::new(board, line, 0, serving.step)?,
-        gate: PlannedGate::new(board, serving.scenario)?,
+        port,
+        clock,
+        gate,
     })
 }
 
-fn parts<N: Name>(
+fn lines<N: Name>(
     alloc: Global,
     passes: Vec<LinePass<N>>,
     serving: &Serving,
     board: &Arc<Board>,
-) -> Result<Vec<ThreadInputs<N, PlannedPort, Ticking, PlannedGate>>, AllocError> {
-    let mut parts = Vec::new(alloc);
+) -> Result<Vec<Line<N>>, AllocError> {
+    let mut lines = Vec::new(alloc);
     for pass in passes {
-        parts.push(part(pass, serving, board)?)?;
+        lines.push(line(pass, serving, board)?)?;
     }
-    Ok(parts)
+    Ok(lines)
+}
+
+/// The numbers of the lines.
+fn numbers<N: Name>(alloc: Global, passes: &[LinePass<N>]) -> Result<Vec<LineNo>, AllocError> {
+    let mut numbers = Vec::new(alloc);
+    for pass in passes {
+        numbers.push(pass.line())?;
+    }
+    Ok(numbers)
+}
+
+/// A thread for each of these lines.
+fn threads(
+    alloc: Global,
+    lines: Vec<LineNo>,
+    board: &Arc<Board>,
+) -> Result<Vec<Yielding>, AllocError> {
+    let mut threads = Vec::new(alloc);
+    for line in lines {
+        let mut alone = Vec::new(alloc);
+        alone.push(line)?;
+        threads.push(Yielding::new(board, alone)?)?;
+    }
+    Ok(threads)
+}
+
+/// One thread for all of these lines.
+fn one_thread(
+    alloc: Global,
+    lines: Vec<LineNo>,
+    board: &Arc<Board>,
+) -> Result<Vec<Yielding>, AllocError> {
+    let mut threads = Vec::new(alloc);
+    threads.push(Yielding::new(board, lines)?)?;
+    Ok(threads)
+}
+
+/// The threads of these lines.
+fn pollers(
+    alloc: Global,
+    lines: Vec<LineNo>,
+    together: bool,
+    board: &Arc<Board>,
+) -> Result<Vec<Yielding>, AllocError> {
+    if together {
+        one_thread(alloc, lines, board)
+    } else {
+        threads(alloc, lines, board)
+    }
 }
 
 /// Adds why each line has ended, and gives all passes back.
@@ -105,9 +167,12 @@ fn serves<N: Name + Send + Sync, R: Threads + Wait + Sync>(
     if serving.halted {
         exchange.halt(rt);
     }
-    let parts = parts(alloc, all, serving, board)?;
+    let pollers = pollers(alloc, numbers(alloc, &all)?, serving.together, board)?;
+    let lines = lines(alloc, all, serving, board)?;
     let (turns, records) = (serving.turns, serving.records);
-    match serve_all(rt, alloc, &exchange, parts, recorder, sink, turns, records) {
+    match serve_all(
+        rt, alloc, &exchange, lines, pollers, recorder, sink, turns, records,
+    ) {
         Ok(served) => close(rt, alloc, exchange, served),
         Err(_) => Ok(Vec::new(alloc)),
     }

@@ -1,16 +1,18 @@
 //! Lines that are asked to stop while a call is live.
 
 use crate::board::Board;
-use crate::frames::{ACCEPTED, CALL_WITH_DATA};
+use crate::frames::{ACCEPTED, CALL_WITH_DATA, FIRST_DATA};
 use crate::plan::{FLAWLESS, FREELY, Flaws, GateRule, NO_LINK, Piece, Plan, SILENT, Scenario};
 use crate::serving::{Serving, USUALLY, serve};
-use std::sync::Arc;
+use std::alloc::Global;
+use std::process::Abort;
 use std::sync::atomic::Ordering;
+use std::sync::{Arc, Wait};
 use std::test::Fail;
+use std::thread::Threads;
+use xp_subs::LineNo;
 
-/// A data packet of one octet with P(S) 0, and one with P(S) 1.
-const FIRST_DATA: &[u8] = &[0x00, 0x00, 0x00, 0x04, 0x10, 0x01, 0x00, 0x41];
-
+/// A data packet of one octet with P(S) 1.
 const SECOND_DATA: &[u8] = &[0x00, 0x00, 0x00, 0x04, 0x10, 0x01, 0x02, 0x42];
 
 /// A reset request.
@@ -204,40 +206,87 @@ static STOPPED: [(Scenario, [usize; 2], &str); 6] = [
     ),
 ];
 
+/// The same of lines that one thread stops in turn: a1 before b1.
+static STOPPED_TOGETHER: [(Scenario, [usize; 2], &str); 3] = [
+    (
+        Scenario::Ringing(2),
+        [0, 35],
+        "SSSSS\n5\nrecord 1 a1 b1 2080020 caller 0 0 09 0 0\n",
+    ),
+    (
+        Scenario::Talking(2),
+        [23, 51],
+        "SSSSS\n9\nrecord 1 a1 b1 2080020 caller 2 1 09 0 0\n",
+    ),
+    (
+        Scenario::Resetting(2),
+        [22, 52],
+        "SSSSS\n8\nrecord 1 a1 b1 2080020 caller 1 0 09 0 0\n",
+    ),
+];
+
 /// How the lines of a scenario are served until the sink stops them.
-fn until_stopped(scenario: Scenario, step: u64) -> Serving {
+fn until_stopped(scenario: Scenario, together: bool, pause: u64) -> Serving {
     Serving {
         scenario,
-        step,
+        together,
+        pause,
         records: 1_000,
         stops: true,
         ..USUALLY
     }
 }
 
+/// Serves the lines until the sink stops them: what is told, and what a1 and b1 are given.
+fn stop_as_told(
+    rt: &(impl Threads + Wait + Sync + Abort),
+    alloc: Global,
+    serving: &Serving,
+    given: [usize; 2],
+    told: &str,
+) -> Result<(), Fail> {
+    let board = Arc::new(alloc, Board::new())?;
+    let text = serve(rt, alloc, serving, &board)?;
+    assert_eq!(rt; text.as_str(), told);
+    let [caller, called] = given;
+    assert_eq!(rt; board.of(0).front(), Some(caller), "{told}");
+    assert_eq!(rt; board.of(1).front(), Some(called), "{told}");
+    Ok(())
+}
+
 #[test]
 fn lines_stop_while_a_call_is_live(rt: HostRuntime) -> Result<(), Fail> {
     for (scenario, given, told) in &STOPPED {
-        let board = Arc::new(rt.alloc(), Board::new())?;
-        let serving = until_stopped(*scenario, 0);
-        let text = serve(&rt, rt.alloc(), &serving, &board)?;
-        assert_eq!(rt; text.as_str(), *told);
-        let [caller, called] = *given;
-        assert_eq!(rt; board.of(0).front(), Some(caller), "{told}");
-        assert_eq!(rt; board.of(1).front(), Some(called), "{told}");
+        let serving = until_stopped(*scenario, false, 0);
+        stop_as_told(&rt, rt.alloc(), &serving, *given, told)?;
+    }
+    Ok(())
+}
+
+#[test]
+fn lines_of_one_thread_stop_while_a_call_is_live(rt: HostRuntime) -> Result<(), Fail> {
+    for (scenario, given, told) in &STOPPED_TOGETHER {
+        let serving = until_stopped(*scenario, true, 0);
+        stop_as_told(&rt, rt.alloc(), &serving, *given, told)?;
     }
     Ok(())
 }
 
 /// The clear indication for b1 is never taken. Its line writes until 5 seconds have passed, or 10,000 times where the clock
-/// stands still: how often a clock goes on by a second, and how often b1's link is pushed into, the incoming call included.
-static WRITES: [(u64, u64); 2] = [(1, 7), (0, 10_001)];
+/// stands still: which line stops last, whether one thread serves all lines, by how many seconds a clock goes on with each pause,
+/// and how often b1's link is pushed into, the incoming call included.
+static WRITES: [(LineNo, bool, u64, u64); 4] = [
+    (1, false, 1, 7),
+    (1, false, 0, 10_001),
+    (2, true, 1, 7),
+    (2, true, 0, 10_001),
+];
 
 #[test]
 fn line_stops_while_its_link_takes_nothing(rt: HostRuntime) -> Result<(), Fail> {
-    for (step, pushes) in &WRITES {
+    for (last, together, pause, pushes) in &WRITES {
         let board = Arc::new(rt.alloc(), Board::new())?;
-        let serving = until_stopped(Scenario::Blocked(1), *step);
+        let serving = until_stopped(Scenario::Blocked(*last), *together, *pause);
         let text = serve(&rt, rt.alloc(), &serving, &board)?;
         assert_eq!(rt;
             text.as_str(),

@@ -95,7 +95,7 @@ fn make_seat<N: Name>(
             unwritten: Vec::new(alloc),
             unanswered_since: None,
         },
-        clock: Ticking::new(board, line, playing.step, 0)?,
+        clock: Ticking::new(board, line, playing.step, 0, 0)?,
         gate: PlannedGate::new(board, scenario)?,
         after: TurnOutcome::Linked,
     })

@@ -13,7 +13,7 @@ use std::sync::Wait;
 use std::thread;
 use std::thread::{JoinHandle, Scope, Threads};
 use xp_lines::{
-    Clock, EndReason, Gate, LinesServed, Link, Port, RecordSink, ServeFault, ThreadInputs,
+    Clock, EndReason, Gate, LineInputs, LinesServed, Link, Poller, Port, RecordSink, ServeFault,
     serve_all,
 };
 use xp_lock::{Exchange, Name, Recorder};
@@ -29,31 +29,35 @@ pub(crate) fn serve_with_door<
     P: Port + Send,
     C: Clock + Send,
     G: Gate + Send,
+    T: Poller + Send,
     R: Net<Listener = TcpListener, Stream = TcpStream> + Threads + Wait + Sync,
     S: RecordSink,
 >(
     rt: &R,
     alloc: Global,
     exchange: &Exchange<N>,
-    parts: Vec<ThreadInputs<N, P, C, G>>,
+    lines: Vec<LineInputs<N, P, C, G>>,
+    pollers: Vec<T>,
     door: Option<Door>,
     recorder: Recorder<N>,
     sink: S,
     limits: Limits,
 ) -> Result<LinesServed<N, S>, ServeFault<N, P, C, G, S>>
     requires { S.lines sink ≡ line_count N.subs }
-    ensures served { IfOk result (λ served. AreEach (IsLineServed N.subs (AreMoved P.Link.pushed P.Link.pulled)) (map (λ part. part.pass) parts.items) (map (λ end. end.pass) served.ends.items)) }
-    ensures stopped { IfOk result (λ served. AreEach (λ first end. end.why ≡ EndReason.Stopped → IsLineDown N.subs (AreMoved P.Link.pushed P.Link.pulled) first end.pass) (map (λ part. part.pass) parts.items) served.ends.items) }
+    ensures served { IfOk result (λ served. AreEach (IsLineServed N.subs (AreMoved P.Link.pushed P.Link.pulled)) (map (λ line. line.pass) lines.items) (map (λ end. end.pass) served.ends.items)) }
+    ensures stopped { IfOk result (λ served. AreEach (λ first end. end.why ≡ EndReason.Stopped → IsLineDown N.subs (AreMoved P.Link.pushed P.Link.pulled) first end.pass) (map (λ line. line.pass) lines.items) served.ends.items) }
     ensures recorded { IfOk result (λ served. HandsOn S.received S.keeps recorder sink served.recorder served.sink) }
     ensures kept { IfErr result (λ fault. fault.sink ≡ sink) }
 {
     let (turns, records) = (limits.turns, limits.records);
     let Some(door) = door else {
-        return serve_all(rt, alloc, exchange, parts, recorder, sink, turns, records);
+        return serve_all(
+            rt, alloc, exchange, lines, pollers, recorder, sink, turns, records,
+        );
     };
     let Ok(bell) = door.bell() else {
         return Err(ServeFault {
-            parts,
+            lines,
             recorder,
             sink,
         });
@@ -63,19 +67,21 @@ pub(crate) fn serve_with_door<
         rt,
         |scope| -> Result<LinesServed<N, S>, ServeFault<N, P, C, G, S>>
             requires lines { S.lines sink ≡ line_count N.subs }
-            ensures served { IfOk result (λ served. AreEach (IsLineServed N.subs (AreMoved P.Link.pushed P.Link.pulled)) (map (λ part. part.pass) parts.items) (map (λ end. end.pass) served.ends.items)) }
-            ensures stopped { IfOk result (λ served. AreEach (λ first end. end.why ≡ EndReason.Stopped → IsLineDown N.subs (AreMoved P.Link.pushed P.Link.pulled) first end.pass) (map (λ part. part.pass) parts.items) served.ends.items) }
+            ensures served { IfOk result (λ served. AreEach (IsLineServed N.subs (AreMoved P.Link.pushed P.Link.pulled)) (map (λ line. line.pass) lines.items) (map (λ end. end.pass) served.ends.items)) }
+            ensures stopped { IfOk result (λ served. AreEach (λ first end. end.why ≡ EndReason.Stopped → IsLineDown N.subs (AreMoved P.Link.pushed P.Link.pulled) first end.pass) (map (λ line. line.pass) lines.items) served.ends.items) }
             ensures recorded { IfOk result (λ served. HandsOn S.received S.keeps recorder sink served.recorder served.sink) }
             ensures kept { IfErr result (λ fault. fault.sink ≡ sink) }
         {
             let Some(running) = begin_door(rt, scope, door) else {
                 return Err(ServeFault {
-                    parts,
+                    lines,
                     recorder,
                     sink,
                 });
             };
-            let served = serve_all(rt, alloc, exchange, parts, recorder, sink, turns, records);
+            let served = serve_all(
+                rt, alloc, exchange, lines, pollers, recorder, sink, turns, records,
+            );
             bell.stop();
             running.join(rt);
             served

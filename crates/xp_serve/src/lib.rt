@@ -36,7 +36,7 @@ pub use listening::listen_all;
 pub use operator_log::OperatorLog;
 pub use printing::RecordPrinter;
 pub use served::{NotServed, Recorded, Served};
-pub use serving::{ServeEnd, TcpThreadInputs, TcpThreads, serve, serve_on, thread_inputs};
+pub use serving::{ServeEnd, TcpLine, TcpThreads, serve, serve_on, thread_inputs};
 pub use stop_input::StopInput;
 pub use syncing::{FileSyncer, SyncSignal};
 pub use traced_watch::TracedWatch;

@@ -15,11 +15,13 @@ ghost use Rattle.xp_tcp.specs.declared.access.Access.TheVariants as served;
 use crate::failure::ServeFailure;
 use std::alloc::Global;
 use std::net::{IpAddr, Net, SocketAddr};
+use std::num::NonZeroUsize;
 use std::sync::Arc;
 use xp_subs::{Access, LineNo, RouterAddress, Subs};
 use xp_tcp::{Admission, AdmissionFault, ListenFault, Notices, Sockets};
 
 /// Listens on the port of each line, in order, at an address of the machine, and for the routers of the lines that are behind one.
+/// So many threads are to serve the lines.
 /// The ports tell what an operator has to see by `notices`.
 ///
 /// # Errors
@@ -32,6 +34,7 @@ pub fn listen_all<R: Net>(
     alloc: Global,
     subs: &Subs,
     host: IpAddr,
+    threads: NonZeroUsize,
     notices: Arc<Notices>,
 ) -> Result<Sockets, ServeFailure>
     ensures accesses { IfOk result (AreServedAt subs.now) }
@@ -39,7 +42,7 @@ pub fn listen_all<R: Net>(
 {
     let lines = subs.counts().lines;
     check_addresses(subs)?;
-    let mut sockets = Sockets::new(alloc, lines, notices)?;
+    let mut sockets = Sockets::new(alloc, lines, threads, notices)?;
     for line in 0..lines {
         listen(rt, subs, host, line as LineNo, &mut sockets)?;
     }

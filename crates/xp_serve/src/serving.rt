@@ -20,12 +20,14 @@ use crate::telling::tell;
 use std::alloc::{AllocError, Global};
 use std::marker::Brand;
 use std::net::{IpAddr, Net, TcpListener, TcpStream};
+use std::num::NonZeroUsize;
 use std::sync::{Arc, Wait};
+use std::thread;
 use std::thread::Threads;
-use xp_lines::{EndReason, LinesServed, RecordSink, ThreadInputs};
+use xp_lines::{EndReason, LineInputs, LinesServed, RecordSink};
 use xp_lock::{Exchange, LinePass, Name, PreparedExchange, Recorder, prepare};
 use xp_subs::Subs;
-use xp_tcp::{Door, Ends, LinePort, Notices, OpenGate, Sockets, TcpClock};
+use xp_tcp::{Door, Ends, LinePort, Notices, OpenGate, Sockets, TcpClock, TcpPoller};
 
 /// What serving came to.
 #[derive(Drop)]
@@ -88,7 +90,7 @@ fn serve_at<
     requires new { K.received keeper ≡ [] }
     ensures { Serves K.kept K.keeps subs keeper result.keeper result.outcome }
 {
-    let sockets = match listen_all(rt, alloc, &subs, host, notices) {
+    let sockets = match listen_all(rt, alloc, &subs, host, threads_of(rt), notices) {
         Ok(sockets) => sockets,
         Err(failure) => {
             return ServeEnd {
@@ -106,6 +108,11 @@ fn serve_at<
     }
 }
 
+/// How many threads serve the lines: one for each processor.
+fn threads_of<R: Threads>(rt: &R) -> NonZeroUsize {
+    thread::available_parallelism(rt).unwrap_or(NonZeroUsize::MIN)
+}
+
 /// Keeps the records that are left, and tells how the lines ended.
 fn end<K: RecordKeeper>(recorded: Recorded<K>) -> ServeEnd<K>
     requires early_end { IfSome recorded.served.early_end (λ early_end. early_end.line < line_count recorded.served.book.subs) }
@@ -119,7 +126,7 @@ fn end<K: RecordKeeper>(recorded: Recorded<K>) -> ServeEnd<K>
     ServeEnd { keeper, outcome }
 }
 
-/// Serves each line on its socket, which listens already, on a thread of its own, until all lines have ended. The sockets are
+/// Serves each line on its socket, which listens already, until all lines have ended. Each of the threads of the sockets serves some of the lines. The sockets are
 /// in the order of lines. The sink is given the charging records as their calls end. Where it can do nothing with further
 /// records, serving ends. Those that could not be handed over for want of memory are in the book.
 ///
@@ -181,13 +188,16 @@ fn serve_named<
     };
     let Ready {
         exchange,
-        parts,
+        lines,
+        pollers,
         door,
         recorder,
         room,
         room_of_reasons,
     } = ready;
-    match serve_with_door(rt, alloc, &exchange, parts, door, recorder, sink, limits) {
+    match serve_with_door(
+        rt, alloc, &exchange, lines, pollers, door, recorder, sink, limits,
+    ) {
         Ok(lines) => Ok(close(rt, exchange, lines, room, room_of_reasons)),
         Err(fault) => Err(NotServed { sink: fault.sink }),
     }
@@ -234,8 +244,9 @@ fn close<N: Name, S: RecordSink, R: Wait>(
 #[derive(Drop)]
 struct Ready<N: Name> {
     exchange: Exchange<N>,
-    /// What the threads of the lines are given.
-    parts: Vec<TcpThreadInputs<N>>,
+    lines: Vec<TcpLine<N>>,
+    /// What the threads of the lines wait on.
+    pollers: Vec<TcpPoller>,
     /// The door of the lines behind routers, if there are any.
     door: Option<Door>,
     recorder: Recorder<N>,
@@ -244,7 +255,7 @@ struct Ready<N: Name> {
     room_of_reasons: Vec<EndReason>,
 }
 
-/// Starts the exchange that N names, and makes what the threads of its lines are given.
+/// Starts the exchange that N names, and makes what its threads are given.
 fn make_ready<N: Name>(
     alloc: Global,
     prepared: PreparedExchange,
@@ -259,10 +270,15 @@ fn make_ready<N: Name>(
     let (exchange, passes, recorder) = Exchange::<N>::start(alloc, prepared)?;
     let room = Vec::with_capacity(alloc, passes.len())?;
     let room_of_reasons = Vec::with_capacity(alloc, passes.len())?;
-    let TcpThreads { parts, door } = thread_inputs(alloc, passes, sockets)?;
+    let TcpThreads {
+        lines,
+        pollers,
+        door,
+    } = thread_inputs(alloc, passes, sockets)?;
     Ok(Ready {
         exchange,
-        parts,
+        lines,
+        pollers,
         door,
         recorder,
         room,
@@ -270,18 +286,20 @@ fn make_ready<N: Name>(
     })
 }
 
-/// What the thread of a line is given.
-pub type TcpThreadInputs<N> = ThreadInputs<N, LinePort, TcpClock, OpenGate>;
+/// What a line is served with over TCP.
+pub type TcpLine<N> = LineInputs<N, LinePort, TcpClock, OpenGate>;
 
 /// What the threads of all lines are given, and the door of the lines behind routers, if there are any.
 #[derive(Drop)]
 pub struct TcpThreads<N: Name> {
-    /// In the order of lines.
-    pub parts: Vec<TcpThreadInputs<N>>,
+    /// In order.
+    pub lines: Vec<TcpLine<N>>,
+    /// What each thread waits on, which serves the next lines.
+    pub pollers: Vec<TcpPoller>,
     pub door: Option<Door>,
 }
 
-/// What the threads of the lines are given, in the order of lines: each the pass and the port of its line.
+/// What the threads of the lines are given, in the order of lines: each line its own pass and port.
 ///
 /// # Errors
 ///
@@ -292,22 +310,30 @@ pub fn thread_inputs<N: Name>(
     sockets: Sockets,
 ) -> Result<TcpThreads<N>, AllocError>
     requires { length sockets ≡ vec_len passes }
-    ensures passes { IfOk result (λ threads. map (λ part. part.pass) threads.parts.items ≡ passes.items) }
-    ensures ports { IfOk result (λ threads. map (λ part. part.port) threads.parts.items ≡ sockets) }
+    ensures passes { IfOk result (λ threads. map (λ line. line.pass) threads.lines.items ≡ passes.items) }
+    ensures ports { IfOk result (λ threads. map (λ line. line.port) threads.lines.items ≡ sockets) }
 {
-    let mut parts = Vec::with_capacity(alloc, passes.len())?;
-    let Ends { lines, door } = sockets.into_ends(alloc)?;
+    let mut served = Vec::with_capacity(alloc, passes.len())?;
+    let Ends {
+        lines,
+        threads,
+        door,
+    } = sockets.into_ends(alloc)?;
     let mut ends = lines.into_iter();
     for pass in passes {
         let Some((port, clock)) = ends.next() else {
             unreachable!()
         };
-        parts.push(ThreadInputs {
+        served.push(LineInputs {
             pass,
             port,
             clock,
             gate: OpenGate,
         })?;
     }
-    Ok(TcpThreads { parts, door })
+    Ok(TcpThreads {
+        lines: served,
+        pollers: threads,
+        door,
+    })
 }

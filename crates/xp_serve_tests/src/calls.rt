@@ -3,7 +3,12 @@
 use crate::client::Step;
 use crate::frames::{ACCEPTED, CALL, CLEAR, CONFIRMATION, CONNECTED, INCOMING, OUT_OF_ORDER};
 use crate::serving::{Clients, ONE_RECORD, Wanted, serve};
+use std::alloc::Global;
+use std::net::{Net, TcpListener, TcpStream};
+use std::process::Abort;
+use std::sync::Wait;
 use std::test::Fail;
+use std::thread::Threads;
 use xp_serve::KeepFault;
 
 /// A call that is accepted and cleared.
@@ -23,9 +28,19 @@ pub const CALL_AND_CLEAR: Clients = Clients {
     ],
 };
 
-#[test]
-fn call_over_sockets(rt: HostRuntime) -> Result<(), Fail> {
-    let served = serve(&rt, rt.alloc(), ONE_RECORD, CALL_AND_CLEAR)?;
+/// The same, where one thread serves all lines.
+const ON_ONE_THREAD: Wanted = Wanted {
+    together: true,
+    ..ONE_RECORD
+};
+
+/// Serves a call that is accepted and cleared, and what is told of it.
+fn call_and_clear(
+    rt: &(impl Net<Listener = TcpListener, Stream = TcpStream> + Threads + Wait + Sync + Abort),
+    alloc: Global,
+    wanted: Wanted,
+) -> Result<(), Fail> {
+    let served = serve(rt, alloc, wanted, CALL_AND_CLEAR)?;
     assert_eq!(rt; served.steps, (5, 4));
     assert_eq!(rt; (served.left, served.outcome), (0, Ok(())));
     // The call is connected for less than a second, which its two moments may yet count as one.
@@ -35,9 +50,22 @@ fn call_over_sockets(rt: HostRuntime) -> Result<(), Fail> {
     Ok(())
 }
 
-/// b1's client hangs up once it has the call.
 #[test]
-fn client_that_hangs_up(rt: HostRuntime) -> Result<(), Fail> {
+fn call_over_sockets(rt: HostRuntime) -> Result<(), Fail> {
+    call_and_clear(&rt, rt.alloc(), ONE_RECORD)
+}
+
+#[test]
+fn call_on_one_thread(rt: HostRuntime) -> Result<(), Fail> {
+    call_and_clear(&rt, rt.alloc(), ON_ONE_THREAD)
+}
+
+/// Serves a call to b1, whose client hangs up once it has the call, and what is told of it.
+fn call_and_hang_up(
+    rt: &(impl Net<Listener = TcpListener, Stream = TcpStream> + Threads + Wait + Sync + Abort),
+    alloc: Global,
+    wanted: Wanted,
+) -> Result<(), Fail> {
     let clients = Clients {
         a1: &[
             Step::Sends(CALL),
@@ -46,7 +74,7 @@ fn client_that_hangs_up(rt: HostRuntime) -> Result<(), Fail> {
         ],
         b1: &[Step::Receives(INCOMING)],
     };
-    let served = serve(&rt, rt.alloc(), ONE_RECORD, clients)?;
+    let served = serve(rt, alloc, wanted, clients)?;
     assert_eq!(rt; served.steps, (3, 1));
     assert_eq!(rt;
         served.text.as_str(),
@@ -55,16 +83,40 @@ fn client_that_hangs_up(rt: HostRuntime) -> Result<(), Fail> {
     Ok(())
 }
 
-/// The writer takes no record, so the lines are stopped though more records are wanted.
 #[test]
-fn writer_that_fails(rt: HostRuntime) -> Result<(), Fail> {
+fn client_that_hangs_up(rt: HostRuntime) -> Result<(), Fail> {
+    call_and_hang_up(&rt, rt.alloc(), ONE_RECORD)
+}
+
+#[test]
+fn client_that_hangs_up_on_one_thread(rt: HostRuntime) -> Result<(), Fail> {
+    call_and_hang_up(&rt, rt.alloc(), ON_ONE_THREAD)
+}
+
+/// Serves a call with a writer that takes no record, so the lines are stopped though more records are wanted.
+fn call_and_stop(
+    rt: &(impl Net<Listener = TcpListener, Stream = TcpStream> + Threads + Wait + Sync + Abort),
+    alloc: Global,
+    together: bool,
+) -> Result<(), Fail> {
     let wanted = Wanted {
         records: 1_000,
         writes: 0,
+        together,
     };
-    let served = serve(&rt, rt.alloc(), wanted, CALL_AND_CLEAR)?;
+    let served = serve(rt, alloc, wanted, CALL_AND_CLEAR)?;
     assert_eq!(rt; served.steps, (5, 4));
     assert_eq!(rt; (served.left, served.outcome), (0, Err(KeepFault::Output)));
     assert_eq!(rt; served.text.as_str(), "SSSSS\n");
     Ok(())
+}
+
+#[test]
+fn writer_that_fails(rt: HostRuntime) -> Result<(), Fail> {
+    call_and_stop(&rt, rt.alloc(), false)
+}
+
+#[test]
+fn writer_that_fails_on_one_thread(rt: HostRuntime) -> Result<(), Fail> {
+    call_and_stop(&rt, rt.alloc(), true)
 }

@@ -9,6 +9,7 @@ use crate::paper::Paper;
 use crate::twice::read_twice;
 use std::alloc::{AllocError, Global};
 use std::net::{IpAddr, Ipv4Addr, Net, TcpListener, TcpStream};
+use std::num::NonZeroUsize;
 use std::sync::{Arc, Wait};
 use std::test::Fail;
 use std::thread::{Threads, join};
@@ -19,8 +20,8 @@ use xp_subs::Subs;
 use xp_tcp::{Admission, Notices, Sockets};
 use xp_testing::THREE_STATIONS;
 
-/// More turns than a line has in these tests. A clock sleeps for half a second at most, so a line that nothing else ends has
-/// ended within a minute.
+/// More rounds of turns than a thread has in these tests. It sleeps for half a second at most between them, so a line that nothing
+/// else ends has ended within a minute.
 pub const TURNS: u64 = 100;
 
 /// What the clients of a1 and b1 do, once b1 is up.
@@ -51,12 +52,15 @@ pub struct Wanted {
     pub records: u64,
     /// How many writes the writer takes.
     pub writes: u64,
+    /// Whether one thread serves all lines. Else each has a thread of its own.
+    pub together: bool,
 }
 
-/// Until there is a charging record, which can be printed.
+/// Until there is a charging record, which can be printed. Each line has a thread of its own.
 pub const ONE_RECORD: Wanted = Wanted {
     records: 1,
     writes: 1_000,
+    together: false,
 };
 
 /// A clear where there is no call is confirmed, so the line is up then.
@@ -83,13 +87,22 @@ pub fn meet<R: Net<Listener = TcpListener, Stream = TcpStream> + Threads + Sync>
     Ok(join(rt, call, be_called))
 }
 
+/// How many threads serve so many lines.
+fn threads_of(lines: usize, together: bool) -> NonZeroUsize {
+    if together {
+        NonZeroUsize::MIN
+    } else {
+        NonZeroUsize::new(lines).unwrap_or(NonZeroUsize::MIN)
+    }
+}
+
 /// Listens for each line at 127.0.0.1, on a port that the system picks.
-fn listen_all<R: Net>(rt: &R, alloc: Global, subs: &Subs) -> Result<Sockets, Fail>
+fn listen_all<R: Net>(rt: &R, alloc: Global, subs: &Subs, together: bool) -> Result<Sockets, Fail>
     ensures { IfOk result (λ sockets. length sockets ≡ line_count subs.now) }
 {
     let lines = subs.counts().lines;
     let notices = Arc::new(alloc, Notices::new(alloc)?)?;
-    let mut sockets = Sockets::new(alloc, lines, notices)?;
+    let mut sockets = Sockets::new(alloc, lines, threads_of(lines, together), notices)?;
     for _line in 0..lines {
         sockets.listen(rt, IpAddr::V4(Ipv4Addr::LOCALHOST), 0, Admission::any())?;
     }
@@ -154,7 +167,7 @@ pub fn serve<R: Net<Listener = TcpListener, Stream = TcpStream> + Threads + Wait
     clients: Clients,
 ) -> Result<Met, Fail> {
     let (subs, names) = read_twice(alloc, THREE_STATIONS)?;
-    let sockets = listen_all(rt, alloc, &subs)?;
+    let sockets = listen_all(rt, alloc, &subs, wanted.together)?;
     let printer = RecordPrinter::new(alloc, names, Paper::new(alloc, wanted.writes));
     let (recorded, steps) = serve_clients(
         rt,

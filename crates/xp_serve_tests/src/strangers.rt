@@ -3,6 +3,7 @@
 use std::alloc::Global;
 use std::io::Read;
 use std::net::{IpAddr, Ipv4Addr, Net, SocketAddr, SocketAddrV4, TcpListener, TcpStream};
+use std::num::NonZeroUsize;
 use std::sync::Arc;
 use std::test::Fail;
 use std::thread;
@@ -33,7 +34,7 @@ fn listen_and_connect<R: Net<Listener = TcpListener, Stream = TcpStream>>(
     let notices = Arc::new(alloc, Notices::new(alloc)?)?;
     let mut admission = Admission::any();
     admission.add(admitted)?;
-    let mut sockets = Sockets::new(alloc, 1, Arc::try_clone(&notices)?)?;
+    let mut sockets = Sockets::new(alloc, 1, NonZeroUsize::MIN, Arc::try_clone(&notices)?)?;
     sockets.listen(rt, IpAddr::V4(Ipv4Addr::LOCALHOST), 0, admission)?;
     let number = sockets.port(0).ok_or("no port")?;
     let at = SocketAddr::V4(SocketAddrV4::new(Ipv4Addr::LOCALHOST, number));

@@ -1,31 +1,18 @@
-//! The clock of a line's thread.
+//! The clock of a line.
 
 ghost use Rattle.std.specs.Prelude.{◌≡◌, ◌≤◌, ◌/◌};
 ghost use Rattle.std.specs.Duration.{as_nanos};
 
 use crate::start::Start;
-use mio::{Events, Poll};
 use std::marker::Model;
 use std::sync::Arc;
-use std::thread;
-use std::time::Duration;
 use xp_door::{LineWaker, wake_if_asleep};
 use xp_lines::Clock;
 use xp_subs::LineNo;
 
-/// How long a thread sleeps at most, in milliseconds.
-const LONGEST_SLEEP: u64 = 500;
-
-/// How often a thread that had work lets others run and looks again, before it sleeps: to be woken costs far more. Not 0,
-/// for it must not sleep before a read found nothing.
-const MOST_LOOKS: u32 = 1;
-
-/// The clock of a line's thread. It tells the seconds since 1970, and never goes back. It lets time pass until something comes
-/// to the line's sockets or another line wakes it. Contracts see it as the second that it told last, at first the start's.
+/// The clock of a line. It tells the seconds since 1970, and never goes back. It knows whether a turn of the line is due. Contracts
+/// see it as the second that it told last, at first the start's.
 pub struct TcpClock {
-    poll: Poll,
-    /// Room for what the thread was woken by. What it was is not looked at: each turn tries all sockets of the line.
-    events: Events,
     wakers: Arc<Vec<LineWaker>>,
     /// The line's own place among the wakers.
     line: usize,
@@ -34,12 +21,6 @@ pub struct TcpClock {
     /// The line that was marked last, and whose thread may still be asleep. A turn marks work for each of its packets, and
     /// wakes once.
     to_wake: Option<LineNo>,
-    /// How often the thread has looked again.
-    looks: u32,
-    /// Whether the last turn had nothing to do.
-    idle: bool,
-    /// Whether the last turn was had only for marked work.
-    answered: bool,
 }
 
 impl Model for TcpClock {
@@ -53,42 +34,26 @@ impl Model for TcpClock {
 impl Drop for TcpClock {
     fn drop(self) {
         let TcpClock {
-            poll: _,
-            events: _,
             wakers,
             line: _,
             start: _,
             told: _,
             to_wake,
-            looks: _,
-            idle: _,
-            answered: _,
         } = self;
         wake_if_asleep(wakers.as_slice(), to_wake);
     }
 }
 
 impl TcpClock {
-    pub(crate) fn new(
-        poll: Poll,
-        events: Events,
-        wakers: Arc<Vec<LineWaker>>,
-        line: usize,
-        start: Start,
-    ) -> TcpClock
+    pub(crate) fn new(wakers: Arc<Vec<LineWaker>>, line: usize, start: Start) -> TcpClock
         ensures { result ≡ as_nanos start.time_of_day / 1_000_000_000 }
     {
         TcpClock {
-            poll,
-            events,
             wakers,
             line,
             start,
             told: start.seconds(),
             to_wake: None,
-            looks: 0,
-            idle: false,
-            answered: false,
         }
     }
 
@@ -98,19 +63,13 @@ impl TcpClock {
     {
         wake_if_asleep(self.wakers.as_slice(), self.to_wake.take());
     }
-}
 
-/// Sleeps until something comes to the line's sockets or another line wakes it. False where the time was up before that.
-fn sleep(poll: &mut Poll, events: &mut Events, waker: &LineWaker) -> bool {
-    let mut came = true;
-    if waker.begin_sleep() {
-        let most = Duration::from_millis(LONGEST_SLEEP);
-        // Where the wait fails, the turn that follows finds nothing, and the thread waits again.
-        let _ = poll.poll(events, Some(most));
-        came = !events.is_empty();
+    /// Notes whether the line's turn has something to do.
+    fn set_busy(&self, busy: bool) {
+        if let Some(waker) = self.wakers.get(self.line) {
+            waker.set_busy(busy);
+        }
     }
-    waker.end_sleep();
-    came
 }
 
 impl Clock for TcpClock {
@@ -126,10 +85,7 @@ impl Clock for TcpClock {
         ensures forward { self.old ≤ result }
     {
         self.wake_last();
-        if !self.idle {
-            self.looks = 0;
-        }
-        self.idle = false;
+        self.set_busy(true);
         if let Some(seconds) = self.start.seconds_now() {
             self.told = self.told.max(seconds);
         }
@@ -140,27 +96,17 @@ impl Clock for TcpClock {
         ensures { self.new ≡ self.old }
     {
         self.wake_last();
-        self.idle = true;
-        let Some(waker) = self.wakers.get(self.line) else {
-            return;
-        };
-        if waker.take_work() {
-            self.looks = 0;
-            // Who is marked again and again reads every other time.
-            if self.answered {
-                waker.refill();
+        self.set_busy(false);
+    }
+
+    fn is_due(&self) -> bool {
+        match self.wakers.get(self.line) {
+            Some(waker) => {
+                let marked = waker.take_work();
+                marked || waker.is_busy()
             }
-            self.answered = !self.answered;
-            return;
+            None => false,
         }
-        self.answered = false;
-        if self.looks < MOST_LOOKS {
-            self.looks += 1;
-            thread::yield_now();
-        } else if sleep(&mut self.poll, &mut self.events, waker) {
-            self.looks = 0;
-        }
-        waker.refill();
     }
 
     fn wake(&mut self, line: LineNo)

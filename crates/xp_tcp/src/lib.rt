@@ -1,5 +1,5 @@
-//! TCP for the lines of an exchange: each line's listening socket, or the connections between it and its router, and what its
-//! thread waits on.
+//! TCP for the lines of an exchange: each line's listening socket, or the connections between it and its router, and what the
+//! threads of lines wait on.
 #![tactic(auto)]
 
 mod access;
@@ -10,12 +10,15 @@ mod line_port;
 mod line_sockets;
 mod link;
 mod options;
+mod poller;
 mod port;
 mod router_connection;
 mod router_link;
 mod router_port;
 mod sockets;
 mod start;
+mod thread_sockets;
+mod tokens;
 mod wall_clock;
 
 pub use access::Access;
@@ -24,6 +27,7 @@ pub use clock::TcpClock;
 pub use gate::OpenGate;
 pub use line_port::{LineLink, LinePort};
 pub use link::TcpLink;
+pub use poller::TcpPoller;
 pub use port::TcpPort;
 pub use router_link::RouterLink;
 pub use router_port::RouterPort;

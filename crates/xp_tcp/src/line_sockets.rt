@@ -1,24 +1,19 @@
-//! What the thread of one line waits on.
+//! Where the connections of one line come from, as it is added.
 
 ghost use Rattle.std.specs.Prelude.{◌≡◌, ◌<◌, IfOk};
 ghost use Rattle.std.specs.Net.Socket.{socket_port};
-ghost use Rattle.xp_tcp.specs.declared.access.Access.TheVariants as access;
 ghost use Rattle.xp_tcp.specs.steps.Sources.{IsListening, source_access};
 
 use crate::access::Access;
 use crate::admission::Admission;
+use crate::tokens::listener_of;
 use mio::net::TcpListener;
-use mio::{Events, Interest, Poll, Registry, Token, Waker};
+use mio::{Interest, Poll, Registry, Token};
 use std::io;
 use std::marker::Model;
 use std::net::{Net, SocketAddr};
+use std::sync::Arc;
 use xp_subs::LineNo;
-
-/// Names a listening socket among what its thread waits for.
-const LISTENER: Token = Token(0);
-
-/// Names the wakes of other threads.
-pub(crate) const WAKER: Token = Token(1);
 
 /// Where the connections of one line are to come from.
 #[derive(Drop)]
@@ -29,14 +24,13 @@ pub(crate) enum LineSource {
     Router(SocketAddr),
 }
 
-/// What the thread of one line waits on. Contracts see where the line's connections come from.
+/// A line, and where its connections come from, which is all that contracts see of it.
 #[derive(Drop)]
 pub(crate) struct LineSockets {
     pub(crate) line: LineNo,
     pub(crate) source: LineSource,
-    pub(crate) poll: Poll,
-    pub(crate) events: Events,
-    pub(crate) waits: Registry,
+    /// What the line's thread waits for.
+    pub(crate) waits: Arc<Registry>,
 }
 
 impl Model for LineSockets {
@@ -60,54 +54,18 @@ impl LineSockets {
     }
 }
 
-/// Listens at an address for a line: the socket, and what wakes the thread that waits on it. At port 0 the system picks one.
+/// Listens at an address for a line: the socket, for which the line's thread waits. At port 0 the system picks one.
 pub(crate) fn open_port<R: Net>(
     rt: &R,
+    poll: &Poll,
     address: SocketAddr,
     line: LineNo,
     admission: Admission,
-    events: Events,
-) -> io::Result<(LineSockets, Waker)>
-    ensures { IfOk result (λ opened. IsListening (socket_port address) opened.0) }
+) -> io::Result<LineSource>
+    ensures { IfOk result (λ source. IsListening (socket_port address) (source_access source)) }
 {
-    let poll = Poll::new(rt)?;
-    let (listener, port) = listen_at(rt, &poll, address)?;
-    let source = LineSource::Own(port, listener, admission);
-    complete(line, source, poll, events)
-}
-
-/// What the thread of a line behind a router waits on, and what wakes it.
-pub(crate) fn open_behind<R: Net>(
-    rt: &R,
-    router: SocketAddr,
-    line: LineNo,
-    events: Events,
-) -> io::Result<(LineSockets, Waker)>
-    ensures { IfOk result (λ opened. opened.0 ≡ access.Router router) }
-{
-    let poll = Poll::new(rt)?;
-    complete(line, LineSource::Router(router), poll, events)
-}
-
-/// Completes what the thread of a line waits on by what wakes it.
-fn complete(
-    line: LineNo,
-    source: LineSource,
-    poll: Poll,
-    events: Events,
-) -> io::Result<(LineSockets, Waker)>
-    ensures { IfOk result (λ opened. opened.0 ≡ source_access source) }
-{
-    let waker = Waker::new(poll.registry(), WAKER)?;
-    let waits = poll.registry().try_clone()?;
-    let line = LineSockets {
-        line,
-        source,
-        poll,
-        events,
-        waits,
-    };
-    Ok((line, waker))
+    let (listener, port) = listen_at(rt, poll, address, listener_of(line))?;
+    Ok(LineSource::Own(port, listener, admission))
 }
 
 /// Listens at an address: the socket, for which a thread waits, and its port. At port 0 the system picks one.
@@ -115,6 +73,7 @@ pub(crate) fn listen_at<R: Net>(
     rt: &R,
     poll: &Poll,
     address: SocketAddr,
+    token: Token,
 ) -> io::Result<(TcpListener, u16)>
     ensures { IfOk result (λ listens. 0 < socket_port address → listens.1 ≡ socket_port address) }
 {
@@ -124,6 +83,6 @@ pub(crate) fn listen_at<R: Net>(
         port => port,
     };
     poll.registry()
-        .register(&mut listener, LISTENER, Interest::READABLE)?;
+        .register(&mut listener, token, Interest::READABLE)?;
     Ok((listener, port))
 }

@@ -5,16 +5,14 @@ ghost use Rattle.std.specs.IoError.{error_kind};
 ghost use Rattle.xp_lines.specs.Counts.{pulled_count, pushed_count};
 
 use crate::options::{Patience, notice_dead_peer};
+use crate::tokens::stream_of;
 use mio::net::TcpStream;
-use mio::{Interest, Registry, Token};
+use mio::{Interest, Registry};
 use std::io;
 use std::io::{ErrorKind, Read, Write};
 use std::net::SocketAddr;
 use xp_door::{LineShare, LineWaker, Notice, Tap};
 use xp_lines::{Link, Pulled, Pushed};
-
-/// Names a line's connection among what its thread waits for.
-const STREAM: Token = Token(2);
 
 /// A TCP connection of a line. It leaves what the line's thread waits for when it is dropped. It tells the notice that the line is
 /// up as it is made, and that the line is down as it is dropped. A peer that is gone ends it within some 90 seconds.
@@ -63,7 +61,8 @@ pub(crate) fn wait_for(
     // A packet is to go at once, however short it is.
     stream.set_nodelay(true)?;
     notice_dead_peer(stream, patience)?;
-    waits.register(stream, STREAM, Interest::READABLE | Interest::WRITABLE)?;
+    let interests = Interest::READABLE | Interest::WRITABLE;
+    waits.register(stream, stream_of(share.line), interests)?;
     if let Some(waker) = share.waker() {
         waker.refill();
     }

@@ -13,6 +13,7 @@ use std::io;
 use std::io::ErrorKind;
 use std::marker::Model;
 use std::net::SocketAddr;
+use std::sync::Arc;
 use xp_door::{LineShare, Notice, is_in_want};
 use xp_lines::{Arrived, Port};
 
@@ -26,7 +27,7 @@ pub struct TcpPort {
     listener: TcpListener,
     admission: Admission,
     /// What the line's thread waits for.
-    waits: Registry,
+    waits: Arc<Registry>,
     share: LineShare,
     /// No connection could be accepted, for want of descriptors or of memory, and none was since.
     is_failing: bool,
@@ -45,7 +46,7 @@ impl TcpPort {
         port: u16,
         listener: TcpListener,
         admission: Admission,
-        waits: Registry,
+        waits: Arc<Registry>,
         share: LineShare,
     ) -> TcpPort
         ensures { result ≡ port }

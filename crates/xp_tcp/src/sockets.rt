@@ -11,21 +11,25 @@ use crate::access::Access;
 use crate::admission::Admission;
 use crate::clock::TcpClock;
 use crate::line_port::LinePort;
-use crate::line_sockets::{LineSockets, LineSource, WAKER, listen_at, open_behind, open_port};
+use crate::line_sockets::{LineSockets, LineSource, listen_at, open_port};
+use crate::poller::TcpPoller;
 use crate::port::TcpPort;
 use crate::router_port::RouterPort;
 use crate::start::Start;
+use crate::thread_sockets::ThreadSockets;
+use crate::tokens::{WAKER, listener_of};
 use mio::{Events, Poll, Registry, Waker};
 use std::alloc::{AllocError, Global};
 use std::io;
 use std::marker::Model;
 use std::net::{IpAddr, Net, SocketAddr};
+use std::num::NonZeroUsize;
 use std::sync::Arc;
 use thiserror::Error;
 use xp_door::{Door, DoorBell, DoorSockets, LineShare, LineWaker, Notices, RouterLine};
 use xp_subs::LineNo;
 
-/// How many events a wait takes: as many as a line has sockets and wakers.
+/// How many events a wait of the door takes.
 const MOST_EVENTS: usize = 3;
 
 /// Why a port is not listened on, or a line has no sockets.
@@ -60,14 +64,18 @@ impl From<io::Error> for ListenFault {
 pub struct Sockets {
     lines: Vec<LineSockets>,
     wakers: Vec<LineWaker>,
+    /// What the threads of the lines wait on. Each serves so many lines at most, the last one those that were added last.
+    threads: Vec<ThreadSockets>,
+    lines_of_thread: usize,
     door: Option<DoorSockets>,
     notices: Arc<Notices>,
 }
 
-/// What the threads of the lines are given, in line order, and the door, if it was opened.
+/// What the lines are given, in line order, what their threads are, each for the next lines, and the door, if it was opened.
 #[derive(Drop)]
 pub struct Ends {
     pub lines: Vec<(LinePort, TcpClock)>,
+    pub threads: Vec<TcpPoller>,
     pub door: Option<Door>,
 }
 
@@ -81,13 +89,21 @@ impl Model for Sockets {
 }
 
 impl Sockets {
-    /// No sockets yet, with room for so many lines. What becomes of their connections is told to the notices.
-    pub fn new(alloc: Global, count: usize, notices: Arc<Notices>) -> Result<Sockets, AllocError>
+    /// No sockets yet, with room for so many lines, which so many threads are to serve. What becomes of their connections is told
+    /// to the notices.
+    pub fn new(
+        alloc: Global,
+        count: usize,
+        threads: NonZeroUsize,
+        notices: Arc<Notices>,
+    ) -> Result<Sockets, AllocError>
         ensures { IfOk result (λ sockets. sockets ≡ []) }
     {
         Ok(Sockets {
             lines: Vec::with_capacity(alloc, count)?,
             wakers: Vec::with_capacity(alloc, count)?,
+            threads: Vec::new(alloc),
+            lines_of_thread: count.div_ceil(threads.get()).max(1),
             door: None,
             notices,
         })
@@ -109,9 +125,13 @@ impl Sockets {
         ensures ok { OnOk result (Listens self.old port self.new) }
         ensures err { OnErr result (self.new ≡ self.old) }
     {
-        let (number, events) = self.reserve()?;
-        let (line, waker) = open_port(rt, SocketAddr::new(host, port), number, admission, events)?;
-        self.push(line, waker)
+        let number = self.reserve(rt)?;
+        let Some(thread) = self.threads.last() else {
+            return Err(ListenFault::Memory);
+        };
+        let address = SocketAddr::new(host, port);
+        let source = open_port(rt, &thread.poll, address, number, admission)?;
+        self.push(number, source)
     }
 
     /// Adds the next line, which is behind the router of this address and port.
@@ -123,9 +143,8 @@ impl Sockets {
         ensures ok { OnOk result (self.new ≡ self.old ++ access.Router router ∷ []) }
         ensures err { OnErr result (self.new ≡ self.old) }
     {
-        let (number, events) = self.reserve()?;
-        let (line, waker) = open_behind(rt, router, number, events)?;
-        self.push(line, waker)
+        let number = self.reserve(rt)?;
+        self.push(number, LineSource::Router(router))
     }
 
     /// Listens on a port, at an address of the machine, for the connections of all routers. At port 0 the system picks one. Lines
@@ -146,7 +165,7 @@ impl Sockets {
     {
         let events = Events::with_capacity(alloc, MOST_EVENTS)?;
         let poll = Poll::new(rt)?;
-        let (listener, port) = listen_at(rt, &poll, SocketAddr::new(host, port))?;
+        let (listener, port) = listen_at(rt, &poll, SocketAddr::new(host, port), listener_of(0))?;
         let waker = Waker::new(poll.registry(), WAKER)?;
         let bell = Arc::new(alloc, DoorBell::new(waker)).map_err(|_| ListenFault::Memory)?;
         self.door = Some(DoorSockets {
@@ -192,6 +211,8 @@ impl Sockets {
         let Sockets {
             lines,
             wakers,
+            threads,
+            lines_of_thread: _,
             door,
             notices,
         } = self;
@@ -203,33 +224,58 @@ impl Sockets {
         };
         let mut behind = Vec::with_capacity(alloc, lines.len())?;
         let lines = ends_of(alloc, lines, &shared, &mut behind)?;
+        let threads = pollers_of(alloc, threads, &shared.wakers)?;
         let door = match door {
             Some(door) => Some(shared.open(alloc, door, behind)?),
             None => None,
         };
-        Ok(Ends { lines, door })
+        Ok(Ends {
+            lines,
+            threads,
+            door,
+        })
     }
 
-    /// The number of the next line, and room for it.
-    fn reserve(&mut self) -> Result<(LineNo, Events), ListenFault>
+    /// The number of the next line, and a thread that has room for it.
+    fn reserve<R: Net>(&mut self, rt: &R) -> Result<LineNo, ListenFault>
         ensures { self.new ≡ self.old }
     {
         let Ok(number) = LineNo::try_from(self.lines.len()) else {
             return Err(ListenFault::Port);
         };
-        let alloc = *self.lines.allocator();
-        Ok((number, Events::with_capacity(alloc, MOST_EVENTS)?))
+        let most = self.lines_of_thread;
+        if !self
+            .threads
+            .last()
+            .is_some_and(|thread| thread.count < most)
+        {
+            let alloc = *self.lines.allocator();
+            self.threads.reserve(1)?;
+            let thread = ThreadSockets::open(rt, alloc, most)?;
+            self.threads.push_reserved(thread);
+        }
+        Ok(number)
     }
 
-    /// Adds a line.
-    fn push(&mut self, line: LineSockets, waker: Waker) -> Result<(), ListenFault>
-        ensures ok { OnOk result (self.new ≡ self.old ++ line ∷ []) }
+    /// Adds a line to the last thread.
+    fn push(&mut self, line: LineNo, source: LineSource) -> Result<(), ListenFault>
+        ensures ok { OnOk result (self.new ≡ self.old ++ source_access source ∷ []) }
         ensures err { OnErr result (self.new ≡ self.old) }
     {
         self.lines.reserve(1)?;
         self.wakers.reserve(1)?;
-        self.wakers.push_reserved(LineWaker::new(waker));
-        self.lines.push_reserved(line);
+        let Some(thread) = self.threads.last_mut() else {
+            return Err(ListenFault::Memory);
+        };
+        let waker = LineWaker::new(Arc::try_clone(&thread.waker)?);
+        let waits = Arc::try_clone(&thread.waits)?;
+        thread.count = thread.count.saturating_add(1);
+        self.wakers.push_reserved(waker);
+        self.lines.push_reserved(LineSockets {
+            line,
+            source,
+            waits,
+        });
         Ok(())
     }
 }
@@ -256,12 +302,10 @@ impl Shared {
         let LineSockets {
             line,
             source,
-            poll,
-            events,
             waits,
         } = line;
         let wakers = Arc::try_clone(&self.wakers)?;
-        let clock = TcpClock::new(poll, events, wakers, usize::from(line), self.start);
+        let clock = TcpClock::new(wakers, usize::from(line), self.start);
         let port = self.port_of(alloc, line, source, waits, behind)?;
         Ok((port, clock))
     }
@@ -272,7 +316,7 @@ impl Shared {
         alloc: Global,
         line: LineNo,
         source: LineSource,
-        waits: Registry,
+        waits: Arc<Registry>,
         behind: &mut Vec<Arc<RouterLine>>,
     ) -> Result<LinePort, AllocError>
         ensures { IfOk result (λ port. port ≡ source_access source) }
@@ -286,7 +330,6 @@ impl Shared {
             LineSource::Router(router) => {
                 let router_line = self.behind(alloc, line, router)?;
                 behind.push(Arc::try_clone(&router_line)?)?;
-                let waits = Arc::new(alloc, waits)?;
                 Ok(LinePort::behind(router, RouterPort::new(router_line, waits, share)))
             }
         }
@@ -331,6 +374,22 @@ fn ends_of(
         ends.push(shared.end_of(alloc, line, behind)?)?;
     }
     Ok(ends)
+}
+
+/// What the threads are, each for the next lines.
+fn pollers_of(
+    alloc: Global,
+    threads: Vec<ThreadSockets>,
+    wakers: &Arc<Vec<LineWaker>>,
+) -> Result<Vec<TcpPoller>, AllocError> {
+    let mut pollers = Vec::with_capacity(alloc, threads.len())?;
+    let mut first: usize = 0;
+    for thread in threads {
+        let count = thread.count;
+        pollers.push(thread.into_poller(Arc::try_clone(wakers)?, first))?;
+        first = first.saturating_add(count);
+    }
+    Ok(pollers)
 }
 
 /// The bell of a door, if it was opened.

@@ -3,13 +3,16 @@
 use std::alloc::Global;
 use std::io::{Read, Write};
 use std::net::{IpAddr, Ipv4Addr, Net, SocketAddr, SocketAddrV4, TcpListener, TcpStream};
+use std::num::NonZeroUsize;
 use std::sync::{Arc, Wait};
 use std::test::Fail;
 use std::thread;
 use std::thread::Threads;
 use std::time::Duration;
-use xp_lines::{Arrived, Clock, Link, Port, Pulled, Pushed};
-use xp_tcp::{Door, LineLink, LinePort, Notice, Notices, Sockets, TcpClock, Trace, TracedLines};
+use xp_lines::{Arrived, Clock, Link, Poller, Port, Pulled, Pushed};
+use xp_tcp::{
+    Door, LineLink, LinePort, Notice, Notices, Sockets, TcpClock, TcpPoller, Trace, TracedLines,
+};
 
 /// How many seconds a router waits for octets.
 const PATIENCE: u64 = 10;
@@ -25,6 +28,7 @@ pub struct Scene {
     pub port: LinePort,
     pub link: LineLink,
     pub clock: TcpClock,
+    pub poller: TcpPoller,
     pub notices: Arc<Notices>,
     pub trace: Arc<Trace>,
     pub door_at: SocketAddr,
@@ -46,12 +50,13 @@ pub fn set<R: Net<Listener = TcpListener, Stream = TcpStream>>(
     let trace = Arc::new(alloc, Trace::new(alloc, TracedLines::All, 1)?)?;
     let traced = Notices::with_trace(alloc, Some(Arc::try_clone(&trace)?))?;
     let notices = Arc::new(alloc, traced)?;
-    let mut sockets = Sockets::new(alloc, 1, Arc::try_clone(&notices)?)?;
+    let mut sockets = Sockets::new(alloc, 1, NonZeroUsize::MIN, Arc::try_clone(&notices)?)?;
     sockets.add_router(rt, at)?;
     sockets.open_door(rt, alloc, IpAddr::V4(Ipv4Addr::LOCALHOST), 0)?;
     let door_at = local(sockets.door_port().ok_or("no door")?);
     let mut ends = sockets.into_ends(alloc)?;
     let (port, clock) = ends.lines.pop().ok_or("no end")?;
+    let poller = ends.threads.pop().ok_or("no thread")?;
     let mut port = port;
     let Arrived::Came(link) = port.next() else {
         return Err(Fail::from("no link"));
@@ -63,6 +68,7 @@ pub fn set<R: Net<Listener = TcpListener, Stream = TcpStream>>(
         port,
         link,
         clock,
+        poller,
         notices,
         trace,
         door_at,
@@ -88,12 +94,17 @@ impl Scene {
         Ok(stream)
     }
 
+    /// Waits until the line may have something to do.
+    fn rest(&mut self) {
+        rest(&mut self.clock, &mut self.poller);
+    }
+
     /// Pulls until octets come or the link is over. How many came.
     pub fn pull(&mut self, into: &mut [u8]) -> Option<usize> {
         for _try in 0..MOST_TRIES {
             match self.link.pull(into) {
                 Pulled::Octets(count) => return Some(count),
-                Pulled::Nothing => self.clock.idle(),
+                Pulled::Nothing => self.rest(),
                 Pulled::Ended | Pulled::Fault => return None,
             }
         }
@@ -105,7 +116,7 @@ impl Scene {
         for _try in 0..MOST_TRIES {
             match self.link.push(from) {
                 Pushed::Took(count) => return Some(count),
-                Pushed::Nothing => self.clock.idle(),
+                Pushed::Nothing => self.rest(),
                 Pushed::Fault => return None,
             }
         }
@@ -119,10 +130,18 @@ impl Scene {
             if let Some(notice) = self.notices.take() {
                 return Some(notice);
             }
-            self.clock.idle();
+            self.rest();
         }
         None
     }
+}
+
+/// Lets a line that has nothing to do wait until it may have something to do, for some time at most. Its thread serves no other line.
+pub fn rest(clock: &mut TcpClock, poller: &mut TcpPoller) {
+    clock.idle();
+    poller.poll();
+    // The try that follows looks for all work that was marked so far.
+    let _is_due = clock.is_due();
 }
 
 fn patient(stream: &TcpStream) -> Result<(), Fail> {

@@ -1,13 +1,14 @@
 //! What is traced of the octets of lines.
 
 use crate::frames::{ACCEPTED, CALL, CLEAR, CLEAR_AND_CALL, CONFIRMATION};
-use crate::scene::{Play, Scene, check, local, run, send};
+use crate::scene::{Play, Scene, check, local, rest, run, send};
 use std::alloc::Global;
 use std::net::{IpAddr, Ipv4Addr, Net, TcpListener, TcpStream};
+use std::num::NonZeroUsize;
 use std::sync::Arc;
 use std::test::Fail;
-use xp_lines::{Arrived, Clock, Link, Port, Pulled, Pushed};
-use xp_tcp::{Admission, LineLink, Notices, Sockets, TcpClock, Trace, TracedLines};
+use xp_lines::{Arrived, Link, Port, Pulled, Pushed};
+use xp_tcp::{Admission, LineLink, Notices, Sockets, TcpClock, TcpPoller, Trace, TracedLines};
 use xp_trace::WaitingPieces;
 use xp_words::Direction;
 
@@ -59,23 +60,27 @@ fn call_of_a_router(rt: HostRuntime) -> Result<(), Fail> {
 }
 
 /// The link of a line's connection.
-fn connected(port: &mut impl Port<Link = LineLink>, clock: &mut TcpClock) -> Option<LineLink> {
+fn connected(
+    port: &mut impl Port<Link = LineLink>,
+    clock: &mut TcpClock,
+    poller: &mut TcpPoller,
+) -> Option<LineLink> {
     for _try in 0..MOST_TRIES {
         if let Arrived::Came(link) = port.next() {
             return Some(link);
         }
-        clock.idle();
+        rest(clock, poller);
     }
     None
 }
 
 /// Pulls until octets come. How many came.
-fn pull(link: &mut LineLink, clock: &mut TcpClock) -> Option<usize> {
+fn pull(link: &mut LineLink, clock: &mut TcpClock, poller: &mut TcpPoller) -> Option<usize> {
     for _try in 0..MOST_TRIES {
         if let Pulled::Octets(count) = link.pull(&mut [0; 64]) {
             return Some(count);
         }
-        clock.idle();
+        rest(clock, poller);
     }
     None
 }
@@ -86,16 +91,17 @@ fn connection_of_a_line(rt: HostRuntime) -> Result<(), Fail> {
     let alloc = rt.alloc();
     let trace = Arc::new(alloc, Trace::new(alloc, TracedLines::All, 1)?)?;
     let notices = Notices::with_trace(alloc, Some(Arc::try_clone(&trace)?))?;
-    let mut sockets = Sockets::new(alloc, 1, Arc::new(alloc, notices)?)?;
+    let mut sockets = Sockets::new(alloc, 1, NonZeroUsize::MIN, Arc::new(alloc, notices)?)?;
     sockets.listen(&rt, IpAddr::V4(Ipv4Addr::LOCALHOST), 0, Admission::any())?;
     let at = local(sockets.port(0).ok_or("no port")?);
     let mut client = TcpStream::connect(&rt, at)?;
     let mut ends = sockets.into_ends(alloc)?;
     let (port, clock) = ends.lines.pop().ok_or("no end")?;
     let (mut port, mut clock) = (port, clock);
-    let mut link = connected(&mut port, &mut clock).ok_or("no link")?;
+    let mut poller = ends.threads.pop().ok_or("no thread")?;
+    let mut link = connected(&mut port, &mut clock, &mut poller).ok_or("no link")?;
     send(&mut client, &CALL)?;
-    assert_eq!(rt; pull(&mut link, &mut clock), Some(CALL.len()));
+    assert_eq!(rt; pull(&mut link, &mut clock, &mut poller), Some(CALL.len()));
     assert_eq!(rt; link.push(&CLEAR), Pushed::Took(CLEAR.len()));
     let expected: [(Direction, &[u8]); 2] = [
         (Direction::FromDte, &CALL),

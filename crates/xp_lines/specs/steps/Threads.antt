@@ -1,29 +1,23 @@
 -- For private steps. The threads that were started, or could not be, and what they return.
-use Rattle.std.specs.Prelude.{◌≡◌, ℕ, List, Option, Result, Ok, Err}
+use Rattle.std.specs.Prelude.{List, [], ◌∷◌, ◌++◌, Result, Ok, Err}
 use Rattle.std.specs.declared.alloc.Global.{Global as Alloc}
 use Rattle.std.specs.declared.thread.PromisedHandle.{PromisedHandle}
-use Rattle.xp_subs.specs.Tables.{Tables}
+use Rattle.std.specs.declared.vec.Vec.{Vec}
 use Rattle.xp_lock.specs.Passes.{Pass}
-use Rattle.xp_lines.specs.Sessions.{IsLineDown, IsLineServed}
-use Rattle.xp_lines.specs.declared.line.EndReason.TheVariants.{Stopped}
-use Rattle.xp_lines.specs.declared.line.LineEnd.{LineEnd}
-use Rattle.xp_lines.specs.declared.threads.OfLine.{OfLine}
+use Rattle.xp_lines.specs.Pairs.{AreEach}
+use Rattle.xp_lines.specs.declared.threads.OfLines.{OfLines}
 
-module _ {N : Type 0} (subs : Tables) (of_link : Option (List ℕ) → Option (List ℕ) → Type 0) where
-  -- where the line was stopped, it is down
-  abbrev pub IsDownIfStopped : Pass Alloc → LineEnd N Alloc → Type 0
-  IsDownIfStopped first end = end.why ≡ Stopped → IsLineDown subs of_link first end.pass
+module _ {N P L C G : Type 0} where
+  -- the lines of a thread that was started, or could not be
+  abbrev pub lines_of : Result (PromisedHandle (Vec (Pass Alloc) Alloc) (OfLines N P C G L)) (Vec (Pass Alloc) Alloc) → List (Pass Alloc)
+  lines_of (Ok handle) = handle.promise.first.value.items
+  lines_of (Err lines) = lines.items
 
-  -- this is how the line with this pass ended
-  abbrev pub EndsSo : Pass Alloc → LineEnd N Alloc → Type 0
-  EndsSo first end = IsLineServed subs of_link first end.pass × IsDownIfStopped first end
+  -- the lines of all these threads, in order
+  abbrev pub begun_lines : List (Result (PromisedHandle (Vec (Pass Alloc) Alloc) (OfLines N P C G L)) (Vec (Pass Alloc) Alloc)) → List (Pass Alloc)
+  begun_lines [] = []
+  begun_lines (begun ∷ more) = lines_of begun ++ begun_lines more
 
-module _ {N L : Type 0} (subs : Tables) (of_link : Option (List ℕ) → Option (List ℕ) → Type 0) where
-  -- the thread of the line with this pass was started, or it could not be started, and this is how the line ended
-  abbrev pub Begins : Pass Alloc → Result (PromisedHandle (LineEnd N Alloc) (OfLine N L)) (LineEnd N Alloc) → Type 0
-  Begins first (Ok handle) = handle.promise.first.value ≡ first
-  Begins first (Err end) = EndsSo subs of_link first end
-
-  -- this is how the line ended
-  abbrev pub Ends : Result (PromisedHandle (LineEnd N Alloc) (OfLine N L)) (LineEnd N Alloc) → LineEnd N Alloc → Type 0
-  Ends begun end = (first : Pass Alloc) → Begins first begun → EndsSo subs of_link first end
+-- to what belongs together this was added, which belongs to these
+abbrev pub Adds : {X Y : Type 0} → (X → Y → Type 0) → List Y → List X → List Y → Type 0
+Adds {X = X} R old more new = (done : List X) → AreEach R done old → AreEach R (done ++ more) new

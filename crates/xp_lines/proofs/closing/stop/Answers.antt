@@ -1,18 +1,38 @@
-use Rattle.std.proofs.Common.{◌≡◌, sym, ◌∙◌}
-use Rattle.xp_lines.specs.declared.line.EndReason.TheVariants.{Stopped}
-use Rattle.xp_lines.specs.declared.offering.Stop.{Stop}
-use Rattle.xp_lines.specs.declared.offering.Stop.TheVariants as stops
-use Rattle.xp_lines.specs.steps.Ended.{reason_at}
-use Rattle.xp_lines.proofs.Sessions.{goes_not}
+use Rattle.std.proofs.Common.{◌≡◌, ap, refl, None, Some, subst, sym}
+use Rattle.xp_core.specs.declared.event.What.TheVariants.{Down}
+use Rattle.xp_lines.specs.declared.line.EndReason.TheVariants as reasons
+use Rattle.xp_lines.specs.declared.line_state.LineState.TheVariants as states
+use Rattle.xp_lines.specs.steps.Offering.{Tells}
+use Rattle.xp_lines.specs.steps.Serving.{GoesOnTo}
+use Rattle.xp_lines.proofs.Serving.{so_closes, so_stops}
+use Rattle.xp_lines.proofs.Sessions.{drops_nothing, goes_down, goes_not}
 use Rattle.xp_lines.proofs.closing.stop.Goals as goal
 
--- a line whose Down is refused is not told as stopped
-never_stopped : (stop : Stop) → reason_at stop ≡ Stopped → ⊥
-never_stopped stops.Held same = cc
-never_stopped stops.Memory same = cc
-never_stopped stops.Halted same = cc
-never_stopped stops.Journal same = cc
+pub returns-in_default : goal.returns-in_default
+returns-in_default g c =
+    subst (λ session. GoesOnTo g.N.Name.subs g.L.Link.pushed g.L.Link.pulled session c.args.pass.now (states.Ended reasons.Stopped) c.args.pass.now) (sym c.in_default.is)
+    (so_closes g.N.Name.subs g.L.Link.pushed g.L.Link.pulled None c.args.pass.now reasons.Stopped c.args.pass.now refl refl)
 
-pub returns-in-Err-clause-goes : goal.returns-in-Err-clause-goes
-returns-in-Err-clause-goes g c =
-    goes_not _ _ _ c.in-Err.ensures.1 (λ stopped. never_stopped c.in-Err.refused (sym c.reason_at.ensures ∙ stopped))
+pub returns-in-Ok : goal.returns-in-Ok
+returns-in-Ok g c =
+    let tells = subst (λ what. Tells c.args.pass.now what c.offer.result c.offer.new.pass) c.down.ensures c.offer.ensures.tells in
+    let gains = subst (λ result. Tells c.args.pass.now Down result c.offer.new.pass) c.in-Ok.is tells in
+    subst (λ session. GoesOnTo g.N.Name.subs g.L.Link.pushed g.L.Link.pulled session c.args.pass.now (states.Stopped c.unwritten_of.result) c.offer.new.pass) (sym c.in-Some.is)
+    (so_stops g.N.Name.subs g.L.Link.pushed g.L.Link.pulled (Some c.in-Some.linked) c.args.pass.now c.unwritten_of.result c.offer.new.pass
+    (goes_down c.args.pass.now c.offer.new.pass reasons.Stopped c.offer.new.pass gains (drops_nothing c.offer.new.pass)) gains.line)
+
+pub returns-in-Err-Halted : goal.returns-in-Err-Halted
+returns-in-Err-Halted g c =
+    let same = c.in-Err-Halted.ensures.tells.1 in
+    let not_stopped : reasons.Halted ≡ reasons.Stopped → ⊥ = λ stopped. cc in
+    subst (λ session. GoesOnTo g.N.Name.subs g.L.Link.pushed g.L.Link.pulled session c.args.pass.now (states.Ended reasons.Halted) c.offer.new.pass) (sym c.in-Some.is)
+    (so_closes g.N.Name.subs g.L.Link.pushed g.L.Link.pulled (Some c.in-Some.linked) c.args.pass.now reasons.Halted c.offer.new.pass
+    (goes_not c.args.pass.now reasons.Halted c.offer.new.pass same not_stopped) (ap (λ pass. pass.line) same))
+
+pub returns-in-Err-Journal : goal.returns-in-Err-Journal
+returns-in-Err-Journal g c =
+    let same = c.in-Err-Journal.ensures.tells.1 in
+    let not_stopped : reasons.Journal ≡ reasons.Stopped → ⊥ = λ stopped. cc in
+    subst (λ session. GoesOnTo g.N.Name.subs g.L.Link.pushed g.L.Link.pulled session c.args.pass.now (states.Ended reasons.Journal) c.offer.new.pass) (sym c.in-Some.is)
+    (so_closes g.N.Name.subs g.L.Link.pushed g.L.Link.pulled (Some c.in-Some.linked) c.args.pass.now reasons.Journal c.offer.new.pass
+    (goes_not c.args.pass.now reasons.Journal c.offer.new.pass same not_stopped) (ap (λ pass. pass.line) same))

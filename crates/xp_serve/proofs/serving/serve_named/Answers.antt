@@ -6,12 +6,12 @@ use Rattle.xp_serve.proofs.serving.serve_named.Goals as goal
 
 pub close-requires-clause-served : goal.close-requires-clause-served
 close-requires-clause-served g c =
-    were_served g.N.Name.subs _ (map (λ part. part.pass) c.in-Ok.ready.parts.items) (map (λ end. end.pass) c.in-Ok-serve_with_door.lines.ends.items)
+    were_served g.N.Name.subs _ (map (λ line. line.pass) c.in-Ok.ready.lines.items) (map (λ end. end.pass) c.in-Ok-serve_with_door.lines.ends.items)
     c.in-Ok.ensures.passes c.in-Ok-serve_with_door.ensures.served
 
 pub close-requires-clause-stopped : goal.close-requires-clause-stopped
 close-requires-clause-stopped g c =
-    were_stopped g.N.Name.subs _ (map (λ part. part.pass) c.in-Ok.ready.parts.items) c.in-Ok-serve_with_door.lines.ends.items
+    were_stopped g.N.Name.subs _ (map (λ line. line.pass) c.in-Ok.ready.lines.items) c.in-Ok-serve_with_door.lines.ends.items
     c.in-Ok.ensures.passes c.in-Ok-serve_with_door.ensures.served c.in-Ok-serve_with_door.ensures.stopped
 
 pub returns-in-Ok-serve_with_door-clause-received : goal.returns-in-Ok-serve_with_door-clause-received

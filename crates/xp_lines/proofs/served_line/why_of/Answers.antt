@@ -1,0 +1,10 @@
+use Rattle.std.proofs.Common.{◌≡◌, sym, subst}
+use Rattle.xp_lines.specs.declared.line.EndReason.TheVariants.{Memory, Stopped}
+use Rattle.xp_lines.proofs.Serving.{so_otherwise}
+use Rattle.xp_lines.proofs.served_line.why_of.Goals as goal
+
+owed_only : Memory ≡ Stopped → ⊥
+owed_only same = cc
+
+pub returns-in-Open : goal.returns-in-Open
+returns-in-Open g c = λ subs first pass so. so_otherwise subs g.L.Link.pushed g.L.Link.pulled first c.args.state pass Memory owed_only so

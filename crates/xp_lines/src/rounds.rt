@@ -1,0 +1,194 @@
+//! The lines of one thread, served in turn.
+
+ghost use Rattle.std.specs.Prelude.{◌≡◌};
+
+use crate::line::EndReason;
+use crate::link::{Clock, Gate, Poller, Port};
+use crate::served_line::ServedLine;
+use crate::signals::Signals;
+use std::alloc::Global;
+use std::sync::Wait;
+use xp_lock::{Exchange, Name};
+
+/// How often the Down of a line that is to stop is offered at most.
+const MOST_OFFERS: u32 = 100;
+
+/// For how many seconds stopped lines write at most.
+const MOST_SECONDS: u64 = 5;
+
+/// How often they write in that time at most, since a clock may stand still.
+const MOST_WRITES: u32 = 10_000;
+
+/// Serves the lines of a thread for at most so many rounds: in each, every line that is due has a turn. It halts the exchange where
+/// `records` charging records are made, or the journal is full. It tells the recording thread of the records that were made, and
+/// that the lines have ended.
+///
+/// At the end each line offers the Down of a link that is still there. Where an allocation fails, lines that were asked to stop
+/// offer it again, at most 100 times. Once the exchange has accepted their Downs, they write what still waits for their links, for
+/// at most 5 seconds, and only then drop them.
+pub(crate) fn serve_lines<N: Name, P: Port, C: Clock, G: Gate, T: Poller, R: Wait>(
+    rt: &R,
+    alloc: Global,
+    exchange: &Exchange<N>,
+    lines: Vec<ServedLine<N, P, C, G>>,
+    poller: T,
+    signals: &Signals,
+    rounds: u64,
+    records: u64,
+) -> Vec<ServedLine<N, P, C, G>>
+    ensures { result.items ≡ lines.items }
+{
+    let mut lines = lines;
+    let mut poller = poller;
+    have_rounds(
+        rt,
+        alloc,
+        exchange,
+        &mut lines,
+        &mut poller,
+        signals,
+        rounds,
+        records,
+    );
+    if signals.is_stopping() {
+        stop_all(rt, exchange, &mut lines, &mut poller, signals);
+        write_all(rt, exchange, &mut lines, &mut poller);
+    } else {
+        end_all(rt, exchange, &mut lines);
+    }
+    signals.thread_ended();
+    lines
+}
+
+/// Has rounds of turns, until there were so many, the lines are to stop, or all have ended.
+fn have_rounds<N: Name, P: Port, C: Clock, G: Gate, T: Poller, R: Wait>(
+    rt: &R,
+    alloc: Global,
+    exchange: &Exchange<N>,
+    lines: &mut Vec<ServedLine<N, P, C, G>>,
+    poller: &mut T,
+    signals: &Signals,
+    rounds: u64,
+    records: u64,
+)
+    ensures { lines.new.items ≡ lines.old.items }
+{
+    for _round in 0..rounds {
+        if signals.is_stopping() || !have_round(rt, alloc, exchange, lines, signals, records) {
+            return;
+        }
+        poller.poll();
+    }
+}
+
+/// A turn of each line that is due. Returns whether any line goes on.
+fn have_round<N: Name, P: Port, C: Clock, G: Gate, R: Wait>(
+    rt: &R,
+    alloc: Global,
+    exchange: &Exchange<N>,
+    lines: &mut Vec<ServedLine<N, P, C, G>>,
+    signals: &Signals,
+    records: u64,
+) -> bool
+    ensures { lines.new.items ≡ lines.old.items }
+{
+    let mut goes_on = false;
+    for line in lines.iter_mut() {
+        line.have_turn(rt, alloc, exchange, signals, records);
+        goes_on |= line.is_open();
+    }
+    goes_on
+}
+
+/// Stops each line. Where an allocation fails for the Down of one, it is tried again after a moment.
+fn stop_all<N: Name, P: Port, C: Clock, G: Gate, T: Poller, R: Wait>(
+    rt: &R,
+    exchange: &Exchange<N>,
+    lines: &mut Vec<ServedLine<N, P, C, G>>,
+    poller: &mut T,
+    signals: &Signals,
+)
+    ensures { lines.new.items ≡ lines.old.items }
+{
+    for _offer in 0..MOST_OFFERS {
+        if !stop_each(rt, exchange, lines, signals) {
+            return;
+        }
+        poller.pause();
+    }
+}
+
+/// Asks each line to stop. Returns whether one has to be asked again.
+fn stop_each<N: Name, P: Port, C: Clock, G: Gate, R: Wait>(
+    rt: &R,
+    exchange: &Exchange<N>,
+    lines: &mut Vec<ServedLine<N, P, C, G>>,
+    signals: &Signals,
+) -> bool
+    ensures { lines.new.items ≡ lines.old.items }
+{
+    let mut is_owed = false;
+    for line in lines.iter_mut() {
+        line.stop(rt, exchange, signals);
+        is_owed |= line.is_open();
+    }
+    is_owed
+}
+
+/// Writes what stopped lines have still to write, until none of it is left or the time is up.
+fn write_all<N: Name, P: Port, C: Clock, G: Gate, T: Poller, R: Wait>(
+    rt: &R,
+    exchange: &Exchange<N>,
+    lines: &mut Vec<ServedLine<N, P, C, G>>,
+    poller: &mut T,
+)
+    ensures { lines.new.items ≡ lines.old.items }
+{
+    let start = time_of(lines);
+    for _write in 0..MOST_WRITES {
+        let is_left = write_each(rt, exchange, lines);
+        if !is_left || time_of(lines).saturating_sub(start) >= MOST_SECONDS {
+            return;
+        }
+        poller.pause();
+    }
+}
+
+/// Lets each stopped line write. Returns whether one has still something to write.
+fn write_each<N: Name, P: Port, C: Clock, G: Gate, R: Wait>(
+    rt: &R,
+    exchange: &Exchange<N>,
+    lines: &mut Vec<ServedLine<N, P, C, G>>,
+) -> bool
+    ensures { lines.new.items ≡ lines.old.items }
+{
+    let mut is_left = false;
+    for line in lines.iter_mut() {
+        is_left |= line.write_rest(rt, exchange);
+    }
+    is_left
+}
+
+/// The time by the clock of the lines, in seconds: the latest of them.
+fn time_of<N: Name, P: Port, C: Clock, G: Gate>(lines: &mut Vec<ServedLine<N, P, C, G>>) -> u64
+    ensures { lines.new.items ≡ lines.old.items }
+{
+    let mut now = 0;
+    for line in lines.iter_mut() {
+        now = line.now().max(now);
+    }
+    now
+}
+
+/// Ends each line that has not ended, since its turns are over.
+fn end_all<N: Name, P: Port, C: Clock, G: Gate, R: Wait>(
+    rt: &R,
+    exchange: &Exchange<N>,
+    lines: &mut Vec<ServedLine<N, P, C, G>>,
+)
+    ensures { lines.new.items ≡ lines.old.items }
+{
+    for line in lines.iter_mut() {
+        line.end(rt, exchange, EndReason::Turns);
+    }
+}

@@ -1,0 +1,284 @@
+//! A line that a thread serves.
+
+ghost use Rattle.std.specs.Prelude.{◌≡◌};
+ghost use Rattle.xp_lines.specs.Sessions.{AreMoved};
+ghost use Rattle.xp_lines.specs.steps.Serving.{EndsSo, GoesOnTo, IsWhy, StaysSo};
+
+use crate::closing::{close, stop, write_rest};
+use crate::line::{EndReason, LineEnd, halt_at, have_turn};
+use crate::line_state::LineState;
+use crate::link::{Clock, Gate, Link, Port};
+use crate::session::Session;
+use crate::signals::Signals;
+use std::alloc::Global;
+use std::marker::Model;
+use std::mem;
+use std::sync::Wait;
+use xp_lock::{Exchange, LinePass, Name};
+use xp_past::Past;
+
+/// What a line is served with.
+#[derive(Drop)]
+pub struct LineInputs<N: Name, P: Port, C: Clock, G: Gate> {
+    pub pass: LinePass<N>,
+    pub port: P,
+    pub clock: C,
+    pub gate: G,
+}
+
+/// A line that a thread serves, with the links that come from its port, one at a time. Contracts see it as the pass with which it
+/// began.
+#[derive(Drop)]
+pub(crate) struct ServedLine<N: Name, P: Port, C: Clock, G: Gate> {
+    /// The pass with which it began.
+    first: Past<LinePass<N>>,
+    pass: LinePass<N>,
+    port: P,
+    clock: C,
+    gate: G,
+    state: LineState<P::Link>,
+}
+
+impl<N: Name, P: Port, C: Clock, G: Gate> Model for ServedLine<N, P, C, G> {
+    ghost use Rattle.std.specs.declared.alloc.Global.{Global as Alloc};
+    ghost use Rattle.xp_lock.specs.Passes.{Pass};
+    ghost use Rattle.xp_lines.specs.steps.Serving.{IsLineSo, first_of};
+
+    ghost Value = { Pass Alloc };
+
+    ghost view = { λ line. first_of line.first.items };
+
+    ghost invariant = { λ line. IsLineSo N.subs P.Link.pushed P.Link.pulled (first_of line.first.items) line.state line.pass };
+}
+
+impl<N: Name, P: Port, C: Clock, G: Gate> ServedLine<N, P, C, G> {
+    /// The line, which has had no turn.
+    pub(crate) fn new(inputs: LineInputs<N, P, C, G>) -> ServedLine<N, P, C, G>
+        ensures { result ≡ inputs.pass }
+    {
+        let LineInputs {
+            pass,
+            port,
+            clock,
+            gate,
+        } = inputs;
+        ServedLine {
+            first: Past::new().and(&pass),
+            pass,
+            port,
+            clock,
+            gate,
+            state: LineState::Open(None),
+        }
+    }
+
+    /// Whether it has not ended.
+    pub(crate) fn is_open(&self) -> bool {
+        matches!(self.state, LineState::Open(_))
+    }
+
+    /// Whether a turn may find something to do. The clock is asked in any case, since that takes what was marked.
+    fn is_due(&self) -> bool {
+        self.clock.is_due() && self.is_open()
+    }
+
+    /// Has a turn, if it is due. It halts the exchange where so many charging records are made, or the journal is full.
+    pub(crate) fn have_turn<R: Wait>(
+        &mut self,
+        rt: &R,
+        alloc: Global,
+        exchange: &Exchange<N>,
+        signals: &Signals,
+        records: u64,
+    )
+        ensures { self.new ≡ self.old }
+    {
+        if !self.is_due() {
+            return;
+        }
+        self.state = match mem::replace(&mut self.state, LineState::Ended(EndReason::Halted)) {
+            LineState::Open(session) => next_state(
+                rt,
+                alloc,
+                exchange,
+                &mut self.pass,
+                &mut self.port,
+                &mut self.clock,
+                &mut self.gate,
+                signals,
+                records,
+                session,
+            ),
+            LineState::Stopped(rest) => LineState::Stopped(rest),
+            LineState::Ended(why) => LineState::Ended(why),
+        };
+    }
+
+    /// Is asked to stop: it offers the Down of its link, if it has one. Where an allocation fails it stays open.
+    pub(crate) fn stop<R: Wait>(&mut self, rt: &R, exchange: &Exchange<N>, signals: &Signals)
+        ensures { self.new ≡ self.old }
+    {
+        self.state = match mem::replace(&mut self.state, LineState::Ended(EndReason::Halted)) {
+            LineState::Open(session) => stop(
+                rt,
+                exchange,
+                &mut self.pass,
+                &mut self.clock,
+                signals,
+                session,
+            ),
+            LineState::Stopped(rest) => LineState::Stopped(rest),
+            LineState::Ended(why) => LineState::Ended(why),
+        };
+    }
+
+    /// Ends, unless it has ended: it offers the Down of its link, if it has one, once.
+    pub(crate) fn end<R: Wait>(&mut self, rt: &R, exchange: &Exchange<N>, why: EndReason)
+        ensures { self.new ≡ self.old }
+    {
+        self.state = match mem::replace(&mut self.state, LineState::Ended(EndReason::Halted)) {
+            LineState::Open(session) => end_state(
+                rt,
+                exchange,
+                &mut self.pass,
+                &mut self.clock,
+                why,
+                session,
+            ),
+            LineState::Stopped(rest) => LineState::Stopped(rest),
+            LineState::Ended(why) => LineState::Ended(why),
+        };
+    }
+
+    /// Writes what a stopped line has still to write, as far as its link takes it. Returns whether some of it is left.
+    pub(crate) fn write_rest<R: Wait>(&mut self, rt: &R, exchange: &Exchange<N>) -> bool
+        ensures { self.new ≡ self.old }
+    {
+        let state = mem::replace(&mut self.state, LineState::Ended(EndReason::Halted));
+        self.state = write_state(rt, exchange, &mut self.pass, &mut self.clock, state);
+        self.has_rest()
+    }
+
+    /// Whether it was stopped, and has still something to write.
+    fn has_rest(&self) -> bool {
+        matches!(self.state, LineState::Stopped(_))
+    }
+
+    /// The time by the line's clock, in seconds.
+    pub(crate) fn now(&mut self) -> u64
+        ensures { self.new ≡ self.old }
+    {
+        self.clock.now()
+    }
+
+    /// What is left of it. A line that has not ended tells that an allocation failed: its Down is still owed.
+    pub(crate) fn into_end(self) -> LineEnd<N>
+        ensures { EndsSo N.subs (AreMoved P.Link.pushed P.Link.pulled) self result }
+    {
+        let ServedLine {
+            first: _,
+            pass,
+            port: _,
+            clock: _,
+            gate: _,
+            state,
+        } = self;
+        let why = why_of(state);
+        LineEnd { pass, why }
+    }
+
+    /// What is left of it, where its thread could not be started.
+    pub(crate) fn into_unstarted(self) -> LineEnd<N>
+        ensures { EndsSo N.subs (AreMoved P.Link.pushed P.Link.pulled) self result }
+    {
+        let ServedLine {
+            first: _,
+            pass,
+            port: _,
+            clock: _,
+            gate: _,
+            state: _,
+        } = self;
+        LineEnd {
+            pass,
+            why: EndReason::NotStarted,
+        }
+    }
+}
+
+/// A turn of an open line.
+fn next_state<N: Name, P: Port, C: Clock, G: Gate, R: Wait>(
+    rt: &R,
+    alloc: Global,
+    exchange: &Exchange<N>,
+    pass: &mut LinePass<N>,
+    port: &mut P,
+    clock: &mut C,
+    gate: &mut G,
+    signals: &Signals,
+    records: u64,
+    session: Option<Session<P::Link>>,
+) -> LineState<P::Link>
+    ensures { GoesOnTo N.subs P.Link.pushed P.Link.pulled session pass.old result pass.new }
+{
+    let step = have_turn(rt, alloc, exchange, pass, port, clock, gate, session);
+    signals.records_made(step.records);
+    halt_at(rt, exchange, step.records, records);
+    match step.end {
+        None => LineState::Open(step.session),
+        Some(why) => {
+            if why == EndReason::Journal {
+                exchange.halt(rt);
+            }
+            let why = close(rt, exchange, pass, clock, why, step.session);
+            // A line that has ended keeps its thread from no sleep.
+            clock.idle();
+            LineState::Ended(why)
+        }
+    }
+}
+
+/// Writes what a line in this state has still to write, as far as its link takes it.
+fn write_state<N: Name, L: Link, C: Clock, R: Wait>(
+    rt: &R,
+    exchange: &Exchange<N>,
+    pass: &mut LinePass<N>,
+    clock: &mut C,
+    state: LineState<L>,
+) -> LineState<L>
+    ensures { StaysSo N.subs L.pushed L.pulled state pass.old result pass.new }
+{
+    match state {
+        LineState::Stopped(rest) => match write_rest(rt, exchange, pass, clock, rest) {
+            Some(rest) => LineState::Stopped(rest),
+            None => LineState::Ended(EndReason::Stopped),
+        },
+        LineState::Open(session) => LineState::Open(session),
+        LineState::Ended(why) => LineState::Ended(why),
+    }
+}
+
+/// Why a line in this state has ended. Where it has not, its Down is still owed.
+fn why_of<L: Link>(state: LineState<L>) -> EndReason
+    ensures { IsWhy L.pushed L.pulled state result }
+{
+    match state {
+        LineState::Open(_) => EndReason::Memory,
+        LineState::Stopped(_) => EndReason::Stopped,
+        LineState::Ended(why) => why,
+    }
+}
+
+/// The end of an open line.
+fn end_state<N: Name, L: Link, C: Clock, R: Wait>(
+    rt: &R,
+    exchange: &Exchange<N>,
+    pass: &mut LinePass<N>,
+    clock: &mut C,
+    why: EndReason,
+    session: Option<Session<L>>,
+) -> LineState<L>
+    ensures { GoesOnTo N.subs L.pushed L.pulled session pass.old result pass.new }
+{
+    LineState::Ended(close(rt, exchange, pass, clock, why, session))
+}

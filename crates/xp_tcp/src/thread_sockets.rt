@@ -1,0 +1,60 @@
+//! What a thread waits on, as lines are added to it.
+
+use crate::poller::TcpPoller;
+use crate::sockets::ListenFault;
+use crate::tokens::{MOST_SOCKETS, WAKER};
+use mio::{Events, Poll, Registry, Waker};
+use std::alloc::Global;
+use std::net::Net;
+use std::sync::Arc;
+use xp_door::{LineWaker, ThreadWaker};
+
+/// What a thread that serves lines waits on.
+#[derive(Drop)]
+pub(crate) struct ThreadSockets {
+    pub(crate) poll: Poll,
+    /// Room for what the thread is woken by.
+    pub(crate) events: Events,
+    pub(crate) waker: Arc<ThreadWaker>,
+    pub(crate) waits: Arc<Registry>,
+    /// How many lines it serves.
+    pub(crate) count: usize,
+}
+
+impl ThreadSockets {
+    /// What a thread waits on that is to serve so many lines. It serves none yet.
+    pub(crate) fn open<R: Net>(
+        rt: &R,
+        alloc: Global,
+        lines: usize,
+    ) -> Result<ThreadSockets, ListenFault> {
+        let events = Events::with_capacity(
+            alloc,
+            MOST_SOCKETS.min(lines.saturating_mul(2)).max(2),
+        )?;
+        let poll = Poll::new(rt)?;
+        let waker = Waker::new(poll.registry(), WAKER)?;
+        let waits = poll.registry().try_clone()?;
+        let waker = Arc::new(alloc, ThreadWaker::new(waker)).map_err(|_| ListenFault::Memory)?;
+        let waits = Arc::new(alloc, waits).map_err(|_| ListenFault::Memory)?;
+        Ok(ThreadSockets {
+            poll,
+            events,
+            waker,
+            waits,
+            count: 0,
+        })
+    }
+
+    /// What the thread does between the turns of its lines, of which this is the first.
+    pub(crate) fn into_poller(self, wakers: Arc<Vec<LineWaker>>, first: usize) -> TcpPoller {
+        let ThreadSockets {
+            poll,
+            events,
+            waker,
+            waits: _,
+            count,
+        } = self;
+        TcpPoller::new(poll, events, waker, wakers, first, count)
+    }
+}
