@@ -193,10 +193,11 @@ def main():
     arguments = parser.parse_args()
 
     holds = []
-    with tempfile.TemporaryDirectory() as folder:
-        if arguments.events:
+    if arguments.events:
+        with tempfile.TemporaryDirectory() as folder:
             holds.append(data(arguments, server.compiled("load", folder), folder))
-        if arguments.calls:
+    if arguments.calls:
+        with tempfile.TemporaryDirectory() as folder:
             holds.append(calls(arguments, folder))
     if not all(holds):
         sys.exit("the memory grows with what is served")
