@@ -33,7 +33,7 @@ mod writing;
 pub use flow::{Flow, push_rest};
 pub use laws::{links_add_up, turns_add_up};
 pub use line::{EndReason, LineEnd};
-pub use link::{Arrived, Clock, Gate, Link, Poller, Port, Pulled, Pushed};
+pub use link::{Arrived, Clock, Gate, Link, Patience, Poller, Port, Pulled, Pushed};
 pub use recording::{Received, RecordSink};
 pub use served_line::LineInputs;
 pub use session::Session;

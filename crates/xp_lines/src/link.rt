@@ -97,13 +97,23 @@ pub trait Clock: Drop {
     fn wake(&mut self, _line: LineNo) {}
 }
 
+/// For how long a thread may wait for its lines.
+#[derive(Clone, Copy, Debug, PartialEq)]
+pub enum Patience {
+    /// Until a line is due.
+    Long,
+    /// For a moment at most: a line has a turn to make up.
+    Short,
+}
+
 /// What a thread does between the turns of its lines.
 pub trait Poller: Drop {
     /// How many lines the thread serves at most.
     fn lines(&self) -> usize;
 
-    /// Looks at what has come to the lines. Where no line is due it waits for that, or for another thread, for some time at most.
-    fn poll(&mut self);
+    /// Looks at what has come to the lines. Where no line is due it waits for that, or for another thread, as long as `patience`
+    /// lets it.
+    fn poll(&mut self, patience: Patience);
 
     /// Waits for a moment, while the lines of the thread end.
     fn pause(&mut self);

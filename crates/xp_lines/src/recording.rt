@@ -92,6 +92,7 @@ pub(crate) fn keep_recording<N: Name, S: RecordSink, R: Wait>(
     for _ in rt.forever() {
         let ended = signals.all_ended();
         let handed = hand_over(rt, alloc, exchange, &mut recorder, &mut sink);
+        signals.records_handed_on(recorder.received_count());
         stop_at(signals, handed);
         let ticked = sink.tick();
         stop_at(signals, ticked);

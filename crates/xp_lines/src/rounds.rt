@@ -3,7 +3,7 @@
 ghost use Rattle.std.specs.Prelude.{◌≡◌};
 
 use crate::line::EndReason;
-use crate::link::{Clock, Gate, Poller, Port};
+use crate::link::{Clock, Gate, Patience, Poller, Port};
 use crate::served_line::ServedLine;
 use crate::signals::Signals;
 use std::alloc::Global;
@@ -74,14 +74,17 @@ fn have_rounds<N: Name, P: Port, C: Clock, G: Gate, T: Poller, R: Wait>(
     ensures { lines.new.items ≡ lines.old.items }
 {
     for _round in 0..rounds {
-        if signals.is_stopping() || !have_round(rt, alloc, exchange, lines, signals, records) {
+        if signals.is_stopping() {
             return;
         }
-        poller.poll();
+        let Some(patience) = have_round(rt, alloc, exchange, lines, signals, records) else {
+            return;
+        };
+        poller.poll(patience);
     }
 }
 
-/// A turn of each line that is due. Returns whether any line goes on.
+/// A turn of each line that is due. Returns for how long the thread may wait before the next round, if any line goes on.
 fn have_round<N: Name, P: Port, C: Clock, G: Gate, R: Wait>(
     rt: &R,
     alloc: Global,
@@ -89,15 +92,26 @@ fn have_round<N: Name, P: Port, C: Clock, G: Gate, R: Wait>(
     lines: &mut Vec<ServedLine<N, P, C, G>>,
     signals: &Signals,
     records: u64,
-) -> bool
+) -> Option<Patience>
     ensures { lines.new.items ≡ lines.old.items }
 {
     let mut goes_on = false;
+    let mut is_held = false;
     for line in lines.iter_mut() {
         line.have_turn(rt, alloc, exchange, signals, records);
         goes_on |= line.is_open();
+        is_held |= line.is_held();
     }
-    goes_on
+    patience_of(goes_on, is_held)
+}
+
+/// For how long a thread may wait, by whether a line of it goes on, and whether one has a turn to make up.
+fn patience_of(goes_on: bool, is_held: bool) -> Option<Patience> {
+    match (goes_on, is_held) {
+        (false, _) => None,
+        (true, false) => Some(Patience::Long),
+        (true, true) => Some(Patience::Short),
+    }
 }
 
 /// Stops each line. Where an allocation fails for the Down of one, it is tried again after a moment.

@@ -37,6 +37,10 @@ pub(crate) struct ServedLine<N: Name, P: Port, C: Clock, G: Gate> {
     clock: C,
     gate: G,
     state: LineState<P::Link>,
+    /// Whether calls ended in its last turn.
+    has_ended_calls: bool,
+    /// Whether a turn is due that waits for the recording thread.
+    is_held: bool,
 }
 
 impl<N: Name, P: Port, C: Clock, G: Gate> Model for ServedLine<N, P, C, G> {
@@ -69,6 +73,8 @@ impl<N: Name, P: Port, C: Clock, G: Gate> ServedLine<N, P, C, G> {
             clock,
             gate,
             state: LineState::Open(None),
+            has_ended_calls: false,
+            is_held: false,
         }
     }
 
@@ -77,12 +83,30 @@ impl<N: Name, P: Port, C: Clock, G: Gate> ServedLine<N, P, C, G> {
         matches!(self.state, LineState::Open(_))
     }
 
+    /// Whether a turn is due, and waits until the recording thread has handed on the records that were made.
+    pub(crate) fn is_held(&self) -> bool {
+        self.is_held
+    }
+
     /// Whether a turn may find something to do. The clock is asked in any case, since that takes what was marked.
     fn is_due(&self) -> bool {
         self.clock.is_due() && self.is_open()
     }
 
-    /// Has a turn, if it is due. It halts the exchange where so many charging records are made, or the journal is full.
+    /// Whether it has a turn now. A turn that is due is held where the recording thread is behind and the line's calls end, until
+    /// that has caught up. Meanwhile the line keeps its thread from no sleep.
+    fn may_go(&mut self, signals: &Signals) -> bool
+        ensures { self.new ≡ self.old }
+    {
+        let is_due = self.is_due() || self.is_held;
+        self.is_held = is_due && self.has_ended_calls && signals.is_recorder_behind();
+        if self.is_held {
+            self.clock.idle();
+        }
+        is_due && !self.is_held
+    }
+
+    /// Has a turn, if it is due and not held. It halts the exchange where so many charging records are made, or the journal is full.
     pub(crate) fn have_turn<R: Wait>(
         &mut self,
         rt: &R,
@@ -93,7 +117,7 @@ impl<N: Name, P: Port, C: Clock, G: Gate> ServedLine<N, P, C, G> {
     )
         ensures { self.new ≡ self.old }
     {
-        if !self.is_due() {
+        if !self.may_go(signals) {
             return;
         }
         self.state = match mem::replace(&mut self.state, LineState::Ended(EndReason::Halted)) {
@@ -107,6 +131,7 @@ impl<N: Name, P: Port, C: Clock, G: Gate> ServedLine<N, P, C, G> {
                 &mut self.gate,
                 signals,
                 records,
+                &mut self.has_ended_calls,
                 session,
             ),
             LineState::Stopped(rest) => LineState::Stopped(rest),
@@ -182,6 +207,8 @@ impl<N: Name, P: Port, C: Clock, G: Gate> ServedLine<N, P, C, G> {
             clock: _,
             gate: _,
             state,
+            has_ended_calls: _,
+            is_held: _,
         } = self;
         let why = why_of(state);
         LineEnd { pass, why }
@@ -198,6 +225,8 @@ impl<N: Name, P: Port, C: Clock, G: Gate> ServedLine<N, P, C, G> {
             clock: _,
             gate: _,
             state: _,
+            has_ended_calls: _,
+            is_held: _,
         } = self;
         LineEnd {
             pass,
@@ -206,7 +235,7 @@ impl<N: Name, P: Port, C: Clock, G: Gate> ServedLine<N, P, C, G> {
     }
 }
 
-/// A turn of an open line.
+/// A turn of an open line. It notes whether calls ended in it.
 fn next_state<N: Name, P: Port, C: Clock, G: Gate, R: Wait>(
     rt: &R,
     alloc: Global,
@@ -217,12 +246,13 @@ fn next_state<N: Name, P: Port, C: Clock, G: Gate, R: Wait>(
     gate: &mut G,
     signals: &Signals,
     records: u64,
+    has_ended_calls: &mut bool,
     session: Option<Session<P::Link>>,
 ) -> LineState<P::Link>
     ensures { GoesOnTo N.subs P.Link.pushed P.Link.pulled session pass.old result pass.new }
 {
     let step = have_turn(rt, alloc, exchange, pass, port, clock, gate, session);
-    signals.records_made(step.records);
+    *has_ended_calls = signals.records_made(step.records);
     halt_at(rt, exchange, step.records, records);
     match step.end {
         None => LineState::Open(step.session),

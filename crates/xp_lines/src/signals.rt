@@ -8,6 +8,9 @@ use std::time::Duration;
 /// For how long the recording thread waits at most, in milliseconds.
 const PATIENCE: u64 = 50;
 
+/// While more records than this wait for the recording thread, a line whose calls end waits too.
+const MOST_WAITING: u64 = 128;
+
 /// Tells the recording thread that charging records were made, and that threads of lines have ended. Tells these that their lines
 /// are to stop.
 #[derive(Drop)]
@@ -16,6 +19,8 @@ pub struct Signals {
     running: AtomicUsize,
     /// The number of records that the recording thread was last told of.
     told: AtomicU64,
+    /// How many records it has handed on.
+    handed_on: AtomicU64,
     /// Whether the lines are to stop.
     stopping: AtomicBool,
     /// What the recording thread waits on.
@@ -28,18 +33,33 @@ impl Signals {
         Signals {
             running: AtomicUsize::new(threads),
             told: AtomicU64::new(0),
+            handed_on: AtomicU64::new(0),
             stopping: AtomicBool::new(false),
             parker: Parker::new(),
         }
     }
 
     /// Tells that the exchange has made so many records. It wakes the recording thread if there are more than it was told of,
-    /// and does not wait.
-    pub fn records_made(&self, count: u64) {
-        if count > self.told.load(Ordering::SeqCst) {
+    /// and does not wait. Returns whether there are more.
+    pub fn records_made(&self, count: u64) -> bool {
+        let is_more = count > self.told.load(Ordering::SeqCst);
+        if is_more {
             self.told.store(count, Ordering::SeqCst);
             self.parker.unpark();
         }
+        is_more
+    }
+
+    /// Tells that the recording thread has handed on so many records.
+    pub(crate) fn records_handed_on(&self, count: u64) {
+        self.handed_on.store(count, Ordering::SeqCst);
+    }
+
+    /// Whether more than 128 records wait for the recording thread. A line whose calls end then waits too, so that the memory of
+    /// records is bounded however fast calls end and however slow the sink is.
+    pub(crate) fn is_recorder_behind(&self) -> bool {
+        let told = self.told.load(Ordering::SeqCst);
+        told.saturating_sub(self.handed_on.load(Ordering::SeqCst)) > MOST_WAITING
     }
 
     /// Tells that a thread has ended, with all its lines.

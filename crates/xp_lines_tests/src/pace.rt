@@ -6,7 +6,7 @@ use std::alloc::AllocError;
 use std::sync::Arc;
 use std::sync::atomic::{AtomicBool, Ordering};
 use std::thread;
-use xp_lines::{Clock, Gate, Poller};
+use xp_lines::{Clock, Gate, Patience, Poller};
 use xp_subs::LineNo;
 
 /// How often a gate looks whether another one was asked.
@@ -86,7 +86,7 @@ impl Poller for Yielding {
         self.lines.len()
     }
 
-    fn poll(&mut self) {
+    fn poll(&mut self, _patience: Patience) {
         thread::yield_now();
     }
 

@@ -29,6 +29,9 @@ use xp_lock::{Exchange, LinePass, Name, PreparedExchange, Recorder, prepare};
 use xp_subs::Subs;
 use xp_tcp::{Door, Ends, LinePort, Notices, OpenGate, Sockets, TcpClock, TcpPoller};
 
+/// How many lines are few enough for one thread.
+const LINES_OF_A_THREAD: usize = 8;
+
 /// What serving came to.
 #[derive(Drop)]
 pub struct ServeEnd<K: RecordKeeper> {
@@ -90,7 +93,8 @@ fn serve_at<
     requires new { K.received keeper ≡ [] }
     ensures { Serves K.kept K.keeps subs keeper result.keeper result.outcome }
 {
-    let sockets = match listen_all(rt, alloc, &subs, host, threads_of(rt), notices) {
+    let threads = threads_for(rt, subs.counts().lines);
+    let sockets = match listen_all(rt, alloc, &subs, host, threads, notices) {
         Ok(sockets) => sockets,
         Err(failure) => {
             return ServeEnd {
@@ -108,9 +112,12 @@ fn serve_at<
     }
 }
 
-/// How many threads serve the lines: one for each processor.
-fn threads_of<R: Threads>(rt: &R) -> NonZeroUsize {
-    thread::available_parallelism(rt).unwrap_or(NonZeroUsize::MIN)
+/// How many threads serve so many lines: one for every eight of them, but no more than there are processors. A packet from one
+/// line to another of the same thread wakes no other thread.
+fn threads_for<R: Threads>(rt: &R, lines: usize) -> NonZeroUsize {
+    let processors = thread::available_parallelism(rt).unwrap_or(NonZeroUsize::MIN);
+    let wanted = NonZeroUsize::new(lines.div_ceil(LINES_OF_A_THREAD));
+    wanted.unwrap_or(NonZeroUsize::MIN).min(processors)
 }
 
 /// Keeps the records that are left, and tells how the lines ended.

@@ -6,12 +6,12 @@ use mio::{Events, Poll};
 use std::sync::Arc;
 use std::time::Duration;
 use xp_door::{LineWaker, ThreadWaker};
-use xp_lines::Poller;
+use xp_lines::{Patience, Poller};
 
 /// How long a thread sleeps at most, and after how long each line has a turn at the latest, in milliseconds.
 const LONGEST_SLEEP: u64 = 500;
 
-/// How long a thread sleeps at most while its lines end, in milliseconds.
+/// How long a thread sleeps at most while its lines end, or one has a turn to make up, in milliseconds.
 const SHORT_SLEEP: u64 = 10;
 
 /// How many rounds of turns a thread may have without a look at its sockets, while its lines have work of each other.
@@ -113,9 +113,9 @@ impl Poller for TcpPoller {
         self.count
     }
 
-    fn poll(&mut self) {
+    fn poll(&mut self, patience: Patience) {
         if !self.is_any_due() {
-            self.sleep(LONGEST_SLEEP);
+            self.sleep(longest_sleep(patience));
         } else if self.rounds < MOST_ROUNDS {
             self.rounds += 1;
         } else {
@@ -126,5 +126,13 @@ impl Poller for TcpPoller {
 
     fn pause(&mut self) {
         self.look(SHORT_SLEEP);
+    }
+}
+
+/// How long a thread sleeps at most, in milliseconds.
+fn longest_sleep(patience: Patience) -> u64 {
+    match patience {
+        Patience::Long => LONGEST_SLEEP,
+        Patience::Short => SHORT_SLEEP,
     }
 }
