@@ -43,33 +43,112 @@ pub(crate) fn serve_lines<
 >(rt: &R, order: &ServeOrder<'_>, subs: Subs, names: Subs) -> Result<(), Failure>
     requires { names ≡ subs }
 {
-    let alloc = rt.alloc();
     let clock = WallClock::start();
     let tracing = Tracing::begin(rt, order.trace.as_ref(), &subs)?;
     match order.details {
-        Some(path) => {
-            let (file, opened) = DetailFile::open(rt, path)?;
-            tell_torn(rt, clock, &opened);
-            let syncer = FileSyncer::new(file.handle()?, clock, OperatorLog::new(rt, order.quiet));
-            let signal = Arc::new(alloc, SyncSignal::new()).map_err(|_| TaskFailure::Memory)?;
-            let output = io::writer(rt);
-            let keeper = DetailKeeper::new(
-                alloc,
-                file,
-                names,
-                clock.seconds(),
-                clock,
-                OperatorLog::new(rt, order.quiet),
-                Arc::try_clone(&signal)?,
-                output,
-            );
-            attend_and_sync(rt, order, clock, subs, tracing, keeper, syncer, signal)
-        }
-        None => {
-            let output = BufWriter::new(alloc, io::writer(rt)).map_err(|_| TaskFailure::Memory)?;
-            let keeper = RecordPrinter::new(alloc, names, output);
-            attend(rt, order, clock, subs, tracing, keeper)
-        }
+        Some(path) => serve_into_file(rt, order, path, clock, subs, names, tracing),
+        None => serve_and_print(rt, order, clock, subs, names, tracing),
+    }
+}
+
+/// Serves the lines, and keeps their charging records in this file of call detail records.
+fn serve_into_file<
+    R: AllocGlobal
+        + Clock
+        + Files<File = File>
+        + Log
+        + Net<Listener = TcpListener, Stream = TcpStream>
+        + Print
+        + RandomSource
+        + Sync
+        + Threads
+        + Wait,
+>(
+    rt: &R,
+    order: &ServeOrder<'_>,
+    path: &str,
+    clock: WallClock,
+    subs: Subs,
+    names: Subs,
+    tracing: Tracing,
+) -> Result<(), Failure>
+    requires { names ≡ subs }
+{
+    let (file, opened) = DetailFile::open(rt, path)?;
+    tell_torn(rt, clock, &opened);
+    let syncing = Syncing::of(rt, order, clock, &file)?;
+    let keeper = DetailKeeper::new(
+        rt.alloc(),
+        file,
+        names,
+        clock.seconds(),
+        clock,
+        OperatorLog::new(rt, order.quiet),
+        syncing.wanted,
+        io::writer(rt),
+    );
+    attend_and_sync(
+        rt,
+        order,
+        clock,
+        subs,
+        tracing,
+        keeper,
+        syncing.syncer,
+        syncing.signal,
+    )
+}
+
+/// Serves the lines, and prints their charging records.
+fn serve_and_print<
+    R: AllocGlobal
+        + Clock
+        + Log
+        + Net<Listener = TcpListener, Stream = TcpStream>
+        + Print
+        + RandomSource
+        + Sync
+        + Threads
+        + Wait,
+>(
+    rt: &R,
+    order: &ServeOrder<'_>,
+    clock: WallClock,
+    subs: Subs,
+    names: Subs,
+    tracing: Tracing,
+) -> Result<(), Failure>
+    requires { names ≡ subs }
+{
+    let output = BufWriter::new(rt.alloc(), io::writer(rt)).map_err(|_| TaskFailure::Memory)?;
+    let keeper = RecordPrinter::new(rt.alloc(), names, output);
+    attend(rt, order, clock, subs, tracing, keeper)
+}
+
+/// What syncs the file of call detail records, and what it and the keeper of the records tell each other by.
+#[derive(Drop)]
+struct Syncing<L: Log> {
+    syncer: FileSyncer<L>,
+    signal: Arc<SyncSignal>,
+    /// The keeper's own handle of the signal.
+    wanted: Arc<SyncSignal>,
+}
+
+impl<'a, R: AllocGlobal + Log> Syncing<&'a R> {
+    fn of(
+        rt: &'a R,
+        order: &ServeOrder<'_>,
+        clock: WallClock,
+        file: &DetailFile,
+    ) -> Result<Syncing<&'a R>, Failure> {
+        let syncer = FileSyncer::new(file.handle()?, clock, OperatorLog::new(rt, order.quiet));
+        let signal = Arc::new(rt.alloc(), SyncSignal::new()).map_err(|_| TaskFailure::Memory)?;
+        let wanted = Arc::try_clone(&signal)?;
+        Ok(Syncing {
+            syncer,
+            signal,
+            wanted,
+        })
     }
 }
 
@@ -154,11 +233,7 @@ fn attend<
     let notices = Arc::new(alloc, tracing.notices(alloc)?).map_err(|_| TaskFailure::Memory)?;
     match order.console {
         Some(address) => {
-            let served = ServedConsole::listen(rt, address)?;
-            let feed = served.feed(alloc, &subs, clock, &notices)?;
-            let watch = watch_over(rt, order, clock, &subs, &notices, tracing, feed)?;
-            let attending = Attending { keeper, watch };
-            serve_beside(rt, order, served, subs, notices, attending)
+            attend_with_console(rt, order, address, clock, subs, notices, tracing, keeper)
         }
         None => {
             let watch = watch_over(rt, order, clock, &subs, &notices, tracing, NoConsole)?;
@@ -167,6 +242,37 @@ fn attend<
             Ok(())
         }
     }
+}
+
+/// Serves the lines as `attend` does, with a console at this address.
+fn attend_with_console<
+    R: AllocGlobal
+        + Clock
+        + Log
+        + Net<Listener = TcpListener, Stream = TcpStream>
+        + RandomSource
+        + Sync
+        + Threads
+        + Wait,
+    K: RecordKeeper,
+>(
+    rt: &R,
+    order: &ServeOrder<'_>,
+    address: &str,
+    clock: WallClock,
+    subs: Subs,
+    notices: Arc<Notices>,
+    tracing: Tracing,
+    keeper: K,
+) -> Result<(), Failure>
+    requires names { K.named_by keeper ≡ subs }
+    requires new { K.received keeper ≡ [] }
+{
+    let served = ServedConsole::listen(rt, address)?;
+    let feed = served.feed(rt.alloc(), &subs, clock, &notices)?;
+    let watch = watch_over(rt, order, clock, &subs, &notices, tracing, feed)?;
+    let attending = Attending { keeper, watch };
+    serve_beside(rt, order, served, subs, notices, attending)
 }
 
 /// What watches over the lines, and writes their trace.
