@@ -33,6 +33,11 @@ LOADS = {
 }
 IDLE = "idle"
 
+# The round trip at window 1 may take so many times the relay's.
+MOST_TIMES = 1.35
+# Of the relay's packets a second so many have to pass.
+LEAST_SHARES = {"calls-16": 0.8, "calls-128": 0.7}
+
 # So many times as many rounds as are wanted may be left out.
 MOST_OTHERS = 20
 
@@ -99,9 +104,10 @@ def tell_goals(name, relay, exchange):
     if name.startswith("crossing"):
         tell_goal(f"99 % cross in {exchange['p99']:,.0f} microseconds, under 1,000", exchange["p99"] < 1_000)
     elif name == "window-1":
-        tell_goal(f"round trip {times:.2f} times the relay's, at most 2", times <= 2)
-    elif name == "calls-16":
-        tell_goal(f"{share:.2f} of the relay's packets, at least 0.5", share >= 0.5)
+        tell_goal(f"round trip {times:.2f} times the relay's, at most {MOST_TIMES}", times <= MOST_TIMES)
+    elif name in LEAST_SHARES:
+        least = LEAST_SHARES[name]
+        tell_goal(f"{share:.2f} of the relay's packets, at least {least}", share >= least)
     else:
         print(f"{'':<14}{share:.2f} of the relay's packets", flush=True)
 

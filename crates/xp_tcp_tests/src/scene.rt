@@ -9,7 +9,7 @@ use std::test::Fail;
 use std::thread;
 use std::thread::Threads;
 use std::time::Duration;
-use xp_lines::{Arrived, Clock, Link, Poller, Port, Pulled, Pushed};
+use xp_lines::{Arrived, Clock, Link, Patience, Poller, Port, Pulled, Pushed};
 use xp_tcp::{
     Door, LineLink, LinePort, Notice, Notices, Sockets, TcpClock, TcpPoller, Trace, TracedLines,
 };
@@ -139,7 +139,7 @@ impl Scene {
 /// Lets a line that has nothing to do wait until it may have something to do, for some time at most. Its thread serves no other line.
 pub fn rest(clock: &mut TcpClock, poller: &mut TcpPoller) {
     clock.idle();
-    poller.poll();
+    poller.poll(Patience::Long);
     // The try that follows looks for all work that was marked so far.
     let _is_due = clock.is_due();
 }
