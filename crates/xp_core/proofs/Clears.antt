@@ -11,16 +11,16 @@ use Rattle.xp_facilities.specs.declared.charging_information.ChargingInformation
 use Rattle.xp_packets.specs.declared.packet.Packet.{Packet}
 use Rattle.xp_packets.specs.declared.block.Block.{Block}
 use Rattle.xp_packets.specs.declared.packet.Packet.TheVariants.{Call as CallPacket, Clear}
-use Rattle.xp_core.specs.declared.event.What.{What}
-use Rattle.xp_core.specs.declared.event.What.TheVariants.{Up, Down, Frame, WrongFrame, Expire, Stall}
-use Rattle.xp_core.specs.declared.output.Output.{Output}
-use Rattle.xp_core.specs.declared.output.Put.TheVariants.{Send}
-use Rattle.xp_core.specs.Acts.{outputs_of_cancel, closed, outputs_to_both, outputs_of_clear, outputs_of_fall}
+use Rattle.xp_step.specs.declared.event.What.{What}
+use Rattle.xp_step.specs.declared.event.What.TheVariants.{Up, Down, Frame, WrongFrame, Expire, Stall}
+use Rattle.xp_step.specs.declared.output.Output.{Output}
+use Rattle.xp_step.specs.declared.output.Put.TheVariants.{Send}
+use Rattle.xp_step.specs.Acts.{outputs_of_cancel, closed, outputs_to_both, outputs_of_clear, outputs_of_fall}
 use Rattle.xp_machine.specs.Channel.{INITIAL_IDENTIFIER}
 use Rattle.xp_core.specs.Records.{clear_to, clears_to}
-use Rattle.xp_core.specs.StepContext.{StepContext}
-use Rattle.xp_core.specs.Table.{ClearRequest}
-use Rattle.xp_core.specs.EventOutputs.{clear_far, clear_indication, clear_own, confirm_own, far_information, outputs_of, own_information, outputs_of_refusal, send_as, send_far, outputs_of_incoming_call}
+use Rattle.xp_step.specs.StepContext.{StepContext}
+use Rattle.xp_step.specs.Table.{ClearRequest}
+use Rattle.xp_step.specs.EventOutputs.{clear_far, clear_indication, clear_own, confirm_own, far_information, outputs_of, own_information, outputs_of_refusal, send_as, send_far, outputs_of_incoming_call}
 use Rattle.xp_machine.specs.World.{Call, World, call_on, far_end}
 
 module _ {X : Type 0} where

@@ -5,14 +5,14 @@ use Rattle.xp_packets.specs.declared.modulus.Modulus.{Modulus}
 use Rattle.xp_relay.proofs.Deliveries.{everything_is_delivered}
 use Rattle.xp_relay.specs.Terms.{IsWithinTerms}
 use Rattle.xp_subs.specs.Tables.{Tables, modulus_of}
-use Rattle.xp_core.specs.declared.entry.Entry.{Entry}
+use Rattle.xp_step.specs.declared.entry.Entry.{Entry}
 use Rattle.xp_machine.specs.declared.agreement.Agreement.{Agreement}
-use Rattle.xp_core.specs.Agreed.{AllHaveTerms, HasTerms}
-use Rattle.xp_core.specs.RelayedPackets.{arrivals, relay_terms}
+use Rattle.xp_step.specs.Agreed.{AllHaveTerms, HasTerms}
+use Rattle.xp_step.specs.RelayedPackets.{arrivals, relay_terms}
 use Rattle.xp_core.specs.Delivered.{AreDelivered}
-use Rattle.xp_core.specs.Run.{Run}
+use Rattle.xp_step.specs.Run.{Run}
 use Rattle.xp_machine.specs.World.{Call, World, call_numbered}
-use Rattle.xp_core.proofs.Agreed.{run_agreed}
+use Rattle.xp_step.proofs.Agreed.{run_agreed}
 use Rattle.xp_machine.proofs.Terms.{terms_within}
 
 -- the terms of a connected call

@@ -10,23 +10,23 @@ use Rattle.xp_packets.specs.declared.end.End.{End}
 use Rattle.xp_packets.specs.declared.end.End.TheVariants.{Caller, Called}
 use Rattle.xp_packets.specs.declared.packet.Packet.TheVariants.{Clear}
 use Rattle.xp_subs.specs.Tables.{Tables, line_count}
-use Rattle.xp_core.specs.declared.entry.Entry.{Entry}
+use Rattle.xp_step.specs.declared.entry.Entry.{Entry}
 use Rattle.xp_machine.specs.Changes.{Change, Rises, Leaves, Begins, IsRefused, Connects, Ends, all_changed, changed, recorded, recorded_by}
 use Rattle.xp_machine.specs.Clearing.{record_of, refused_record}
 use Rattle.xp_core.specs.Records.{Begins as HasBegun, Ends as HasEnded, IsLive, IsRecordOf, Moment, OneRecordEach, clears_to, count_of}
-use Rattle.xp_core.specs.Run.{Run}
-use Rattle.xp_core.specs.Outcomes.{payer_of, taken_by}
-use Rattle.xp_core.specs.Segments.{segments_if_live, segments_of}
-use Rattle.xp_core.specs.StepContext.{step_context}
-use Rattle.xp_core.specs.Effects.{changes_of}
-use Rattle.xp_core.specs.Table.{CallRequest, action_at}
-use Rattle.xp_core.specs.EventOutputs.{outputs_of}
+use Rattle.xp_step.specs.Run.{Run}
+use Rattle.xp_step.specs.Outcomes.{payer_of, taken_by}
+use Rattle.xp_step.specs.Segments.{segments_if_live, segments_of}
+use Rattle.xp_step.specs.StepContext.{step_context}
+use Rattle.xp_step.specs.Effects.{changes_of}
+use Rattle.xp_step.specs.Table.{CallRequest, action_at}
+use Rattle.xp_step.specs.EventOutputs.{outputs_of}
 use Rattle.xp_machine.specs.World.{Call, World, call_numbered, far_end, opening}
 use Rattle.xp_machine.proofs.Coupled.{CanBe}
 use Rattle.xp_core.proofs.Ledger.{IsBegun, IsBooked, Tallies, begun_still, live_none, live_of, run_booked, step_tallies}
 use Rattle.xp_machine.proofs.Maps.{get_gone, get_other}
 use Rattle.xp_core.proofs.Moments.{IsTimed, run_timed}
-use Rattle.xp_core.proofs.RunLemmas.{run_split}
+use Rattle.xp_step.proofs.RunLemmas.{run_split}
 use Rattle.xp_core.proofs.Shapes.{ComesOf, IsNew, none, one, two, cancelled_by}
 use Rattle.xp_core.proofs.Sounds.{IsRight, cancel_right, run_right, shape_of}
 

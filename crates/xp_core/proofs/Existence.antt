@@ -18,28 +18,28 @@ use Rattle.xp_packets.specs.declared.modulus.Modulus.TheVariants.{Long}
 use Rattle.xp_packets.specs.declared.packet.Packet.TheVariants.{Call as CallPacket}
 use Rattle.xp_subs.specs.Sound.{IsSound}
 use Rattle.xp_subs.specs.Tables.{Tables, address_of, line_count, modulus_of}
-use Rattle.xp_core.specs.declared.entry.Entry.{Entry}
-use Rattle.xp_core.specs.declared.event.Event.{Event}
-use Rattle.xp_core.specs.declared.event.What.{What}
-use Rattle.xp_core.specs.declared.outcome.Outcome.{Outcome}
-use Rattle.xp_core.specs.declared.outcome.Outcome.TheVariants.{Plain, Put, Refused, Connected, Declined, Exceeded}
-use Rattle.xp_core.specs.declared.output.Output.{Output}
-use Rattle.xp_core.specs.Acts.{Acts, Answers, CarriesAs, Confirms, IsRequested, Requests, agreement_of, outputs_of_cancel}
+use Rattle.xp_step.specs.declared.entry.Entry.{Entry}
+use Rattle.xp_step.specs.declared.event.Event.{Event}
+use Rattle.xp_step.specs.declared.event.What.{What}
+use Rattle.xp_step.specs.declared.outcome.Outcome.{Outcome}
+use Rattle.xp_step.specs.declared.outcome.Outcome.TheVariants.{Plain, Put, Refused, Connected, Declined, Exceeded}
+use Rattle.xp_step.specs.declared.output.Output.{Output}
+use Rattle.xp_step.specs.Acts.{Acts, Answers, CarriesAs, Confirms, IsRequested, Requests, agreement_of, outputs_of_cancel}
 use Rattle.xp_machine.specs.World.{line_states, Call, World, call_on}
-use Rattle.xp_core.specs.Agreed.{AllHaveTerms}
-use Rattle.xp_core.specs.RelayedPackets.{RelayedPacket, relayed_by}
+use Rattle.xp_step.specs.Agreed.{AllHaveTerms}
+use Rattle.xp_step.specs.RelayedPackets.{RelayedPacket, relayed_by}
 use Rattle.xp_machine.specs.Changes.{recorded_by}
-use Rattle.xp_core.specs.Exchange.{IsReadable}
+use Rattle.xp_step.specs.Exchange.{IsReadable}
 use Rattle.xp_core.specs.Existence.{HasStep}
-use Rattle.xp_core.specs.Run.{Run}
-use Rattle.xp_core.specs.Worlds.{world_next}
-use Rattle.xp_core.specs.Segments.{segments_of}
-use Rattle.xp_core.specs.StepContext.{StepContext, step_context}
-use Rattle.xp_core.specs.Effects.{changes_of}
-use Rattle.xp_core.specs.Table.{CallAccepted, CallRequest, ClearRequest, accepted_in, action_at, clear_in, packet_in, request_in}
-use Rattle.xp_core.specs.EventOutputs.{EventOutputs, far_information, outputs_of}
-use Rattle.xp_core.proofs.Agreed.{run_agreed, terms_long}
-use Rattle.xp_core.proofs.Counting.{far_counts}
+use Rattle.xp_step.specs.Run.{Run}
+use Rattle.xp_step.specs.Worlds.{world_next}
+use Rattle.xp_step.specs.Segments.{segments_of}
+use Rattle.xp_step.specs.StepContext.{StepContext, step_context}
+use Rattle.xp_step.specs.Effects.{changes_of}
+use Rattle.xp_step.specs.Table.{CallAccepted, CallRequest, ClearRequest, accepted_in, action_at, clear_in, packet_in, request_in}
+use Rattle.xp_step.specs.EventOutputs.{EventOutputs, far_information, outputs_of}
+use Rattle.xp_step.proofs.Agreed.{run_agreed, terms_long}
+use Rattle.xp_step.proofs.Counting.{far_counts}
 use Rattle.xp_core.proofs.Fitting.{request_few}
 use Rattle.xp_machine.proofs.InCall.{shown_on}
 use Rattle.xp_core.proofs.Sounds.{run_right}

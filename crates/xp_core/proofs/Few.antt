@@ -11,25 +11,25 @@ use Rattle.xp_answer.specs.Information.{cleared_with}
 use Rattle.xp_relay.proofs.Few.{puts_out_few}
 use Rattle.xp_relay.specs.Terms.{IsWithinTerms}
 use Rattle.xp_subs.specs.Tables.{Tables}
-use Rattle.xp_core.specs.declared.entry.Entry.{Entry}
-use Rattle.xp_core.specs.declared.event.Event.{Event}
-use Rattle.xp_core.specs.declared.event.What.{What}
-use Rattle.xp_core.specs.declared.event.What.TheVariants as events
-use Rattle.xp_core.specs.declared.outcome.Outcome.{Outcome}
-use Rattle.xp_core.specs.declared.outcome.Outcome.TheVariants.{Plain, Put, Refused, Connected, Declined, Exceeded}
-use Rattle.xp_core.specs.declared.output.Output.{Output}
+use Rattle.xp_step.specs.declared.entry.Entry.{Entry}
+use Rattle.xp_step.specs.declared.event.Event.{Event}
+use Rattle.xp_step.specs.declared.event.What.{What}
+use Rattle.xp_step.specs.declared.event.What.TheVariants as events
+use Rattle.xp_step.specs.declared.outcome.Outcome.{Outcome}
+use Rattle.xp_step.specs.declared.outcome.Outcome.TheVariants.{Plain, Put, Refused, Connected, Declined, Exceeded}
+use Rattle.xp_step.specs.declared.output.Output.{Output}
 use Rattle.xp_machine.specs.declared.relays.MeteredRelay.{MeteredRelay}
-use Rattle.xp_core.specs.Acts.{Acts, Answers, CarriesAs, Confirms, IsAnswered, IsPlain, IsRequested, Requests, outputs_of_cancel, closed, outputs_to_both, outputs_of_error, outputs_of_fall}
-use Rattle.xp_core.specs.Agreed.{AllHaveTerms}
-use Rattle.xp_core.specs.RelayedPackets.{RelayedPacket, arrivals, relay_terms, relayed_by, turn_of_relayed}
+use Rattle.xp_step.specs.Acts.{Acts, Answers, CarriesAs, Confirms, IsAnswered, IsPlain, IsRequested, Requests, outputs_of_cancel, closed, outputs_to_both, outputs_of_error, outputs_of_fall}
+use Rattle.xp_step.specs.Agreed.{AllHaveTerms}
+use Rattle.xp_step.specs.RelayedPackets.{RelayedPacket, arrivals, relay_terms, relayed_by, turn_of_relayed}
 use Rattle.xp_core.specs.OutputsPerLine.{AreFew, to_line}
-use Rattle.xp_core.specs.StepContext.{StepContext, step_context}
-use Rattle.xp_core.specs.Step.{Step}
-use Rattle.xp_core.specs.Table.{CallAccepted, CallRequest, ClearRequest, accepted_in, action_at, clear_in, packet_in, request_in}
-use Rattle.xp_core.specs.EventOutputs.{EventOutputs, outputs_of_relayed, clear_indication, far_information, no_outputs, outputs_of, send_far, send_on}
+use Rattle.xp_step.specs.StepContext.{StepContext, step_context}
+use Rattle.xp_step.specs.Step.{Step}
+use Rattle.xp_step.specs.Table.{CallAccepted, CallRequest, ClearRequest, accepted_in, action_at, clear_in, packet_in, request_in}
+use Rattle.xp_step.specs.EventOutputs.{EventOutputs, outputs_of_relayed, clear_indication, far_information, no_outputs, outputs_of, send_far, send_on}
 use Rattle.xp_core.specs.steps.PreparedEntry.{Enters}
 use Rattle.xp_machine.specs.World.{Call, World, call_on}
-use Rattle.xp_core.proofs.RelayedPackets.{of_carried}
+use Rattle.xp_step.proofs.RelayedPackets.{of_carried}
 use Rattle.xp_core.proofs.Delivered.{relay_within}
 use Rattle.xp_machine.proofs.InCall.{shown_on}
 

@@ -17,26 +17,26 @@ use Rattle.xp_packets.specs.declared.packet.Packet.TheVariants as packets
 use Rattle.xp_packets.specs.Encodability.{encoding_fault}
 use Rattle.xp_subs.specs.Sound.{IsSound}
 use Rattle.xp_subs.specs.Tables.{Tables, address_of, line_count, modulus_of}
-use Rattle.xp_core.specs.declared.entry.Entry.{Entry}
-use Rattle.xp_core.specs.declared.event.What.{What}
-use Rattle.xp_core.specs.declared.event.What.TheVariants.{Frame}
-use Rattle.xp_core.specs.declared.output.Output.{Output}
+use Rattle.xp_step.specs.declared.entry.Entry.{Entry}
+use Rattle.xp_step.specs.declared.event.What.{What}
+use Rattle.xp_step.specs.declared.event.What.TheVariants.{Frame}
+use Rattle.xp_step.specs.declared.output.Output.{Output}
 use Rattle.xp_machine.specs.World.{line_states, Line, World, far_end, line_at, off_line, opening}
 use Rattle.xp_machine.specs.CallEnds.{line_at_end}
 use Rattle.xp_machine.specs.Changes.{Change, Rises, Leaves, Begins, IsRefused, Connects, Ends, all_changed, changed}
-use Rattle.xp_core.specs.Exchange.{IsReadable}
-use Rattle.xp_core.specs.Run.{Run}
-use Rattle.xp_core.specs.StepContext.{StepContext, step_context}
-use Rattle.xp_core.specs.Step.{Step}
-use Rattle.xp_core.specs.Effects.{changes_of}
-use Rattle.xp_core.specs.Table.{CallAccepted, CallRequest, ClearRequest, accepted_in, action_at, clear_in, request_in}
-use Rattle.xp_core.specs.EventOutputs.{clear_indication, outputs_of, send, send_as}
+use Rattle.xp_step.specs.Exchange.{IsReadable}
+use Rattle.xp_step.specs.Run.{Run}
+use Rattle.xp_step.specs.StepContext.{StepContext, step_context}
+use Rattle.xp_step.specs.Step.{Step}
+use Rattle.xp_step.specs.Effects.{changes_of}
+use Rattle.xp_step.specs.Table.{CallAccepted, CallRequest, ClearRequest, accepted_in, action_at, clear_in, request_in}
+use Rattle.xp_step.specs.EventOutputs.{clear_indication, outputs_of, send, send_as}
 use Rattle.xp_core.specs.Writable.{AreWritable, IsWritable}
 use Rattle.xp_core.specs.steps.Writable.{AreReadable}
 use Rattle.xp_core.proofs.Handed.{move_can}
 use Rattle.xp_machine.proofs.Lines.{get_or-set, line_at-opening}
-use Rattle.xp_core.proofs.Origins.{ComesOf, IsAsked, IsSent, all_come, all_sent, closing, confirming, clearing, refusing, clearing_far, carrying_on, connecting, ringing, carrying}
-use Rattle.xp_core.proofs.RunLemmas.{run_keeps}
+use Rattle.xp_step.proofs.Origins.{ComesOf, IsAsked, IsSent, all_come, all_sent, closing, confirming, clearing, refusing, clearing_far, carrying_on, connecting, ringing, carrying}
+use Rattle.xp_step.proofs.RunLemmas.{run_keeps}
 
 abbrev IsNarrow : World → Type 0
 IsNarrow world = (line : ℕ) → (line_at world line).identifier < 4096

@@ -4,13 +4,13 @@ use Rattle.xp_relay.specs.Coupled.{Coupled, RepresentsCall, state_at}
 use Rattle.xp_relay.specs.declared.state.FlowState.{FlowState}
 use Rattle.xp_subs.specs.Tables.{Tables}
 use Rattle.xp_machine.specs.declared.call.LiveCall.{LiveCall}
-use Rattle.xp_core.specs.declared.entry.Entry.{Entry}
+use Rattle.xp_step.specs.declared.entry.Entry.{Entry}
 use Rattle.xp_machine.specs.declared.agreement.Agreement.{Agreement}
 use Rattle.xp_machine.specs.declared.relays.MeteredRelay.{MeteredRelay}
-use Rattle.xp_core.specs.RelayedPackets.{directions}
+use Rattle.xp_step.specs.RelayedPackets.{directions}
 use Rattle.xp_machine.specs.CallEnds.{end_of}
 use Rattle.xp_machine.specs.StoredState.{call_of_stored, entry_of}
-use Rattle.xp_core.specs.steps.Relays.{RelaysRepresentCalls, IsRepresentedBy, counted_by}
+use Rattle.xp_step.specs.steps.Relays.{RelaysRepresentCalls, IsRepresentedBy, counted_by}
 use Rattle.xp_machine.specs.Relays.{relay_under}
 use Rattle.xp_core.specs.View.{flow_at, flow_in}
 use Rattle.xp_machine.specs.World.{World, call_on}

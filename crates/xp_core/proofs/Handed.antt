@@ -15,19 +15,19 @@ use Rattle.xp_relay.specs.Terms.{modulus_at}
 use Rattle.xp_relay.specs.declared.moves.Move.{Move}
 use Rattle.xp_relay.specs.declared.terms.Terms.{Terms}
 use Rattle.xp_subs.specs.Tables.{Tables, line_count, modulus_of}
-use Rattle.xp_core.specs.declared.entry.Entry.{Entry}
-use Rattle.xp_core.specs.declared.event.What.{What}
-use Rattle.xp_core.specs.declared.event.What.TheVariants as events
-use Rattle.xp_core.specs.RelayedPackets.{RelayedPacket, arrival_for, arrivals, arrivals_from, relay_terms, relayed_by, relayed_in, turn_of_relayed}
-use Rattle.xp_core.specs.Exchange.{IsReadable}
-use Rattle.xp_core.specs.StepContext.{StepContext}
-use Rattle.xp_core.specs.Table.{action_at, packet_in}
+use Rattle.xp_step.specs.declared.entry.Entry.{Entry}
+use Rattle.xp_step.specs.declared.event.What.{What}
+use Rattle.xp_step.specs.declared.event.What.TheVariants as events
+use Rattle.xp_step.specs.RelayedPackets.{RelayedPacket, arrival_for, arrivals, arrivals_from, relay_terms, relayed_by, relayed_in, turn_of_relayed}
+use Rattle.xp_step.specs.Exchange.{IsReadable}
+use Rattle.xp_step.specs.StepContext.{StepContext}
+use Rattle.xp_step.specs.Table.{action_at, packet_in}
 use Rattle.xp_machine.specs.CallEnds.{line_at_end}
 use Rattle.xp_machine.specs.World.{Call, World, call_on, opening}
 use Rattle.xp_machine.specs.declared.agreement.Agreement.{Agreement}
-use Rattle.xp_core.specs.Worlds.{world_next}
+use Rattle.xp_step.specs.Worlds.{world_next}
 use Rattle.xp_core.specs.steps.Writable.{AreReadable}
-use Rattle.xp_core.proofs.RelayedPackets.{is_relayed, of_carried}
+use Rattle.xp_step.proofs.RelayedPackets.{is_relayed, of_carried}
 
 -- the modulus of a call's line at an end
 modulus_there : (tables : Tables) (call : Call) (agreement : Agreement) (end : End) → modulus_at end (relay_terms tables call agreement) ≡ modulus_of tables (line_at_end call end)

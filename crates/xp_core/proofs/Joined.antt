@@ -10,27 +10,27 @@ use Rattle.xp_channel.specs.declared.action.Action.TheVariants.{NewCall, Collisi
 use Rattle.xp_decide.proofs.Joined.{taken_may_join}
 use Rattle.xp_subs.specs.Sound.{IsSound}
 use Rattle.xp_subs.specs.Tables.{Tables, line_count}
-use Rattle.xp_core.specs.declared.entry.Entry.{Entry}
-use Rattle.xp_core.specs.declared.event.What.{What}
-use Rattle.xp_core.specs.declared.outcome.Outcome.{Outcome}
-use Rattle.xp_core.specs.declared.outcome.Outcome.TheVariants.{Plain, Put, Refused, Connected, Declined, Exceeded}
-use Rattle.xp_core.specs.declared.output.Output.{Output}
-use Rattle.xp_core.specs.Acts.{Acts, Answers, CarriesAs, Confirms, Requests, outputs_of_cancel}
+use Rattle.xp_step.specs.declared.entry.Entry.{Entry}
+use Rattle.xp_step.specs.declared.event.What.{What}
+use Rattle.xp_step.specs.declared.outcome.Outcome.{Outcome}
+use Rattle.xp_step.specs.declared.outcome.Outcome.TheVariants.{Plain, Put, Refused, Connected, Declined, Exceeded}
+use Rattle.xp_step.specs.declared.output.Output.{Output}
+use Rattle.xp_step.specs.Acts.{Acts, Answers, CarriesAs, Confirms, Requests, outputs_of_cancel}
 use Rattle.xp_machine.specs.World.{line_states, Call, World, call_numbered, call_on, opening}
-use Rattle.xp_core.specs.RelayedPackets.{RelayedPacket, relayed_by}
+use Rattle.xp_step.specs.RelayedPackets.{RelayedPacket, relayed_by}
 use Rattle.xp_machine.specs.Changes.{Change, Rises, Leaves, Begins, IsRefused, Connects, Ends, all_changed, changed}
 use Rattle.xp_core.specs.Joined.{AreJoined, MayTalk}
-use Rattle.xp_core.specs.Outcomes.{taken_by}
-use Rattle.xp_core.specs.Run.{Run}
-use Rattle.xp_core.specs.Segments.{is_past_limit}
-use Rattle.xp_core.specs.StepContext.{StepContext, step_context}
-use Rattle.xp_core.specs.Step.{Step}
-use Rattle.xp_core.specs.Effects.{changes_of}
-use Rattle.xp_core.specs.Table.{CallAccepted, CallRequest, ClearRequest, accepted_in, action_at, clear_in, packet_in, request_in}
-use Rattle.xp_core.specs.EventOutputs.{EventOutputs}
+use Rattle.xp_step.specs.Outcomes.{taken_by}
+use Rattle.xp_step.specs.Run.{Run}
+use Rattle.xp_step.specs.Segments.{is_past_limit}
+use Rattle.xp_step.specs.StepContext.{StepContext, step_context}
+use Rattle.xp_step.specs.Step.{Step}
+use Rattle.xp_step.specs.Effects.{changes_of}
+use Rattle.xp_step.specs.Table.{CallAccepted, CallRequest, ClearRequest, accepted_in, action_at, clear_in, packet_in, request_in}
+use Rattle.xp_step.specs.EventOutputs.{EventOutputs}
 use Rattle.xp_machine.proofs.Maps.{new_or_old, was_there}
-use Rattle.xp_core.proofs.Origins.{ComesOf, IsBegun, all_come}
-use Rattle.xp_core.proofs.RunLemmas.{run_keeps}
+use Rattle.xp_step.proofs.Origins.{ComesOf, IsBegun, all_come}
+use Rattle.xp_step.proofs.RunLemmas.{run_keeps}
 
 -- the stations of each live call may be joined
 abbrev MayAllTalk : Tables → World → Type 0

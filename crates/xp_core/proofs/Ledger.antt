@@ -6,23 +6,23 @@ use Rattle.std.specs.FinMap.{get-empty}
 use Rattle.std.specs.Ordering.{nat_cmp}
 use Rattle.xp_packets.specs.declared.end.End.{End}
 use Rattle.xp_subs.specs.Tables.{Tables, line_count}
-use Rattle.xp_core.specs.declared.entry.Entry.{Entry}
+use Rattle.xp_step.specs.declared.entry.Entry.{Entry}
 use Rattle.xp_charge.specs.declared.record.Record.{Record}
 use Rattle.xp_machine.specs.Changes.{Change, Rises, Leaves, Begins, IsRefused, Connects, Ends, all_changed, changed, recorded, recorded_by}
 use Rattle.xp_machine.specs.Clearing.{record_of, refused_record}
 use Rattle.xp_core.specs.Records.{Begins as HasBegun, Moment, count_of, holders, records_of}
-use Rattle.xp_core.specs.Outcomes.{payer_of, taken_by}
-use Rattle.xp_core.specs.Run.{Run}
-use Rattle.xp_core.specs.Segments.{segments_of}
-use Rattle.xp_core.specs.StepContext.{step_context}
-use Rattle.xp_core.specs.Step.{Step}
-use Rattle.xp_core.specs.Effects.{changes_of}
-use Rattle.xp_core.specs.Table.{CallRequest, action_at}
+use Rattle.xp_step.specs.Outcomes.{payer_of, taken_by}
+use Rattle.xp_step.specs.Run.{Run}
+use Rattle.xp_step.specs.Segments.{segments_of}
+use Rattle.xp_step.specs.StepContext.{step_context}
+use Rattle.xp_step.specs.Step.{Step}
+use Rattle.xp_step.specs.Effects.{changes_of}
+use Rattle.xp_step.specs.Table.{CallRequest, action_at}
 use Rattle.xp_machine.specs.World.{Call, World, call_numbered, opening}
 use Rattle.xp_core.proofs.Counts.{count_by-append, count_by-cons}
 use Rattle.xp_machine.proofs.Coupled.{CanBe}
 use Rattle.xp_machine.proofs.Maps.{get_gone, get_left, get_new, get_other, new_or_old, was_there}
-use Rattle.xp_core.proofs.RunLemmas.{run_keeps, run_push}
+use Rattle.xp_step.proofs.RunLemmas.{run_keeps, run_push}
 use Rattle.xp_core.proofs.Shapes.{none, one, two, ComesOf, cancelled_by}
 use Rattle.xp_core.proofs.Sounds.{IsRight, cancel_right, run_right, shape_of}
 

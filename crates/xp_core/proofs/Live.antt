@@ -3,15 +3,15 @@ use Rattle.std.proofs.Common.{◌≡◌, ◌∙◌, ◌≤◌, ℕ, Option, Some
 use Rattle.xp_channel.specs.declared.action.Action.{Action}
 use Rattle.xp_channel.specs.declared.action.Action.TheVariants.{Answer}
 use Rattle.xp_subs.specs.Tables.{Tables}
-use Rattle.xp_core.specs.declared.entry.Entry.{Entry}
+use Rattle.xp_step.specs.declared.entry.Entry.{Entry}
 use Rattle.xp_machine.specs.declared.agreement.Agreement.{Agreement}
 use Rattle.xp_machine.specs.Changes.{Change, Rises, Leaves, Begins, IsRefused, Connects, Ends, all_changed, changed}
 use Rattle.xp_machine.specs.Channel.{Ringing, Talking}
 use Rattle.xp_machine.specs.Coupling.{IsHeld}
-use Rattle.xp_core.specs.Effects.{changes_of}
-use Rattle.xp_core.specs.StepContext.{step_context}
-use Rattle.xp_core.specs.Step.{Step}
-use Rattle.xp_core.specs.Table.{action_at, kind_of}
+use Rattle.xp_step.specs.Effects.{changes_of}
+use Rattle.xp_step.specs.StepContext.{step_context}
+use Rattle.xp_step.specs.Step.{Step}
+use Rattle.xp_step.specs.Table.{action_at, kind_of}
 use Rattle.xp_machine.specs.World.{Call, World, call_numbered, call_on, state_at}
 use Rattle.xp_core.proofs.Cells.{Suits, suits}
 use Rattle.xp_machine.proofs.Coupled.{CanBe}

@@ -6,14 +6,14 @@ use Rattle.std.specs.Ordering.{nat_cmp}
 use Rattle.xp_channel.specs.declared.action.Action.{Action}
 use Rattle.xp_channel.specs.declared.action.Action.TheVariants.{Answer}
 use Rattle.xp_subs.specs.Tables.{Tables, line_count}
-use Rattle.xp_core.specs.declared.entry.Entry.{Entry}
-use Rattle.xp_core.specs.declared.outcome.Outcome.TheVariants.{Connected}
-use Rattle.xp_core.specs.Effects.{answers, changes_of, effects_of}
+use Rattle.xp_step.specs.declared.entry.Entry.{Entry}
+use Rattle.xp_step.specs.declared.outcome.Outcome.TheVariants.{Connected}
+use Rattle.xp_step.specs.Effects.{answers, changes_of, effects_of}
 use Rattle.xp_core.specs.Records.{Connects as HasConnected, Moment, WasConnected}
-use Rattle.xp_core.specs.Run.{Run}
-use Rattle.xp_core.specs.StepContext.{StepContext, step_context}
-use Rattle.xp_core.specs.Step.{Step}
-use Rattle.xp_core.specs.Table.{action_at, kind_of}
+use Rattle.xp_step.specs.Run.{Run}
+use Rattle.xp_step.specs.StepContext.{StepContext, step_context}
+use Rattle.xp_step.specs.Step.{Step}
+use Rattle.xp_step.specs.Table.{action_at, kind_of}
 use Rattle.xp_machine.specs.declared.agreement.Agreement.{Agreement}
 use Rattle.xp_machine.specs.Changes.{Change, Connects}
 use Rattle.xp_machine.specs.Channel.{Ringing, call_of}
@@ -24,7 +24,7 @@ use Rattle.xp_core.proofs.Cells.{Suits, suits}
 use Rattle.xp_core.proofs.Fronts.{last_or_before}
 use Rattle.xp_core.proofs.Ledger.{here, lift}
 use Rattle.xp_core.proofs.Live.{begun, joined, next_grows, same, was}
-use Rattle.xp_core.proofs.RunLemmas.{run_keeps, run_push}
+use Rattle.xp_step.proofs.RunLemmas.{run_keeps, run_push}
 use Rattle.xp_core.proofs.Shapes.{ComesOf, cancelled_by, none, one, two}
 use Rattle.xp_core.proofs.Sounds.{IsRight, run_right, shape_of}
 use Rattle.xp_core.proofs.Worlds.{run_world}

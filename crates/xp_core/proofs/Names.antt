@@ -11,9 +11,9 @@ use Rattle.xp_packets.specs.declared.end.End.{End}
 use Rattle.xp_packets.specs.declared.end.End.TheVariants.{Caller, Called}
 use Rattle.xp_subs.specs.Sound.{IsSound}
 use Rattle.xp_subs.specs.Tables.{Tables, line_count}
-use Rattle.xp_core.specs.declared.entry.Entry.{Entry}
-use Rattle.xp_core.specs.declared.event.What.{What}
-use Rattle.xp_core.specs.declared.output.Output.{Output}
+use Rattle.xp_step.specs.declared.entry.Entry.{Entry}
+use Rattle.xp_step.specs.declared.event.What.{What}
+use Rattle.xp_step.specs.declared.output.Output.{Output}
 use Rattle.xp_machine.specs.World.{line_states, Call, World, call_numbered, call_on, far_end, opening}
 use Rattle.xp_machine.specs.CallEnds.{line_at_end}
 use Rattle.xp_machine.specs.Changes.{Change, Rises, Leaves, Begins, IsRefused, Connects, Ends, changed, recorded, recorded_by}
@@ -21,17 +21,17 @@ use Rattle.xp_machine.specs.Clearing.{record_of, refused_record}
 use Rattle.xp_machine.specs.Coupling.{AreCoupled, IsHeld}
 use Rattle.xp_core.specs.Lines.{HasLines}
 use Rattle.xp_core.specs.Records.{records_of}
-use Rattle.xp_core.specs.Run.{Run}
-use Rattle.xp_core.specs.Segments.{segments_of}
-use Rattle.xp_core.specs.StepContext.{StepContext, step_context}
-use Rattle.xp_core.specs.Step.{Step}
-use Rattle.xp_core.specs.Effects.{changes_of}
-use Rattle.xp_core.specs.Table.{action_at, packet_in}
-use Rattle.xp_core.specs.EventOutputs.{outputs_of}
-use Rattle.xp_core.proofs.RelayedPackets.{of_carried}
+use Rattle.xp_step.specs.Run.{Run}
+use Rattle.xp_step.specs.Segments.{segments_of}
+use Rattle.xp_step.specs.StepContext.{StepContext, step_context}
+use Rattle.xp_step.specs.Step.{Step}
+use Rattle.xp_step.specs.Effects.{changes_of}
+use Rattle.xp_step.specs.Table.{action_at, packet_in}
+use Rattle.xp_step.specs.EventOutputs.{outputs_of}
+use Rattle.xp_step.proofs.RelayedPackets.{of_carried}
 use Rattle.xp_machine.proofs.InCall.{shown_on}
-use Rattle.xp_core.proofs.Origins.{ComesOf, IsSent, all_come, all_sent, closing, confirming, clearing, refusing, clearing_far, carrying_on, connecting, ringing, carrying}
-use Rattle.xp_core.proofs.RunLemmas.{run_keeps, run_push}
+use Rattle.xp_step.proofs.Origins.{ComesOf, IsSent, all_come, all_sent, closing, confirming, clearing, refusing, clearing_far, carrying_on, connecting, ringing, carrying}
+use Rattle.xp_step.proofs.RunLemmas.{run_keeps, run_push}
 use Rattle.xp_core.proofs.Sounds.{IsRight, run_right}
 
 module _ {A : Type 0} (at : StepContext A) (what : What A) (sound : IsSound at.tables) (coupled : AreCoupled at.tables at.world) (within : at.line < line_count at.tables) where

@@ -17,23 +17,23 @@ use Rattle.xp_decide.specs.declared.verdict.Verdict.TheVariants.{Take, Refuse}
 use Rattle.xp_packets.specs.declared.end.End.{End}
 use Rattle.xp_packets.specs.declared.packet.Packet.{Packet}
 use Rattle.xp_subs.specs.Tables.{Tables, address_of, modulus_of}
-use Rattle.xp_core.specs.declared.entry.Entry.{Entry}
-use Rattle.xp_core.specs.declared.event.Event.{Event}
-use Rattle.xp_core.specs.declared.event.What.{What}
-use Rattle.xp_core.specs.declared.outcome.Outcome.{Outcome}
-use Rattle.xp_core.specs.declared.outcome.Outcome.TheVariants.{Plain, Put, Refused, Connected, Declined, Exceeded}
-use Rattle.xp_core.specs.declared.output.Output.{Output}
-use Rattle.xp_core.specs.Acts.{Acts, Answers, CarriesAs, Confirms, IsAnswered, IsPlain, IsRequested, Requests, agreement_of, outputs_of_cancel, outputs_of_clear, outputs_of_answer, outputs_of_error}
-use Rattle.xp_core.specs.RelayedPackets.{RelayedPacket, relayed_by}
+use Rattle.xp_step.specs.declared.entry.Entry.{Entry}
+use Rattle.xp_step.specs.declared.event.Event.{Event}
+use Rattle.xp_step.specs.declared.event.What.{What}
+use Rattle.xp_step.specs.declared.outcome.Outcome.{Outcome}
+use Rattle.xp_step.specs.declared.outcome.Outcome.TheVariants.{Plain, Put, Refused, Connected, Declined, Exceeded}
+use Rattle.xp_step.specs.declared.output.Output.{Output}
+use Rattle.xp_step.specs.Acts.{Acts, Answers, CarriesAs, Confirms, IsAnswered, IsPlain, IsRequested, Requests, agreement_of, outputs_of_cancel, outputs_of_clear, outputs_of_answer, outputs_of_error}
+use Rattle.xp_step.specs.RelayedPackets.{RelayedPacket, relayed_by}
 use Rattle.xp_machine.specs.Changes.{Change, all_changed, recorded_by}
 use Rattle.xp_core.specs.Determined.{IsSameButLine, modulus_taken}
-use Rattle.xp_core.specs.Outcomes.{taken_by, with_line, with_usual_windows}
-use Rattle.xp_core.specs.Segments.{segments_of}
-use Rattle.xp_core.specs.StepContext.{StepContext, step_context}
-use Rattle.xp_core.specs.Step.{Step}
-use Rattle.xp_core.specs.Effects.{answers, carries, collides, effects_of, requests}
-use Rattle.xp_core.specs.Table.{CallAccepted, CallRequest, ClearRequest, accepted_in, action_at, clear_in, packet_in, request_in}
-use Rattle.xp_core.specs.EventOutputs.{EventOutputs, far_information, outputs_of, outputs_of_refusal, send_far, outputs_of_incoming_call}
+use Rattle.xp_step.specs.Outcomes.{taken_by, with_line, with_usual_windows}
+use Rattle.xp_step.specs.Segments.{segments_of}
+use Rattle.xp_step.specs.StepContext.{StepContext, step_context}
+use Rattle.xp_step.specs.Step.{Step}
+use Rattle.xp_step.specs.Effects.{answers, carries, collides, effects_of, requests}
+use Rattle.xp_step.specs.Table.{CallAccepted, CallRequest, ClearRequest, accepted_in, action_at, clear_in, packet_in, request_in}
+use Rattle.xp_step.specs.EventOutputs.{EventOutputs, far_information, outputs_of, outputs_of_refusal, send_far, outputs_of_incoming_call}
 use Rattle.xp_machine.specs.World.{Call, World, call_on}
 
 -- the same, whichever line is taken

@@ -8,31 +8,31 @@ use Rattle.xp_charge.specs.Meter.{opening as opening_meter}
 use Rattle.xp_relay.specs.Coupled.{Coupled, after, coupled}
 use Rattle.xp_relay.specs.Runs.{run as run_of}
 use Rattle.xp_subs.specs.Tables.{Tables, line_count}
-use Rattle.xp_core.specs.declared.entry.Entry.{Entry}
+use Rattle.xp_step.specs.declared.entry.Entry.{Entry}
 use Rattle.xp_machine.specs.declared.agreement.Agreement.{Agreement}
-use Rattle.xp_core.specs.declared.outcome.Outcome.TheVariants.{Exceeded}
+use Rattle.xp_step.specs.declared.outcome.Outcome.TheVariants.{Exceeded}
 use Rattle.xp_machine.specs.declared.relays.RelayUpdate.{RelayUpdate}
 use Rattle.xp_machine.specs.declared.relays.MeteredRelay.{MeteredRelay}
-use Rattle.xp_core.specs.Acts.{Acts, Carries, CarriesAs}
-use Rattle.xp_core.specs.RelayedPackets.{RelayedPacket, arrivals, relay_terms, relayed_in, directions, turn_of_relayed}
+use Rattle.xp_step.specs.Acts.{Acts, Carries, CarriesAs}
+use Rattle.xp_step.specs.RelayedPackets.{RelayedPacket, arrivals, relay_terms, relayed_in, directions, turn_of_relayed}
 use Rattle.xp_machine.specs.Changes.{Change, Rises, Leaves, Begins, IsRefused, Connects, Ends, all_changed}
-use Rattle.xp_core.specs.Effects.{carries, changes_of, effects_of}
-use Rattle.xp_core.specs.steps.Relays.{RelaysRepresentCalls, IsRelayed, IsRepresentedBy, Relays, RelaysFor, RelaysOn, counted_by, counted_with}
+use Rattle.xp_step.specs.Effects.{carries, changes_of, effects_of}
+use Rattle.xp_step.specs.steps.Relays.{RelaysRepresentCalls, IsRelayed, IsRepresentedBy, Relays, RelaysFor, RelaysOn, counted_by, counted_with}
 use Rattle.xp_machine.specs.Relays.{relay_under, relays_with}
-use Rattle.xp_core.specs.Run.{Run}
-use Rattle.xp_core.specs.Segments.{is_past_limit}
-use Rattle.xp_core.specs.StepContext.{StepContext, step_context}
-use Rattle.xp_core.specs.Step.{Step}
-use Rattle.xp_core.specs.Table.{action_at}
+use Rattle.xp_step.specs.Run.{Run}
+use Rattle.xp_step.specs.Segments.{is_past_limit}
+use Rattle.xp_step.specs.StepContext.{StepContext, step_context}
+use Rattle.xp_step.specs.Step.{Step}
+use Rattle.xp_step.specs.Table.{action_at}
 use Rattle.xp_core.specs.steps.PreparedEntry.{RelaysAdvance}
 use Rattle.xp_machine.specs.World.{Call, World, call_numbered, call_on, opening}
-use Rattle.xp_core.specs.Worlds.{world_after}
-use Rattle.xp_core.proofs.RelayedPackets.{arrivals_still, directions_on, directions_still, is_relayed, of_carried}
-use Rattle.xp_core.proofs.Counting.{counted_none, counted_on, counted_still}
+use Rattle.xp_step.specs.Worlds.{world_after}
+use Rattle.xp_step.proofs.RelayedPackets.{arrivals_still, directions_on, directions_still, is_relayed, of_carried}
+use Rattle.xp_step.proofs.Counting.{counted_none, counted_on, counted_still}
 use Rattle.xp_machine.proofs.InCall.{caller_shows, same_number, shown_on}
 use Rattle.xp_core.proofs.Live.{Connected, same, begun, connects_live, joined, next_grows, was}
 use Rattle.xp_machine.proofs.Maps.{get_gone}
-use Rattle.xp_core.proofs.RunLemmas.{run_keeps, run_push}
+use Rattle.xp_step.proofs.RunLemmas.{run_keeps, run_push}
 use Rattle.xp_core.proofs.Sounds.{IsRight, run_right}
 use Rattle.xp_core.proofs.Worlds.{run_world}
 

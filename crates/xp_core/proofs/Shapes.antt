@@ -12,23 +12,23 @@ use Rattle.xp_channel.specs.declared.action.Action.TheVariants.{Nothing, Rise, F
 use Rattle.xp_packets.specs.declared.block.Block.{Block}
 use Rattle.xp_packets.specs.declared.packet.Packet.TheVariants.{Clear}
 use Rattle.xp_subs.specs.Tables.{Tables, line_count}
-use Rattle.xp_core.specs.declared.entry.Entry.{Entry}
-use Rattle.xp_core.specs.declared.event.What.{What}
+use Rattle.xp_step.specs.declared.entry.Entry.{Entry}
+use Rattle.xp_step.specs.declared.event.What.{What}
 use Rattle.xp_machine.specs.declared.agreement.Agreement.{Agreement}
-use Rattle.xp_core.specs.declared.outcome.Outcome.{Outcome}
-use Rattle.xp_core.specs.declared.outcome.Outcome.TheVariants.{Plain, Put, Refused, Connected, Declined, Exceeded}
-use Rattle.xp_core.specs.declared.output.Output.{Output}
-use Rattle.xp_core.specs.Acts.{Acts, Answers, CarriesAs, Confirms, IsAnswered, IsConnected, IsPut, IsRequested, Requests, outputs_of_cancel, outputs_to_both, outputs_of_error, outputs_of_fall}
-use Rattle.xp_core.specs.RelayedPackets.{RelayedPacket, relayed_by}
+use Rattle.xp_step.specs.declared.outcome.Outcome.{Outcome}
+use Rattle.xp_step.specs.declared.outcome.Outcome.TheVariants.{Plain, Put, Refused, Connected, Declined, Exceeded}
+use Rattle.xp_step.specs.declared.output.Output.{Output}
+use Rattle.xp_step.specs.Acts.{Acts, Answers, CarriesAs, Confirms, IsAnswered, IsConnected, IsPut, IsRequested, Requests, outputs_of_cancel, outputs_to_both, outputs_of_error, outputs_of_fall}
+use Rattle.xp_step.specs.RelayedPackets.{RelayedPacket, relayed_by}
 use Rattle.xp_machine.specs.Changes.{Change, Rises, Leaves, Begins, IsRefused, Connects, Ends, NoCallState, GoesOut, IsFree, IsCleared, changed}
 use Rattle.xp_machine.specs.Channel.{Cleared, INITIAL_IDENTIFIER, Ready, Ringing, call_of}
 use Rattle.xp_machine.specs.Coupling.{AreCoupled, IsHeld}
 use Rattle.xp_core.specs.Records.{clears_to}
-use Rattle.xp_core.specs.StepContext.{StepContext, step_context}
-use Rattle.xp_core.specs.Step.{Step}
-use Rattle.xp_core.specs.Effects.{answers, carries, changes_of, collides, confirms, effects_of, leaves, requests}
-use Rattle.xp_core.specs.Table.{CallAccepted, CallRequest, ClearRequest, accepted_in, action_at, clear_in, kind_of, packet_in, request_in}
-use Rattle.xp_core.specs.EventOutputs.{EventOutputs, outputs_of}
+use Rattle.xp_step.specs.StepContext.{StepContext, step_context}
+use Rattle.xp_step.specs.Step.{Step}
+use Rattle.xp_step.specs.Effects.{answers, carries, changes_of, collides, confirms, effects_of, leaves, requests}
+use Rattle.xp_step.specs.Table.{CallAccepted, CallRequest, ClearRequest, accepted_in, action_at, clear_in, kind_of, packet_in, request_in}
+use Rattle.xp_step.specs.EventOutputs.{EventOutputs, outputs_of}
 use Rattle.xp_machine.specs.World.{Call, Line, World, call_on, far_end, line_at, state_at}
 use Rattle.xp_core.proofs.Cells.{Suits, suits}
 use Rattle.xp_core.proofs.Clears.{both_told, collision_refused, collision_taken, collision_turned_down, confirmed_told, fall_told, put_told, turned_down}

@@ -9,32 +9,32 @@ use Rattle.xp_charge.specs.declared.record.Record.{Record}
 use Rattle.xp_subs.specs.Sound.{IsSound}
 use Rattle.xp_subs.specs.Tables.{Tables, line_count}
 use Rattle.xp_core.specs.declared.advance.PreparedEntry.{PreparedEntry}
-use Rattle.xp_core.specs.declared.entry.Entry.{Entry}
-use Rattle.xp_core.specs.declared.event.Event.{Event}
-use Rattle.xp_core.specs.declared.outcome.Outcome.{Outcome}
-use Rattle.xp_core.specs.declared.plan.Plan.{Plan}
+use Rattle.xp_step.specs.declared.entry.Entry.{Entry}
+use Rattle.xp_step.specs.declared.event.Event.{Event}
+use Rattle.xp_step.specs.declared.outcome.Outcome.{Outcome}
+use Rattle.xp_step.specs.declared.plan.Plan.{Plan}
 use Rattle.xp_machine.specs.declared.relays.RelayUpdate.{RelayUpdate}
 use Rattle.xp_machine.specs.declared.relays.MeteredRelay.{MeteredRelay}
-use Rattle.xp_core.specs.Agreed.{AllHaveTerms}
-use Rattle.xp_core.specs.Exchange.{Advances, Exchange, IsReadable, world_of}
-use Rattle.xp_core.specs.steps.Plan.{Plans, applied_by}
+use Rattle.xp_step.specs.Agreed.{AllHaveTerms}
+use Rattle.xp_step.specs.Exchange.{Advances, Exchange, IsReadable, world_of}
+use Rattle.xp_step.specs.steps.Plan.{Plans, applied_by}
 use Rattle.xp_core.specs.Records.{records_of}
-use Rattle.xp_core.specs.steps.Relays.{RelaysRepresentCalls}
+use Rattle.xp_step.specs.steps.Relays.{RelaysRepresentCalls}
 use Rattle.xp_machine.specs.Relays.{relays_with}
 use Rattle.xp_core.specs.Lines.{HasLines}
-use Rattle.xp_core.specs.Run.{Run}
-use Rattle.xp_core.specs.StepContext.{step_context}
+use Rattle.xp_step.specs.Run.{Run}
+use Rattle.xp_step.specs.StepContext.{step_context}
 use Rattle.xp_core.specs.steps.CoreInvariant.{CoreInvariant}
-use Rattle.xp_core.specs.Step.{Step}
-use Rattle.xp_core.specs.Table.{action_at}
+use Rattle.xp_step.specs.Step.{Step}
+use Rattle.xp_step.specs.Table.{action_at}
 use Rattle.xp_core.specs.steps.PreparedEntry.{Enters, RelaysAdvance, IsPreparedEntry}
 use Rattle.xp_machine.specs.World.{World, call_numbered, opening}
 use Rattle.xp_core.specs.Writable.{AreWritable}
-use Rattle.xp_core.proofs.Agreed.{run_agreed}
+use Rattle.xp_step.proofs.Agreed.{run_agreed}
 use Rattle.xp_core.proofs.Fitting.{run_fits}
 use Rattle.xp_core.proofs.Names.{run_named}
 use Rattle.xp_core.proofs.Relaying.{carried_next}
-use Rattle.xp_core.proofs.RunLemmas.{run_push}
+use Rattle.xp_step.proofs.RunLemmas.{run_push}
 use Rattle.xp_core.proofs.Worlds.{run_world}
 
 places_kept : {A : Type 0} (relay_update : Option (RelayUpdate A)) (relays later : List (Option (MeteredRelay A))) → later ≡ relays_with relay_update relays → length later ≡ length relays

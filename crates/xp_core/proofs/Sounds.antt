@@ -7,21 +7,21 @@ use Rattle.std.specs.Ordering.{nat_cmp}
 use Rattle.xp_causes.specs.declared.clearing_cause.TheConstants.{NUMBER_BUSY}
 use Rattle.xp_causes.specs.declared.diagnostic.TheConstants.{CALL_COLLISION}
 use Rattle.xp_subs.specs.Tables.{Tables, line_count}
-use Rattle.xp_core.specs.declared.entry.Entry.{Entry}
+use Rattle.xp_step.specs.declared.entry.Entry.{Entry}
 use Rattle.xp_machine.specs.Changes.{Change, Rises, Leaves, Begins, IsRefused, Connects, Ends, NoCallState, IsFree, all_changed, changed}
 use Rattle.xp_machine.specs.Channel.{call_of}
 use Rattle.xp_machine.specs.Coupling.{AreCoupled}
-use Rattle.xp_core.specs.Run.{Run}
+use Rattle.xp_step.specs.Run.{Run}
 use Rattle.xp_core.specs.steps.Sound.{IsSound}
-use Rattle.xp_core.specs.StepContext.{step_context}
-use Rattle.xp_core.specs.Step.{Step}
-use Rattle.xp_core.specs.Effects.{changes_of}
-use Rattle.xp_core.specs.Table.{action_at}
+use Rattle.xp_step.specs.StepContext.{step_context}
+use Rattle.xp_step.specs.Step.{Step}
+use Rattle.xp_step.specs.Effects.{changes_of}
+use Rattle.xp_step.specs.Table.{action_at}
 use Rattle.xp_machine.specs.World.{Call, Line, World, call_numbered, far_end, off_line, opening, state_at}
 use Rattle.xp_machine.proofs.Coupled.{CanBe, changed_coupled}
 use Rattle.xp_machine.proofs.Lines.{get_or-set, line_at-opening}
 use Rattle.xp_machine.proofs.Maps.{get_gone, get_left, get_other}
-use Rattle.xp_core.proofs.RunLemmas.{run_keeps}
+use Rattle.xp_step.proofs.RunLemmas.{run_keeps}
 use Rattle.xp_core.proofs.Shapes.{Shape, none, one, two, cancelled_by, step_shape}
 
 -- an entry without effect

@@ -7,26 +7,26 @@ use Rattle.xp_channel.specs.declared.action.Action.TheVariants.{Nothing, Fall}
 use Rattle.xp_channel.specs.declared.kind.EventKind.TheVariants as kinds
 use Rattle.xp_channel.specs.Table.{cell}
 use Rattle.xp_core.specs.declared.advance.PreparedEntry.{PreparedEntry}
-use Rattle.xp_core.specs.declared.event.Event.{Event}
-use Rattle.xp_core.specs.declared.event.What.{What}
-use Rattle.xp_core.specs.declared.event.What.TheVariants.{Up, Down, Frame, WrongFrame, Expire, Stall}
-use Rattle.xp_core.specs.declared.outcome.Outcome.TheVariants.{Plain}
-use Rattle.xp_core.specs.Acts.{Acts}
-use Rattle.xp_core.specs.RelayedPackets.{relayed_as, relayed_by}
+use Rattle.xp_step.specs.declared.event.Event.{Event}
+use Rattle.xp_step.specs.declared.event.What.{What}
+use Rattle.xp_step.specs.declared.event.What.TheVariants.{Up, Down, Frame, WrongFrame, Expire, Stall}
+use Rattle.xp_step.specs.declared.outcome.Outcome.TheVariants.{Plain}
+use Rattle.xp_step.specs.Acts.{Acts}
+use Rattle.xp_step.specs.RelayedPackets.{relayed_as, relayed_by}
 use Rattle.xp_machine.specs.Changes.{GoesOut, NoCallState, all_changed, changed}
 use Rattle.xp_machine.specs.Channel.{State, Off, Ready, Waiting, Ringing, Talking, Cleared, channel_of, is_off}
-use Rattle.xp_core.specs.Effects.{effects_of, leaves}
+use Rattle.xp_step.specs.Effects.{effects_of, leaves}
 use Rattle.xp_machine.specs.AppliedChange.{left}
-use Rattle.xp_core.specs.steps.Plan.{recorded_at}
-use Rattle.xp_core.specs.steps.Relays.{Relays}
-use Rattle.xp_core.specs.StepContext.{StepContext}
+use Rattle.xp_step.specs.steps.Plan.{recorded_at}
+use Rattle.xp_step.specs.steps.Relays.{Relays}
+use Rattle.xp_step.specs.StepContext.{StepContext}
 use Rattle.xp_core.specs.steps.Stalling.{MakesStall, outputs_of_stall}
-use Rattle.xp_core.specs.Stalls.{is_stall, places_for}
+use Rattle.xp_step.specs.Stalls.{is_stall, places_for}
 use Rattle.xp_core.specs.steps.Stalls.{stall_of}
-use Rattle.xp_core.specs.Table.{action_at, packet_in}
-use Rattle.xp_core.specs.EventOutputs.{EventOutputs, no_outputs, outputs_of}
+use Rattle.xp_step.specs.Table.{action_at, packet_in}
+use Rattle.xp_step.specs.EventOutputs.{EventOutputs, no_outputs, outputs_of}
 use Rattle.xp_machine.specs.World.{Call, World, call_on, state_at}
-use Rattle.xp_core.proofs.Quiet.{leaves_quiet}
+use Rattle.xp_step.proofs.Quiet.{leaves_quiet}
 
 -- a line that leaves its call
 left_changed : (line : ℕ) (way : NoCallState) (cause diagnostic : ℕ) (found : Option (ℕ × Call)) (world : World)

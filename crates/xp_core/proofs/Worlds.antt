@@ -1,9 +1,9 @@
 -- A run leads to the world that its history tells.
 use Rattle.std.proofs.Common.{◌≡◌, ◌∙◌, List, [], ◌∷◌, ◌++◌, ap}
 use Rattle.xp_subs.specs.Tables.{Tables, line_count}
-use Rattle.xp_core.specs.declared.entry.Entry.{Entry}
-use Rattle.xp_core.specs.Run.{Run, RunFrom}
-use Rattle.xp_core.specs.Worlds.{world_after, world_from}
+use Rattle.xp_step.specs.declared.entry.Entry.{Entry}
+use Rattle.xp_step.specs.Run.{Run, RunFrom}
+use Rattle.xp_step.specs.Worlds.{world_after, world_from}
 use Rattle.xp_machine.specs.World.{World, opening}
 
 module _ {A : Type 0} where

@@ -4,9 +4,9 @@ use Rattle.xp_packets.specs.declared.end.End.{End}
 use Rattle.xp_relay.specs.Coupled.{coupled}
 use Rattle.xp_relay.specs.Runs.{IsDelivered, nothing_observed, observed_over}
 use Rattle.xp_subs.specs.Tables.{Tables}
-use Rattle.xp_core.specs.declared.entry.Entry.{Entry}
+use Rattle.xp_step.specs.declared.entry.Entry.{Entry}
 use Rattle.xp_machine.specs.declared.agreement.Agreement.{Agreement}
-use Rattle.xp_core.specs.RelayedPackets.{arrivals, directions, relay_terms}
+use Rattle.xp_step.specs.RelayedPackets.{arrivals, directions, relay_terms}
 use Rattle.xp_machine.specs.World.{Call, World, call_numbered}
 
 -- The receiver received a front of what was accepted from the sender since the last reset: each packet once, in order,

@@ -3,10 +3,10 @@
 use Rattle.std.specs.Prelude.{◌≡◌, Option, option_map, List}
 use Rattle.xp_packets.specs.declared.modulus.Modulus.{Modulus}
 use Rattle.xp_subs.specs.Tables.{Tables, modulus_of}
-use Rattle.xp_core.specs.declared.entry.Entry.{Entry}
-use Rattle.xp_core.specs.declared.outcome.Outcome.{Outcome}
-use Rattle.xp_core.specs.Outcomes.{taken_by, with_line, with_usual_windows}
-use Rattle.xp_core.specs.Step.{Step}
+use Rattle.xp_step.specs.declared.entry.Entry.{Entry}
+use Rattle.xp_step.specs.declared.outcome.Outcome.{Outcome}
+use Rattle.xp_step.specs.Outcomes.{taken_by, with_line, with_usual_windows}
+use Rattle.xp_step.specs.Step.{Step}
 use Rattle.xp_machine.specs.World.{World}
 
 -- the modulus of the line that a new call was put to

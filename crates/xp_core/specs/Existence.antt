@@ -2,11 +2,11 @@
 use Rattle.std.specs.Prelude.{◌≡◌, ◌<◌, List}
 use Rattle.xp_subs.specs.Sound.{IsSound}
 use Rattle.xp_subs.specs.Tables.{Tables, line_count}
-use Rattle.xp_core.specs.declared.entry.Entry.{Entry}
-use Rattle.xp_core.specs.declared.event.Event.{Event}
-use Rattle.xp_core.specs.Exchange.{IsReadable}
-use Rattle.xp_core.specs.Run.{Run}
-use Rattle.xp_core.specs.Step.{Step}
+use Rattle.xp_step.specs.declared.entry.Entry.{Entry}
+use Rattle.xp_step.specs.declared.event.Event.{Event}
+use Rattle.xp_step.specs.Exchange.{IsReadable}
+use Rattle.xp_step.specs.Run.{Run}
+use Rattle.xp_step.specs.Step.{Step}
 use Rattle.xp_machine.specs.World.{World}
 
 -- there is an entry of this event that is a step, and a state that it leads to

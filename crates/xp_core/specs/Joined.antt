@@ -3,8 +3,8 @@ use Rattle.std.specs.Prelude.{◌≡◌, ℕ, Some, List, All, IfSome}
 use Rattle.xp_decide.specs.Asks.{station_of_line}
 use Rattle.xp_groups.specs.MayJoin.{MayJoin}
 use Rattle.xp_subs.specs.Tables.{Tables}
-use Rattle.xp_core.specs.declared.entry.Entry.{Entry}
-use Rattle.xp_core.specs.Outcomes.{taken_by}
+use Rattle.xp_step.specs.declared.entry.Entry.{Entry}
+use Rattle.xp_step.specs.Outcomes.{taken_by}
 use Rattle.xp_machine.specs.World.{Call, World, call_numbered}
 
 -- the stations of these two lines may be joined, that of the caller first

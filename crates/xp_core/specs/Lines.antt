@@ -1,6 +1,6 @@
 -- The lines that an entry names.
 use Rattle.std.specs.Prelude.{ℕ, ◌<◌, All}
-use Rattle.xp_core.specs.declared.entry.Entry.{Entry}
+use Rattle.xp_step.specs.declared.entry.Entry.{Entry}
 use Rattle.xp_charge.specs.Lines.{HasLines as NamesLines}
 
 -- the lines that something is put out to, and those of the records, are all below this number

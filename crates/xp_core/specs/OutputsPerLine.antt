@@ -1,7 +1,7 @@
 -- How much one entry puts out to a line.
 use Rattle.std.specs.Prelude.{ℕ, ◌==◌, ◌≤◌, List, filter, length, map}
-use Rattle.xp_core.specs.declared.output.Outgoing.{Outgoing}
-use Rattle.xp_core.specs.declared.output.Output.{Output}
+use Rattle.xp_step.specs.declared.output.Outgoing.{Outgoing}
+use Rattle.xp_step.specs.declared.output.Output.{Output}
 
 module _ {A : Type 0} where
   -- the outputs to a line, in order

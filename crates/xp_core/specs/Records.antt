@@ -7,16 +7,16 @@ use Rattle.xp_packets.specs.declared.end.End.TheVariants.{Caller, Called}
 use Rattle.xp_packets.specs.declared.packet.Packet.{Packet}
 use Rattle.xp_packets.specs.declared.packet.Packet.TheVariants.{Clear}
 use Rattle.xp_subs.specs.Tables.{Tables}
-use Rattle.xp_core.specs.declared.entry.Entry.{Entry}
-use Rattle.xp_core.specs.declared.outcome.Outcome.TheVariants.{Connected}
-use Rattle.xp_core.specs.declared.output.Output.{Output}
-use Rattle.xp_core.specs.declared.output.Put.{Put}
-use Rattle.xp_core.specs.declared.output.Put.TheVariants.{Send}
-use Rattle.xp_core.specs.Run.{Run}
-use Rattle.xp_core.specs.Outcomes.{payer_of, taken_by}
-use Rattle.xp_core.specs.Segments.{segments_if_live}
-use Rattle.xp_core.specs.Step.{Step}
-use Rattle.xp_core.specs.Table.{CallRequest, action_at, request_in}
+use Rattle.xp_step.specs.declared.entry.Entry.{Entry}
+use Rattle.xp_step.specs.declared.outcome.Outcome.TheVariants.{Connected}
+use Rattle.xp_step.specs.declared.output.Output.{Output}
+use Rattle.xp_step.specs.declared.output.Put.{Put}
+use Rattle.xp_step.specs.declared.output.Put.TheVariants.{Send}
+use Rattle.xp_step.specs.Run.{Run}
+use Rattle.xp_step.specs.Outcomes.{payer_of, taken_by}
+use Rattle.xp_step.specs.Segments.{segments_if_live}
+use Rattle.xp_step.specs.Step.{Step}
+use Rattle.xp_step.specs.Table.{CallRequest, action_at, request_in}
 use Rattle.xp_machine.specs.Channel.{Ringing}
 use Rattle.xp_machine.specs.World.{Call, World, call_numbered, state_at}
 use Rattle.xp_machine.specs.declared.agreement.Agreement.{Agreement}

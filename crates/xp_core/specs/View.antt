@@ -5,9 +5,9 @@ use Rattle.xp_relay.specs.Coupled.{state_at}
 use Rattle.xp_relay.specs.declared.state.FlowState.{FlowState}
 use Rattle.xp_subs.specs.Tables.{Tables}
 use Rattle.xp_core.specs.declared.call_view.CallView.{CallView}
-use Rattle.xp_core.specs.declared.entry.Entry.{Entry}
-use Rattle.xp_core.specs.RelayedPackets.{directions}
-use Rattle.xp_core.specs.Segments.{segments_of}
+use Rattle.xp_step.specs.declared.entry.Entry.{Entry}
+use Rattle.xp_step.specs.RelayedPackets.{directions}
+use Rattle.xp_step.specs.Segments.{segments_of}
 use Rattle.xp_machine.specs.CallEnds.{end_of}
 use Rattle.xp_machine.specs.World.{Call, World, call_on}
 

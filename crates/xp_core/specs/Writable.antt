@@ -3,9 +3,9 @@ use Rattle.std.specs.Prelude.{◌≡◌, None, List, All}
 use Rattle.xp_packets.specs.Encodability.{encoding_fault}
 use Rattle.xp_packets.specs.declared.modulus.Modulus.{Modulus}
 use Rattle.xp_subs.specs.Tables.{Tables, modulus_of}
-use Rattle.xp_core.specs.declared.output.Output.{Output}
-use Rattle.xp_core.specs.declared.output.Put.{Put}
-use Rattle.xp_core.specs.declared.output.Put.TheVariants.{Send, Close}
+use Rattle.xp_step.specs.declared.output.Output.{Output}
+use Rattle.xp_step.specs.declared.output.Put.{Put}
+use Rattle.xp_step.specs.declared.output.Put.TheVariants.{Send, Close}
 
 module _ {A : Type 0} where
   -- its packet can be encoded by this modulus: only want of memory can prevent that

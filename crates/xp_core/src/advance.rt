@@ -3,26 +3,20 @@
 ghost use Rattle.std.specs.Prelude.{◌≡◌, ◌+◌, ◌<◌, ◌≤◌, ◌^◌, true, Err, IfNone, IfSome, IfOk, IfErr, IsOk, OnOk, OnErr, length};
 ghost use Rattle.xp_subs.specs.Sound.{IsSound as IsSubs};
 ghost use Rattle.xp_subs.specs.Tables.{line_count};
-ghost use Rattle.xp_core.specs.Agreed.{AllHaveTerms};
+ghost use Rattle.xp_step.specs.Agreed.{AllHaveTerms};
 ghost use Rattle.xp_machine.specs.Coupling.{AreCoupled};
 ghost use Rattle.xp_core.specs.steps.Journal.{IsSpent};
-ghost use Rattle.xp_core.specs.steps.Relays.{RelaysRepresentCalls};
+ghost use Rattle.xp_step.specs.steps.Relays.{RelaysRepresentCalls};
 ghost use Rattle.xp_core.specs.steps.Sound.{IsSound};
-ghost use Rattle.xp_core.specs.Stalls.{is_stall, left_after};
+ghost use Rattle.xp_step.specs.Stalls.{is_stall, left_after};
 ghost use Rattle.xp_core.specs.steps.PreparedEntry.{Enters, IsPreparedEntry};
 
-use crate::entry::Entry;
-use crate::event::{Event, What};
 use crate::fault::StepFault;
 use crate::journal::Journal;
-use crate::outcome::Outcome;
-use crate::output::Outputs;
-use crate::plan::{Plan, plan_of};
-use crate::records::Records;
 use crate::stalling::{Spare, give_up};
-use crate::workspace::Workspace;
 use std::alloc::{AllocError, Allocator};
 use xp_machine::{Machine, Relays};
+use xp_step::{Entry, Event, Outcome, Outputs, Plan, Records, What, Workspace, plan_of};
 use xp_subs::Subs;
 
 /// What an event leads to, before it is entered.

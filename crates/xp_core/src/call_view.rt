@@ -2,16 +2,15 @@
 
 ghost use Rattle.std.specs.Prelude.{◌≡◌, option_map};
 ghost use Rattle.xp_core.specs.View.{call_seen_on};
-ghost use Rattle.xp_core.specs.declared.entry.Entry.{Entry as Entered};
-ghost use Rattle.xp_core.specs.steps.Relays.{RelaysRepresentCalls};
+ghost use Rattle.xp_step.specs.declared.entry.Entry.{Entry as Entered};
+ghost use Rattle.xp_step.specs.steps.Relays.{RelaysRepresentCalls};
 ghost use Rattle.xp_subs.specs.Sound.{IsSound};
 
-use crate::entry::Entry;
-use crate::plan::{MeteredCall, charged_on};
 use std::alloc::Allocator;
 use xp_machine::{LiveCall, Machine, Relays};
 use xp_packets::End;
 use xp_past::Past;
+use xp_step::{Entry, MeteredCall, charged_on};
 use xp_subs::{LineNo, Subs};
 
 /// What can be seen of a live call: who is in it, since when, and what it carried so far.

@@ -5,25 +5,22 @@ ghost use Rattle.std.specs.Prelude.{◌≡◌, ◌+◌, ◌<◌, ◌≤◌, ◌^
 ghost use Rattle.xp_charge.specs.Lines.{HasLines as NamesLines};
 ghost use Rattle.xp_subs.specs.Tables.{line_count};
 ghost use Rattle.xp_machine.specs.Channel.{is_off as is_off_in};
-ghost use Rattle.xp_core.specs.Exchange.{world_of};
+ghost use Rattle.xp_step.specs.Exchange.{world_of};
 ghost use Rattle.xp_core.specs.View.{call_seen_on, flow_at};
 ghost use Rattle.xp_machine.specs.View.{view_of};
 ghost use Rattle.xp_machine.specs.World.{line_at, state_at};
 
 use crate::advance::advance;
 use crate::call_view::{CallView, see_call};
-use crate::entry::Entry;
-use crate::event::Event;
 use crate::fault::StepFault;
 use crate::journal::Journal;
-use crate::output::Outputs;
 use crate::stalling::is_off;
-use crate::workspace::Workspace;
 use std::alloc::{AllocError, Allocator, Global};
 use std::marker::Model;
 use xp_charge::Record;
 use xp_machine::{LineView, Machine, Relays};
 use xp_relay::FlowState;
+use xp_step::{Entry, Event, Outputs, Workspace};
 use xp_subs::{LineNo, Subs};
 
 /// The exchange, which takes one event at a time.
@@ -38,7 +35,7 @@ pub struct Core<A: Allocator = Global> {
 }
 
 impl<A: Allocator> Model for Core<A> {
-    ghost use Rattle.xp_core.specs.Exchange.{Exchange};
+    ghost use Rattle.xp_step.specs.Exchange.{Exchange};
 
     ghost Value = { Exchange A };
 
@@ -51,11 +48,11 @@ impl<A: Allocator> Model for Core<A> {
 }
 
 impl<A: Allocator + Copy> Core<A> {
-    ghost use Rattle.xp_core.specs.Exchange.{Advances, IsReadable};
+    ghost use Rattle.xp_step.specs.Exchange.{Advances, IsReadable};
     ghost use Rattle.xp_core.specs.Lines.{HasLines};
     ghost use Rattle.xp_core.specs.OutputsPerLine.{AreFew};
     ghost use Rattle.xp_core.specs.Records.{records_of};
-    ghost use Rattle.xp_core.specs.Stalls.{is_stall, left_after, places_for};
+    ghost use Rattle.xp_step.specs.Stalls.{is_stall, left_after, places_for};
     ghost use Rattle.xp_core.specs.Writable.{AreWritable};
 
     /// Returns the exchange of these subscriptions. All lines are out of service, no call was made yet, the history is
@@ -143,14 +140,14 @@ impl<A: Allocator + Copy> Core<A> {
 }
 
 impl<A: Allocator> Core<A> {
-    ghost use Rattle.xp_core.specs.Agreed.{AllHaveTerms};
+    ghost use Rattle.xp_step.specs.Agreed.{AllHaveTerms};
     ghost use Rattle.xp_machine.specs.Coupling.{AreCoupled};
     ghost use Rattle.xp_core.specs.Delivered.{AreDelivered};
     ghost use Rattle.xp_core.specs.Joined.{AreJoined};
     ghost use Rattle.xp_core.specs.Lines.{HasLines};
     ghost use Rattle.xp_core.specs.Records.{OneRecordEach, records_of};
-    ghost use Rattle.xp_core.specs.Run.{Run};
-    ghost use Rattle.xp_core.specs.Stalls.{stalls_in};
+    ghost use Rattle.xp_step.specs.Run.{Run};
+    ghost use Rattle.xp_step.specs.Stalls.{stalls_in};
     ghost use Rattle.xp_core.specs.Writable.{AreWritable};
 
     /// Returns what can be seen of a line. A line in p2, p3 or p4 is one of the two lines of the live call that it

@@ -1,6 +1,6 @@
-use crate::event::Event;
 use std::alloc::{Allocator, Global};
 use thiserror::Error;
+use xp_step::Event;
 
 /// Why an event made no entry. The event comes back, and nothing has changed.
 #[derive(Debug, Drop, Error)]

@@ -1,21 +1,17 @@
 //! The journal: the history, and the records of the ended calls.
 
 ghost use Rattle.std.specs.Prelude.{◌≡◌, ◌+◌, ◌<◌, ◌≤◌, ◌^◌, [], ◌∷◌, ◌++◌, IfNone, IfOk, IfSome, OnErr, OnOk, length, vec_len, vec_capacity};
-ghost use Rattle.xp_core.specs.Stalls.{is_stall, stalls_in};
+ghost use Rattle.xp_step.specs.Stalls.{is_stall, stalls_in};
 ghost use Rattle.xp_core.specs.steps.Journal.{AreSame, HasHandedOver, IsSpent, next_entry};
-ghost use Rattle.xp_core.specs.declared.journal.TheConstants.{MOST_STALLS};
+ghost use Rattle.xp_step.specs.declared.event.TheConstants.{MOST_STALLS};
 
 use crate::advance::PreparedEntry;
-use crate::entry::Entry;
-use crate::event::{Event, What};
 use crate::stalling::Spare;
 use std::alloc::{AllocError, Allocator};
 use std::marker::Model;
 use xp_charge::Record;
 use xp_past::Past;
-
-/// How many stalls may follow one event.
-pub const MOST_STALLS: usize = 3;
+use xp_step::{Entry, Event, MOST_STALLS, What};
 
 /// The history and the records. The history takes no memory: it is counted. The records wait until they are handed over.
 /// For each prepared stall there is a spare, and a place among the records that wait.
@@ -35,7 +31,7 @@ pub struct Journal<A: Allocator> {
 
 impl<A: Allocator> Model for Journal<A> {
     ghost use Rattle.std.specs.Prelude.{◌≡◌, ◌+◌, ◌-◌, ◌≤◌, length, vec_len, vec_capacity};
-    ghost use Rattle.xp_core.specs.Stalls.{stalls_in};
+    ghost use Rattle.xp_step.specs.Stalls.{stalls_in};
     ghost use Rattle.xp_core.specs.steps.Journal.{Journaled};
 
     ghost Value = { Journaled A };

@@ -4,26 +4,13 @@
 
 mod advance;
 mod call_view;
-mod entry;
-mod event;
 mod exchange;
 mod fault;
 mod journal;
 mod laws;
-mod outcome;
-mod output;
-mod plan;
-mod records;
 mod stalling;
-mod table;
-mod workspace;
 
 pub use call_view::CallView;
-pub use entry::Entry;
-pub use event::{Event, What};
 pub use exchange::Core;
 pub use fault::StepFault;
 pub use laws::{every_event_has_a_step, step_is_determined_but_the_line};
-pub use outcome::Outcome;
-pub use output::{Outgoing, Output, Outputs, Put};
-pub use records::Records;

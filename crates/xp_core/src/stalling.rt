@@ -6,30 +6,26 @@ ghost use Rattle.xp_causes.specs.declared.clearing_cause.TheConstants.{OUT_OF_OR
 ghost use Rattle.xp_causes.specs.declared.diagnostic.TheConstants.{NO_ADDITIONAL_INFORMATION as NO_INFORMATION};
 ghost use Rattle.xp_machine.specs.Changes.{GoesOut};
 ghost use Rattle.xp_machine.specs.Channel.{is_off as is_off_at};
-ghost use Rattle.xp_core.specs.declared.entry.Entry.{Entry as Entered};
-ghost use Rattle.xp_core.specs.Effects.{leaves};
-ghost use Rattle.xp_core.specs.steps.EventLine.{IsEventLine, IsShort, event_line_context};
+ghost use Rattle.xp_step.specs.declared.entry.Entry.{Entry as Entered};
+ghost use Rattle.xp_step.specs.Effects.{leaves};
+ghost use Rattle.xp_step.specs.steps.EventLine.{IsEventLine, IsShort, event_line_context};
 ghost use Rattle.xp_machine.specs.StoredState.{state_of};
-ghost use Rattle.xp_core.specs.steps.Plan.{recorded_at};
-ghost use Rattle.xp_core.specs.steps.Relays.{RelaysRepresentCalls};
-ghost use Rattle.xp_core.specs.StepContext.{step_context};
+ghost use Rattle.xp_step.specs.steps.Plan.{recorded_at};
+ghost use Rattle.xp_step.specs.steps.Relays.{RelaysRepresentCalls};
+ghost use Rattle.xp_step.specs.StepContext.{step_context};
 ghost use Rattle.xp_core.specs.steps.Stalling.{IsFallen, MakesStall, outputs_of_stall};
-ghost use Rattle.xp_core.specs.EventOutputs.{outputs_of};
+ghost use Rattle.xp_step.specs.EventOutputs.{outputs_of};
 ghost use Rattle.xp_machine.specs.World.{call_on};
 ghost use Rattle.xp_subs.specs.Sound.{IsSound};
 
 use crate::advance::PreparedEntry;
-use crate::entry::Entry;
-use crate::outcome::Outcome;
-use crate::output::{Buffer, Outputs};
-use crate::plan::{EventLine, charged_on, close};
-use crate::records::Records;
 use std::alloc::{AllocError, Allocator};
 use std::marker::Model;
 use xp_causes::clearing_cause::OUT_OF_ORDER;
 use xp_causes::diagnostic::NO_ADDITIONAL_INFORMATION;
 use xp_machine::{ChannelState, Machine, NoCallState, Relays};
 use xp_past::Past;
+use xp_step::{Buffer, Entry, EventLine, Outcome, Outputs, Records, charged_on, close};
 use xp_subs::{LineNo, Subs};
 
 /// How many outputs a stall has at most: one closes the line's connection, and one clears the far end of its call.

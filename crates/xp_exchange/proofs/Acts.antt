@@ -2,10 +2,10 @@
 use Rattle.std.proofs.Common.{◌≡◌, ◌⊎◌, inl, inr, ◌+◌, ◌≤◌, List, [], ◌∷◌, ◌++◌, length, map, refl, sym, ap, ◌∙◌, append_assoc, append-nil, length-append, subst, arith}
 use Rattle.std.proofs.lemmas.List.{map-append}
 use Rattle.xp_subs.specs.Tables.{Tables}
-use Rattle.xp_core.specs.declared.entry.Entry.{Entry}
-use Rattle.xp_core.specs.declared.event.Event.{Event}
-use Rattle.xp_core.specs.Exchange.{Exchange, Advances, world_of}
-use Rattle.xp_core.specs.Run.{RunFrom}
+use Rattle.xp_step.specs.declared.entry.Entry.{Entry}
+use Rattle.xp_step.specs.declared.event.Event.{Event}
+use Rattle.xp_step.specs.Exchange.{Exchange, Advances, world_of}
+use Rattle.xp_step.specs.Run.{RunFrom}
 use Rattle.xp_machine.specs.World.{World}
 use Rattle.xp_script.specs.Text.{entry_text}
 use Rattle.xp_exchange.specs.steps.Acting.{ActsOnFirst}

@@ -3,8 +3,8 @@ use Rattle.std.proofs.Common.{◌≡◌, ℕ, List, [], ◌∷◌, ◌++◌, ref
 use Rattle.std.proofs.lemmas.List.Elements.{All-append, All-nil, All-cons}
 use Rattle.xp_frames.specs.Deframer.{DeframerState, Gives, Takes}
 use Rattle.xp_packets.specs.declared.modulus.Modulus.{Modulus}
-use Rattle.xp_core.specs.declared.event.What.TheVariants.{Down}
-use Rattle.xp_core.specs.declared.event.Event.{Event}
+use Rattle.xp_step.specs.declared.event.What.TheVariants.{Down}
+use Rattle.xp_step.specs.declared.event.Event.{Event}
 use Rattle.xp_exchange.specs.steps.Acting.{emptied, IsBetweenFrames, TakesWhole}
 use Rattle.xp_exchange.specs.FrameEvents.{AreRead, CanCome, ReadsEvents, IsReadAs}
 

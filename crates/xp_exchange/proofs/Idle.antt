@@ -3,7 +3,7 @@ use Rattle.std.proofs.Common.{◌≡◌, ℕ, ◌+◌, ◌<◌, List, [], ◌∷
 use Rattle.std.proofs.lemmas.List.{map_push, map-set, replicate_more, get_or-map, get_or-set_same, length-set, length-map}
 use Rattle.std.proofs.lemmas.List.Elements.{All-append, All-nil, All-cons}
 use Rattle.xp_frames.specs.Deframer.{DeframerState, IsNew}
-use Rattle.xp_core.specs.declared.event.Event.{Event}
+use Rattle.xp_step.specs.declared.event.Event.{Event}
 use Rattle.xp_exchange.specs.steps.Acting.{IsBetweenFrames}
 use Rattle.xp_packets.specs.declared.modulus.Modulus.{Modulus}
 use Rattle.xp_exchange.specs.FrameEvents.{ReadsEvents}

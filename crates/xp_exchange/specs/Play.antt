@@ -2,13 +2,13 @@
 use Rattle.std.specs.Prelude.{◌≡◌, ◌⊎◌, ◌+◌, ◌<◌, ◌≤◌, ℕ, Bool, true, false, List, [], ◌∷◌, ◌++◌, length, map, replicate, slice_index_or, slice_set, None, Some}
 use Rattle.xp_packets.specs.declared.modulus.Modulus.{Modulus}
 use Rattle.xp_subs.specs.Tables.{Tables, line_count, modulus_of}
-use Rattle.xp_core.specs.declared.entry.Entry.{Entry}
-use Rattle.xp_core.specs.declared.event.Event.{Event}
-use Rattle.xp_core.specs.declared.event.What.{What}
-use Rattle.xp_core.specs.declared.event.What.TheVariants.{Up, Down, Expire as TimerExpires}
+use Rattle.xp_step.specs.declared.entry.Entry.{Entry}
+use Rattle.xp_step.specs.declared.event.Event.{Event}
+use Rattle.xp_step.specs.declared.event.What.{What}
+use Rattle.xp_step.specs.declared.event.What.TheVariants.{Up, Down, Expire as TimerExpires}
 use Rattle.xp_machine.specs.Channel.{is_off}
-use Rattle.xp_core.specs.Exchange.{Exchange, world_of}
-use Rattle.xp_core.specs.Run.{RunFrom}
+use Rattle.xp_step.specs.Exchange.{Exchange, world_of}
+use Rattle.xp_step.specs.Run.{RunFrom}
 use Rattle.xp_machine.specs.World.{World, state_at}
 use Rattle.xp_script.specs.declared.command.Command.{Command}
 use Rattle.xp_script.specs.declared.command.Command.TheVariants as commands

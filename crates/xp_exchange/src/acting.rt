@@ -15,8 +15,9 @@ use crate::writing::write_out;
 use std::alloc::Allocator;
 use std::collections::VecDeque;
 use std::io::Write;
-use xp_core::{Core, Entry, Event, Outputs, StepFault};
+use xp_core::{Core, StepFault};
 use xp_script::write_entry;
+use xp_step::{Entry, Event, Outputs};
 use xp_subs::Subs;
 
 /// How many charging records wait before they are dropped.

@@ -6,9 +6,9 @@ ghost use Rattle.xp_exchange.specs.FrameEvents.{AreRead, CanCome, ReadsEvents, I
 
 use std::alloc::{AllocError, Allocator};
 use std::collections::VecDeque;
-use xp_core::{Event, What};
 use xp_frames::{Deframer, FrameFault};
 use xp_packets::{Modulus, PacketFault, decode};
+use xp_step::{Event, What};
 use xp_subs::LineNo;
 
 /// Fills the queue with the events of octets that come in on a line of this modulus at this moment: one for each frame,

@@ -2,7 +2,7 @@
 
 ghost use Rattle.std.specs.Prelude.{◌≡◌, ◌+◌, ◌<◌, ◌^◌, ℕ, List, [], ◌∷◌, ◌++◌, All, IfErr, IfOk, OnErr, OnOk, length};
 ghost use Rattle.std.specs.Io.KnownBytes.{Appends};
-ghost use Rattle.xp_core.specs.Exchange.{world_of};
+ghost use Rattle.xp_step.specs.Exchange.{world_of};
 ghost use Rattle.xp_exchange.specs.FrameEvents.{CanCome, Fits};
 ghost use Rattle.xp_exchange.specs.Play.{Enters, Plays, ReadsLine, RefusesEvent, RefusesLine, event_of, is_off_at, moment_after};
 ghost use Rattle.xp_exchange.specs.steps.Playing.{Played};
@@ -18,8 +18,9 @@ use std::collections::VecDeque;
 use std::io::Write;
 use std::marker::Model;
 use std::mem;
-use xp_core::{Core, Entry, Event, What};
+use xp_core::Core;
 use xp_script::{Command, LineFault};
+use xp_step::{Entry, Event, What};
 use xp_subs::{LineNo, Subs};
 
 /// An exchange to which the lines of a script are played.

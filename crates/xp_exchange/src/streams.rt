@@ -8,9 +8,9 @@ use crate::frames::read_events;
 use std::alloc::{AllocError, Allocator, Global};
 use std::collections::VecDeque;
 use std::marker::Model;
-use xp_core::Event;
 use xp_frames::Deframer;
 use xp_packets::Modulus;
+use xp_step::Event;
 use xp_subs::LineNo;
 
 /// For each line, the octets of an unfinished frame on its connection.

@@ -1,4 +1,4 @@
-//! `xp_core`: copies of events.
+//! `xp_step`: copies of events.
 
 use crate::steps::{A1, B1, event_of};
 use std::test::Fail;

@@ -1,7 +1,7 @@
 //! `xp_exchange`: readers and writers that fail at each of their calls, and what was entered then.
 
-ghost use Rattle.xp_core.specs.Exchange.{world_of};
-ghost use Rattle.xp_core.specs.Run.{Run};
+ghost use Rattle.xp_step.specs.Exchange.{world_of};
+ghost use Rattle.xp_step.specs.Run.{Run};
 
 use std::alloc::{AllocError, Allocator, Global};
 use std::io;

@@ -1,7 +1,7 @@
 //! `xp_core`: steps of which each request for memory is refused in turn.
 
 ghost use Rattle.std.specs.Prelude.{IfOk};
-ghost use Rattle.xp_core.specs.Exchange.{IsReadable};
+ghost use Rattle.xp_step.specs.Exchange.{IsReadable};
 ghost use Rattle.xp_core.specs.Writable.{AreWritable};
 ghost use Rattle.xp_script.specs.Lines.{HasLines};
 ghost use Rattle.xp_subs.specs.Tables.{line_count};
@@ -9,10 +9,11 @@ ghost use Rattle.xp_subs.specs.Tables.{line_count};
 use std::alloc::{Allocator, Global};
 use std::process::Abort;
 use std::test::Fail;
-use xp_core::{Core, Entry, Event, StepFault, What};
+use xp_core::{Core, StepFault};
 use xp_machine::LineView;
 use xp_packets::{Modulus, PacketFault, decode};
 use xp_script::{Command, write_entry};
+use xp_step::{Entry, Event, What};
 use xp_subs::{LineNo, Subs};
 use xp_testing::Refusing;
 

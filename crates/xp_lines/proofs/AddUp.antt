@@ -3,10 +3,10 @@ use Rattle.std.proofs.Common.{◌≡◌, ◌⊎◌, ℕ, List, [], ◌∷◌, �
 use Rattle.std.proofs.lemmas.List.{map-append}
 use Rattle.xp_packets.specs.declared.modulus.Modulus.{Modulus}
 use Rattle.xp_subs.specs.Tables.{Tables, modulus_of}
-use Rattle.xp_core.specs.declared.entry.Entry.{Entry}
-use Rattle.xp_core.specs.declared.event.Event.{Event}
-use Rattle.xp_core.specs.declared.event.What.{What}
-use Rattle.xp_core.specs.declared.event.What.TheVariants.{Up, Down}
+use Rattle.xp_step.specs.declared.entry.Entry.{Entry}
+use Rattle.xp_step.specs.declared.event.Event.{Event}
+use Rattle.xp_step.specs.declared.event.What.{What}
+use Rattle.xp_step.specs.declared.event.What.TheVariants.{Up, Down}
 use Rattle.xp_lock.specs.Passes.{Pass, own_entries}
 use Rattle.xp_lines.specs.AddUp.{Brings, LinksAddUp}
 use Rattle.xp_lines.specs.Pairs.{AreEach}

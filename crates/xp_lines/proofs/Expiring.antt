@@ -2,10 +2,10 @@
 use Rattle.std.proofs.Common.{◌≡◌, ℕ, ◌+◌, ◌≤◌, ◌==◌, List, [], ◌∷◌, ◌++◌, refl, sym, subst, ap, Bool, true, false, cond, Option, None, Some, arith}
 use Rattle.xp_packets.specs.declared.packet.Packet.{Packet}
 use Rattle.xp_packets.specs.declared.packet.Packet.TheVariants as packets
-use Rattle.xp_core.specs.declared.event.What.{What}
-use Rattle.xp_core.specs.declared.output.Outgoing.{Outgoing}
-use Rattle.xp_core.specs.declared.output.Put.{Put}
-use Rattle.xp_core.specs.declared.output.Put.TheVariants.{Send, Close}
+use Rattle.xp_step.specs.declared.event.What.{What}
+use Rattle.xp_step.specs.declared.output.Outgoing.{Outgoing}
+use Rattle.xp_step.specs.declared.output.Put.{Put}
+use Rattle.xp_step.specs.declared.output.Put.TheVariants.{Send, Close}
 use Rattle.xp_lines.specs.AnswerTimer.{Expires, answered, expiry, has_expired, since_after, since_after_put, since_after_all}
 use Rattle.xp_lines.specs.Together.{calls, calls_by, calls_of, expiries, is_no_expiry, waits}
 use Rattle.xp_lines.proofs.Sums.{HasNoExpiry}

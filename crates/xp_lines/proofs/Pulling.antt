@@ -6,7 +6,7 @@ use Rattle.xp_frames.specs.declared.fault.FrameFault.{FrameFault}
 use Rattle.xp_frames.specs.declared.fault.FrameFault.TheVariants as faults
 use Rattle.xp_frames.specs.Deframer.{Feeds, DeframerState, Takes}
 use Rattle.xp_frames.specs.Frame.{HasNoBadHeader}
-use Rattle.xp_core.specs.declared.event.What.{What}
+use Rattle.xp_step.specs.declared.event.What.{What}
 use Rattle.xp_lines.specs.Gates.{IsAllOffered, Refused, WaitsForGate}
 use Rattle.xp_lines.specs.FrameEvents.{AreReadAs}
 use Rattle.xp_lines.specs.Offers.{Offers}

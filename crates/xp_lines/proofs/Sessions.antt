@@ -3,9 +3,9 @@ use Rattle.std.proofs.Common.{◌≡◌, ◌⊎◌, ℕ, List, [], ◌∷◌, �
 use Rattle.std.specs.List.{AllByRecursion}
 use Rattle.xp_packets.specs.declared.modulus.Modulus.{Modulus}
 use Rattle.xp_subs.specs.Tables.{Tables, modulus_of}
-use Rattle.xp_core.specs.declared.event.What.{What}
-use Rattle.xp_core.specs.declared.event.What.TheVariants.{Up, Down}
-use Rattle.xp_core.specs.declared.output.Outgoing.{Outgoing}
+use Rattle.xp_step.specs.declared.event.What.{What}
+use Rattle.xp_step.specs.declared.event.What.TheVariants.{Up, Down}
+use Rattle.xp_step.specs.declared.output.Outgoing.{Outgoing}
 use Rattle.xp_lock.specs.Passes.{GainsEvent, Pass}
 use Rattle.xp_lock.specs.declared.receipt.Receipt.{Receipt}
 use Rattle.xp_lines.specs.Offers.{Gains}

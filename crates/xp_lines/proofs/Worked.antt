@@ -4,8 +4,8 @@ use Rattle.std.specs.Prelude.{option_to_list}
 use Rattle.std.specs.Io.KnownBytes.{Appends}
 use Rattle.xp_packets.specs.declared.modulus.Modulus.{Modulus}
 use Rattle.xp_frames.specs.Deframer.{DeframerState}
-use Rattle.xp_core.specs.declared.event.What.{What}
-use Rattle.xp_core.specs.declared.event.What.TheVariants.{Expire}
+use Rattle.xp_step.specs.declared.event.What.{What}
+use Rattle.xp_step.specs.declared.event.What.TheVariants.{Expire}
 use Rattle.xp_lock.specs.Passes.{Pass}
 use Rattle.xp_lock.specs.declared.receipt.Receipt.{Receipt}
 use Rattle.xp_lines.specs.steps.Ended.{is_lost}

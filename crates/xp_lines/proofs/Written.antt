@@ -2,7 +2,7 @@
 use Rattle.std.proofs.Common.{◌≡◌, ℕ, ◌+◌, ◌<◌, ◌≤◌, ◌==◌, List, [], ◌∷◌, ◌++◌, length, length-append, arith, refl, sym, ap, ◌∙◌, append_assoc, append-nil, subst, Option, cond, true, false, inl, inr}
 use Rattle.std.proofs.lemmas.Grind.{flat_map-append}
 use Rattle.xp_packets.specs.declared.modulus.Modulus.{Modulus}
-use Rattle.xp_core.specs.declared.output.Outgoing.{Outgoing}
+use Rattle.xp_step.specs.declared.output.Outgoing.{Outgoing}
 use Rattle.xp_lock.specs.Passes.{Pass}
 use Rattle.xp_lines.specs.steps.Ended.{is_lost}
 use Rattle.xp_lines.specs.Flow.{Leaves}

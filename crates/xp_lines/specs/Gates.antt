@@ -1,6 +1,6 @@
 -- When packets wait for a line's gate.
 use Rattle.std.specs.Prelude.{◌≡◌, ◌⊎◌, ℕ, Bool, false, List, [], Option, None}
-use Rattle.xp_core.specs.declared.event.What.{What}
+use Rattle.xp_step.specs.declared.event.What.{What}
 
 -- The gate's last answer was no, and the gate has not changed since.
 pub record Refused {G : Type 0} (answers : G → Bool → G → Type 0) (gate : G) : Type 0 where

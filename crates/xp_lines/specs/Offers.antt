@@ -1,8 +1,8 @@
 -- The events that a line offers, and the entries that its pass gains by them.
 use Rattle.std.specs.Prelude.{◌≡◌, ℕ, Bool, true, false, List, ◌++◌, map, Option, Some, None, option_to_list}
 use Rattle.xp_packets.specs.declared.modulus.Modulus.{Modulus}
-use Rattle.xp_core.specs.declared.entry.Entry.{Entry}
-use Rattle.xp_core.specs.declared.event.What.{What}
+use Rattle.xp_step.specs.declared.entry.Entry.{Entry}
+use Rattle.xp_step.specs.declared.event.What.{What}
 use Rattle.xp_lock.specs.Passes.{Pass, own_entries}
 use Rattle.xp_lines.specs.FrameEvents.{AreReadAs}
 

@@ -4,7 +4,7 @@ use Rattle.std.specs.List.{AllByRecursion}
 use Rattle.xp_packets.specs.declared.modulus.Modulus.{Modulus}
 use Rattle.xp_frames.specs.Frame.{IsPacket, frames, HasNoFrame, HasNoBadHeader}
 use Rattle.xp_frames.specs.Deframer.{DeframerState}
-use Rattle.xp_core.specs.declared.event.What.{What}
+use Rattle.xp_step.specs.declared.event.What.{What}
 use Rattle.xp_lines.specs.Offers.{Offers}
 use Rattle.xp_lines.specs.declared.reading.ReadOutcome.{ReadOutcome}
 use Rattle.xp_lines.specs.declared.reading.ReadOutcome.TheVariants as outcomes

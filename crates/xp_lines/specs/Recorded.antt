@@ -3,7 +3,7 @@
 use Rattle.std.specs.Prelude.{◌≡◌, ℕ, List, ◌++◌}
 use Rattle.std.specs.declared.alloc.Global.{Global as Alloc}
 use Rattle.xp_charge.specs.declared.record.Record.{Record}
-use Rattle.xp_core.specs.declared.entry.Entry.{Entry}
+use Rattle.xp_step.specs.declared.entry.Entry.{Entry}
 use Rattle.xp_lock.specs.Passes.{IsLegal}
 use Rattle.xp_lock.specs.Recording.{Recording}
 use Rattle.xp_lock.specs.Views.{StartsWith}

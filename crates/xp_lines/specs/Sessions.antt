@@ -3,8 +3,8 @@
 use Rattle.std.specs.Prelude.{◌≡◌, ◌⊎◌, ℕ, List, [], ◌∷◌, Option}
 use Rattle.std.specs.List.{AllByRecursion}
 use Rattle.xp_subs.specs.Tables.{Tables, modulus_of}
-use Rattle.xp_core.specs.declared.event.What.TheVariants.{Up, Down}
-use Rattle.xp_core.specs.declared.output.Outgoing.{Outgoing}
+use Rattle.xp_step.specs.declared.event.What.TheVariants.{Up, Down}
+use Rattle.xp_step.specs.declared.output.Outgoing.{Outgoing}
 use Rattle.xp_lock.specs.declared.receipt.Receipt.{Receipt}
 use Rattle.xp_lock.specs.Passes.{GainsEvent, Pass}
 use Rattle.xp_lines.specs.Offers.{Gains}

@@ -2,15 +2,15 @@
 use Rattle.std.specs.Prelude.{◌≡◌, ◌⊎◌, ℕ, ◌+◌, ◌≤◌, ◌==◌, Bool, true, false, cond, List, [], ◌∷◌, ◌++◌, filter, map, Option, None, Some, option_to_list}
 use Rattle.std.specs.Io.KnownBytes.{Appends}
 use Rattle.xp_frames.specs.Frame.{HasNoBadHeader}
-use Rattle.xp_core.specs.declared.entry.Entry.{Entry}
-use Rattle.xp_core.specs.declared.event.What.{What}
-use Rattle.xp_core.specs.declared.event.What.TheVariants.{Up, Down, Frame, WrongFrame, Expire, Stall}
+use Rattle.xp_step.specs.declared.entry.Entry.{Entry}
+use Rattle.xp_step.specs.declared.event.What.{What}
+use Rattle.xp_step.specs.declared.event.What.TheVariants.{Up, Down, Frame, WrongFrame, Expire, Stall}
 use Rattle.xp_packets.specs.declared.modulus.Modulus.{Modulus}
 use Rattle.xp_packets.specs.declared.packet.Packet.{Packet}
 use Rattle.xp_packets.specs.declared.packet.Packet.TheVariants as packets
-use Rattle.xp_core.specs.declared.output.Outgoing.{Outgoing}
-use Rattle.xp_core.specs.declared.output.Put.{Put}
-use Rattle.xp_core.specs.declared.output.Put.TheVariants.{Send, Close}
+use Rattle.xp_step.specs.declared.output.Outgoing.{Outgoing}
+use Rattle.xp_step.specs.declared.output.Put.{Put}
+use Rattle.xp_step.specs.declared.output.Put.TheVariants.{Send, Close}
 use Rattle.xp_lock.specs.Passes.{Pass, own_entries}
 use Rattle.xp_lines.specs.FrameEvents.{AreReadAs}
 use Rattle.xp_lines.specs.Offers.{happened, on_line}

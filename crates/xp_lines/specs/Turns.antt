@@ -3,8 +3,8 @@ use Rattle.std.specs.Prelude.{◌≡◌, ℕ, Bool, true, false, List, [], ◌�
 use Rattle.std.specs.Io.KnownBytes.{Appends}
 use Rattle.xp_frames.specs.Deframer.{DeframerState}
 use Rattle.xp_packets.specs.declared.modulus.Modulus.{Modulus}
-use Rattle.xp_core.specs.declared.event.What.{What}
-use Rattle.xp_core.specs.declared.event.What.TheVariants.{Down}
+use Rattle.xp_step.specs.declared.event.What.{What}
+use Rattle.xp_step.specs.declared.event.What.TheVariants.{Down}
 use Rattle.xp_lock.specs.Passes.{Pass}
 use Rattle.xp_lines.specs.FrameEvents.{is_down}
 use Rattle.xp_lines.specs.Offers.{Gains}

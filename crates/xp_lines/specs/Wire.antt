@@ -5,9 +5,9 @@ use Rattle.std.specs.Io.KnownBytes.{Appends}
 use Rattle.xp_frames.specs.Frame.{frame}
 use Rattle.xp_packets.specs.Writing.{written}
 use Rattle.xp_packets.specs.declared.modulus.Modulus.{Modulus}
-use Rattle.xp_core.specs.declared.output.Outgoing.{Outgoing}
-use Rattle.xp_core.specs.declared.output.Put.{Put}
-use Rattle.xp_core.specs.declared.output.Put.TheVariants.{Send, Close}
+use Rattle.xp_step.specs.declared.output.Outgoing.{Outgoing}
+use Rattle.xp_step.specs.declared.output.Put.{Put}
+use Rattle.xp_step.specs.declared.output.Put.TheVariants.{Send, Close}
 use Rattle.xp_lock.specs.Passes.{Pass}
 
 module _ {A : Type 0} where

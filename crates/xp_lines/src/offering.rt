@@ -1,7 +1,7 @@
 //! The offering of a line's events to the exchange.
 
 ghost use Rattle.std.specs.Prelude.{◌≡◌, IfOk, List, None, Some};
-ghost use Rattle.xp_core.specs.declared.event.What.{What as Happening};
+ghost use Rattle.xp_step.specs.declared.event.What.{What as Happening};
 ghost use Rattle.xp_subs.specs.Tables.{modulus_of};
 ghost use Rattle.xp_lock.specs.Passes.{GainsEvent};
 ghost use Rattle.xp_lines.specs.Gates.{IsAllOffered, Refused};
@@ -15,9 +15,9 @@ use crate::link::{Clock, Gate};
 use crate::waiting::Waiting;
 use std::alloc::Allocator;
 use std::sync::Wait;
-use xp_core::Event;
 use xp_frames::Deframer;
 use xp_lock::{Exchange, ExchangeGuard, LinePass, Name, OfferFault, Receipt};
+use xp_step::Event;
 use xp_subs::LineNo;
 
 /// Why the offering stopped before the last event.

@@ -2,7 +2,7 @@
 
 ghost use Rattle.std.specs.Prelude.{◌≡◌, ◌||◌, ℕ, List};
 ghost use Rattle.std.specs.Io.KnownBytes.{Appends};
-ghost use Rattle.xp_core.specs.declared.event.What.{What as Happening};
+ghost use Rattle.xp_step.specs.declared.event.What.{What as Happening};
 ghost use Rattle.xp_subs.specs.Tables.{modulus_of};
 ghost use Rattle.xp_lines.specs.Gates.{WaitsForGate};
 ghost use Rattle.xp_lines.specs.Offers.{Gains};

@@ -1,8 +1,8 @@
 //! One turn of a line on its link: it writes, reads, and lets the link go where it is over.
 
 ghost use Rattle.std.specs.Prelude.{◌≡◌, ◌⊎◌, ℕ, List, Some, false};
-ghost use Rattle.xp_core.specs.declared.event.What.{What as Happening};
-ghost use Rattle.xp_core.specs.declared.event.What.TheVariants.{Down as WentDown};
+ghost use Rattle.xp_step.specs.declared.event.What.{What as Happening};
+ghost use Rattle.xp_step.specs.declared.event.What.TheVariants.{Down as WentDown};
 ghost use Rattle.xp_subs.specs.Tables.{modulus_of};
 ghost use Rattle.xp_lines.specs.Gates.{WaitsForGate};
 ghost use Rattle.xp_lines.specs.Offers.{Gains};

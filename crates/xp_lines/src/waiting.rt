@@ -1,13 +1,13 @@
 //! Events of a line that the exchange has not accepted yet.
 
 ghost use Rattle.std.specs.Prelude.{◌≡◌, IfOk};
-ghost use Rattle.xp_core.specs.declared.event.What.TheVariants.{Down as WentDown, Expire as NotAnswered, Up as CameUp};
+ghost use Rattle.xp_step.specs.declared.event.What.TheVariants.{Down as WentDown, Expire as NotAnswered, Up as CameUp};
 ghost use Rattle.xp_lines.specs.FrameEvents.{IsReadAs, is_down};
 
 use std::alloc::{AllocError, Allocator, Global};
 use std::marker::Model;
-use xp_core::What;
 use xp_packets::{Modulus, PacketFault, decode};
+use xp_step::What;
 
 /// An event of a line that is to be offered to the exchange. It is never a stall, which only the exchange makes.
 #[derive(Drop)]
@@ -17,11 +17,11 @@ pub struct Waiting<A: Allocator = Global> {
 
 impl<A: Allocator> Model for Waiting<A> {
     ghost use Rattle.std.specs.Prelude.{◌≡◌, false};
-    ghost use Rattle.xp_core.specs.declared.event.What.{What};
+    ghost use Rattle.xp_step.specs.declared.event.What.{What};
 
     ghost Value = { What A };
 
-    ghost use Rattle.xp_core.specs.Exchange.{IsReadable};
+    ghost use Rattle.xp_step.specs.Exchange.{IsReadable};
     ghost use Rattle.xp_lock.specs.Handed.{is_stall};
 
     ghost view = { λ w. w.what };

@@ -14,10 +14,10 @@ use crate::flow::{Flow, push_rest};
 use crate::link::Link;
 use std::alloc::{AllocError, Allocator};
 use std::sync::Wait;
-use xp_core::{Outgoing, Put};
 use xp_frames::write_frame;
 use xp_lock::{Exchange, LinePass, Name};
 use xp_packets::{Modulus, Packet, encode};
+use xp_step::{Outgoing, Put};
 
 /// The most outputs that a turn takes: as many as an outbox has places.
 const MOST_OUTPUTS: usize = 64;

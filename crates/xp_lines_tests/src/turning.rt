@@ -11,10 +11,10 @@ use std::alloc::{AllocError, Global};
 use std::marker::Brand;
 use std::sync::{Arc, Wait};
 use std::test::Fail;
-use xp_core::{Event, Outgoing, Put, What};
 use xp_frames::Deframer;
 use xp_lines::{Session, TurnOutcome, turn};
 use xp_lock::{Exchange, LinePass, Name, OfferFault, PreparedExchange, Receipt, prepare};
+use xp_step::{Event, Outgoing, Put, What};
 
 /// How a1 and b1 have their turns.
 #[derive(Clone, Copy)]

@@ -5,14 +5,14 @@ use Rattle.std.proofs.lemmas.Bool.{cond_both}
 use Rattle.xp_causes.specs.declared.clearing_cause.TheConstants.{NUMBER_BUSY}
 use Rattle.xp_causes.specs.declared.diagnostic.TheConstants.{CALL_COLLISION}
 use Rattle.xp_subs.specs.Tables.{Tables}
-use Rattle.xp_core.specs.declared.entry.Entry.{Entry}
+use Rattle.xp_step.specs.declared.entry.Entry.{Entry}
 use Rattle.xp_machine.specs.Changes.{Change, Rises, Leaves, Begins, IsRefused, Connects, Ends, IsFree, NoCallState, all_changed, changed}
 use Rattle.xp_machine.specs.Channel.{Ready, call_of}
 use Rattle.xp_machine.specs.Coupling.{IsEnd, IsHeld}
-use Rattle.xp_core.specs.Outcomes.{taken_by}
-use Rattle.xp_core.specs.StepContext.{step_context}
-use Rattle.xp_core.specs.Step.{Step}
-use Rattle.xp_core.specs.Table.{action_at}
+use Rattle.xp_step.specs.Outcomes.{taken_by}
+use Rattle.xp_step.specs.StepContext.{step_context}
+use Rattle.xp_step.specs.Step.{Step}
+use Rattle.xp_step.specs.Table.{action_at}
 use Rattle.xp_machine.specs.World.{Call, World, call_numbered, call_on, far_end, numbered, state_at}
 use Rattle.xp_machine.proofs.InCall.{called_shows, caller_shows, end_of, pair, same_number, shown_on}
 use Rattle.xp_machine.proofs.Maps.{new_or_old, was_there}

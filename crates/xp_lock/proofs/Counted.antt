@@ -4,8 +4,8 @@ use Rattle.std.specs.Prelude.{◌&&◌, ◌||◌}
 use Rattle.std.proofs.lemmas.Bool.{cases_eq, ne_eqb}
 use Rattle.std.proofs.lemmas.List.Elements.{All-head, All-tail}
 use Rattle.xp_subs.specs.Tables.{Tables, line_count}
-use Rattle.xp_core.specs.declared.entry.Entry.{Entry}
-use Rattle.xp_core.specs.Run.{Run, RunFrom}
+use Rattle.xp_step.specs.declared.entry.Entry.{Entry}
+use Rattle.xp_step.specs.Run.{Run, RunFrom}
 use Rattle.xp_machine.specs.World.{World, opening}
 use Rattle.xp_core.proofs.Sounds.{IsRight, run_right, step_right}
 use Rattle.xp_lock.specs.Closing.{PassesMatch, HasAll, PassMatches, NoneTwice, all_handed, handed_together, has_line, own_entries_together}

@@ -4,20 +4,20 @@ use Rattle.std.proofs.lemmas.Bool.{cases_lt}
 use Rattle.std.proofs.lemmas.Grind.{flat_map-append}
 use Rattle.xp_outbox.specs.Ends.{Putting}
 use Rattle.xp_subs.specs.Tables.{line_count}
-use Rattle.xp_core.specs.declared.entry.Entry.{Entry}
-use Rattle.xp_core.specs.declared.event.Event.{Event}
-use Rattle.xp_core.specs.declared.event.What.{What}
-use Rattle.xp_core.specs.declared.event.What.TheVariants as events
-use Rattle.xp_core.specs.declared.output.Outgoing.{Outgoing}
+use Rattle.xp_step.specs.declared.entry.Entry.{Entry}
+use Rattle.xp_step.specs.declared.event.Event.{Event}
+use Rattle.xp_step.specs.declared.event.What.{What}
+use Rattle.xp_step.specs.declared.event.What.TheVariants as events
+use Rattle.xp_step.specs.declared.output.Outgoing.{Outgoing}
 use Rattle.xp_machine.specs.Channel.{is_off}
 use Rattle.xp_machine.specs.Coupling.{AreCoupled}
 use Rattle.xp_core.specs.OutputsPerLine.{AreFew}
-use Rattle.xp_core.specs.Exchange.{Advances, Exchange, world_of}
+use Rattle.xp_step.specs.Exchange.{Advances, Exchange, world_of}
 use Rattle.xp_core.specs.Records.{records_of}
-use Rattle.xp_core.specs.Run.{Run}
-use Rattle.xp_core.specs.Stalls.{left_after}
-use Rattle.xp_core.specs.Worlds.{world_after}
-use Rattle.xp_core.specs.Step.{Step}
+use Rattle.xp_step.specs.Run.{Run}
+use Rattle.xp_step.specs.Stalls.{left_after}
+use Rattle.xp_step.specs.Worlds.{world_after}
+use Rattle.xp_step.specs.Step.{Step}
 use Rattle.xp_machine.specs.World.{line_at, state_at}
 use Rattle.xp_lock.specs.declared.receipt.Receipt.{Receipt}
 use Rattle.xp_lock.specs.Outboxes.{PLACES_KEPT, outbox_at}

@@ -5,15 +5,15 @@ use Rattle.std.proofs.lemmas.Grind.{flat_map-append}
 use Rattle.std.proofs.lemmas.List.Elements.{All-append, All-cons, All-nil}
 use Rattle.xp_outbox.specs.Ends.{Putting}
 use Rattle.xp_subs.specs.Tables.{line_count}
-use Rattle.xp_core.specs.declared.entry.Entry.{Entry}
-use Rattle.xp_core.specs.declared.event.What.TheVariants.{Stall}
-use Rattle.xp_core.specs.declared.output.Outgoing.{Outgoing}
+use Rattle.xp_step.specs.declared.entry.Entry.{Entry}
+use Rattle.xp_step.specs.declared.event.What.TheVariants.{Stall}
+use Rattle.xp_step.specs.declared.output.Outgoing.{Outgoing}
 use Rattle.xp_machine.specs.Channel.{is_off}
-use Rattle.xp_core.specs.Exchange.{Advances, Exchange, world_of}
+use Rattle.xp_step.specs.Exchange.{Advances, Exchange, world_of}
 use Rattle.xp_core.specs.Records.{records_of}
 use Rattle.xp_core.specs.steps.Stalls.{stall_of}
-use Rattle.xp_core.specs.Step.{Step}
-use Rattle.xp_core.specs.Worlds.{world_after}
+use Rattle.xp_step.specs.Step.{Step}
+use Rattle.xp_step.specs.Worlds.{world_after}
 use Rattle.xp_machine.specs.World.{World, state_at}
 use Rattle.xp_core.proofs.Sounds.{IsRight, run_right, step_right}
 use Rattle.xp_lock.specs.Given.{AreGiven}

@@ -6,7 +6,7 @@ use Rattle.std.proofs.lemmas.List.Elements.{All-get_or, All-push}
 use Rattle.std.specs.Prelude.{replicate, slice_get}
 use Rattle.xp_outbox.specs.Ends.{Putting, Taking}
 use Rattle.xp_subs.specs.Tables.{Tables, line_count}
-use Rattle.xp_core.specs.declared.output.Outgoing.{Outgoing}
+use Rattle.xp_step.specs.declared.output.Outgoing.{Outgoing}
 use Rattle.xp_machine.specs.Channel.{is_off}
 use Rattle.xp_machine.specs.World.{off_line, opening, state_at}
 use Rattle.xp_lock.specs.Outboxes.{CAPACITY, no_outbox}

@@ -4,8 +4,8 @@ use Rattle.std.proofs.lemmas.Bool.{cases_eq, cases_lt, ne_eqb}
 use Rattle.std.proofs.lemmas.Grind.{get_or-set_at}
 use Rattle.std.proofs.lemmas.List.{get_or_past}
 use Rattle.xp_outbox.specs.Ends.{Putting}
-use Rattle.xp_core.specs.declared.output.Outgoing.{Outgoing}
-use Rattle.xp_core.specs.declared.output.Output.{Output}
+use Rattle.xp_step.specs.declared.output.Outgoing.{Outgoing}
+use Rattle.xp_step.specs.declared.output.Output.{Output}
 use Rattle.xp_lock.specs.Outboxes.{outbox_at, no_outbox}
 use Rattle.xp_lock.specs.steps.Outboxes.{HasRoomFor, IsPut, with_items}
 use Rattle.xp_lock.specs.Outgoing.{to_line}

@@ -2,8 +2,8 @@
 use Rattle.std.proofs.Common.{◌≡◌, ℕ, suc, Bool, true, List, [], ◌∷◌, length, map, refl, ap, arith}
 use Rattle.atomic_table.specs.Seated.{TableId}
 use Rattle.xp_outbox.specs.Ends.{Putting}
-use Rattle.xp_core.specs.declared.event.Event.{Event}
-use Rattle.xp_core.specs.declared.output.Outgoing.{Outgoing}
+use Rattle.xp_step.specs.declared.event.Event.{Event}
+use Rattle.xp_step.specs.declared.output.Outgoing.{Outgoing}
 use Rattle.xp_lock.specs.declared.receipt.Receipt.{Receipt}
 use Rattle.xp_lock.specs.declared.fault.OfferFault.{OfferFault}
 use Rattle.xp_lock.specs.declared.fault.OfferFault.TheVariants.{Halted, JournalFull, NoRoom, Memory}

@@ -1,7 +1,7 @@
 -- What a refusal gives back.
 use Rattle.std.proofs.Common.{◌≡◌, Result, Ok, Err}
 use Rattle.std.specs.Prelude.{IfErr}
-use Rattle.xp_core.specs.declared.event.Event.{Event}
+use Rattle.xp_step.specs.declared.event.Event.{Event}
 use Rattle.xp_lock.specs.declared.receipt.Receipt.{Receipt}
 use Rattle.xp_lock.specs.declared.fault.OfferFault.{OfferFault}
 use Rattle.xp_lock.specs.declared.fault.OfferFault.TheVariants.{Halted, JournalFull, NoRoom, Memory}

@@ -2,8 +2,8 @@
 use Rattle.std.proofs.Common.{◌≡◌, ◌≤◌, ℕ, All, List, [], ◌∷◌, arith, drop, inl, inr, subst, sym}
 use Rattle.std.proofs.lemmas.List.Elements.{All-head, All-tail}
 use Rattle.xp_outbox.specs.Ends.{Putting}
-use Rattle.xp_core.specs.declared.output.Outgoing.{Outgoing}
-use Rattle.xp_core.specs.Exchange.{Exchange}
+use Rattle.xp_step.specs.declared.output.Outgoing.{Outgoing}
+use Rattle.xp_step.specs.Exchange.{Exchange}
 use Rattle.xp_lock.specs.Given.{AreGiven}
 use Rattle.xp_lock.specs.Outboxes.{PLACES_KEPT, outbox_at}
 use Rattle.xp_lock.specs.steps.Stalling.{HaveRoom, IsShort}

@@ -11,20 +11,20 @@ use Rattle.xp_channel.specs.declared.kind.EventKind.TheVariants as kinds
 use Rattle.xp_channel.specs.Table.{cell}
 use Rattle.xp_packets.specs.declared.packet.Packet.{Packet}
 use Rattle.xp_subs.specs.Tables.{Tables}
-use Rattle.xp_core.specs.declared.entry.Entry.{Entry}
-use Rattle.xp_core.specs.declared.event.What.TheVariants.{Stall}
-use Rattle.xp_core.specs.declared.output.Output.{Output}
-use Rattle.xp_core.specs.Acts.{Acts, IsPlain, outputs_of_fall}
+use Rattle.xp_step.specs.declared.entry.Entry.{Entry}
+use Rattle.xp_step.specs.declared.event.What.TheVariants.{Stall}
+use Rattle.xp_step.specs.declared.output.Output.{Output}
+use Rattle.xp_step.specs.Acts.{Acts, IsPlain, outputs_of_fall}
 use Rattle.xp_machine.specs.Changes.{GoesOut, all_changed, changed}
 use Rattle.xp_machine.specs.Channel.{State, Off, Ready, Waiting, Ringing, Talking, Cleared, channel_of, is_off}
 use Rattle.xp_machine.specs.Coupling.{IsEnd}
-use Rattle.xp_core.specs.Effects.{effects_of, leaves}
-use Rattle.xp_core.specs.Outcomes.{taken_by}
-use Rattle.xp_core.specs.StepContext.{StepContext, step_context}
-use Rattle.xp_core.specs.Step.{Step}
-use Rattle.xp_core.specs.Table.{action_at, kind_of}
+use Rattle.xp_step.specs.Effects.{effects_of, leaves}
+use Rattle.xp_step.specs.Outcomes.{taken_by}
+use Rattle.xp_step.specs.StepContext.{StepContext, step_context}
+use Rattle.xp_step.specs.Step.{Step}
+use Rattle.xp_step.specs.Table.{action_at, kind_of}
 use Rattle.xp_core.specs.steps.Stalling.{outputs_of_stall}
-use Rattle.xp_core.specs.EventOutputs.{outputs_of, send_far}
+use Rattle.xp_step.specs.EventOutputs.{outputs_of, send_far}
 use Rattle.xp_machine.specs.World.{Call, Line, World, call_on, far_end, off_line, state_at}
 use Rattle.xp_machine.proofs.InCall.{end_of, shown_on}
 use Rattle.xp_core.proofs.Sounds.{IsRight}

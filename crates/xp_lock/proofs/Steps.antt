@@ -7,8 +7,8 @@ use lib.ListN.{get_elem?}
 use prog.Atomic.{either}
 use Rattle.atomic_table.proofs.Lists.{at_set, exchanged}
 use Rattle.atomic_table.specs.Table.{Allows, Joins, Splits, keeps}
-use Rattle.xp_core.specs.declared.entry.Entry.{Entry}
-use Rattle.xp_core.specs.Exchange.{Exchange}
+use Rattle.xp_step.specs.declared.entry.Entry.{Entry}
+use Rattle.xp_step.specs.Exchange.{Exchange}
 use Rattle.xp_lock.specs.declared.history_length.View.{View}
 use Rattle.xp_lock.specs.Given.{is_among}
 use Rattle.xp_lock.specs.Handed.{handed}

@@ -9,14 +9,14 @@ use Rattle.std.proofs.lemmas.List.Elements.{All-cons, All-head, All-nil, All-tai
 use Rattle.std.specs.Prelude.{◌||◌, min, replicate, take}
 use mathlib.Core.List.{IsPrefix}
 use Rattle.xp_subs.specs.Tables.{Tables, line_count}
-use Rattle.xp_core.specs.declared.entry.Entry.{Entry}
+use Rattle.xp_step.specs.declared.entry.Entry.{Entry}
 use Rattle.xp_core.specs.OutputsPerLine.{AreFew}
-use Rattle.xp_core.specs.Run.{Run}
-use Rattle.xp_core.specs.Step.{Step}
+use Rattle.xp_step.specs.Run.{Run}
+use Rattle.xp_step.specs.Step.{Step}
 use Rattle.xp_machine.specs.World.{World, opening}
-use Rattle.xp_core.proofs.Agreed.{run_agreed}
+use Rattle.xp_step.proofs.Agreed.{run_agreed}
 use Rattle.xp_core.proofs.Few.{few_of_step}
-use Rattle.xp_core.proofs.RunLemmas.{run_keeps, run_push}
+use Rattle.xp_step.proofs.RunLemmas.{run_keeps, run_push}
 use Rattle.xp_lock.specs.Closing.{AreCounted, PassesMatch, Closed, IsCounted, PassMatches, taken_by}
 use Rattle.xp_lock.specs.steps.Closing.{AreWithin}
 use Rattle.xp_lock.specs.Given.{is_among}

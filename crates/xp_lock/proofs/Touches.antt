@@ -15,25 +15,25 @@ use Rattle.xp_packets.specs.declared.end.End.TheVariants.{Caller, Called}
 use Rattle.xp_packets.specs.declared.packet.Packet.{Packet}
 use Rattle.xp_packets.specs.declared.packet.Packet.TheVariants as packets
 use Rattle.xp_subs.specs.Tables.{Tables}
-use Rattle.xp_core.specs.declared.entry.Entry.{Entry}
-use Rattle.xp_core.specs.declared.event.What.{What}
-use Rattle.xp_core.specs.declared.event.What.TheVariants as events
-use Rattle.xp_core.specs.declared.output.Output.{Output}
-use Rattle.xp_core.specs.Acts.{Acts}
+use Rattle.xp_step.specs.declared.entry.Entry.{Entry}
+use Rattle.xp_step.specs.declared.event.What.{What}
+use Rattle.xp_step.specs.declared.event.What.TheVariants as events
+use Rattle.xp_step.specs.declared.output.Output.{Output}
+use Rattle.xp_step.specs.Acts.{Acts}
 use Rattle.xp_machine.specs.CallEnds.{line_at_end}
 use Rattle.xp_machine.specs.Changes.{Change, Rises, Leaves, Begins, IsRefused, Connects, Ends, all_changed, changed}
 use Rattle.xp_machine.specs.Channel.{State, Off, Ready, Waiting, Ringing, Talking, Cleared, channel_of, is_off}
 use Rattle.xp_machine.specs.Coupling.{AreCoupled}
-use Rattle.xp_core.specs.StepContext.{StepContext, step_context}
-use Rattle.xp_core.specs.Step.{Step}
-use Rattle.xp_core.specs.Effects.{changes_of, effects_of}
-use Rattle.xp_core.specs.Table.{action_at, kind_of, packet_in}
-use Rattle.xp_core.specs.EventOutputs.{no_outputs, outputs_of}
+use Rattle.xp_step.specs.StepContext.{StepContext, step_context}
+use Rattle.xp_step.specs.Step.{Step}
+use Rattle.xp_step.specs.Effects.{changes_of, effects_of}
+use Rattle.xp_step.specs.Table.{action_at, kind_of, packet_in}
+use Rattle.xp_step.specs.EventOutputs.{no_outputs, outputs_of}
 use Rattle.xp_machine.specs.World.{Call, Line, World, call_numbered, call_on, far_end, off_line, state_at}
-use Rattle.xp_core.proofs.RelayedPackets.{of_carried}
+use Rattle.xp_step.proofs.RelayedPackets.{of_carried}
 use Rattle.xp_machine.proofs.InCall.{shown_on}
 use Rattle.xp_core.proofs.Idle.{IsReadyFor, taken_ready}
-use Rattle.xp_core.proofs.Origins.{ComesOf, IsSent, all_come, all_sent, closing, confirming, clearing, refusing, clearing_far, carrying_on, connecting, ringing, carrying}
+use Rattle.xp_step.proofs.Origins.{ComesOf, IsSent, all_come, all_sent, closing, confirming, clearing, refusing, clearing_far, carrying_on, connecting, ringing, carrying}
 use Rattle.xp_lock.specs.Outgoing.{to_line}
 use Rattle.xp_lock.specs.CoreWithOutboxes.{is_up}
 

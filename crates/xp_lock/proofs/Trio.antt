@@ -13,25 +13,25 @@ use Rattle.xp_packets.specs.declared.end.End.{End}
 use Rattle.xp_packets.specs.declared.end.End.TheVariants.{Caller, Called}
 use Rattle.xp_packets.specs.declared.packet.Packet.{Packet}
 use Rattle.xp_subs.specs.Tables.{Tables}
-use Rattle.xp_core.specs.declared.entry.Entry.{Entry}
-use Rattle.xp_core.specs.declared.event.What.{What}
-use Rattle.xp_core.specs.declared.event.What.TheVariants as events
-use Rattle.xp_core.specs.declared.outcome.Outcome.{Outcome}
-use Rattle.xp_core.specs.declared.outcome.Outcome.TheVariants.{Plain, Put, Refused, Connected, Declined, Exceeded}
-use Rattle.xp_core.specs.declared.output.Output.{Output}
-use Rattle.xp_core.specs.Acts.{Acts, Answers, CarriesAs, Confirms, IsAnswered, IsPlain, IsRequested, Requests, outputs_of_cancel, closed, outputs_to_both, outputs_of_error, outputs_of_fall}
-use Rattle.xp_core.specs.RelayedPackets.{RelayedPacket, relayed_by, turn_of_relayed}
+use Rattle.xp_step.specs.declared.entry.Entry.{Entry}
+use Rattle.xp_step.specs.declared.event.What.{What}
+use Rattle.xp_step.specs.declared.event.What.TheVariants as events
+use Rattle.xp_step.specs.declared.outcome.Outcome.{Outcome}
+use Rattle.xp_step.specs.declared.outcome.Outcome.TheVariants.{Plain, Put, Refused, Connected, Declined, Exceeded}
+use Rattle.xp_step.specs.declared.output.Output.{Output}
+use Rattle.xp_step.specs.Acts.{Acts, Answers, CarriesAs, Confirms, IsAnswered, IsPlain, IsRequested, Requests, outputs_of_cancel, closed, outputs_to_both, outputs_of_error, outputs_of_fall}
+use Rattle.xp_step.specs.RelayedPackets.{RelayedPacket, relayed_by, turn_of_relayed}
 use Rattle.xp_machine.specs.CallEnds.{line_at_end}
 use Rattle.xp_machine.specs.Channel.{Ready}
 use Rattle.xp_machine.specs.Coupling.{AreCoupled}
-use Rattle.xp_core.specs.Outcomes.{taken_by}
-use Rattle.xp_core.specs.Segments.{is_past_limit}
-use Rattle.xp_core.specs.StepContext.{StepContext, step_context}
-use Rattle.xp_core.specs.Step.{Step}
-use Rattle.xp_core.specs.Table.{CallAccepted, CallRequest, ClearRequest, accepted_in, action_at, clear_in, packet_in, request_in}
-use Rattle.xp_core.specs.EventOutputs.{EventOutputs, outputs_of_relayed, clear_indication, no_outputs, outputs_of, send_far, send_on}
+use Rattle.xp_step.specs.Outcomes.{taken_by}
+use Rattle.xp_step.specs.Segments.{is_past_limit}
+use Rattle.xp_step.specs.StepContext.{StepContext, step_context}
+use Rattle.xp_step.specs.Step.{Step}
+use Rattle.xp_step.specs.Table.{CallAccepted, CallRequest, ClearRequest, accepted_in, action_at, clear_in, packet_in, request_in}
+use Rattle.xp_step.specs.EventOutputs.{EventOutputs, outputs_of_relayed, clear_indication, no_outputs, outputs_of, send_far, send_on}
 use Rattle.xp_machine.specs.World.{Call, World, call_on, far_end, state_at}
-use Rattle.xp_core.proofs.RelayedPackets.{of_carried}
+use Rattle.xp_step.proofs.RelayedPackets.{of_carried}
 use Rattle.xp_core.proofs.Idle.{taken_ready}
 use Rattle.xp_machine.proofs.InCall.{end_of, shown_on}
 use Rattle.xp_lock.specs.Outgoing.{to_line}

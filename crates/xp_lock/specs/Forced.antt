@@ -1,10 +1,10 @@
 -- The stalls that an event forces (`Forces`). A line in service that takes its packets too slowly goes out of service.
 use Rattle.std.specs.Prelude.{◌≡◌, ℕ, ◌+◌, ◌<◌, false, List, [], ◌∷◌, ◌++◌, All, length}
 use Rattle.xp_subs.specs.Tables.{Tables}
-use Rattle.xp_core.specs.declared.entry.Entry.{Entry}
-use Rattle.xp_core.specs.declared.event.What.TheVariants.{Stall}
+use Rattle.xp_step.specs.declared.entry.Entry.{Entry}
+use Rattle.xp_step.specs.declared.event.What.TheVariants.{Stall}
 use Rattle.xp_machine.specs.Channel.{is_off}
-use Rattle.xp_core.specs.Step.{Step}
+use Rattle.xp_step.specs.Step.{Step}
 use Rattle.xp_machine.specs.World.{World, state_at}
 use Rattle.xp_lock.specs.Outboxes.{PLACES_KEPT}
 use Rattle.xp_lock.specs.Outgoing.{put_out_to}

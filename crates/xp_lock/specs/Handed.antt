@@ -1,7 +1,7 @@
 -- The entries of the events that a line offered (`handed`).
 use Rattle.std.specs.Prelude.{ℕ, ◌==◌, ◌&&◌, not, Bool, List, filter}
-use Rattle.xp_core.specs.declared.entry.Entry.{Entry}
-pub use Rattle.xp_core.specs.Stalls.{is_stall}
+use Rattle.xp_step.specs.declared.entry.Entry.{Entry}
+pub use Rattle.xp_step.specs.Stalls.{is_stall}
 
 module _ {A : Type 0} where
   -- whether an entry is of an event that this line offered

@@ -1,7 +1,7 @@
 -- The recorder of an exchange as contracts see it (`Recording`).
 use Rattle.std.specs.Prelude.{List}
 use Rattle.xp_charge.specs.declared.record.Record.{Record}
-use Rattle.xp_core.specs.declared.entry.Entry.{Entry}
+use Rattle.xp_step.specs.declared.entry.Entry.{Entry}
 
 -- a recorder
 pub record Recording (A : Type 0) : Type 0 where

@@ -3,7 +3,7 @@
 -- line last saw it. The recorder's seat knows the history as the recorder last saw it.
 use Rattle.std.specs.Prelude.{◌≡◌, ℕ, ◌+◌, true, false, List, [], ◌++◌}
 use Rattle.atomic_table.specs.Seated.{TableId}
-use Rattle.xp_core.specs.declared.entry.Entry.{Entry}
+use Rattle.xp_step.specs.declared.entry.Entry.{Entry}
 use Rattle.xp_lock.specs.declared.history_length.View.{View}
 
 -- the name of a table that does not exist

@@ -3,14 +3,14 @@
 ghost use Rattle.std.specs.Prelude.{◌≡◌, ◌≤◌, ◌++◌, All, length};
 ghost use Rattle.xp_charge.specs.Lines.{HasLines as NamesLines};
 ghost use Rattle.xp_subs.specs.Tables.{line_count};
-ghost use Rattle.xp_core.specs.Agreed.{AllHaveTerms};
+ghost use Rattle.xp_step.specs.Agreed.{AllHaveTerms};
 ghost use Rattle.xp_machine.specs.Coupling.{AreCoupled};
 ghost use Rattle.xp_core.specs.Delivered.{AreDelivered};
 ghost use Rattle.xp_core.specs.Joined.{AreJoined};
 ghost use Rattle.xp_core.specs.Lines.{HasLines};
 ghost use Rattle.xp_core.specs.Records.{OneRecordEach, records_of};
-ghost use Rattle.xp_core.specs.Run.{Run};
-ghost use Rattle.xp_core.specs.Worlds.{world_after};
+ghost use Rattle.xp_step.specs.Run.{Run};
+ghost use Rattle.xp_step.specs.Worlds.{world_after};
 ghost use Rattle.xp_core.specs.View.{flow_at};
 ghost use Rattle.xp_machine.specs.View.{view_of};
 ghost use Rattle.xp_machine.specs.World.{line_at};

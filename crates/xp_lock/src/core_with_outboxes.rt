@@ -3,7 +3,7 @@
 ghost use Rattle.std.specs.Prelude.{◌≡◌, ◌+◌, ◌<◌, ◌++◌, true, false, [], All, IfOk, IfErr, OnErr, OnOk};
 ghost use Rattle.xp_charge.specs.Lines.{HasLines as NamesLines};
 ghost use Rattle.xp_subs.specs.Tables.{line_count};
-ghost use Rattle.xp_core.specs.Exchange.{IsReadable};
+ghost use Rattle.xp_step.specs.Exchange.{IsReadable};
 ghost use Rattle.xp_core.specs.Records.{records_of};
 ghost use Rattle.xp_lock.specs.Outboxes.{HaveCapacity};
 ghost use Rattle.xp_lock.specs.steps.Outboxes.{OutboxesMatch};
@@ -18,7 +18,8 @@ use std::alloc::{AllocError, Allocator};
 use std::marker::Model;
 use std::sync::Wait;
 use xp_charge::Record;
-use xp_core::{Core, Event, What};
+use xp_core::Core;
+use xp_step::{Event, What};
 
 /// How many places of the history must be left: one for the event, and three for the stalls that it may force.
 const PLACES_FOR_AN_EVENT: u64 = 4;

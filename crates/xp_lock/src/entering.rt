@@ -2,7 +2,7 @@
 
 ghost use Rattle.std.specs.Prelude.{◌≡◌, ◌<◌, IfOk, IfErr, OnErr, OnOk};
 ghost use Rattle.xp_subs.specs.Tables.{line_count};
-ghost use Rattle.xp_core.specs.Exchange.{IsReadable};
+ghost use Rattle.xp_step.specs.Exchange.{IsReadable};
 ghost use Rattle.xp_lock.specs.steps.Outboxes.{OutboxesMatch};
 ghost use Rattle.xp_lock.specs.steps.Stalling.{CanEnter, with_outboxes};
 ghost use Rattle.xp_lock.specs.CoreWithOutboxes.{Takes};
@@ -14,7 +14,8 @@ use crate::receipt::Receipt;
 use crate::stalling::stall_all;
 use std::alloc::Allocator;
 use std::sync::Wait;
-use xp_core::{Core, Entry, Event, StepFault};
+use xp_core::{Core, StepFault};
+use xp_step::{Entry, Event};
 
 /// Enters an event, puts its outputs into the outboxes, and enters the stalls that it forces, at its moment. The stalls are prepared
 /// first, so that nothing can fail once the event is entered.

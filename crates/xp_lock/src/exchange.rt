@@ -3,9 +3,9 @@
 ghost use Rattle.std.specs.Prelude.{◌≡◌, [], ◌∷◌, ◌++◌, false, All, IfErr, IfNone, IfOk, IfSome, OnErr, OnOk, length, replicate};
 ghost use Rattle.xp_charge.specs.Lines.{HasLines as NamesLines};
 ghost use Rattle.xp_subs.specs.Tables.{line_count};
-ghost use Rattle.xp_core.specs.Exchange.{IsReadable};
+ghost use Rattle.xp_step.specs.Exchange.{IsReadable};
 ghost use Rattle.xp_core.specs.Records.{OneRecordEach, records_of};
-ghost use Rattle.xp_core.specs.Worlds.{world_after};
+ghost use Rattle.xp_step.specs.Worlds.{world_after};
 ghost use Rattle.xp_lock.specs.Closing.{AreCounted, PassesMatch, HasAll, IsMissing, NoneTwice, all_handed, handed_together, own_entries_together};
 ghost use Rattle.xp_lock.specs.Faults.{event_in};
 ghost use Rattle.xp_lock.specs.Handed.{is_stall};
@@ -31,7 +31,7 @@ use std::sync::atomic::AtomicBool;
 use std::sync::atomic::Ordering::SeqCst;
 use std::sync::{Mutex, Wait};
 use xp_charge::Record;
-use xp_core::{Event, Outgoing};
+use xp_step::{Event, Outgoing};
 use xp_subs::LineNo;
 
 /// How often a thread tries to take the lock before it sleeps until the lock is free. Between two tries it waits for a moment, and

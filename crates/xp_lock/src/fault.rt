@@ -6,7 +6,7 @@ use crate::pass::LinePass;
 use crate::recorder::Recorder;
 use std::alloc::{Allocator, Global};
 use thiserror::Error;
-use xp_core::Event;
+use xp_step::Event;
 use xp_subs::LineNo;
 
 /// Why an event was refused. The fault gives the event back.

@@ -6,7 +6,7 @@ ghost use Rattle.xp_lock.specs.steps.Given.{AddFew, AreAdded};
 
 use arrayvec::ArrayVec;
 use std::alloc::Allocator;
-use xp_core::Output;
+use xp_step::Output;
 use xp_subs::LineNo;
 
 /// For how many lines a `GivenLines` has room. One event, with the stalls that it forces, puts something out to three lines

@@ -3,9 +3,9 @@
 ghost use Rattle.std.specs.Prelude.{◌≡◌, ◌++◌, false, All, IfErr, IfOk, OnErr, OnOk};
 ghost use Rattle.xp_charge.specs.Lines.{HasLines as NamesLines};
 ghost use Rattle.xp_subs.specs.Tables.{line_count};
-ghost use Rattle.xp_core.specs.Exchange.{IsReadable};
+ghost use Rattle.xp_step.specs.Exchange.{IsReadable};
 ghost use Rattle.xp_core.specs.Records.{OneRecordEach, records_of};
-ghost use Rattle.xp_core.specs.Worlds.{world_after};
+ghost use Rattle.xp_step.specs.Worlds.{world_after};
 ghost use Rattle.xp_lock.specs.Faults.{event_in};
 ghost use Rattle.xp_lock.specs.Handed.{is_stall};
 ghost use Rattle.xp_lock.specs.Passes.{GainsEvent, IsLegal};
@@ -24,7 +24,7 @@ use std::alloc::{AllocError, Allocator, Global};
 use std::marker::Model;
 use std::sync::{MutexGuard, Wait};
 use xp_charge::Record;
-use xp_core::Event;
+use xp_step::Event;
 
 /// The exchange while a thread holds its lock. The thread frees the lock as it drops the guard. A thread that has several
 /// events to offer takes the lock once for all of them. Until it drops the guard, no other thread's events are entered.

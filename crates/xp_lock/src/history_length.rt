@@ -11,7 +11,8 @@ use atomic_table::{Join, Play, Seat, Split, Table, TableRule};
 use std::alloc::{AllocError, Allocator};
 use std::collections::LinkedList;
 use std::marker::Model;
-use xp_core::{Core, Entry};
+use xp_core::Core;
+use xp_step::Entry;
 
 /// What a seat knows. Contracts alone speak of it. The program makes no value of it.
 pub struct View<A: Allocator> {

@@ -4,9 +4,9 @@ ghost use Rattle.std.specs.Prelude.{◌≡◌, ◌<◌, ◌^◌, [], ◌∷◌, 
 ghost use mathlib.Core.List.{IsPrefix};
 ghost use Rattle.xp_charge.specs.Lines.{HasLines as NamesLines};
 ghost use Rattle.xp_subs.specs.Tables.{line_count};
-ghost use Rattle.xp_core.specs.Exchange.{IsReadable};
+ghost use Rattle.xp_step.specs.Exchange.{IsReadable};
 ghost use Rattle.xp_core.specs.Records.{OneRecordEach, records_of};
-ghost use Rattle.xp_core.specs.Worlds.{world_after};
+ghost use Rattle.xp_step.specs.Worlds.{world_after};
 ghost use Rattle.xp_lock.specs.Outboxes.{HaveCapacity, outbox_at};
 ghost use Rattle.xp_lock.specs.Closing.{AreCounted, PassesMatch, NoneTwice};
 ghost use Rattle.xp_lock.specs.Given.{is_among};
@@ -29,8 +29,8 @@ use std::alloc::{AllocError, Allocator, Global};
 use std::marker::{Model, PhantomData};
 use std::sync::Wait;
 use xp_charge::Record;
-use xp_core::Event;
 use xp_outbox::count_untaken;
+use xp_step::Event;
 use xp_view::ExchangeView;
 
 /// What the lock protects: the exchange with its outboxes, and the seat that knows the whole history. The records of the front

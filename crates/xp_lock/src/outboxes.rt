@@ -10,8 +10,9 @@ use crate::given::{GivenLines, add_lines};
 use std::alloc::Allocator;
 use std::sync::Wait;
 use std::thread;
-use xp_core::{Core, Outgoing, Output, Outputs};
+use xp_core::Core;
 use xp_outbox::PutEnd;
+use xp_step::{Outgoing, Output, Outputs};
 use xp_subs::LineNo;
 
 /// How many free places the outbox of a line in service has to have.

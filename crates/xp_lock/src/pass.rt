@@ -8,9 +8,9 @@ use crate::name::Name;
 use std::alloc::{Allocator, Global};
 use std::marker::{Model, PhantomData};
 use std::sync::Wait;
-use xp_core::Outgoing;
 use xp_outbox::TakeEnd;
 use xp_packets::Modulus;
+use xp_step::Outgoing;
 use xp_subs::LineNo;
 
 /// The pass of a line. It has what the line saw of the history, and the end of the outbox from which the line takes outputs.

@@ -7,8 +7,9 @@ use crate::history_length::{HistoryLength, HistorySeat};
 use crate::outboxes::OutboxPutEnd;
 use std::alloc::{AllocError, Allocator, Global};
 use std::marker::Model;
-use xp_core::{Core, Outgoing};
+use xp_core::Core;
 use xp_outbox::{TakeEnd, outbox};
+use xp_step::Outgoing;
 use xp_subs::Subs;
 
 /// How many items an outbox has room for.

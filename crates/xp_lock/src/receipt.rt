@@ -2,7 +2,7 @@
 
 ghost use Rattle.std.specs.Prelude.{◌≡◌, ◌<◌, length};
 ghost use Rattle.xp_subs.specs.Tables.{line_count};
-ghost use Rattle.xp_core.specs.Exchange.{world_of};
+ghost use Rattle.xp_step.specs.Exchange.{world_of};
 ghost use Rattle.xp_core.specs.Records.{records_of};
 ghost use Rattle.xp_machine.specs.World.{line_at};
 

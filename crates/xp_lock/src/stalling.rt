@@ -3,7 +3,7 @@
 ghost use Rattle.std.specs.Prelude.{ℕ, ◌≡◌, ◌+◌, ◌<◌, ◌≤◌, true, false, IfNone, IfSome, drop, length, slice_set};
 ghost use Rattle.xp_subs.specs.Tables.{line_count};
 ghost use Rattle.xp_machine.specs.Channel.{is_off as is_off_at};
-ghost use Rattle.xp_core.specs.Exchange.{Advances, world_of};
+ghost use Rattle.xp_step.specs.Exchange.{Advances, world_of};
 ghost use Rattle.xp_core.specs.steps.Stalls.{stall_of};
 ghost use Rattle.xp_machine.specs.World.{state_at};
 ghost use Rattle.xp_lock.specs.Given.{AreGiven};
@@ -16,7 +16,8 @@ use crate::outboxes::{LEAST_PLACES, OutboxPutEnd, look_at, put_out};
 use std::alloc::Allocator;
 use std::sync::Wait;
 use xp_channel::Channel;
-use xp_core::{Core, Entry, Event, What};
+use xp_core::Core;
+use xp_step::{Entry, Event, What};
 use xp_subs::LineNo;
 
 /// Stalls the lines that are due at this moment, the lowest first, until none is due. The stalls are prepared, so they

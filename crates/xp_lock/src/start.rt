@@ -15,8 +15,8 @@ use crate::prepared::PreparedExchange;
 use crate::recorder::Recorder;
 use std::alloc::{AllocError, Allocator};
 use std::marker::PhantomData;
-use xp_core::Outgoing;
 use xp_outbox::TakeEnd;
+use xp_step::Outgoing;
 use xp_subs::{LineNo, Subs};
 
 /// An exchange, the passes of its lines, and its recorder.

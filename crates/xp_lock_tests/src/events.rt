@@ -1,14 +1,14 @@
 //! What comes on the lines in these tests, and its offer.
 
 ghost use Rattle.std.specs.Prelude.{◌≡◌, ◌<◌, false, IfOk};
-ghost use Rattle.xp_core.specs.Exchange.{IsReadable};
-ghost use Rattle.xp_core.specs.Stalls.{is_stall};
+ghost use Rattle.xp_step.specs.Exchange.{IsReadable};
+ghost use Rattle.xp_step.specs.Stalls.{is_stall};
 
 use std::alloc::{Allocator, Global};
 use std::sync::Wait;
-use xp_core::{Event, Outgoing, Put, What};
 use xp_lock::{Exchange, LinePass, Name, OfferFault, Receipt};
 use xp_packets::{Modulus, Packet, PacketFault, decode};
+use xp_step::{Event, Outgoing, Put, What};
 
 /// A call request for 2080020, which is b1's.
 pub const CALL: [u8; 13] = [

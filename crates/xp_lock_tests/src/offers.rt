@@ -8,8 +8,8 @@ use std::alloc::Global;
 use std::marker::Brand;
 use std::sync::Wait;
 use std::test::Fail;
-use xp_core::What;
 use xp_lock::{Exchange, LinePass, Name, PreparedExchange, prepare};
+use xp_step::What;
 use xp_subs::Subs;
 use xp_testing::THREE_STATIONS;
 

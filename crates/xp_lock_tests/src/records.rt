@@ -10,9 +10,9 @@ use std::sync::Wait;
 use std::test::Fail;
 use std::thread::{Threads, join};
 use xp_charge::Record;
-use xp_core::What;
 use xp_lock::{Exchange, LinePass, Name, PreparedExchange, Recorder, prepare};
 use xp_packets::PacketFault;
+use xp_step::What;
 use xp_subs::Subs;
 use xp_testing::THREE_STATIONS;
 

@@ -1,8 +1,8 @@
 //! Offers, and takings of records, of which each request for memory is refused in turn.
 
 ghost use Rattle.std.specs.Prelude.{◌≡◌, false, IfOk};
-ghost use Rattle.xp_core.specs.Exchange.{IsReadable};
-ghost use Rattle.xp_core.specs.Stalls.{is_stall};
+ghost use Rattle.xp_step.specs.Exchange.{IsReadable};
+ghost use Rattle.xp_step.specs.Stalls.{is_stall};
 
 use crate::closing::entries_at_close;
 use crate::events::{ACCEPTED, CALL, data, packet, ready};
@@ -11,8 +11,8 @@ use std::alloc::Allocator;
 use std::marker::Brand;
 use std::sync::Wait;
 use std::test::Fail;
-use xp_core::{Event, What};
 use xp_lock::{Exchange, LinePass, Name, OfferFault, PreparedExchange, Recorder, prepare};
+use xp_step::{Event, What};
 use xp_subs::Subs;
 use xp_testing::{Refusing, THREE_STATIONS};
 

@@ -7,9 +7,9 @@ use std::alloc::{Allocator, Global};
 use std::marker::Brand;
 use std::sync::Wait;
 use std::test::Fail;
-use xp_core::{Outgoing, Put, What};
 use xp_lock::{Book, Exchange, LinePass, Name, OfferFault, PreparedExchange, Receipt, prepare};
 use xp_packets::Packet;
+use xp_step::{Outgoing, Put, What};
 use xp_subs::{LineNo, Subs};
 use xp_testing::THREE_STATIONS;
 

@@ -1,8 +1,8 @@
 //! Two threads that offer at the same time.
 
 ghost use Rattle.std.specs.Prelude.{◌≡◌, false};
-ghost use Rattle.xp_core.specs.Exchange.{IsReadable};
-ghost use Rattle.xp_core.specs.Stalls.{is_stall};
+ghost use Rattle.xp_step.specs.Exchange.{IsReadable};
+ghost use Rattle.xp_step.specs.Stalls.{is_stall};
 
 use crate::events::{CLEAR_CONFIRM, entered, packet};
 use crate::slow::take_all;
@@ -11,8 +11,8 @@ use std::marker::Brand;
 use std::sync::Wait;
 use std::test::Fail;
 use std::thread::{Threads, join};
-use xp_core::What;
 use xp_lock::{Exchange, LinePass, Name, PreparedExchange, prepare};
+use xp_step::What;
 use xp_subs::Subs;
 use xp_testing::THREE_STATIONS;
 

@@ -12,7 +12,7 @@ ghost use Rattle.xp_subs.specs.Tables.{line_count};
 use crate::output::push_output;
 use std::alloc::{AllocError, Allocator};
 use xp_charge::Record;
-use xp_core::{Entry, Output};
+use xp_step::{Entry, Output};
 use xp_subs::Subs;
 
 /// Adds the text of an entry: a line for each packet put out, as a frame in hexadecimal, then one for each record. The

@@ -11,9 +11,9 @@ ghost use Rattle.xp_subs.specs.Tables.{line_count, modulus_of};
 
 use crate::text::{push_front, push_octets};
 use std::alloc::{AllocError, Allocator};
-use xp_core::{Output, Put};
 use xp_frames::frame_header;
 use xp_packets::{Modulus, Packet, write_packet};
+use xp_step::{Output, Put};
 use xp_subs::Subs;
 
 /// How many octets of a frame stand before its packet.

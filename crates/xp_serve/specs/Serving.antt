@@ -2,7 +2,7 @@
 use Rattle.std.specs.Prelude.{◌≡◌, ◌⊎◌, List, Option, None, Some, Result, Ok, Err}
 use Rattle.xp_charge.specs.declared.record.Record.{Record}
 use Rattle.xp_core.specs.Records.{OneRecordEach, records_of}
-use Rattle.xp_core.specs.Worlds.{world_after}
+use Rattle.xp_step.specs.Worlds.{world_after}
 use Rattle.xp_serve.specs.Ends.{failure_of}
 use Rattle.xp_serve.specs.Failures.{IsWanting, failure_to_keep}
 use Rattle.xp_serve.specs.Served.{IsServed}

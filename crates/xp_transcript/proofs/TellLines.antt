@@ -1,7 +1,7 @@
 -- What is told of lines, one after the other.
 use Rattle.std.proofs.Common.{◌≡◌, ℕ, ◌+◌, ◌≤◌, List, [], ◌∷◌, ◌++◌, length, refl, sym, ap, ◌∙◌, inl, inr, subst, Option, Result, Ok, Err, arith}
 use Rattle.std.specs.Io.KnownBytes.{Appends}
-use Rattle.xp_core.specs.declared.event.Event.{Event}
+use Rattle.xp_step.specs.declared.event.Event.{Event}
 use Rattle.xp_exchange.specs.declared.fault.ReplayFault.{ReplayFault}
 use Rattle.xp_exchange.specs.declared.fault.ReplayFault.TheVariants.{Script, Journal, Memory, Read, Write}
 use Rattle.xp_exchange.specs.Play.{ActsOn, PlayState, Plays, PlaysAll, ReadsLine, RefusesLine}

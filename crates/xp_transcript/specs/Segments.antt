@@ -9,12 +9,12 @@ use Rattle.xp_packets.specs.declared.fault.Malformed.{Malformed}
 use Rattle.xp_packets.specs.declared.modulus.Modulus.{Modulus}
 use Rattle.xp_packets.specs.declared.packet.Packet.{Packet}
 use Rattle.xp_subs.specs.Tables.{Tables, modulus_of}
-use Rattle.xp_core.specs.declared.entry.Entry.{Entry}
-use Rattle.xp_core.specs.declared.event.What.{What}
-use Rattle.xp_core.specs.declared.event.What.TheVariants.{Up, Down, Frame, WrongFrame, Expire, Stall}
-use Rattle.xp_core.specs.declared.output.Output.{Output}
-use Rattle.xp_core.specs.declared.output.Put.{Put}
-use Rattle.xp_core.specs.declared.output.Put.TheVariants.{Send, Close}
+use Rattle.xp_step.specs.declared.entry.Entry.{Entry}
+use Rattle.xp_step.specs.declared.event.What.{What}
+use Rattle.xp_step.specs.declared.event.What.TheVariants.{Up, Down, Frame, WrongFrame, Expire, Stall}
+use Rattle.xp_step.specs.declared.output.Output.{Output}
+use Rattle.xp_step.specs.declared.output.Put.{Put}
+use Rattle.xp_step.specs.declared.output.Put.TheVariants.{Send, Close}
 use Rattle.xp_words.specs.declared.direction.Direction.{Direction}
 use Rattle.xp_words.specs.declared.direction.Direction.TheVariants.{FromDte, FromDce}
 

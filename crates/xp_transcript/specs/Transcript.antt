@@ -3,7 +3,7 @@ use Rattle.std.specs.Prelude.{ℕ, List, [], ◌∷◌, ◌++◌, None, replicat
 use Rattle.xp_capture.specs.Capture.{first_flow}
 use Rattle.xp_capture.specs.FileHeader.{file_header}
 use Rattle.xp_subs.specs.Tables.{Tables}
-use Rattle.xp_core.specs.declared.entry.Entry.{Entry}
+use Rattle.xp_step.specs.declared.entry.Entry.{Entry}
 use Rattle.xp_transcript.specs.declared.form.Form.{Form}
 use Rattle.xp_transcript.specs.declared.form.Form.TheVariants as forms
 use Rattle.xp_transcript.specs.declared.teller.Teller.{Teller}

@@ -8,7 +8,7 @@ use crate::output_words::output_words;
 use crate::record_words::record_words;
 use std::alloc::{AllocError, Global};
 use xp_charge::Record;
-use xp_core::{Entry, Output};
+use xp_step::{Entry, Output};
 use xp_subs::Subs;
 
 /// Adds the words of an entry: a line for its event, one for each packet that it puts out, and one for each record.

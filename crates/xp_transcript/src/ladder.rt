@@ -9,8 +9,8 @@ use crate::place::Pair;
 use crate::places::Places;
 use crate::short_words::{few_put_words, few_words};
 use std::alloc::{AllocError, Global};
-use xp_core::{Entry, Output};
 use xp_ladder::{Heading, Rung};
+use xp_step::{Entry, Output};
 use xp_subs::{LineNo, Subs};
 use xp_words::Direction;
 

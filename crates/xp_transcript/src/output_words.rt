@@ -7,7 +7,7 @@ use crate::heading::{Channel, Heading};
 use crate::names::name_of;
 use std::alloc::{AllocError, Global};
 use std::fmt;
-use xp_core::{Output, Put};
+use xp_step::{Output, Put};
 use xp_subs::Subs;
 use xp_words::{Direction, PacketWords};
 

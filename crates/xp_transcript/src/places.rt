@@ -6,9 +6,9 @@ ghost use Rattle.xp_transcript.specs.Places.{alone, place_of, placed_by, placed_
 use crate::place::Place;
 use std::alloc::{AllocError, Global};
 use std::marker::Model;
-use xp_core::{Entry, Output, Put, What};
 use xp_ladder::Side;
 use xp_packets::Packet;
+use xp_step::{Entry, Output, Put, What};
 use xp_subs::LineNo;
 
 /// Where each line stands.

@@ -7,9 +7,9 @@ ghost use Rattle.xp_subs.specs.Tables.{line_count};
 
 use std::alloc::{AllocError, Global};
 use xp_capture::{Capture, Frame};
-use xp_core::{Entry, Output, Put, What};
 use xp_frames::write_frame;
 use xp_packets::{Modulus, Packet, PacketFault, encode};
+use xp_step::{Entry, Output, Put, What};
 use xp_subs::{LineNo, Subs};
 use xp_words::Direction;
 

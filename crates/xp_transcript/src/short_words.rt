@@ -4,7 +4,7 @@ ghost use Rattle.std.specs.Prelude.{◌≡◌, IfOk, option_map, string_bytes};
 ghost use Rattle.xp_transcript.specs.Rows.{few_put_words, few_words};
 
 use std::alloc::{AllocError, Global};
-use xp_core::{Put, What};
+use xp_step::{Put, What};
 use xp_words::{Direction, ShortPacketWords};
 
 /// What happened on a line, in few words. That a connection comes is not told.

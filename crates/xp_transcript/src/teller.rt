@@ -13,7 +13,7 @@ use crate::ladder::Ladder;
 use crate::segments::push_entry_segments;
 use std::alloc::{AllocError, Global};
 use xp_capture::{Capture, write_file_header};
-use xp_core::Entry;
+use xp_step::Entry;
 use xp_subs::Subs;
 
 /// How the next entry is told.

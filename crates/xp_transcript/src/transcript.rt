@@ -14,8 +14,8 @@ use std::collections::VecDeque;
 use std::io::Write;
 use std::marker::Model;
 use std::mem;
-use xp_core::Event;
 use xp_exchange::{ReplayFault, ScriptPlayer, write_out};
+use xp_step::Event;
 
 /// An exchange to which the lines of a script are played, and the telling of what comes of them.
 #[derive(Drop)]

@@ -1,10 +1,10 @@
 -- What is seen of an exchange at one moment.
 use Rattle.std.specs.Prelude.{◌≡◌, ℕ, ◌<◌, List, Some, length, slice_get}
 use Rattle.xp_core.specs.Records.{records_of}
-use Rattle.xp_core.specs.Stalls.{stalls_in}
+use Rattle.xp_step.specs.Stalls.{stalls_in}
 use Rattle.xp_core.specs.View.{call_seen_on, flow_at}
-use Rattle.xp_core.specs.Worlds.{world_after}
-use Rattle.xp_core.specs.declared.entry.Entry.{Entry}
+use Rattle.xp_step.specs.Worlds.{world_after}
+use Rattle.xp_step.specs.declared.entry.Entry.{Entry}
 use Rattle.xp_machine.specs.View.{view_of}
 use Rattle.xp_machine.specs.World.{line_at}
 use Rattle.xp_view.specs.declared.view.LineWithCall.{LineWithCall}

@@ -1,5 +1,5 @@
 ghost use Rattle.std.specs.Prelude.{◌≡◌, ◌<◌, IfOk};
-ghost use Rattle.xp_core.specs.Exchange.{world_of};
+ghost use Rattle.xp_step.specs.Exchange.{world_of};
 ghost use Rattle.xp_view.specs.Views.{Shows, line_with_call};
 ghost use Rattle.xp_view.specs.steps.Views.{AreShown};
 ghost use Rattle.xp_subs.specs.Tables.{line_count};

@@ -2,13 +2,13 @@
 use Rattle.std.specs.Prelude.{◌≡◌, ◌≤◌, Option, List, length}
 use Rattle.xp_subs.specs.Sound.{IsSound}
 use Rattle.xp_subs.specs.Tables.{Tables, line_count}
-use Rattle.xp_core.specs.declared.entry.Entry.{Entry}
+use Rattle.xp_step.specs.declared.entry.Entry.{Entry}
 use Rattle.xp_charge.specs.declared.record.Record.{Record}
 use Rattle.xp_machine.specs.declared.relays.MeteredRelay.{MeteredRelay}
 use Rattle.xp_core.specs.Records.{records_of}
-use Rattle.xp_core.specs.steps.Relays.{RelaysRepresentCalls}
-use Rattle.xp_core.specs.Run.{Run}
-use Rattle.xp_core.specs.Worlds.{world_after}
+use Rattle.xp_step.specs.steps.Relays.{RelaysRepresentCalls}
+use Rattle.xp_step.specs.Run.{Run}
+use Rattle.xp_step.specs.Worlds.{world_after}
 use Rattle.xp_machine.specs.World.{World}
 use Rattle.xp_core.specs.steps.Writable.{AreReadable}
 

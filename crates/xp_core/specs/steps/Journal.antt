@@ -2,8 +2,8 @@
 use Rattle.std.specs.Prelude.{◌≡◌, ℕ, ◌+◌, ◌-◌, ◌<◌, List, [], ◌++◌, length}
 use Rattle.xp_charge.specs.declared.record.Record.{Record}
 use Rattle.xp_core.specs.declared.advance.PreparedEntry.{PreparedEntry}
-use Rattle.xp_core.specs.declared.entry.Entry.{Entry}
-use Rattle.xp_core.specs.declared.event.Event.{Event}
+use Rattle.xp_step.specs.declared.entry.Entry.{Entry}
+use Rattle.xp_step.specs.declared.event.Event.{Event}
 
 pub record Journaled (A : Type 0) : Type 0 where
   pub history : List (Entry A)

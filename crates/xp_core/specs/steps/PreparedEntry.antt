@@ -3,22 +3,22 @@ use Rattle.std.specs.Prelude.{◌≡◌, Option, List, [], ◌∷◌, ◌++◌}
 use Rattle.xp_charge.specs.declared.record.Record.{Record}
 use Rattle.xp_subs.specs.Tables.{Tables}
 use Rattle.xp_core.specs.declared.advance.PreparedEntry.{PreparedEntry}
-use Rattle.xp_core.specs.declared.entry.Entry.{Entry}
-use Rattle.xp_core.specs.declared.event.Event.{Event}
-use Rattle.xp_core.specs.declared.outcome.Outcome.{Outcome}
+use Rattle.xp_step.specs.declared.entry.Entry.{Entry}
+use Rattle.xp_step.specs.declared.event.Event.{Event}
+use Rattle.xp_step.specs.declared.outcome.Outcome.{Outcome}
 use Rattle.xp_machine.specs.declared.relays.RelayUpdate.{RelayUpdate}
 use Rattle.xp_machine.specs.declared.relays.MeteredRelay.{MeteredRelay}
-use Rattle.xp_core.specs.Acts.{Acts}
-use Rattle.xp_core.specs.RelayedPackets.{relayed_in}
+use Rattle.xp_step.specs.Acts.{Acts}
+use Rattle.xp_step.specs.RelayedPackets.{relayed_in}
 use Rattle.xp_machine.specs.Changes.{all_changed, recorded_by}
-use Rattle.xp_core.specs.steps.Relays.{Relays}
+use Rattle.xp_step.specs.steps.Relays.{Relays}
 use Rattle.xp_machine.specs.Relays.{relays_with}
-use Rattle.xp_core.specs.Segments.{segments_of}
-use Rattle.xp_core.specs.StepContext.{step_context}
-use Rattle.xp_core.specs.Step.{Step}
-use Rattle.xp_core.specs.Effects.{effects_of}
-use Rattle.xp_core.specs.Table.{action_at}
-use Rattle.xp_core.specs.EventOutputs.{EventOutputs, outputs_of}
+use Rattle.xp_step.specs.Segments.{segments_of}
+use Rattle.xp_step.specs.StepContext.{step_context}
+use Rattle.xp_step.specs.Step.{Step}
+use Rattle.xp_step.specs.Effects.{effects_of}
+use Rattle.xp_step.specs.Table.{action_at}
+use Rattle.xp_step.specs.EventOutputs.{EventOutputs, outputs_of}
 use Rattle.xp_machine.specs.World.{World}
 
 module _ {A : Type 0} where

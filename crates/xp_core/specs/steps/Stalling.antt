@@ -3,16 +3,16 @@ use Rattle.std.specs.Prelude.{◌≡◌, Option, List, [], ◌∷◌}
 use Rattle.xp_causes.specs.declared.clearing_cause.TheConstants.{OUT_OF_ORDER}
 use Rattle.xp_causes.specs.declared.diagnostic.TheConstants.{NO_ADDITIONAL_INFORMATION}
 use Rattle.xp_core.specs.declared.advance.PreparedEntry.{PreparedEntry}
-use Rattle.xp_core.specs.declared.event.What.TheVariants.{Stall}
-use Rattle.xp_core.specs.declared.outcome.Outcome.TheVariants.{Plain}
+use Rattle.xp_step.specs.declared.event.What.TheVariants.{Stall}
+use Rattle.xp_step.specs.declared.outcome.Outcome.TheVariants.{Plain}
 use Rattle.xp_machine.specs.declared.relays.MeteredRelay.{MeteredRelay}
-use Rattle.xp_core.specs.Acts.{outputs_of_fall}
+use Rattle.xp_step.specs.Acts.{outputs_of_fall}
 use Rattle.xp_machine.specs.Changes.{GoesOut}
-use Rattle.xp_core.specs.Effects.{leaves}
-use Rattle.xp_core.specs.steps.Plan.{recorded_at}
-use Rattle.xp_core.specs.StepContext.{StepContext}
+use Rattle.xp_step.specs.Effects.{leaves}
+use Rattle.xp_step.specs.steps.Plan.{recorded_at}
+use Rattle.xp_step.specs.StepContext.{StepContext}
 use Rattle.xp_core.specs.steps.Stalls.{stall_of}
-use Rattle.xp_core.specs.EventOutputs.{EventOutputs, outputs_of}
+use Rattle.xp_step.specs.EventOutputs.{EventOutputs, outputs_of}
 use Rattle.xp_core.specs.steps.PreparedEntry.{IsPreparedEntry}
 use Rattle.xp_machine.specs.World.{World, call_on}
 

@@ -1,7 +1,7 @@
 -- For private steps. Every packet that came in can be read.
 use Rattle.std.specs.Prelude.{List, All}
-use Rattle.xp_core.specs.declared.entry.Entry.{Entry}
-use Rattle.xp_core.specs.Exchange.{IsReadable}
+use Rattle.xp_step.specs.declared.entry.Entry.{Entry}
+use Rattle.xp_step.specs.Exchange.{IsReadable}
 
 module _ {A : Type 0} where
   -- the packet of each entry's event can be read

@@ -1,7 +1,7 @@
 -- What the private functions of a replay promise one another about the octets that were read.
 use Rattle.std.specs.Prelude.{◌≡◌, ℕ, ◌+◌, ◌<◌, List, [], ◌++◌, length, Option, Some, Result, Ok, Err}
 use Rattle.std.specs.List.{AllByRecursion}
-use Rattle.xp_core.specs.Exchange.{Exchange}
+use Rattle.xp_step.specs.Exchange.{Exchange}
 use Rattle.xp_script.specs.Command.{longest}
 use Rattle.xp_exchange.specs.declared.fault.ReplayFault.{ReplayFault}
 use Rattle.xp_exchange.specs.declared.fault.ReplayFault.TheVariants.{Script, Memory}

@@ -3,8 +3,8 @@ use Rattle.std.specs.Prelude.{◌≡◌, ℕ, Bool, List, [], ◌∷◌, ◌++�
 use Rattle.std.specs.declared.alloc.AllocError.{AllocError}
 use Rattle.xp_frames.specs.Deframer.{DeframerState}
 use Rattle.xp_packets.specs.declared.modulus.Modulus.{Modulus}
-use Rattle.xp_core.specs.declared.event.Event.{Event}
-use Rattle.xp_core.specs.declared.event.What.{What}
+use Rattle.xp_step.specs.declared.event.Event.{Event}
+use Rattle.xp_step.specs.declared.event.What.{What}
 use Rattle.xp_lock.specs.declared.receipt.Receipt.{Receipt}
 use Rattle.xp_lock.specs.Passes.{Pass}
 use Rattle.xp_lines.specs.FrameEvents.{IsReadAs}

@@ -1,6 +1,6 @@
 -- Whether an offering that stopped lost anything.
 use Rattle.std.specs.Prelude.{◌≡◌, ℕ, Bool, true, false, List, ◌++◌, map, Option, Some, None, option_to_list}
-use Rattle.xp_core.specs.declared.event.What.{What}
+use Rattle.xp_step.specs.declared.event.What.{What}
 use Rattle.xp_lines.specs.declared.offering.Stop.{Stop}
 use Rattle.xp_lines.specs.declared.offering.Stop.TheVariants as stops
 

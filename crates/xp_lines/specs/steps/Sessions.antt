@@ -2,7 +2,7 @@
 use Rattle.std.specs.Prelude.{◌≡◌, ◌⊎◌, ℕ, List, [], ◌∷◌, Option, Some, None, option_map}
 use Rattle.std.specs.List.{AllByRecursion}
 use Rattle.xp_subs.specs.Tables.{Tables, modulus_of}
-use Rattle.xp_core.specs.declared.event.What.TheVariants.{Down}
+use Rattle.xp_step.specs.declared.event.What.TheVariants.{Down}
 use Rattle.xp_lock.specs.Passes.{Pass}
 use Rattle.xp_lines.specs.Offers.{Gains}
 use Rattle.xp_lines.specs.Sessions.{ComesUp, Drops, IsSession, PastSession, left_at_last}

@@ -1,6 +1,6 @@
 -- For private steps. The counts of a closed exchange are within its history.
 use Rattle.std.specs.Prelude.{ℕ, ◌≤◌, List, length}
-use Rattle.xp_core.specs.declared.entry.Entry.{Entry}
+use Rattle.xp_step.specs.declared.entry.Entry.{Entry}
 use Rattle.xp_lock.specs.Outgoing.{put_out_to}
 use Rattle.xp_lock.specs.Closing.{taken_by}
 

@@ -1,6 +1,6 @@
 -- For private steps. The lines to which entries put something out are few, and how a list of them grows by some outputs.
 use Rattle.std.specs.Prelude.{◌≡◌, ◌↔◌, ◌⊎◌, ℕ, ◌<◌, ◌≤◌, true, List, length}
-use Rattle.xp_core.specs.declared.output.Output.{Output}
+use Rattle.xp_step.specs.declared.output.Output.{Output}
 use Rattle.xp_lock.specs.Outgoing.{to_line}
 use Rattle.xp_lock.specs.Given.{is_among, AreApart}
 

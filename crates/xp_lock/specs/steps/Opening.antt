@@ -1,7 +1,7 @@
 -- For private steps. The outboxes of a new exchange.
 use Rattle.std.specs.Prelude.{◌≡◌, ℕ, List, [], All, length, map}
 use Rattle.xp_outbox.specs.Ends.{Putting, Taking}
-use Rattle.xp_core.specs.declared.output.Outgoing.{Outgoing}
+use Rattle.xp_step.specs.declared.output.Outgoing.{Outgoing}
 use Rattle.xp_lock.specs.Outboxes.{CAPACITY}
 
 module _ {A : Type 0} where

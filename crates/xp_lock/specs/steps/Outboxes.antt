@@ -2,11 +2,11 @@
 use Rattle.std.specs.Prelude.{◌≡◌, ℕ, ◌-◌, ◌<◌, ◌≤◌, false, List, ◌++◌, length}
 use Rattle.xp_outbox.specs.Ends.{Putting}
 use Rattle.xp_subs.specs.Tables.{Tables, line_count}
-use Rattle.xp_core.specs.declared.entry.Entry.{Entry}
-use Rattle.xp_core.specs.declared.output.Outgoing.{Outgoing}
-use Rattle.xp_core.specs.declared.output.Output.{Output}
+use Rattle.xp_step.specs.declared.entry.Entry.{Entry}
+use Rattle.xp_step.specs.declared.output.Outgoing.{Outgoing}
+use Rattle.xp_step.specs.declared.output.Output.{Output}
 use Rattle.xp_machine.specs.Channel.{is_off}
-use Rattle.xp_core.specs.Worlds.{world_after}
+use Rattle.xp_step.specs.Worlds.{world_after}
 use Rattle.xp_machine.specs.World.{state_at}
 use Rattle.xp_lock.specs.Outgoing.{put_out_to, to_line}
 use Rattle.xp_lock.specs.Outboxes.{HaveCapacity, PLACES_KEPT, outbox_at}

@@ -2,15 +2,15 @@
 use Rattle.std.specs.Prelude.{◌≡◌, ℕ, ◌+◌, ◌<◌, ◌≤◌, true, false, List, [], ◌∷◌, ◌++◌, All, drop, length, take}
 use Rattle.xp_outbox.specs.Ends.{Putting}
 use Rattle.xp_subs.specs.Tables.{line_count}
-use Rattle.xp_core.specs.declared.entry.Entry.{Entry}
-use Rattle.xp_core.specs.declared.event.Event.{Event}
-use Rattle.xp_core.specs.declared.output.Outgoing.{Outgoing}
+use Rattle.xp_step.specs.declared.entry.Entry.{Entry}
+use Rattle.xp_step.specs.declared.event.Event.{Event}
+use Rattle.xp_step.specs.declared.output.Outgoing.{Outgoing}
 use Rattle.xp_machine.specs.Channel.{is_off}
-use Rattle.xp_core.specs.Exchange.{Exchange, world_of}
+use Rattle.xp_step.specs.Exchange.{Exchange, world_of}
 use Rattle.xp_core.specs.Records.{records_of}
-use Rattle.xp_core.specs.Run.{Run}
-use Rattle.xp_core.specs.Worlds.{world_after}
-use Rattle.xp_core.specs.Step.{Step}
+use Rattle.xp_step.specs.Run.{Run}
+use Rattle.xp_step.specs.Worlds.{world_after}
+use Rattle.xp_step.specs.Step.{Step}
 use Rattle.xp_machine.specs.World.{state_at}
 use Rattle.xp_lock.specs.Outboxes.{PLACES_KEPT, outbox_at}
 use Rattle.xp_lock.specs.steps.Outboxes.{AreAlike, OutboxesMatch}

@@ -5,8 +5,8 @@
 use Rattle.std.specs.Prelude.{◌≡◌, ◌≢◌, ℕ, ◌<◌, true, false, List, [], ◌∷◌, ◌++◌, length, slice_index}
 use mathlib.Core.Option.{Option, none, some}
 use lib.ListN.{get_elem?}
-use Rattle.xp_core.specs.declared.entry.Entry.{Entry}
-use Rattle.xp_core.specs.Exchange.{Exchange}
+use Rattle.xp_step.specs.declared.entry.Entry.{Entry}
+use Rattle.xp_step.specs.Exchange.{Exchange}
 use Rattle.xp_lock.specs.declared.history_length.View.{View}
 use Rattle.xp_lock.specs.Given.{is_among}
 use Rattle.xp_lock.specs.Handed.{handed}

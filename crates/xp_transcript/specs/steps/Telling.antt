@@ -1,6 +1,6 @@
 -- What private functions promise of telling events, and one line.
 use Rattle.std.specs.Prelude.{◌≡◌, ℕ, List, Result, Ok, Err, length}
-use Rattle.xp_core.specs.declared.event.Event.{Event}
+use Rattle.xp_step.specs.declared.event.Event.{Event}
 use Rattle.xp_exchange.specs.declared.fault.ReplayFault.{ReplayFault}
 use Rattle.xp_exchange.specs.declared.fault.ReplayFault.TheVariants.{Script, Journal, Memory, Read, Write}
 use Rattle.xp_exchange.specs.Play.{ActsOn, PlaysLine}

@@ -1,6 +1,6 @@
 -- The lines that were looked at so far.
 use Rattle.std.specs.Prelude.{◌≡◌, ℕ, ◌<◌, List, Some, length, slice_get}
-use Rattle.xp_core.specs.declared.entry.Entry.{Entry}
+use Rattle.xp_step.specs.declared.entry.Entry.{Entry}
 use Rattle.xp_view.specs.Views.{line_with_call}
 use Rattle.xp_view.specs.declared.view.LineWithCall.{LineWithCall}
 use Rattle.xp_subs.specs.Tables.{Tables}

@@ -1,6 +1,6 @@
 use Rattle.std.proofs.Common.{◌≡◌, ◌∙◌, true, false, sym, ap, refl}
 use Rattle.xp_machine.specs.Channel.{is_off}
-use Rattle.xp_core.specs.StepContext.{step_context}
+use Rattle.xp_step.specs.StepContext.{step_context}
 use Rattle.xp_machine.specs.World.{state_at}
 use Rattle.xp_core.proofs.Stalls.{makes_fall, makes_nothing}
 use Rattle.xp_core.proofs.stalling.give_up.Goals as goal

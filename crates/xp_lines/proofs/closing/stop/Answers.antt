@@ -1,5 +1,5 @@
 use Rattle.std.proofs.Common.{◌≡◌, ap, refl, None, Some, subst, sym}
-use Rattle.xp_core.specs.declared.event.What.TheVariants.{Down}
+use Rattle.xp_step.specs.declared.event.What.TheVariants.{Down}
 use Rattle.xp_lines.specs.declared.line.EndReason.TheVariants as reasons
 use Rattle.xp_lines.specs.declared.line_state.LineState.TheVariants as states
 use Rattle.xp_lines.specs.steps.Offering.{Tells}

@@ -1,6 +1,6 @@
 use Rattle.std.proofs.Common.{rules, List, ap, drop, ◌∙◌, sym, subst, ◌<◌, ◌≤◌, arith}
 use Rattle.xp_subs.specs.Tables.{line_count}
-use Rattle.xp_core.specs.Exchange.{Advances, Exchange}
+use Rattle.xp_step.specs.Exchange.{Advances, Exchange}
 use Rattle.xp_lock.specs.Given.{AreGiven}
 use Rattle.xp_lock.specs.steps.Given.{AddFew, AreAdded}
 use Rattle.xp_lock.proofs.Entered.{adds_few, can_still, entered, given_first, kept, left_others, line_there, room_for, taken, takes_still}

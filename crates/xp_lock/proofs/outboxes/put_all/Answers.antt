@@ -1,7 +1,7 @@
 use Rattle.std.proofs.Common.{List, ◌∷◌, ap, arith, length, subst, sym}
 use Rattle.xp_outbox.specs.Ends.{Putting}
-use Rattle.xp_core.specs.declared.output.Outgoing.{Outgoing}
-use Rattle.xp_core.specs.declared.output.Output.{Output}
+use Rattle.xp_step.specs.declared.output.Outgoing.{Outgoing}
+use Rattle.xp_step.specs.declared.output.Output.{Output}
 use Rattle.xp_lock.specs.steps.Outboxes.{HasRoomFor, IsPut}
 use Rattle.xp_lock.proofs.Putting.{put_none, put_rest, room_first, room_rest}
 use Rattle.xp_lock.proofs.outboxes.put_all.Goals as goal

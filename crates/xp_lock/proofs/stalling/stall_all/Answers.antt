@@ -1,5 +1,5 @@
 use Rattle.std.proofs.Common.{ap, arith, drop, length, length-append, ◌∙◌, ◌∷◌, [], subst, sym}
-use Rattle.xp_core.specs.Exchange.{Exchange}
+use Rattle.xp_step.specs.Exchange.{Exchange}
 use Rattle.xp_lock.specs.Given.{AreGiven}
 use Rattle.xp_lock.proofs.Looping.{Looping, adds_few, begins, ends, given_next, goes_on, has_place, is_prepared, looked, room}
 use Rattle.xp_lock.proofs.stalling.stall_all.Goals as goal

@@ -4,7 +4,7 @@ use Rattle.std.specs.Prelude.{All, Some, min, slice_get}
 use Rattle.std.specs.Vec.Iter.{into_iter_items}
 use Rattle.xp_outbox.specs.Ends.{Taking}
 use Rattle.xp_subs.specs.Tables.{line_count, modulus_of}
-use Rattle.xp_core.specs.declared.output.Outgoing.{Outgoing}
+use Rattle.xp_step.specs.declared.output.Outgoing.{Outgoing}
 use Rattle.xp_lock.specs.Opening.{AreFirst}
 use Rattle.xp_lock.specs.Passes.{Pass}
 use Rattle.xp_lock.specs.steps.HistorySeat.{SeatState}

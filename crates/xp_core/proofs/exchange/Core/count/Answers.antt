@@ -1,13 +1,13 @@
 use Rattle.std.proofs.Common.{All, arith, subst}
-use Rattle.xp_core.specs.Agreed.{AllHaveTerms}
+use Rattle.xp_step.specs.Agreed.{AllHaveTerms}
 use Rattle.xp_core.specs.Delivered.{AreDelivered}
-use Rattle.xp_core.specs.Exchange.{Exchange, world_of}
+use Rattle.xp_step.specs.Exchange.{Exchange, world_of}
 use Rattle.xp_core.specs.Joined.{AreJoined}
-use Rattle.xp_core.specs.Worlds.{world_after}
+use Rattle.xp_step.specs.Worlds.{world_after}
 use Rattle.xp_core.specs.Writable.{AreWritable}
 use Rattle.xp_subs.specs.Tables.{line_count}
 use Rattle.xp_core.specs.Lines.{HasLines}
-use Rattle.xp_core.proofs.Agreed.{run_agreed}
+use Rattle.xp_step.proofs.Agreed.{run_agreed}
 use Rattle.xp_core.proofs.Delivered.{run_delivered}
 use Rattle.xp_core.proofs.Fitting.{run_fits}
 use Rattle.xp_core.proofs.Joined.{run_joined}

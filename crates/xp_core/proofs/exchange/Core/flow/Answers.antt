@@ -1,7 +1,7 @@
 use Rattle.std.proofs.Common.{rules, ◌≡◌, ◌∙◌, None, Some, ap, subst}
 use Rattle.xp_packets.specs.declared.end.End.{End}
 use Rattle.xp_relay.specs.Coupled.{state_at}
-use Rattle.xp_core.specs.Exchange.{world_of}
+use Rattle.xp_step.specs.Exchange.{world_of}
 use Rattle.xp_machine.specs.Relays.{relay_under}
 use Rattle.xp_core.specs.View.{flow_at}
 use Rattle.xp_core.proofs.Flows.{connected, never_lost}

@@ -1,6 +1,6 @@
 use Rattle.std.proofs.Common.{ap, ◌∙◌}
 use Rattle.xp_machine.specs.Channel.{is_off}
-use Rattle.xp_core.specs.Exchange.{world_of}
+use Rattle.xp_step.specs.Exchange.{world_of}
 use Rattle.xp_machine.specs.World.{state_at}
 use Rattle.xp_core.proofs.exchange.Core.is_out_of_service.Goals as goal
 

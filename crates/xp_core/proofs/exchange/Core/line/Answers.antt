@@ -1,6 +1,6 @@
 use Rattle.std.proofs.Common.{ap, arith, subst, ◌∙◌}
 use Rattle.xp_machine.specs.Coupling.{AreCoupled}
-use Rattle.xp_core.specs.Exchange.{Exchange, world_of}
+use Rattle.xp_step.specs.Exchange.{Exchange, world_of}
 use Rattle.xp_machine.specs.View.{view_of}
 use Rattle.xp_machine.specs.World.{line_at}
 use Rattle.xp_core.proofs.Fitting.{run_narrow}

@@ -1,9 +1,9 @@
 use Rattle.std.proofs.Common.{◌≡◌, ◌++◌, List, All, subst, sym}
 use Rattle.xp_charge.specs.Lines.{HasLines}
 use Rattle.xp_subs.specs.Tables.{line_count}
-use Rattle.xp_core.specs.Exchange.{Exchange, world_of}
+use Rattle.xp_step.specs.Exchange.{Exchange, world_of}
 use Rattle.xp_core.specs.Records.{OneRecordEach, records_of}
-use Rattle.xp_core.specs.Worlds.{world_after}
+use Rattle.xp_step.specs.Worlds.{world_after}
 use Rattle.xp_core.proofs.Endings.{one_record_each}
 use Rattle.xp_core.proofs.Names.{run_named, waiting_named}
 use Rattle.xp_core.proofs.exchange.Core.records.Goals as goal

@@ -1,5 +1,5 @@
 use Rattle.std.proofs.Common.{[], IfOk, length, arith, subst}
-use Rattle.xp_core.specs.Exchange.{Exchange}
+use Rattle.xp_step.specs.Exchange.{Exchange}
 use Rattle.xp_core.specs.Lines.{HasLines}
 use Rattle.xp_core.specs.Writable.{AreWritable}
 use Rattle.xp_subs.specs.Tables.{line_count}

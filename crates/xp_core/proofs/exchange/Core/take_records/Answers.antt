@@ -1,8 +1,8 @@
 use Rattle.std.proofs.Common.{All, IfOk, List, subst, sym}
 use Rattle.xp_charge.specs.Lines.{HasLines}
 use Rattle.xp_subs.specs.Tables.{line_count}
-use Rattle.xp_core.specs.Exchange.{Exchange}
-use Rattle.xp_core.specs.Worlds.{world_after}
+use Rattle.xp_step.specs.Exchange.{Exchange}
+use Rattle.xp_step.specs.Worlds.{world_after}
 use Rattle.xp_core.proofs.Names.{if_ok, run_named, waiting_named}
 use Rattle.xp_core.proofs.RecordCounts.{can_count}
 use Rattle.xp_core.proofs.exchange.Core.take_records.Goals as goal

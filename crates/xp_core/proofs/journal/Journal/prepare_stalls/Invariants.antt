@@ -1,6 +1,6 @@
 use Rattle.std.proofs.Common.{◌≡◌, ◌+◌, ◌-◌, ◌≤◌, length, vec_len, vec_capacity}
-use Rattle.xp_core.specs.Stalls.{stalls_in}
-use Rattle.xp_core.specs.declared.journal.TheConstants.{MOST_STALLS}
+use Rattle.xp_step.specs.Stalls.{stalls_in}
+use Rattle.xp_step.specs.declared.event.TheConstants.{MOST_STALLS}
 use Rattle.xp_core.proofs.journal.Journal.prepare_stalls.Given as goal
 
 -- there is room for all stalls already

@@ -1,7 +1,7 @@
 use Rattle.std.proofs.Common.{All, subst}
 use Rattle.xp_subs.specs.Tables.{line_count}
-use Rattle.xp_core.specs.Worlds.{world_after}
-use Rattle.xp_core.specs.Agreed.{AllHaveTerms}
+use Rattle.xp_step.specs.Worlds.{world_after}
+use Rattle.xp_step.specs.Agreed.{AllHaveTerms}
 use Rattle.xp_core.specs.Delivered.{AreDelivered}
 use Rattle.xp_core.specs.Lines.{HasLines}
 use Rattle.xp_lock.proofs.book.Book.count.Goals as goal

@@ -1,0 +1,12 @@
+pub mod Agreed
+pub mod RelayedPackets
+pub mod Carrying
+pub mod Clearings
+pub mod Counting
+pub mod Events
+pub mod Leaving
+pub mod Origins
+pub mod Plans
+pub mod Quiet
+pub mod Requests
+pub mod RunLemmas

@@ -1,0 +1,16 @@
+pub mod Acts
+pub mod Agreed
+pub mod Effects
+pub mod EventOutputs
+pub mod Exchange
+pub mod Outcomes
+pub mod Recorded
+pub mod RelayedPackets
+pub mod Run
+pub mod Segments
+pub mod Stalls
+pub mod Step
+pub mod StepContext
+pub mod Table
+pub mod Worlds
+pub mod steps

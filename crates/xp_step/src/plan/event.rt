@@ -1,0 +1,158 @@
+//! Plans each event, by the table of actions.
+
+ghost use Rattle.std.specs.Prelude.{◌≡◌, ◌<◌, [], IfOk, List};
+ghost use Rattle.xp_channel.specs.Table.{cell};
+ghost use Rattle.xp_channel.specs.declared.action.Action.TheVariants.{Answer as Answers, Collision as Collides, Confirm as Clears, NewCall as Requested};
+ghost use Rattle.xp_step.specs.Agreed.{AllHaveTerms};
+ghost use Rattle.xp_machine.specs.Channel.{channel_of};
+ghost use Rattle.xp_machine.specs.Coupling.{AreCoupled};
+ghost use Rattle.xp_step.specs.declared.entry.Entry.{Entry as Entered};
+ghost use Rattle.xp_step.specs.steps.EventLine.{IsEventLine, IsShort, event_line_context};
+ghost use Rattle.xp_step.specs.steps.Plan.{IsPlainPlan, Plans};
+ghost use Rattle.xp_step.specs.steps.Relays.{RelaysRepresentCalls};
+ghost use Rattle.xp_step.specs.StepContext.{step_context};
+ghost use Rattle.xp_step.specs.Table.{kind_of};
+ghost use Rattle.xp_step.specs.EventOutputs.{no_outputs};
+ghost use Rattle.xp_machine.specs.World.{state_at};
+ghost use Rattle.xp_subs.specs.Sound.{IsSound};
+ghost use Rattle.xp_subs.specs.Tables.{line_count};
+
+use super::Plan;
+use super::answer::answer;
+use super::clearing::{confirm, fail, fall, free, rise};
+use super::event_line::{EventLine, charged_on};
+use super::received_packets::{accepted_in, clear_in, request_in};
+use super::relaying::carry;
+use super::request::{Cancelled, request};
+use crate::entry::Entry;
+use crate::event::{Event, What};
+use crate::table::action_of;
+use crate::workspace::Workspace;
+use std::alloc::{AllocError, Allocator};
+use xp_causes::diagnostic::TIMER_EXPIRED_FOR_INCOMING_CALL;
+use xp_channel::Action;
+use xp_machine::{Machine, Relays};
+use xp_past::Past;
+use xp_subs::Subs;
+
+/// Plans what an event does. It fails only if memory is wanting.
+#[inline(always)]
+pub fn plan_of<A: Allocator + Copy>(
+    alloc: A,
+    subs: &Subs,
+    machine: &Machine<A>,
+    relays: &Relays<A>,
+    before: &Past<Entry<A>>,
+    event: &Event<A>,
+    workspace: &mut Workspace<A>,
+) -> Result<Plan<A>, AllocError>
+    requires sound { IsSound subs.now }
+    requires line { event.now.line < line_count subs.now }
+    requires terms { AllHaveTerms subs.now machine.now }
+    requires coupled { AreCoupled subs.now machine.now }
+    requires carried { RelaysRepresentCalls subs.now before.now.items machine.now relays.now }
+    ensures { IfOk result (λ plan. Plans (step_context subs.now before.now.items machine.now event.now.line event.now.moment) event.now.what (cell (channel_of (state_at machine.now event.now.line)) (kind_of event.now.what)) plan) }
+{
+    let line = event.line;
+    let moment = event.moment;
+    let found = EventLine {
+        subs,
+        machine,
+        line,
+        moment,
+        charged: charged_on(subs, machine, relays, before, line),
+    };
+    let what = &event.what;
+    match action_of(machine.line(line).state, what) {
+        Action::Nothing => nothing(alloc, &found),
+        Action::Relayed => carry(alloc, &found, relays, what, workspace),
+        Action::Rise => rise(alloc, &found),
+        Action::Fall => fall(alloc, &found, what),
+        Action::Free => free(alloc, &found),
+        Action::Error(diagnostic) => fail(alloc, &found, diagnostic),
+        Action::Expired => fail(alloc, &found, TIMER_EXPIRED_FOR_INCOMING_CALL),
+        Action::NewCall => new_call(alloc, &found, what, workspace),
+        Action::Collision => collision(alloc, &found, what, workspace),
+        Action::Answer => answered(alloc, &found, what, workspace),
+        Action::Confirm => cleared(alloc, &found, what, workspace),
+    }
+}
+
+/// Plans that nothing happens.
+fn nothing<A: Allocator + Copy>(alloc: A, _found: &EventLine<'_, A>) -> Result<Plan<A>, AllocError>
+    ensures { (before : List (Entered A)) → IfOk result (λ plan. IsPlainPlan plan (event_line_context _found.now before) no_outputs []) }
+{
+    Ok(Plan::none(alloc))
+}
+
+/// Plans a call request of a line that is in no call.
+#[inline(never)]
+fn new_call<A: Allocator + Copy>(
+    alloc: A,
+    found: &EventLine<'_, A>,
+    what: &What<A>,
+    workspace: &mut Workspace<A>,
+) -> Result<Plan<A>, AllocError>
+    requires { found.now.line < line_count found.now.subs.now }
+    ensures { (before : List (Entered A)) → IfOk result (Plans (event_line_context found.now before) what.now Requested) }
+{
+    match request_in(what) {
+        None => nothing(alloc, found),
+        Some(call) => request(alloc, found, &call, Cancelled::none(), workspace),
+    }
+}
+
+/// Plans a call request that collides with an incoming call of its line, which is cancelled.
+#[cold]
+#[inline(never)]
+fn collision<A: Allocator + Copy>(
+    alloc: A,
+    found: &EventLine<'_, A>,
+    what: &What<A>,
+    workspace: &mut Workspace<A>,
+) -> Result<Plan<A>, AllocError>
+    requires { found.now.line < line_count found.now.subs.now }
+    ensures { (before : List (Entered A)) → IsEventLine found.now before → IfOk result (Plans (event_line_context found.now before) what.now Collides) }
+{
+    match request_in(what) {
+        None => nothing(alloc, found),
+        Some(call) => request(alloc, found, &call, Cancelled::by(found), workspace),
+    }
+}
+
+/// Plans the answer to the incoming call of its line.
+#[inline(never)]
+fn answered<A: Allocator + Copy>(
+    alloc: A,
+    found: &EventLine<'_, A>,
+    what: &What<A>,
+    workspace: &mut Workspace<A>,
+) -> Result<Plan<A>, AllocError>
+    requires line { found.now.line < line_count found.now.subs.now }
+    requires terms { AllHaveTerms found.now.subs.now found.now.machine.now }
+    requires coupled { AreCoupled found.now.subs.now found.now.machine.now }
+    requires short { IsShort found.now.charged }
+    ensures { (before : List (Entered A)) → IsEventLine found.now before → IfOk result (Plans (event_line_context found.now before) what.now Answers) }
+{
+    match accepted_in(what) {
+        None => nothing(alloc, found),
+        Some(accepted) => answer(alloc, found, &accepted, workspace),
+    }
+}
+
+/// Plans a clear request.
+#[inline(never)]
+fn cleared<A: Allocator + Copy>(
+    alloc: A,
+    found: &EventLine<'_, A>,
+    what: &What<A>,
+    workspace: &mut Workspace<A>,
+) -> Result<Plan<A>, AllocError>
+    requires { IsShort found.now.charged }
+    ensures { (before : List (Entered A)) → IsEventLine found.now before → IfOk result (Plans (event_line_context found.now before) what.now Clears) }
+{
+    match clear_in(what) {
+        None => nothing(alloc, found),
+        Some(clear) => confirm(alloc, found, &clear, workspace),
+    }
+}
