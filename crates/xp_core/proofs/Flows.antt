@@ -10,7 +10,7 @@ use Rattle.xp_machine.specs.declared.relays.MeteredRelay.{MeteredRelay}
 use Rattle.xp_step.specs.RelayedPackets.{directions}
 use Rattle.xp_machine.specs.CallEnds.{end_of}
 use Rattle.xp_machine.specs.StoredState.{call_of_stored, entry_of}
-use Rattle.xp_step.specs.steps.Relays.{RelaysRepresentCalls, IsRepresentedBy, counted_by}
+use Rattle.xp_step.specs.Relays.{RelaysRepresentCalls, IsRepresentedBy, counted_by}
 use Rattle.xp_machine.specs.Relays.{relay_under}
 use Rattle.xp_core.specs.View.{flow_at, flow_in}
 use Rattle.xp_machine.specs.World.{World, call_on}

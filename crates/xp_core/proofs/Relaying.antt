@@ -17,7 +17,7 @@ use Rattle.xp_step.specs.Acts.{Acts, Carries, CarriesAs}
 use Rattle.xp_step.specs.RelayedPackets.{RelayedPacket, arrivals, relay_terms, relayed_in, directions, turn_of_relayed}
 use Rattle.xp_machine.specs.Changes.{Change, Rises, Leaves, Begins, IsRefused, Connects, Ends, all_changed}
 use Rattle.xp_step.specs.Effects.{carries, changes_of, effects_of}
-use Rattle.xp_step.specs.steps.Relays.{RelaysRepresentCalls, IsRelayed, IsRepresentedBy, Relays, RelaysFor, RelaysOn, counted_by, counted_with}
+use Rattle.xp_step.specs.Relays.{RelaysRepresentCalls, IsRelayed, IsRepresentedBy, Relays, RelaysFor, RelaysOn, counted_by, counted_with}
 use Rattle.xp_machine.specs.Relays.{relay_under, relays_with}
 use Rattle.xp_step.specs.Run.{Run}
 use Rattle.xp_step.specs.Segments.{is_past_limit}

@@ -6,7 +6,7 @@ use Rattle.xp_step.specs.declared.entry.Entry.{Entry}
 use Rattle.xp_step.specs.declared.plan.event_line.MeteredCall.{MeteredCall}
 use Rattle.xp_step.specs.StepContext.{step_context}
 use Rattle.xp_core.specs.View.{call_seen_on, call_view}
-use Rattle.xp_step.specs.steps.EventLine.{IsMeteredCall}
+use Rattle.xp_step.specs.EventLine.{IsMeteredCall}
 use Rattle.xp_machine.specs.World.{World}
 use Rattle.xp_machine.specs.declared.call.LiveCall.{LiveCall}
 use Rattle.xp_subs.specs.Tables.{Tables}

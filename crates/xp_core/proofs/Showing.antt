@@ -17,9 +17,9 @@ use Rattle.xp_machine.specs.declared.relays.RelayUpdate.{RelayUpdate}
 use Rattle.xp_machine.specs.declared.relays.MeteredRelay.{MeteredRelay}
 use Rattle.xp_step.specs.Agreed.{AllHaveTerms}
 use Rattle.xp_step.specs.Exchange.{Advances, Exchange, IsReadable, world_of}
-use Rattle.xp_step.specs.steps.Plan.{Plans, applied_by}
+use Rattle.xp_step.specs.Plan.{Plans, applied_by}
 use Rattle.xp_core.specs.Records.{records_of}
-use Rattle.xp_step.specs.steps.Relays.{RelaysRepresentCalls}
+use Rattle.xp_step.specs.Relays.{RelaysRepresentCalls}
 use Rattle.xp_machine.specs.Relays.{relays_with}
 use Rattle.xp_core.specs.Lines.{HasLines}
 use Rattle.xp_step.specs.Run.{Run}

@@ -17,8 +17,8 @@ use Rattle.xp_machine.specs.Changes.{GoesOut, NoCallState, all_changed, changed}
 use Rattle.xp_machine.specs.Channel.{State, Off, Ready, Waiting, Ringing, Talking, Cleared, channel_of, is_off}
 use Rattle.xp_step.specs.Effects.{effects_of, leaves}
 use Rattle.xp_machine.specs.AppliedChange.{left}
-use Rattle.xp_step.specs.steps.Plan.{recorded_at}
-use Rattle.xp_step.specs.steps.Relays.{Relays}
+use Rattle.xp_step.specs.Plan.{recorded_at}
+use Rattle.xp_step.specs.Relays.{Relays}
 use Rattle.xp_step.specs.StepContext.{StepContext}
 use Rattle.xp_core.specs.steps.Stalling.{MakesStall, outputs_of_stall}
 use Rattle.xp_step.specs.Stalls.{is_stall, places_for}

@@ -6,7 +6,7 @@ ghost use Rattle.xp_subs.specs.Tables.{line_count};
 ghost use Rattle.xp_step.specs.Agreed.{AllHaveTerms};
 ghost use Rattle.xp_machine.specs.Coupling.{AreCoupled};
 ghost use Rattle.xp_core.specs.steps.Journal.{IsSpent};
-ghost use Rattle.xp_step.specs.steps.Relays.{RelaysRepresentCalls};
+ghost use Rattle.xp_step.specs.Relays.{RelaysRepresentCalls};
 ghost use Rattle.xp_core.specs.steps.Sound.{IsSound};
 ghost use Rattle.xp_step.specs.Stalls.{is_stall, left_after};
 ghost use Rattle.xp_core.specs.steps.PreparedEntry.{Enters, IsPreparedEntry};

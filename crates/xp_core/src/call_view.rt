@@ -3,7 +3,7 @@
 ghost use Rattle.std.specs.Prelude.{◌≡◌, option_map};
 ghost use Rattle.xp_core.specs.View.{call_seen_on};
 ghost use Rattle.xp_step.specs.declared.entry.Entry.{Entry as Entered};
-ghost use Rattle.xp_step.specs.steps.Relays.{RelaysRepresentCalls};
+ghost use Rattle.xp_step.specs.Relays.{RelaysRepresentCalls};
 ghost use Rattle.xp_subs.specs.Sound.{IsSound};
 
 use std::alloc::Allocator;

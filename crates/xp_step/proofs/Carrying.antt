@@ -23,9 +23,10 @@ use Rattle.xp_machine.specs.CallEnds.{end_of}
 use Rattle.xp_machine.specs.Changes.{IsCleared}
 use Rattle.xp_step.specs.Effects.{carries, leaves}
 use Rattle.xp_machine.specs.StoredState.{call_of_stored, entry_of}
-use Rattle.xp_step.specs.steps.Plan.{IsPlan, PlansRelayed, applied_by}
+use Rattle.xp_step.specs.Plan.{IsPlan, applied_by}
+use Rattle.xp_step.specs.steps.Branches.{PlansRelayed}
 use Rattle.xp_machine.specs.AppliedChange.{applied_if_any, freed_if_any}
-use Rattle.xp_step.specs.steps.Relays.{RelaysRepresentCalls, IsRepresentedBy, Relays, RelaysFor, RelaysOn, counted_by}
+use Rattle.xp_step.specs.Relays.{RelaysRepresentCalls, IsRepresentedBy, Relays, RelaysFor, RelaysOn, counted_by}
 use Rattle.xp_machine.specs.Relays.{Counts, relay_under}
 use Rattle.xp_machine.specs.Segments.{goes_past, judged}
 use Rattle.xp_step.specs.Segments.{is_past_limit, judged_at}

@@ -24,10 +24,11 @@ use Rattle.xp_machine.specs.declared.agreement.Agreement.{Agreement}
 use Rattle.xp_machine.specs.Changes.{Change, Connects, IsCleared}
 use Rattle.xp_machine.specs.Coupling.{AreCoupled, IsHeld}
 use Rattle.xp_machine.specs.StoredState.{call_of_stored, entry_of}
-use Rattle.xp_step.specs.steps.Plan.{IsPlainPlan, IsPlan, IsToldOn, PlansAnswer, PlansClear}
+use Rattle.xp_step.specs.Plan.{IsPlan}
+use Rattle.xp_step.specs.steps.Branches.{IsPlainPlan, IsToldOn, PlansAnswer, PlansClear}
 use Rattle.xp_step.specs.RelayedPackets.{relay_terms}
 use Rattle.xp_step.specs.Effects.{answers as answered_by, confirms, leaves}
-use Rattle.xp_step.specs.steps.Relays.{IsRelayed, RelaysFor}
+use Rattle.xp_step.specs.Relays.{IsRelayed, RelaysFor}
 use Rattle.xp_step.specs.StepContext.{StepContext}
 use Rattle.xp_step.specs.Table.{CallAccepted, ClearRequest}
 use Rattle.xp_step.specs.EventOutputs.{EventOutputs, no_outputs}

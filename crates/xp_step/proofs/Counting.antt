@@ -16,7 +16,7 @@ use Rattle.xp_subs.specs.Tables.{Tables}
 use Rattle.xp_step.specs.declared.entry.Entry.{Entry}
 use Rattle.xp_machine.specs.declared.agreement.Agreement.{Agreement}
 use Rattle.xp_step.specs.RelayedPackets.{RelayedPacket, arrivals, relay_terms, relayed_in, directions}
-use Rattle.xp_step.specs.steps.Relays.{counted_by, counted_with}
+use Rattle.xp_step.specs.Relays.{counted_by, counted_with}
 use Rattle.xp_machine.specs.Relays.{counting}
 use Rattle.xp_step.specs.Segments.{all_judged_from, is_past_limit, judged_at, judged_from, segments_from, segments_of, sum_within}
 use Rattle.xp_machine.specs.Segments.{goes_past}

@@ -9,8 +9,9 @@ use Rattle.xp_step.specs.declared.outcome.Outcome.TheVariants.{Plain}
 use Rattle.xp_step.specs.declared.plan.Plan.{Plan}
 use Rattle.xp_step.specs.Acts.{Answers, Confirms, IsPlain, Requests, outputs_of_cancel, outputs_of_error, outputs_of_fall}
 use Rattle.xp_machine.specs.Changes.{Change, GoesOut, IsCleared, IsFree, Leaves, Rises}
-use Rattle.xp_step.specs.steps.Plan.{IsPlainPlan, IsPlan, Plans, PlansAnswer, PlansRelayed, PlansClear, PlansRequest}
-use Rattle.xp_step.specs.steps.Relays.{RelaysFor}
+use Rattle.xp_step.specs.Plan.{IsPlan, Plans}
+use Rattle.xp_step.specs.steps.Branches.{IsPlainPlan, PlansAnswer, PlansRelayed, PlansClear, PlansRequest}
+use Rattle.xp_step.specs.Relays.{RelaysFor}
 use Rattle.xp_step.specs.StepContext.{StepContext}
 use Rattle.xp_step.specs.Effects.{answers, cancels, collides, confirms, leaves, requests}
 use Rattle.xp_step.specs.Table.{CallAccepted, CallRequest, ClearRequest, accepted_in, clear_in, request_in}

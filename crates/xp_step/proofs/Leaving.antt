@@ -20,11 +20,12 @@ use Rattle.xp_machine.specs.CallEnds.{end_of}
 use Rattle.xp_machine.specs.Changes.{Change}
 use Rattle.xp_machine.specs.Clearing.{record_of}
 use Rattle.xp_step.specs.Effects.{leaves}
-use Rattle.xp_step.specs.steps.EventLine.{IsMeteredCall}
+use Rattle.xp_step.specs.EventLine.{IsMeteredCall}
 use Rattle.xp_machine.specs.StoredState.{call_of_stored, entry_of, no_call_state_of}
-use Rattle.xp_step.specs.steps.Plan.{IsPlainPlan, IsWithdrawal}
+use Rattle.xp_step.specs.Plan.{IsWithdrawal}
+use Rattle.xp_step.specs.steps.Branches.{IsPlainPlan}
 use Rattle.xp_machine.specs.AppliedChange.{applied, applied_if_any, freed_if_any, left}
-use Rattle.xp_step.specs.steps.Relays.{RelaysRepresentCalls, IsRepresentedBy, counted_by}
+use Rattle.xp_step.specs.Relays.{RelaysRepresentCalls, IsRepresentedBy, counted_by}
 use Rattle.xp_machine.specs.Relays.{relay_under}
 use Rattle.xp_machine.specs.Information.{information_for}
 use Rattle.xp_step.specs.Segments.{segments_of}

@@ -13,10 +13,11 @@ use Rattle.xp_step.specs.declared.plan.request.Cancelled.{Cancelled}
 use Rattle.xp_step.specs.Acts.{outputs_of_cancel}
 use Rattle.xp_machine.specs.Changes.{Change, IsFree, all_changed, changed, recorded, recorded_by}
 use Rattle.xp_machine.specs.Clearing.{record_of}
-use Rattle.xp_step.specs.steps.Plan.{IsCancelled, IsPlan, recorded_at}
+use Rattle.xp_step.specs.Plan.{IsPlan, recorded_at}
+use Rattle.xp_step.specs.steps.Branches.{IsCancelled}
 use Rattle.xp_machine.specs.AppliedChange.{applied, applied_if_any, freed_if_any, left}
 use Rattle.xp_step.specs.Effects.{cancels}
-use Rattle.xp_step.specs.steps.Relays.{counted_by}
+use Rattle.xp_step.specs.Relays.{counted_by}
 use Rattle.xp_step.specs.Segments.{segments_of}
 use Rattle.xp_step.specs.StepContext.{StepContext}
 use Rattle.xp_step.specs.EventOutputs.{clear_indication, send_far}

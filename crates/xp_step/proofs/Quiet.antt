@@ -6,7 +6,7 @@ use Rattle.xp_step.specs.declared.outcome.Outcome.TheVariants.{Plain, Put, Refus
 use Rattle.xp_machine.specs.declared.relays.RelayUpdate.{RelayUpdate}
 use Rattle.xp_machine.specs.Changes.{NoCallState}
 use Rattle.xp_step.specs.Effects.{collides, leaves, requests}
-use Rattle.xp_step.specs.steps.Relays.{RelaysFor}
+use Rattle.xp_step.specs.Relays.{RelaysFor}
 use Rattle.xp_step.specs.Table.{CallRequest}
 use Rattle.xp_machine.specs.World.{Call}
 

@@ -17,7 +17,8 @@ use Rattle.xp_step.specs.declared.plan.Plan.{Plan}
 use Rattle.xp_step.specs.Acts.{IsRequested}
 use Rattle.xp_machine.specs.World.{line_states}
 use Rattle.xp_machine.specs.Changes.{Change, Begins, IsRefused}
-use Rattle.xp_step.specs.steps.Plan.{IsPlan, PlansRequest}
+use Rattle.xp_step.specs.Plan.{IsPlan}
+use Rattle.xp_step.specs.steps.Branches.{PlansRequest}
 use Rattle.xp_step.specs.Effects.{requests}
 use Rattle.xp_step.specs.StepContext.{StepContext}
 use Rattle.xp_step.specs.Table.{CallRequest}

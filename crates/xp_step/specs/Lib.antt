@@ -1,11 +1,15 @@
 pub mod Acts
 pub mod Agreed
+pub mod Buffered
 pub mod Effects
+pub mod EventLine
 pub mod EventOutputs
 pub mod Exchange
 pub mod Outcomes
+pub mod Plan
 pub mod Recorded
 pub mod RelayedPackets
+pub mod Relays
 pub mod Run
 pub mod Segments
 pub mod Stalls

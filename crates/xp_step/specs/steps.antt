@@ -1,6 +1,3 @@
--- What the steps tell one another of the plan, and what the plan tells the exchange that takes the step.
-pub mod Buffered
-pub mod EventLine
-pub mod Plan
+-- What only private steps tell one another: no public contract cites it.
+pub mod Branches
 pub mod ReceivedPackets
-pub mod Relays

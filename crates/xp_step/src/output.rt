@@ -100,7 +100,7 @@ pub struct Buffer<A: Allocator = Global> {
 
 impl<A: Allocator> Model for Buffer<A> {
     ghost use Rattle.std.specs.Prelude.{◌+◌, ◌≤◌, vec_len, vec_capacity};
-    ghost use Rattle.xp_step.specs.steps.Buffered.{Buffered};
+    ghost use Rattle.xp_step.specs.Buffered.{Buffered};
 
     ghost Value = { Buffered A };
 

@@ -6,7 +6,7 @@ use Rattle.xp_step.specs.declared.entry.Entry.{Entry}
 use Rattle.xp_charge.specs.declared.record.Record.{Record}
 use Rattle.xp_machine.specs.declared.relays.MeteredRelay.{MeteredRelay}
 use Rattle.xp_core.specs.Records.{records_of}
-use Rattle.xp_step.specs.steps.Relays.{RelaysRepresentCalls}
+use Rattle.xp_step.specs.Relays.{RelaysRepresentCalls}
 use Rattle.xp_step.specs.Run.{Run}
 use Rattle.xp_step.specs.Worlds.{world_after}
 use Rattle.xp_machine.specs.World.{World}

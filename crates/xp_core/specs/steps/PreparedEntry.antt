@@ -11,7 +11,7 @@ use Rattle.xp_machine.specs.declared.relays.MeteredRelay.{MeteredRelay}
 use Rattle.xp_step.specs.Acts.{Acts}
 use Rattle.xp_step.specs.RelayedPackets.{relayed_in}
 use Rattle.xp_machine.specs.Changes.{all_changed, recorded_by}
-use Rattle.xp_step.specs.steps.Relays.{Relays}
+use Rattle.xp_step.specs.Relays.{Relays}
 use Rattle.xp_machine.specs.Relays.{relays_with}
 use Rattle.xp_step.specs.Segments.{segments_of}
 use Rattle.xp_step.specs.StepContext.{step_context}

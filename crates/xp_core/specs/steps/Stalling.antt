@@ -9,7 +9,7 @@ use Rattle.xp_machine.specs.declared.relays.MeteredRelay.{MeteredRelay}
 use Rattle.xp_step.specs.Acts.{outputs_of_fall}
 use Rattle.xp_machine.specs.Changes.{GoesOut}
 use Rattle.xp_step.specs.Effects.{leaves}
-use Rattle.xp_step.specs.steps.Plan.{recorded_at}
+use Rattle.xp_step.specs.Plan.{recorded_at}
 use Rattle.xp_step.specs.StepContext.{StepContext}
 use Rattle.xp_core.specs.steps.Stalls.{stall_of}
 use Rattle.xp_step.specs.EventOutputs.{EventOutputs, outputs_of}

@@ -5,11 +5,12 @@ ghost use Rattle.xp_step.specs.Acts.{agreement_of as agreed_by, outputs_of_answe
 ghost use Rattle.xp_step.specs.Agreed.{AllHaveTerms};
 ghost use Rattle.xp_step.specs.steps.ReceivedPackets.{answer_of};
 ghost use Rattle.xp_step.specs.declared.entry.Entry.{Entry as Entered};
-ghost use Rattle.xp_step.specs.steps.EventLine.{IsEventLine, IsShort, event_line_context};
+ghost use Rattle.xp_step.specs.EventLine.{IsEventLine, IsShort, event_line_context};
 ghost use Rattle.xp_machine.specs.StoredState.{call_of_stored, entry_of};
 ghost use Rattle.xp_machine.specs.Changes.{Connects};
 ghost use Rattle.xp_machine.specs.Coupling.{AreCoupled};
-ghost use Rattle.xp_step.specs.steps.Plan.{IsPlan, PlansAnswer};
+ghost use Rattle.xp_step.specs.Plan.{IsPlan};
+ghost use Rattle.xp_step.specs.steps.Branches.{PlansAnswer};
 ghost use Rattle.xp_step.specs.RelayedPackets.{relay_terms};
 ghost use Rattle.xp_machine.specs.World.{call_on};
 ghost use Rattle.xp_subs.specs.Tables.{line_count};

@@ -9,8 +9,9 @@ ghost use Rattle.xp_step.specs.steps.ReceivedPackets.{clear_of};
 ghost use Rattle.xp_machine.specs.Changes.{Rises, Leaves, IsCleared, IsFree, GoesOut};
 ghost use Rattle.xp_step.specs.Effects.{leaves};
 ghost use Rattle.xp_step.specs.declared.entry.Entry.{Entry as Entered};
-ghost use Rattle.xp_step.specs.steps.EventLine.{IsEventLine, IsShort, event_line_context};
-ghost use Rattle.xp_step.specs.steps.Plan.{IsPlan, IsPlainPlan, IsToldOn, PlansClear};
+ghost use Rattle.xp_step.specs.EventLine.{IsEventLine, IsShort, event_line_context};
+ghost use Rattle.xp_step.specs.Plan.{IsPlan};
+ghost use Rattle.xp_step.specs.steps.Branches.{IsPlainPlan, IsToldOn, PlansClear};
 ghost use Rattle.xp_step.specs.EventOutputs.{no_outputs};
 ghost use Rattle.xp_machine.specs.World.{call_on};
 

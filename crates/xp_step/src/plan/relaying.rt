@@ -3,10 +3,10 @@
 ghost use Rattle.std.specs.Prelude.{◌≡◌, IfOk, map, List};
 ghost use Rattle.std.specs.Option.{option_copied};
 ghost use Rattle.xp_step.specs.declared.entry.Entry.{Entry as Entered};
-ghost use Rattle.xp_step.specs.steps.EventLine.{IsEventLine, IsShort, event_line_context};
+ghost use Rattle.xp_step.specs.EventLine.{IsEventLine, IsShort, event_line_context};
 ghost use Rattle.xp_machine.specs.StoredState.{call_of_stored};
-ghost use Rattle.xp_step.specs.steps.Plan.{PlansRelayed};
-ghost use Rattle.xp_step.specs.steps.Relays.{RelaysRepresentCalls};
+ghost use Rattle.xp_step.specs.steps.Branches.{PlansRelayed};
+ghost use Rattle.xp_step.specs.Relays.{RelaysRepresentCalls};
 ghost use Rattle.xp_step.specs.Table.{packet_in as packet_of};
 ghost use Rattle.xp_step.specs.EventOutputs.{send_on};
 

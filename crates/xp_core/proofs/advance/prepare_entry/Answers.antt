@@ -1,6 +1,6 @@
 use Rattle.std.proofs.Common.{◌≡◌, List, ap, refl, subst, arith, ◌∙◌}
 use Rattle.xp_step.specs.declared.event.Event.{Event}
-use Rattle.xp_step.specs.steps.Plan.{Plans}
+use Rattle.xp_step.specs.Plan.{Plans}
 use Rattle.xp_step.specs.StepContext.{step_context}
 use Rattle.xp_step.specs.Table.{action_at}
 use Rattle.xp_core.specs.steps.PreparedEntry.{IsPreparedEntry}

@@ -2,7 +2,7 @@ use Rattle.std.proofs.Common.{◌≡◌, ◌∙◌, None, Some, ap, rules, sym, 
 use Rattle.xp_core.proofs.Seen.{seen_in_call, seen_in_none, shown_of}
 use Rattle.xp_step.specs.StepContext.{step_context}
 use Rattle.xp_step.specs.declared.plan.event_line.MeteredCall.{MeteredCall}
-use Rattle.xp_step.specs.steps.EventLine.{IsMeteredCall}
+use Rattle.xp_step.specs.EventLine.{IsMeteredCall}
 use Rattle.xp_core.proofs.call_view.see_call.Goals as goal
 
 pub returns-in_default : goal.returns-in_default

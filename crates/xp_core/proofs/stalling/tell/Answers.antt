@@ -1,7 +1,7 @@
 use Rattle.std.proofs.Common.{rules, ◌≡◌, ◌∙◌, ◌∷◌, append-nil, option_to_list, ap, sym}
 use Rattle.xp_causes.specs.declared.clearing_cause.TheConstants.{OUT_OF_ORDER}
 use Rattle.xp_causes.specs.declared.diagnostic.TheConstants.{NO_ADDITIONAL_INFORMATION}
-use Rattle.xp_step.specs.steps.EventLine.{event_line_context}
+use Rattle.xp_step.specs.EventLine.{event_line_context}
 use Rattle.xp_step.specs.EventOutputs.{clear_far, close}
 use Rattle.xp_machine.specs.World.{call_on}
 use Rattle.xp_core.proofs.stalling.tell.Goals as goal

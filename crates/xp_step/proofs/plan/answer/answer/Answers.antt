@@ -11,7 +11,7 @@ use Rattle.xp_step.specs.Acts.{agreement_of}
 use Rattle.xp_step.specs.steps.ReceivedPackets.{answer_of}
 use Rattle.xp_step.specs.declared.outcome.Outcome.TheVariants.{Declined}
 use Rattle.xp_step.specs.RelayedPackets.{relay_terms}
-use Rattle.xp_step.specs.steps.EventLine.{event_line_context}
+use Rattle.xp_step.specs.EventLine.{event_line_context}
 use Rattle.xp_machine.specs.StoredState.{call_of_stored}
 use Rattle.xp_step.proofs.Clearings.{called_within, caller_within, carried_otherwise, connected, declined, indicated, not_called, quiet_otherwise, settled_otherwise, settled_within}
 use Rattle.xp_step.proofs.plan.answer.answer.Goals as goal

@@ -2,9 +2,9 @@ use Rattle.std.proofs.Common.{rules, ◌≡◌, ◌∙◌, ℕ, Option, Some, []
 use Rattle.xp_answer.specs.ForwardedClear.{ForwardedClear}
 use Rattle.xp_facilities.specs.declared.charging_information.ChargingInformation.{ChargingInformation}
 use Rattle.xp_step.specs.steps.ReceivedPackets.{clear_of}
-use Rattle.xp_step.specs.steps.EventLine.{event_line_context}
+use Rattle.xp_step.specs.EventLine.{event_line_context}
 use Rattle.xp_machine.specs.StoredState.{entry_of}
-use Rattle.xp_step.specs.steps.Plan.{IsToldOn}
+use Rattle.xp_step.specs.steps.Branches.{IsToldOn}
 use Rattle.xp_step.specs.EventOutputs.{far_information, send}
 use Rattle.xp_machine.specs.World.{Call, call_on}
 use Rattle.xp_step.proofs.Leaving.{in_call}

@@ -1,6 +1,6 @@
 use Rattle.std.proofs.Common.{rules, ◌≡◌, ◌∙◌, [], ◌∷◌, ◌++◌, option_to_list, ap}
 use Rattle.xp_step.specs.steps.ReceivedPackets.{clear_of}
-use Rattle.xp_step.specs.steps.EventLine.{event_line_context}
+use Rattle.xp_step.specs.EventLine.{event_line_context}
 use Rattle.xp_step.specs.EventOutputs.{confirm_own}
 use Rattle.xp_machine.specs.World.{call_on}
 use Rattle.xp_step.proofs.Clearings.{confirmed}

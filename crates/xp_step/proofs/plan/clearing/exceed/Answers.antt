@@ -1,5 +1,5 @@
 use Rattle.xp_step.specs.declared.outcome.Outcome.TheVariants.{Exceeded}
-use Rattle.xp_step.specs.steps.EventLine.{event_line_context}
+use Rattle.xp_step.specs.EventLine.{event_line_context}
 use Rattle.xp_step.proofs.Clearings.{quiet_otherwise, settled_otherwise}
 use Rattle.xp_step.proofs.plan.clearing.exceed.Goals as goal
 

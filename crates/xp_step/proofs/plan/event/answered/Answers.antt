@@ -1,7 +1,7 @@
 use Rattle.std.proofs.Common.{refl}
 use Rattle.xp_channel.specs.declared.action.Action.TheVariants.{Answer}
 use Rattle.xp_step.specs.steps.ReceivedPackets.{answer_of}
-use Rattle.xp_step.specs.steps.EventLine.{event_line_context}
+use Rattle.xp_step.specs.EventLine.{event_line_context}
 use Rattle.xp_step.proofs.Events.{no_answer_planned, answer_planned}
 use Rattle.xp_step.proofs.plan.event.answered.Goals as goal
 

@@ -3,7 +3,7 @@ use Rattle.xp_channel.specs.declared.action.Action.TheVariants.{Collision}
 use Rattle.xp_step.specs.Acts.{outputs_of_cancel}
 use Rattle.xp_step.specs.Effects.{cancels}
 use Rattle.xp_step.specs.steps.ReceivedPackets.{request_of}
-use Rattle.xp_step.specs.steps.EventLine.{event_line_context}
+use Rattle.xp_step.specs.EventLine.{event_line_context}
 use Rattle.xp_machine.specs.World.{call_on}
 use Rattle.xp_step.proofs.Events.{no_collision_planned, collision_planned}
 use Rattle.xp_step.proofs.plan.event.collision.Goals as goal

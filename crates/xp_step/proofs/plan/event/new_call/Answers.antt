@@ -1,7 +1,7 @@
 use Rattle.std.proofs.Common.{[], refl}
 use Rattle.xp_channel.specs.declared.action.Action.TheVariants.{NewCall}
 use Rattle.xp_step.specs.steps.ReceivedPackets.{request_of}
-use Rattle.xp_step.specs.steps.EventLine.{event_line_context}
+use Rattle.xp_step.specs.EventLine.{event_line_context}
 use Rattle.xp_step.proofs.Events.{no_request_planned, request_planned}
 use Rattle.xp_step.proofs.plan.event.new_call.Goals as goal
 

@@ -4,7 +4,7 @@ use Rattle.xp_relay.specs.Coupled.{Follows, RepresentsCall, received_by, sent_by
 use Rattle.xp_relay.specs.Turns.{turn_of}
 use Rattle.xp_machine.specs.CallEnds.{end_of}
 use Rattle.xp_machine.specs.declared.relays.MeteredRelay.{MeteredRelay}
-use Rattle.xp_step.specs.steps.EventLine.{event_line_context}
+use Rattle.xp_step.specs.EventLine.{event_line_context}
 use Rattle.xp_machine.specs.StoredState.{call_of_stored, entry_of}
 use Rattle.xp_machine.specs.Relays.{Counts, relay_under}
 use Rattle.xp_machine.specs.Segments.{judged}

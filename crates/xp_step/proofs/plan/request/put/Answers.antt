@@ -2,7 +2,7 @@ use Rattle.std.proofs.Common.{rules, [], ◌∷◌, refl}
 use Rattle.xp_machine.specs.declared.change.Change.TheVariants as kept
 use Rattle.xp_machine.specs.Changes.{Begins}
 use Rattle.xp_machine.specs.Channel.{INITIAL_IDENTIFIER}
-use Rattle.xp_step.specs.steps.EventLine.{event_line_context}
+use Rattle.xp_step.specs.EventLine.{event_line_context}
 use Rattle.xp_step.specs.EventOutputs.{send_as}
 use Rattle.xp_step.proofs.Plans.{planned}
 use Rattle.xp_step.proofs.plan.request.put.Goals as goal

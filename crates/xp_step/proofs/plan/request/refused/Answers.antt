@@ -2,7 +2,7 @@ use Rattle.std.proofs.Common.{rules, [], ◌∷◌, ap, refl, sym}
 use Rattle.xp_machine.specs.declared.change.Change.TheVariants as kept
 use Rattle.xp_machine.specs.Changes.{IsRefused}
 use Rattle.xp_machine.specs.Clearing.{refused_record}
-use Rattle.xp_step.specs.steps.EventLine.{event_line_context}
+use Rattle.xp_step.specs.EventLine.{event_line_context}
 use Rattle.xp_step.specs.EventOutputs.{clear_indication, send_as}
 use Rattle.xp_step.proofs.Plans.{planned}
 use Rattle.xp_step.proofs.plan.request.refused.Goals as goal

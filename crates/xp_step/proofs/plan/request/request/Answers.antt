@@ -1,5 +1,5 @@
 use Rattle.xp_step.specs.steps.ReceivedPackets.{request_of}
-use Rattle.xp_step.specs.steps.EventLine.{event_line_context}
+use Rattle.xp_step.specs.EventLine.{event_line_context}
 use Rattle.xp_step.proofs.Requests.{put_through, turned_down}
 use Rattle.xp_step.proofs.plan.request.request.Goals as goal
 

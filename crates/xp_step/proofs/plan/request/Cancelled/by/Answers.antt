@@ -1,4 +1,4 @@
-use Rattle.xp_step.specs.steps.EventLine.{event_line_context}
+use Rattle.xp_step.specs.EventLine.{event_line_context}
 use Rattle.xp_step.proofs.Leaving.{not_in_call}
 use Rattle.xp_step.proofs.Plans.{none_cancelled}
 use Rattle.xp_step.proofs.plan.request.Cancelled.by.Goals as goal

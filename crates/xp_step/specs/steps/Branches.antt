@@ -1,52 +1,31 @@
--- A plan is what an event settles, puts out, records and changes, in the terms of the code.
+-- What each branch of the planning plans, by the action that the table has.
 use Rattle.std.specs.Prelude.{◌≡◌, ℕ, Option, None, Some, List, [], ◌++◌, option_to_list}
 use Rattle.xp_answer.specs.ForwardedClear.{ForwardedClear}
-use Rattle.xp_channel.specs.declared.action.Action.{Action}
 use Rattle.xp_packets.specs.declared.packet.Packet.{Packet}
-use Rattle.xp_charge.specs.declared.record.Record.{Record}
 use Rattle.xp_step.specs.declared.event.What.{What}
 use Rattle.xp_step.specs.declared.outcome.Outcome.TheVariants.{Plain}
 use Rattle.xp_step.specs.declared.output.Output.{Output}
 use Rattle.xp_step.specs.declared.plan.Plan.{Plan}
-use Rattle.xp_step.specs.declared.plan.event_line.Withdrawal.{Withdrawal}
 use Rattle.xp_step.specs.declared.plan.request.Cancelled.{Cancelled}
-use Rattle.xp_step.specs.Acts.{Acts, Answers, Carries, IsConfirmed, IsRequested}
-use Rattle.xp_step.specs.RelayedPackets.{relayed_as, relayed_by}
-use Rattle.xp_machine.specs.Changes.{Change, all_changed, changed, recorded, recorded_by}
-use Rattle.xp_step.specs.steps.Relays.{Relays, RelaysFor}
-use Rattle.xp_step.specs.Segments.{segments_of}
+use Rattle.xp_step.specs.Acts.{Answers, Carries, IsConfirmed, IsRequested}
+use Rattle.xp_step.specs.RelayedPackets.{relayed_by}
+use Rattle.xp_machine.specs.Changes.{Change, all_changed}
+use Rattle.xp_step.specs.Relays.{Relays, RelaysFor}
 use Rattle.xp_step.specs.StepContext.{StepContext}
-use Rattle.xp_step.specs.Effects.{answers, carries, confirms, effects_of, requests}
+use Rattle.xp_step.specs.Effects.{answers, carries, confirms, requests}
 use Rattle.xp_step.specs.Table.{CallAccepted, CallRequest, ClearRequest, packet_in}
-use Rattle.xp_step.specs.EventOutputs.{EventOutputs, far_information, outputs_of, send_far}
-use Rattle.xp_machine.specs.World.{Call, World, call_on}
-use Rattle.xp_machine.specs.AppliedChange.{applied, applied_if_any, freed_if_any}
+use Rattle.xp_step.specs.EventOutputs.{EventOutputs, far_information, send_far}
+use Rattle.xp_machine.specs.World.{Call, call_on}
+use Rattle.xp_machine.specs.AppliedChange.{freed_if_any}
+use Rattle.xp_step.specs.Plan.{IsPlan, recorded_at}
 
 module _ {A : Type 0} where
-  -- the records of changes, with the segments of the calls so far
-  abbrev pub recorded_at : StepContext A → List Change → List Record
-  recorded_at at changes = recorded_by (segments_of at.tables at.before) at.moment at.world changes
-
-  -- a line leaves its call, if it is in one, and this is the record of the call
-  pub record IsWithdrawal (withdrawal : Withdrawal) (at : StepContext A) (change : Change) : Type 0 where
-    pub does : applied withdrawal.change at.world ≡ changed change at.world
-    pub records : option_to_list withdrawal.charged ≡ recorded (segments_of at.tables at.before) at.moment at.world change
-
   -- a collision cancels this call, if there is one, and its caller is told this
   pub record IsCancelled (cancelled : Cancelled A) (at : StepContext A) (ended : List Change) (far : List (Output A)) : Type 0 where
     pub does : freed_if_any cancelled.line at.world ≡ all_changed ended at.world
     pub next : (all_changed ended at.world).next ≡ at.world.next
     pub records : option_to_list cancelled.charged ≡ recorded_at at ended
     pub told : option_to_list cancelled.told ≡ far
-
-  -- the state after a plan: the call that is cancelled ends first
-  abbrev pub applied_by : Plan A → World → World
-  applied_by plan world = applied_if_any plan.change (freed_if_any plan.cancelled world)
-
-  pub record IsPlan (plan : Plan A) (at : StepContext A) (told : EventOutputs A) (changes : List Change) : Type 0 where
-    pub outputs : plan.outputs.outputs ≡ outputs_of told
-    pub records : plan.records.items ≡ recorded_at at changes
-    pub does : applied_by plan at.world ≡ all_changed changes at.world
 
   -- the same, where nothing is settled, and no relay changes
   pub record IsPlainPlan (plan : Plan A) (at : StepContext A) (told : EventOutputs A) (changes : List Change) : Type 0 where
@@ -90,11 +69,3 @@ module _ {A : Type 0} where
     pub relays : Relays at.tables at.before (relayed_by at.line (call_on at.world at.line) (packet_in what))
         (carries at.line (call_on at.world at.line) plan.outcome) plan.relay_update
     pub planned : IsPlan plan at told (carries at.line (call_on at.world at.line) plan.outcome)
-
-  -- what is planned for an event, by its action in the table
-  pub record Plans (at : StepContext A) (what : What A) (action : Action) (plan : Plan A) : Type 0 where
-    pub told : EventOutputs A
-    pub acts : Acts at what action plan.outcome told
-    pub relays : Relays at.tables at.before (relayed_as action (relayed_by at.line (call_on at.world at.line) (packet_in what)))
-        (effects_of at what action plan.outcome) plan.relay_update
-    pub planned : IsPlan plan at told (effects_of at what action plan.outcome)

@@ -4,7 +4,7 @@ use Rattle.xp_step.specs.declared.entry.Entry.{Entry}
 use Rattle.xp_step.specs.declared.plan.event_line.MeteredCall.{MeteredCall}
 use Rattle.xp_step.specs.declared.plan.event_line.EventLine.{EventLine}
 use Rattle.xp_machine.specs.StoredState.{call_of_stored, entry_of}
-use Rattle.xp_step.specs.steps.Relays.{counted_by}
+use Rattle.xp_step.specs.Relays.{counted_by}
 use Rattle.xp_step.specs.StepContext.{StepContext, step_context}
 use Rattle.xp_machine.specs.World.{call_on}
 
