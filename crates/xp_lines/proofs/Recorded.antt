@@ -1,7 +1,7 @@
 -- Records that go from a recorder to a sink, in one turn after the other.
 use Rattle.std.proofs.Common.{◌≡◌, List, [], ◌++◌, sym, ap, subst, ◌∙◌, append_assoc, append-nil}
 use Rattle.xp_charge.specs.declared.record.Record.{Record}
-use Rattle.xp_lock.specs.Recording.{Recording}
+use Rattle.xp_seats.specs.Recording.{Recording}
 use Rattle.xp_lines.specs.Recorded.{HandsOn}
 
 module _ {A S : Type 0} (received : S → List Record) (keeps : S → S → Type 0) where

@@ -11,7 +11,7 @@ use Rattle.xp_step.specs.declared.entry.Entry.{Entry}
 use Rattle.xp_step.specs.declared.event.What.{What}
 use Rattle.xp_step.specs.declared.event.What.TheVariants.{Down}
 use Rattle.xp_step.specs.declared.output.Outgoing.{Outgoing}
-use Rattle.xp_lock.specs.Handed.{handed}
+use Rattle.xp_seats.specs.Handed.{handed}
 use Rattle.xp_lock.specs.Passes.{Pass, own_entries}
 use Rattle.xp_lines.specs.Offers.{Gains, happened, on_line}
 use Rattle.xp_lines.specs.Reads.{Completes, stays}

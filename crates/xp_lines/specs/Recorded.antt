@@ -5,8 +5,8 @@ use Rattle.std.specs.declared.alloc.Global.{Global as Alloc}
 use Rattle.xp_charge.specs.declared.record.Record.{Record}
 use Rattle.xp_step.specs.declared.entry.Entry.{Entry}
 use Rattle.xp_lock.specs.Passes.{IsLegal}
-use Rattle.xp_lock.specs.Recording.{Recording}
-use Rattle.xp_lock.specs.Views.{StartsWith}
+use Rattle.xp_seats.specs.Recording.{Recording}
+use Rattle.xp_seats.specs.Views.{StartsWith}
 use Rattle.xp_view.specs.Views.{Shows}
 use Rattle.xp_view.specs.declared.view.ExchangeView.{ExchangeView}
 use Rattle.xp_subs.specs.Tables.{Tables, line_count}

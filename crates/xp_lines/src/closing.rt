@@ -16,7 +16,8 @@ use crate::waiting::Waiting;
 use crate::writing::{Ended, write_out};
 use std::alloc::{Allocator, Global};
 use std::sync::Wait;
-use xp_lock::{Exchange, LinePass, Name};
+use xp_lock::{Exchange, LinePass};
+use xp_seats::Name;
 
 /// Offers that the line's last link went, and drops it, if there is one. Returns why the line has ended. Where it is to stop, but
 /// the exchange refuses the Down, that is why.

@@ -11,7 +11,7 @@ use crate::link::{Clock, Gate, Port};
 use crate::served_line::ServedLine;
 use std::alloc::Global;
 use std::vec::IntoIter;
-use xp_lock::Name;
+use xp_seats::Name;
 
 /// Adds how these lines ended.
 pub(crate) fn add_ends<N: Name, P: Port, C: Clock, G: Gate>(

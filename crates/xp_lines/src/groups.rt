@@ -7,7 +7,7 @@ use crate::link::{Clock, Gate, Poller, Port};
 use crate::served_line::{LineInputs, ServedLine};
 use std::alloc::{AllocError, Global};
 use std::vec::IntoIter;
-use xp_lock::Name;
+use xp_seats::Name;
 
 /// The lines with these inputs, which have had no turn, where there is room for them.
 pub(crate) fn served_of<N: Name, P: Port, C: Clock, G: Gate>(

@@ -12,7 +12,8 @@ use crate::waiting::Waiting;
 use std::alloc::{Allocator, Global};
 use std::sync::Wait;
 use xp_frames::Deframer;
-use xp_lock::{Exchange, LinePass, Name};
+use xp_lock::{Exchange, LinePass};
+use xp_seats::Name;
 
 /// The most outputs that are dropped before a link comes up: as many as an outbox has places.
 const MOST_DRAINED: usize = 64;

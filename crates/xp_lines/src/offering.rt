@@ -16,7 +16,8 @@ use crate::waiting::Waiting;
 use std::alloc::Allocator;
 use std::sync::Wait;
 use xp_frames::Deframer;
-use xp_lock::{Exchange, ExchangeGuard, LinePass, Name, OfferFault, Receipt};
+use xp_lock::{Exchange, ExchangeGuard, LinePass, OfferFault, Receipt};
+use xp_seats::Name;
 use xp_step::Event;
 use xp_subs::LineNo;
 

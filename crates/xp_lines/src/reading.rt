@@ -16,7 +16,8 @@ use crate::waiting::Waiting;
 use std::alloc::Allocator;
 use std::sync::Wait;
 use xp_frames::{Deframer, FrameFault};
-use xp_lock::{Exchange, LinePass, Name};
+use xp_lock::{Exchange, LinePass};
+use xp_seats::Name;
 
 /// The most octets that one pull takes.
 const PIECE: usize = 4096;

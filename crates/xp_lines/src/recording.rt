@@ -9,7 +9,8 @@ use crate::signals::Signals;
 use std::alloc::Global;
 use std::sync::Wait;
 use xp_charge::Record;
-use xp_lock::{Exchange, Look, Name, Recorder};
+use xp_lock::{Exchange, Look};
+use xp_seats::{Name, Recorder};
 use xp_view::ExchangeView;
 
 /// The answer of a sink.

@@ -8,7 +8,8 @@ use crate::served_line::ServedLine;
 use crate::signals::Signals;
 use std::alloc::Global;
 use std::sync::Wait;
-use xp_lock::{Exchange, Name};
+use xp_lock::Exchange;
+use xp_seats::Name;
 
 /// How often the Down of a line that is to stop is offered at most.
 const MOST_OFFERS: u32 = 100;

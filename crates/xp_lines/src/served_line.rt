@@ -14,8 +14,9 @@ use std::alloc::Global;
 use std::marker::Model;
 use std::mem;
 use std::sync::Wait;
-use xp_lock::{Exchange, LinePass, Name};
+use xp_lock::{Exchange, LinePass};
 use xp_past::Past;
+use xp_seats::Name;
 
 /// What a line is served with.
 #[derive(Drop)]

@@ -23,7 +23,8 @@ use std::sync::Wait;
 use std::thread;
 use std::thread::{Promise, PromisedHandle, Scope, Threads};
 use std::vec::IntoIter;
-use xp_lock::{Exchange, Name, Recorder};
+use xp_lock::Exchange;
+use xp_seats::{Name, Recorder};
 
 /// What is left as all lines have ended.
 #[derive(Drop)]

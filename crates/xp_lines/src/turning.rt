@@ -20,7 +20,8 @@ use crate::writing::{Ended, write_out};
 use std::alloc::Allocator;
 use std::sync::Wait;
 use xp_frames::Deframer;
-use xp_lock::{Exchange, LinePass, Name};
+use xp_lock::{Exchange, LinePass};
+use xp_seats::Name;
 
 /// How a turn leaves its line.
 #[derive(Clone, Copy, Debug, PartialEq)]

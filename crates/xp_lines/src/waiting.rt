@@ -22,7 +22,7 @@ impl<A: Allocator> Model for Waiting<A> {
     ghost Value = { What A };
 
     ghost use Rattle.xp_step.specs.Exchange.{IsReadable};
-    ghost use Rattle.xp_lock.specs.Handed.{is_stall};
+    ghost use Rattle.xp_seats.specs.Handed.{is_stall};
 
     ghost view = { λ w. w.what };
 

@@ -15,8 +15,9 @@ use crate::link::Link;
 use std::alloc::{AllocError, Allocator};
 use std::sync::Wait;
 use xp_frames::write_frame;
-use xp_lock::{Exchange, LinePass, Name};
+use xp_lock::{Exchange, LinePass};
 use xp_packets::{Modulus, Packet, encode};
+use xp_seats::Name;
 use xp_step::{Outgoing, Put};
 
 /// The most outputs that a turn takes: as many as an outbox has places.

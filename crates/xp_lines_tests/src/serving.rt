@@ -15,7 +15,8 @@ use std::sync::{Arc, Wait};
 use std::test::Fail;
 use std::thread::Threads;
 use xp_lines::{LineEnd, LineInputs, LinesServed, serve_all};
-use xp_lock::{Book, Exchange, LinePass, Name, PreparedExchange, prepare};
+use xp_lock::{Book, Exchange, LinePass, PreparedExchange, prepare};
+use xp_seats::Name;
 use xp_subs::LineNo;
 
 /// How lines are served.

@@ -13,7 +13,8 @@ use std::sync::{Arc, Wait};
 use std::test::Fail;
 use xp_frames::Deframer;
 use xp_lines::{Session, TurnOutcome, turn};
-use xp_lock::{Exchange, LinePass, Name, OfferFault, PreparedExchange, Receipt, prepare};
+use xp_lock::{Exchange, LinePass, OfferFault, PreparedExchange, Receipt, prepare};
+use xp_seats::Name;
 use xp_step::{Event, Outgoing, Put, What};
 
 /// How a1 and b1 have their turns.

@@ -9,7 +9,7 @@ use Rattle.xp_step.specs.Run.{Run, RunFrom}
 use Rattle.xp_machine.specs.World.{World, opening}
 use Rattle.xp_core.proofs.Sounds.{IsRight, run_right, step_right}
 use Rattle.xp_lock.specs.Closing.{PassesMatch, HasAll, PassMatches, NoneTwice, all_handed, handed_together, has_line, own_entries_together}
-use Rattle.xp_lock.specs.Handed.{handed, is_stall}
+use Rattle.xp_seats.specs.Handed.{handed, is_stall}
 use Rattle.xp_lock.specs.Passes.{Pass}
 
 -- one for an entry that is no stall

@@ -25,7 +25,7 @@ use Rattle.xp_lock.specs.steps.Outboxes.{OutboxesMatch, HasRoomFor, IsPut}
 use Rattle.xp_lock.specs.Forced.{AreAt, IsQuiet, Stalls}
 use Rattle.xp_lock.specs.Given.{AreGiven}
 use Rattle.xp_lock.specs.steps.Given.{AddFew, AreAdded}
-use Rattle.xp_lock.specs.Handed.{is_stall}
+use Rattle.xp_seats.specs.Handed.{is_stall}
 use Rattle.xp_lock.specs.Outgoing.{put_out_to, to_line}
 use Rattle.xp_lock.specs.steps.Stalling.{CanEnter, HasEntered, HasStalled, with_outboxes}
 use Rattle.xp_lock.specs.CoreWithOutboxes.{IsGiven, CoreWithOutboxes, Takes, is_up}

@@ -11,12 +11,12 @@ use Rattle.xp_step.specs.Worlds.{world_after}
 use Rattle.xp_machine.specs.World.{World, line_at}
 use Rattle.xp_lock.specs.declared.receipt.Receipt.{Receipt}
 use Rattle.xp_lock.specs.Forced.{Stalls}
-use Rattle.xp_lock.specs.Handed.{handed, is_stall}
+use Rattle.xp_seats.specs.Handed.{handed, is_stall}
 use Rattle.xp_lock.specs.Passes.{AreStalls, GainsEvent, IsLegal, Pass}
 use Rattle.xp_lock.specs.CoreWithOutboxes.{CoreWithOutboxes, Takes}
-use Rattle.xp_lock.specs.Views.{StartsWith}
-use Rattle.xp_lock.specs.steps.Views.{IsGrown}
-use Rattle.xp_lock.proofs.Lists.{handed-append}
+use Rattle.xp_seats.specs.Views.{StartsWith}
+use Rattle.xp_seats.specs.Views.{IsGrown}
+use Rattle.xp_seats.proofs.Lists.{handed-append}
 
 module _ {A : Type 0} where
   -- entries that are stalls, one by one

@@ -7,7 +7,8 @@ use Rattle.std.proofs.lemmas.List.{map-append, take-append-drop, take_more}
 use Rattle.std.proofs.lemmas.List.Elements.{filter-append}
 use Rattle.xp_step.specs.declared.entry.Entry.{Entry}
 use Rattle.xp_step.specs.declared.output.Output.{Output}
-use Rattle.xp_lock.specs.Given.{AreApart, AreGiven, is_among}
+use Rattle.xp_lock.specs.Given.{AreApart, AreGiven}
+use Rattle.xp_seats.specs.Among.{is_among}
 use Rattle.xp_lock.specs.steps.Given.{AddFew, AreAdded}
 use Rattle.xp_lock.specs.Outgoing.{put_out_to, to_line}
 use Rattle.xp_lock.proofs.Putting.{to_line_other, to_line_same}

@@ -3,7 +3,6 @@ pub mod Counted
 pub mod Entered
 pub mod Fresh
 pub mod GivenLines
-pub mod Lists
 pub mod Looping
 pub mod Opened
 pub mod Putting
@@ -13,7 +12,6 @@ pub mod Refused
 pub mod Returned
 pub mod Room
 pub mod Stalled
-pub mod Steps
 pub mod Taken
 pub mod Touches
 pub mod Trio

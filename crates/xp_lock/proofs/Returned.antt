@@ -3,12 +3,12 @@ use Rattle.std.proofs.Common.{◌≡◌, ◌≢◌, ℕ, true, false, true≢fal
 use Rattle.std.proofs.lemmas.Bool.{ne_eqb}
 use Rattle.std.specs.Prelude.{◌||◌}
 use Rattle.xp_step.specs.declared.entry.Entry.{Entry}
-use Rattle.xp_lock.specs.declared.history_length.View.{View}
+use Rattle.xp_seats.specs.declared.history_length.View.{View}
 use Rattle.xp_lock.specs.Closing.{NoneTwice, has_line}
-use Rattle.xp_lock.specs.Given.{is_among}
+use Rattle.xp_seats.specs.Among.{is_among}
 use Rattle.xp_lock.specs.Passes.{Pass}
-use Rattle.xp_lock.specs.steps.HistorySeat.{SeatState}
-use Rattle.xp_lock.specs.Views.{closing, keeping}
+use Rattle.xp_seats.specs.HistorySeat.{SeatState}
+use Rattle.xp_seats.specs.Views.{closing, keeping}
 
 module _ {A : Type 0} where
   -- behind those of these lines, these passes come

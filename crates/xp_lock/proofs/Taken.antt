@@ -19,7 +19,7 @@ use Rattle.xp_core.proofs.Few.{few_of_step}
 use Rattle.xp_step.proofs.RunLemmas.{run_keeps, run_push}
 use Rattle.xp_lock.specs.Closing.{AreCounted, PassesMatch, Closed, IsCounted, PassMatches, taken_by}
 use Rattle.xp_lock.specs.steps.Closing.{AreWithin}
-use Rattle.xp_lock.specs.Given.{is_among}
+use Rattle.xp_seats.specs.Among.{is_among}
 use Rattle.xp_lock.specs.Outgoing.{put_out_to, to_line}
 use Rattle.xp_lock.specs.Passes.{Pass}
 

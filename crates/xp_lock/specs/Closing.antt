@@ -5,10 +5,10 @@ use mathlib.Core.List.{IsPrefix}
 use Rattle.xp_charge.specs.declared.record.Record.{Record}
 use Rattle.xp_subs.specs.Tables.{Tables}
 use Rattle.xp_step.specs.declared.entry.Entry.{Entry}
-use Rattle.xp_lock.specs.Handed.{handed, is_stall}
+use Rattle.xp_seats.specs.Handed.{handed, is_stall}
 use Rattle.xp_lock.specs.Outgoing.{put_out_to}
 use Rattle.xp_lock.specs.Passes.{Pass, own_entries}
-use Rattle.xp_lock.specs.Views.{StartsWith}
+use Rattle.xp_seats.specs.Views.{StartsWith}
 
 -- a closed exchange: its subscriptions, its history, the records that were handed over before the close, and how many outputs each
 -- line took

@@ -3,11 +3,8 @@ pub mod CoreWithOutboxes
 pub mod Faults
 pub mod Forced
 pub mod Given
-pub mod Handed
 pub mod Opening
 pub mod Outboxes
 pub mod Outgoing
 pub mod Passes
-pub mod Recording
-pub mod Views
 pub mod steps

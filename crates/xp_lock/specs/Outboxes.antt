@@ -3,7 +3,7 @@
 use Rattle.std.specs.Prelude.{◌≡◌, ◌≢◌, ℕ, ◌+◌, ◌<◌, ◌≤◌, Bool, true, false, List, [], length, slice_index_or}
 use Rattle.xp_outbox.specs.Ends.{Putting}
 use Rattle.xp_step.specs.declared.output.Outgoing.{Outgoing}
-use Rattle.xp_lock.specs.Views.{no_table}
+use Rattle.xp_seats.specs.Views.{no_table}
 
 -- how many items an outbox has room for
 abbrev pub CAPACITY : ℕ

@@ -10,7 +10,7 @@ use Rattle.xp_step.specs.Worlds.{world_after}
 use Rattle.xp_machine.specs.World.{line_at}
 use Rattle.xp_lock.specs.declared.receipt.Receipt.{Receipt}
 use Rattle.xp_lock.specs.Given.{AreGiven}
-use Rattle.xp_lock.specs.Handed.{handed, is_stall}
+use Rattle.xp_seats.specs.Handed.{handed, is_stall}
 
 -- the pass of a line
 pub record Pass (A : Type 0) : Type 0 where

@@ -7,7 +7,7 @@ ghost use Rattle.xp_step.specs.Exchange.{IsReadable};
 ghost use Rattle.xp_core.specs.Records.{records_of};
 ghost use Rattle.xp_lock.specs.Outboxes.{HaveCapacity};
 ghost use Rattle.xp_lock.specs.steps.Outboxes.{OutboxesMatch};
-ghost use Rattle.xp_lock.specs.Handed.{is_stall};
+ghost use Rattle.xp_seats.specs.Handed.{is_stall};
 ghost use Rattle.xp_lock.specs.CoreWithOutboxes.{Refuses, Takes, is_up};
 
 use crate::entering::enter;

@@ -1,11 +1,10 @@
 //! Why an event is refused, and why an exchange is not closed.
 
 use crate::exchange::Exchange;
-use crate::name::Name;
 use crate::pass::LinePass;
-use crate::recorder::Recorder;
 use std::alloc::{Allocator, Global};
 use thiserror::Error;
+use xp_seats::{Name, Recorder};
 use xp_step::Event;
 use xp_subs::LineNo;
 

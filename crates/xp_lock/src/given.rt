@@ -1,7 +1,8 @@
 //! The lines to which some entries put something out.
 
 ghost use Rattle.std.specs.Prelude.{◌≡◌};
-ghost use Rattle.xp_lock.specs.Given.{AreApart, is_among};
+ghost use Rattle.xp_lock.specs.Given.{AreApart};
+ghost use Rattle.xp_seats.specs.Among.{is_among};
 ghost use Rattle.xp_lock.specs.steps.Given.{AddFew, AreAdded};
 
 use arrayvec::ArrayVec;

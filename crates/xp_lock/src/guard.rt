@@ -7,23 +7,21 @@ ghost use Rattle.xp_step.specs.Exchange.{IsReadable};
 ghost use Rattle.xp_core.specs.Records.{OneRecordEach, records_of};
 ghost use Rattle.xp_step.specs.Worlds.{world_after};
 ghost use Rattle.xp_lock.specs.Faults.{event_in};
-ghost use Rattle.xp_lock.specs.Handed.{is_stall};
+ghost use Rattle.xp_seats.specs.Handed.{is_stall};
 ghost use Rattle.xp_lock.specs.Passes.{GainsEvent, IsLegal};
-ghost use Rattle.xp_lock.specs.Views.{StartsWith};
+ghost use Rattle.xp_seats.specs.Views.{StartsWith};
 ghost use Rattle.xp_view.specs.Views.{Shows};
 
 use crate::fault::OfferFault;
-use crate::history_length::HistoryLength;
 use crate::keeper::Keeper;
 use crate::look::Look;
-use crate::name::Name;
 use crate::pass::LinePass;
 use crate::receipt::Receipt;
-use crate::recorder::Recorder;
 use std::alloc::{AllocError, Allocator, Global};
 use std::marker::Model;
 use std::sync::{MutexGuard, Wait};
 use xp_charge::Record;
+use xp_seats::{HistoryLength, Name, Recorder};
 use xp_step::Event;
 
 /// The exchange while a thread holds its lock. The thread frees the lock as it drops the guard. A thread that has several

@@ -9,27 +9,25 @@ ghost use Rattle.xp_core.specs.Records.{OneRecordEach, records_of};
 ghost use Rattle.xp_step.specs.Worlds.{world_after};
 ghost use Rattle.xp_lock.specs.Outboxes.{HaveCapacity, outbox_at};
 ghost use Rattle.xp_lock.specs.Closing.{AreCounted, PassesMatch, NoneTwice};
-ghost use Rattle.xp_lock.specs.Given.{is_among};
-ghost use Rattle.xp_lock.specs.Handed.{handed, is_stall};
+ghost use Rattle.xp_seats.specs.Among.{is_among};
+ghost use Rattle.xp_seats.specs.Handed.{handed, is_stall};
 ghost use Rattle.xp_lock.specs.Passes.{GainsEvent, IsLegal, own_entries};
 ghost use Rattle.xp_lock.specs.CoreWithOutboxes.{Refuses, Takes};
-ghost use Rattle.xp_lock.specs.Views.{StartsWith, closing, keeping};
+ghost use Rattle.xp_seats.specs.Views.{StartsWith, closing, keeping};
 ghost use Rattle.xp_view.specs.Views.{Shows};
 
 use crate::book::Book;
 use crate::core_with_outboxes::CoreWithOutboxes;
 use crate::fault::OfferFault;
-use crate::history_length::{HistoryLength, HistorySeat};
-use crate::name::Name;
 use crate::outboxes::OutboxPutEnd;
 use crate::pass::LinePass;
 use crate::receipt::Receipt;
-use crate::recorder::Recorder;
 use std::alloc::{AllocError, Allocator, Global};
 use std::marker::{Model, PhantomData};
 use std::sync::Wait;
 use xp_charge::Record;
 use xp_outbox::count_untaken;
+use xp_seats::{HistoryLength, HistorySeat, Name, Recorder};
 use xp_step::Event;
 use xp_view::ExchangeView;
 
@@ -50,7 +48,7 @@ impl<N: Name, A: Allocator> Model for Keeper<N, A> {
 
     ghost Value = { Seen A };
 
-    ghost use Rattle.xp_lock.specs.Views.{keeping};
+    ghost use Rattle.xp_seats.specs.Views.{keeping};
 
     ghost view = { λ k. k.core_with_outboxes };
 
@@ -143,14 +141,16 @@ impl<N: Name, A: Allocator + Copy> Keeper<N, A> {
         ensures err { OnErr result (self.new ≡ self.old) }
         ensures recorder { OnErr result (recorder.new ≡ recorder.old) }
     {
-        let _count = recorder.count;
         let taken = self.core_with_outboxes.take_records()?;
         let core = self.core_with_outboxes.core();
         let _legal = core.count();
         let _records = core.records();
-        history_length.refresh_recorder(&mut self.history_seat, &mut recorder.history_seat);
-        recorder.received.extend(taken.as_slice());
-        recorder.count = core.record_count();
+        recorder.receive(
+            history_length,
+            &mut self.history_seat,
+            core,
+            taken.as_slice(),
+        );
         Ok(taken)
     }
 
@@ -193,7 +193,7 @@ impl<N: Name, A: Allocator + Copy> Keeper<N, A> {
         } = self;
         let (core, outboxes) = core_with_outboxes.into_parts();
         let mut history_seat = history_seat;
-        compare_recorder(history_length, &mut history_seat, recorder);
+        recorder.compare(history_length, &mut history_seat);
         let mut outboxes = outboxes;
         let mut taken = zeros;
         let _entries = core.count();
@@ -217,28 +217,6 @@ impl<N: Name, A: Allocator + Copy> Keeper<N, A> {
     {
         self.core_with_outboxes.is_halted()
     }
-}
-
-/// Compares what the recorder saw and received with the history.
-fn compare_recorder<N: Name, A: Allocator>(
-    history_length: &HistoryLength<A>,
-    keeper: &mut HistorySeat<A>,
-    recorder: Recorder<N, A>,
-)
-    requires history_length { (history_length.now ≡ N.history_length) × (keeper.old.history_length ≡ N.history_length) }
-    requires keeper { keeper.old.knows ≡ keeping keeper.old.knows.next keeper.old.knows.all keeper.old.knows.recorded }
-    ensures keeper { keeper.new ≡ record keeper.old { knows = keeping keeper.old.knows.next keeper.old.knows.all keeper.old.knows.all } }
-    ensures seen { StartsWith keeper.old.knows.all recorder.seen }
-    ensures received { recorder.received ≡ records_of keeper.old.knows.recorded }
-{
-    let Recorder {
-        history_seat,
-        received: _,
-        count: _,
-        name: _,
-    } = recorder;
-    let mut history_seat = history_seat;
-    history_length.refresh_recorder(keeper, &mut history_seat);
 }
 
 /// Compares what a pass has seen with the history, and what it took with what was put into its outbox. Returns how many

@@ -3,9 +3,9 @@
 ghost use Rattle.std.specs.Prelude.{◌≡◌, IfNone, IfSome};
 ghost use Rattle.xp_lock.specs.Closing.{HasAll, IsMissing, has_line};
 
-use crate::name::Name;
 use crate::pass::LinePass;
 use std::alloc::Allocator;
+use xp_seats::Name;
 use xp_subs::LineNo;
 
 /// Returns the lowest of so many lines whose pass is not here, or `None` if all are here.

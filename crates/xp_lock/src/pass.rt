@@ -3,13 +3,12 @@
 ghost use Rattle.std.specs.Prelude.{◌≡◌, ◌<◌, ◌++◌, ◌∷◌, [], IfNone, IfSome};
 ghost use Rattle.xp_subs.specs.Tables.{line_count, modulus_of};
 
-use crate::history_length::HistorySeat;
-use crate::name::Name;
 use std::alloc::{Allocator, Global};
 use std::marker::{Model, PhantomData};
 use std::sync::Wait;
 use xp_outbox::TakeEnd;
 use xp_packets::Modulus;
+use xp_seats::{HistorySeat, Name};
 use xp_step::Outgoing;
 use xp_subs::LineNo;
 
@@ -32,7 +31,7 @@ impl<N: Name, A: Allocator> Model for LinePass<N, A> {
 
     ghost Value = { Pass A };
 
-    ghost use Rattle.xp_lock.specs.Views.{claiming};
+    ghost use Rattle.xp_seats.specs.Views.{claiming};
 
     ghost view = { λ p. record { line = p.line; seen = p.history_seat.knows.seen; taken = p.outbox.taken } };
 

@@ -3,12 +3,12 @@
 ghost use Rattle.std.specs.Prelude.{◌≡◌, IfOk};
 ghost use Rattle.xp_lock.specs.steps.Opening.{AreNew};
 
-use crate::history_length::{HistoryLength, HistorySeat};
 use crate::outboxes::OutboxPutEnd;
 use std::alloc::{AllocError, Allocator, Global};
 use std::marker::Model;
 use xp_core::Core;
 use xp_outbox::{TakeEnd, outbox};
+use xp_seats::{HistoryLength, HistorySeat};
 use xp_step::Outgoing;
 use xp_subs::Subs;
 
@@ -36,7 +36,7 @@ impl<A: Allocator> Model for PreparedExchange<A> {
     ghost Value = { Prepared };
 
     ghost use Rattle.xp_lock.specs.steps.Outboxes.{OutboxesMatch};
-    ghost use Rattle.xp_lock.specs.Views.{keeping, recording};
+    ghost use Rattle.xp_seats.specs.Views.{keeping, recording};
 
     ghost view = { λ b. record { subs = b.core.subs; history_length = b.history_length; queues = map (λ box. box.queue) b.outboxes.items } };
 

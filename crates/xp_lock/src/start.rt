@@ -3,19 +3,17 @@
 ghost use Rattle.std.specs.Prelude.{◌≡◌, ◌≤◌, [], All, IfOk, OnOk, length, map};
 ghost use Rattle.xp_subs.specs.Tables.{line_count};
 ghost use Rattle.xp_lock.specs.Opening.{AreFirst};
-ghost use Rattle.xp_lock.specs.Views.{keeping};
+ghost use Rattle.xp_seats.specs.Views.{keeping};
 
 use crate::core_with_outboxes::CoreWithOutboxes;
 use crate::exchange::Exchange;
-use crate::history_length::{HistoryLength, HistorySeat};
 use crate::keeper::Keeper;
-use crate::name::Name;
 use crate::pass::LinePass;
 use crate::prepared::PreparedExchange;
-use crate::recorder::Recorder;
 use std::alloc::{AllocError, Allocator};
 use std::marker::PhantomData;
 use xp_outbox::TakeEnd;
+use xp_seats::{HistoryLength, HistorySeat, Name, Recorder};
 use xp_step::Outgoing;
 use xp_subs::{LineNo, Subs};
 

@@ -5,7 +5,8 @@
 
 use std::alloc::Allocator;
 use std::sync::Wait;
-use xp_lock::{CloseFault, Exchange, LinePass, Name, Recorder};
+use xp_lock::{CloseFault, Exchange, LinePass};
+use xp_seats::{Name, Recorder};
 
 /// How many entries the closed book has.
 pub fn entries_at_close<N: Name, A: Allocator + Copy>(

@@ -6,8 +6,9 @@ ghost use Rattle.xp_step.specs.Stalls.{is_stall};
 
 use std::alloc::{Allocator, Global};
 use std::sync::Wait;
-use xp_lock::{Exchange, LinePass, Name, OfferFault, Receipt};
+use xp_lock::{Exchange, LinePass, OfferFault, Receipt};
 use xp_packets::{Modulus, Packet, PacketFault, decode};
+use xp_seats::Name;
 use xp_step::{Event, Outgoing, Put, What};
 
 /// A call request for 2080020, which is b1's.

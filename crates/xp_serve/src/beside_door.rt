@@ -16,7 +16,8 @@ use xp_lines::{
     Clock, EndReason, Gate, LineInputs, LinesServed, Link, Poller, Port, RecordSink, ServeFault,
     serve_all,
 };
-use xp_lock::{Exchange, Name, Recorder};
+use xp_lock::Exchange;
+use xp_seats::{Name, Recorder};
 use xp_tcp::Door;
 
 /// Serves all lines by [`serve_all`]. Where there is a door, it takes the connections of routers meanwhile, on a thread of its own.

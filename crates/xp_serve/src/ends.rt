@@ -6,7 +6,8 @@ ghost use Rattle.xp_subs.specs.Tables.{line_count};
 
 use crate::failure::ServeFailure;
 use xp_lines::{EndReason, LineEnd};
-use xp_lock::{LinePass, Name};
+use xp_lock::LinePass;
+use xp_seats::Name;
 use xp_subs::{LineNo, Subs};
 
 /// What ended a line before its time.

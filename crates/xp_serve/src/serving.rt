@@ -25,7 +25,8 @@ use std::sync::{Arc, Wait};
 use std::thread;
 use std::thread::Threads;
 use xp_lines::{EndReason, LineInputs, LinesServed, RecordSink};
-use xp_lock::{Exchange, LinePass, Name, PreparedExchange, Recorder, prepare};
+use xp_lock::{Exchange, LinePass, PreparedExchange, prepare};
+use xp_seats::{Name, Recorder};
 use xp_subs::Subs;
 use xp_tcp::{Door, Ends, LinePort, Notices, OpenGate, Sockets, TcpClock, TcpPoller};
 

@@ -2,7 +2,8 @@
 use Rattle.std.specs.Prelude.{◌≡◌, ◌↔◌, ◌⊎◌, ℕ, ◌<◌, ◌≤◌, true, List, length}
 use Rattle.xp_step.specs.declared.output.Output.{Output}
 use Rattle.xp_lock.specs.Outgoing.{to_line}
-use Rattle.xp_lock.specs.Given.{is_among, AreApart}
+use Rattle.xp_lock.specs.Given.{AreApart}
+use Rattle.xp_seats.specs.Among.{is_among}
 
 module _ {A : Type 0} where
   -- the new list has the lines of the old one and those of these outputs, each once

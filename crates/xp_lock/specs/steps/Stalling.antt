@@ -15,7 +15,7 @@ use Rattle.xp_machine.specs.World.{state_at}
 use Rattle.xp_lock.specs.Outboxes.{PLACES_KEPT, outbox_at}
 use Rattle.xp_lock.specs.steps.Outboxes.{AreAlike, OutboxesMatch}
 use Rattle.xp_lock.specs.Forced.{AreAt, IsQuiet, Stalls}
-use Rattle.xp_lock.specs.Handed.{is_stall}
+use Rattle.xp_seats.specs.Handed.{is_stall}
 use Rattle.xp_lock.specs.Outgoing.{put_out_to}
 use Rattle.xp_lock.specs.CoreWithOutboxes.{HasPlaces, CoreWithOutboxes, is_up}
 

@@ -1,5 +1,5 @@
 use Rattle.std.proofs.Common.{◌≡◌, ◌∙◌, true, false, arith, ap, sym, subst}
-use Rattle.xp_lock.specs.Given.{is_among}
+use Rattle.xp_seats.specs.Among.{is_among}
 use Rattle.xp_lock.specs.steps.Given.{AreAdded}
 use Rattle.xp_lock.proofs.GivenLines.{added_few, added_new, added_none, added_old, front_next}
 use Rattle.xp_lock.proofs.given.add_lines.Goals as goal

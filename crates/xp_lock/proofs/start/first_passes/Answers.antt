@@ -7,8 +7,8 @@ use Rattle.xp_subs.specs.Tables.{line_count, modulus_of}
 use Rattle.xp_step.specs.declared.output.Outgoing.{Outgoing}
 use Rattle.xp_lock.specs.Opening.{AreFirst}
 use Rattle.xp_lock.specs.Passes.{Pass}
-use Rattle.xp_lock.specs.steps.HistorySeat.{SeatState}
-use Rattle.xp_lock.specs.Views.{claiming, keeping, next_claim, one_further}
+use Rattle.xp_seats.specs.HistorySeat.{SeatState}
+use Rattle.xp_seats.specs.Views.{claiming, keeping, next_claim, one_further}
 use Rattle.xp_lock.proofs.Opened.{at_front, drop_rest, first_push}
 use Rattle.xp_lock.proofs.start.first_passes.Goals as goal
 

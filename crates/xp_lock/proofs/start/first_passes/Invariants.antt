@@ -3,7 +3,7 @@ use Rattle.std.specs.Prelude.{All}
 use Rattle.std.specs.Vec.Iter.{into_iter_items, into_iter_len}
 use Rattle.xp_subs.specs.Tables.{line_count}
 use Rattle.xp_lock.specs.Opening.{AreFirst}
-use Rattle.xp_lock.specs.Views.{keeping}
+use Rattle.xp_seats.specs.Views.{keeping}
 use Rattle.xp_lock.proofs.start.first_passes.Given as goal
 
 abbrev pub invariant-loop-outbox : goal.invariant-loop-outbox

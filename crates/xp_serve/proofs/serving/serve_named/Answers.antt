@@ -1,6 +1,6 @@
 use Rattle.std.proofs.Common.{◌++◌, ap, map, sym, ◌∙◌}
 use Rattle.std.specs.declared.alloc.Global.{Global as Alloc}
-use Rattle.xp_lock.specs.Recording.{Recording}
+use Rattle.xp_seats.specs.Recording.{Recording}
 use Rattle.xp_serve.proofs.Passes.{were_served, were_stopped}
 use Rattle.xp_serve.proofs.serving.serve_named.Goals as goal
 

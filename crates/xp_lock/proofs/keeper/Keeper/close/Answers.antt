@@ -6,20 +6,20 @@ use mathlib.Core.List.{IsPrefix}
 use Rattle.xp_lock.specs.Outboxes.{outbox_at}
 use Rattle.xp_lock.specs.Closing.{PassesMatch, PassMatches}
 use Rattle.xp_lock.specs.steps.Closing.{AreWithin}
-use Rattle.xp_lock.specs.Handed.{handed}
+use Rattle.xp_seats.specs.Handed.{handed}
 use Rattle.xp_lock.specs.Outgoing.{put_out_to}
-use Rattle.xp_lock.specs.Views.{StartsWith}
+use Rattle.xp_seats.specs.Views.{StartsWith}
 use Rattle.xp_subs.specs.Tables.{line_count}
 use Rattle.xp_lock.proofs.Returned.{ComeOnce, keeps_all, keeps_first, keeps_on, none_twice}
 use Rattle.xp_lock.proofs.Taken.{Agree, AreNoted, IsNoted, agree_before, can_count, counted_all, few_taken, none_within, noted_here, one_within}
 use Rattle.xp_lock.proofs.keeper.Keeper.close.Goals as goal
 
 pub compare_pass-requires-clause-history_length : goal.compare_pass-requires-clause-history_length
-compare_pass-requires-clause-history_length g c = (c.requires.history_length, ap (λ s. s.history_length) c.loop-pass.invariant.history_seat ∙ ap (λ s. s.history_length) c.compare_recorder.ensures.keeper ∙ c.self.invariant.0)
+compare_pass-requires-clause-history_length g c = (c.requires.history_length, ap (λ s. s.history_length) c.loop-pass.invariant.history_seat ∙ ap (λ s. s.history_length) c.compare.ensures.keeper ∙ c.self.invariant.0)
 
 pub compare_pass-requires-clause-keeper : goal.compare_pass-requires-clause-keeper
 compare_pass-requires-clause-keeper g c =
-    keeps_all c.compare_recorder.new.keeper c.loop-pass.history_seat c.loop-pass.invariant.history_seat
+    keeps_all c.compare.new.keeper c.loop-pass.history_seat c.loop-pass.invariant.history_seat
 
 pub compare_pass-requires-clause-outboxes : goal.compare_pass-requires-clause-outboxes
 compare_pass-requires-clause-outboxes g c = ap (map (λ b. b.queue)) (c.loop-pass.invariant.outboxes ∙ c.into_parts-core.ensures.outboxes) ∙ c.self.invariant.3
@@ -31,10 +31,10 @@ loop-pass-init g c =
       can_next = tt;
       is_finite = tt;
       many = ap length gives.0 ∙ sym c.args.passes.ok.0 ∙ sym gives.1;
-      history_seat = keeps_first c.compare_recorder.new.keeper _ _ _ (ap (λ s. s.knows) c.compare_recorder.ensures.keeper);
+      history_seat = keeps_first c.compare.new.keeper _ _ _ (ap (λ s. s.knows) c.compare.ensures.keeper);
       outboxes = refl;
       told = λ told. subst (PassesMatch c.args.self.history) gives.0 told;
-      once = λ come. subst (λ returned. ComeOnce returned c.args.passes.items) (ap (λ s. s.knows.returned) c.compare_recorder.ensures.keeper) (subst (ComeOnce c.compare_recorder.new.keeper.knows.returned) gives.0 come);
+      once = λ come. subst (λ returned. ComeOnce returned c.args.passes.items) (ap (λ s. s.knows.returned) c.compare.ensures.keeper) (subst (ComeOnce c.compare.new.keeper.knows.returned) gives.0 come);
       lines = refl;
       within = subst (λ counts. AreWithin counts c.args.self.history) (sym c.requires.zeros) (none_within (line_count g.N.Name.subs) c.args.self.history);
       noted = λ later agree noted. subst (AreNoted later) gives.0 noted;
@@ -50,7 +50,7 @@ loop-pass-preserved g c =
     let fewer = c.in-Some.ensures.steps.1 in
     let left = ap length items in
     let many = was.many in
-    let all = ap (λ s. s.knows.all) was.history_seat ∙ ap (λ s. s.knows.all) c.compare_recorder.ensures.keeper ∙ ap (λ v. v.all) c.self.invariant.1 ∙ ap (λ s. s.history) c.self.view_is in
+    let all = ap (λ s. s.knows.all) was.history_seat ∙ ap (λ s. s.knows.all) c.compare.ensures.keeper ∙ ap (λ v. v.all) c.self.invariant.1 ∙ ap (λ s. s.history) c.self.view_is in
     let outboxes = was.outboxes ∙ c.into_parts-core.ensures.outboxes in
     let there : pass.line < length c.self.inside.core_with_outboxes.outboxes = let before = c.compare_pass.ensures.there in let same = ap length outboxes in omega (arith, before, same) in
     let put = ap (λ bs. (outbox_at bs pass.line).put) outboxes ∙ c.into_parts-core.ensures.kept.put pass.line there ∙ ap (λ s. put_out_to pass.line s.history) c.self.view_is in
@@ -81,7 +81,7 @@ loop-pass-preserved g c =
       can_next = tt;
       is_finite = tt;
       many = omega (arith, left, fewer, many);
-      history_seat = keeps_on c.compare_recorder.new.keeper c.loop-pass.history_seat c.compare_pass.new.keeper pass.line was.history_seat c.compare_pass.ensures.keeper;
+      history_seat = keeps_on c.compare.new.keeper c.loop-pass.history_seat c.compare_pass.new.keeper pass.line was.history_seat c.compare_pass.ensures.keeper;
       outboxes = c.compare_pass.ensures.outboxes ∙ was.outboxes;
       told = λ told. was.told (subst (PassesMatch history) (sym items) (All-cons (PassMatches history) pass rest one told));
       once = λ come. was.once (subst (ComeOnce c.loop-pass.history_seat.knows.returned) (sym items) (c.compare_pass.ensures.once, subst (λ returned. ComeOnce returned rest) on come));
@@ -135,7 +135,7 @@ returns-clause-taken g c =
 pub returns-clause-recorded : goal.returns-clause-recorded
 returns-clause-recorded g c =
     let book = ap (λ b. b.history) c.new.ensures ∙ c.into_parts-core.ensures.history in
-    subst (λ history. StartsWith history c.args.recorder.seen) (ap (λ v. v.all) c.self.invariant.1 ∙ sym book) c.compare_recorder.ensures.seen
+    subst (λ history. StartsWith history c.args.recorder.seen) (ap (λ v. v.all) c.self.invariant.1 ∙ sym book) c.compare.ensures.seen
 
 pub returns-clause-given : goal.returns-clause-given
-returns-clause-given g c = ap (λ b. b.given) c.new.ensures ∙ c.into_parts-core.ensures.given ∙ c.self.invariant.4 ∙ sym c.compare_recorder.ensures.received
+returns-clause-given g c = ap (λ b. b.given) c.new.ensures ∙ c.into_parts-core.ensures.given ∙ c.self.invariant.4 ∙ sym c.compare.ensures.received

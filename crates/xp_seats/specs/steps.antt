@@ -1,0 +1,3 @@
+-- The definitions that private steps cite. No public contract cites them.
+pub mod Name
+pub mod Views
