@@ -38,8 +38,8 @@ pub(crate) struct ServedLine<N: Name, P: Port, C: Clock, G: Gate> {
     clock: C,
     gate: G,
     state: LineState<P::Link>,
-    /// Whether calls ended in its last turn.
-    has_ended_calls: bool,
+    /// Whether its last turn was the first to tell of more records than before. Mostly a call of the line ended in it.
+    has_new_records: bool,
     /// Whether a turn is due that waits for the recording thread.
     is_held: bool,
 }
@@ -74,7 +74,7 @@ impl<N: Name, P: Port, C: Clock, G: Gate> ServedLine<N, P, C, G> {
             clock,
             gate,
             state: LineState::Open(None),
-            has_ended_calls: false,
+            has_new_records: false,
             is_held: false,
         }
     }
@@ -94,13 +94,13 @@ impl<N: Name, P: Port, C: Clock, G: Gate> ServedLine<N, P, C, G> {
         self.clock.is_due() && self.is_open()
     }
 
-    /// Whether it has a turn now. A turn that is due is held where the recording thread is behind and the line's calls end, until
+    /// Whether it has a turn now. A turn that is due is held where the recording thread is behind and the line has new records, until
     /// that has caught up. Meanwhile the line keeps its thread from no sleep.
     fn may_go(&mut self, signals: &Signals) -> bool
         ensures { self.new ≡ self.old }
     {
         let is_due = self.is_due() || self.is_held;
-        self.is_held = is_due && self.has_ended_calls && signals.is_recorder_behind();
+        self.is_held = is_due && self.has_new_records && signals.is_recorder_behind();
         if self.is_held {
             self.clock.idle();
         }
@@ -132,7 +132,7 @@ impl<N: Name, P: Port, C: Clock, G: Gate> ServedLine<N, P, C, G> {
                 &mut self.gate,
                 signals,
                 records,
-                &mut self.has_ended_calls,
+                &mut self.has_new_records,
                 session,
             ),
             LineState::Stopped(rest) => LineState::Stopped(rest),
@@ -208,7 +208,7 @@ impl<N: Name, P: Port, C: Clock, G: Gate> ServedLine<N, P, C, G> {
             clock: _,
             gate: _,
             state,
-            has_ended_calls: _,
+            has_new_records: _,
             is_held: _,
         } = self;
         let why = why_of(state);
@@ -226,7 +226,7 @@ impl<N: Name, P: Port, C: Clock, G: Gate> ServedLine<N, P, C, G> {
             clock: _,
             gate: _,
             state: _,
-            has_ended_calls: _,
+            has_new_records: _,
             is_held: _,
         } = self;
         LineEnd {
@@ -247,13 +247,13 @@ fn next_state<N: Name, P: Port, C: Clock, G: Gate, R: Wait>(
     gate: &mut G,
     signals: &Signals,
     records: u64,
-    has_ended_calls: &mut bool,
+    has_new_records: &mut bool,
     session: Option<Session<P::Link>>,
 ) -> LineState<P::Link>
     ensures { GoesOnTo N.subs P.Link.pushed P.Link.pulled session pass.old result pass.new }
 {
     let step = have_turn(rt, alloc, exchange, pass, port, clock, gate, session);
-    *has_ended_calls = signals.records_made(step.records);
+    *has_new_records = signals.records_made(step.records);
     halt_at(rt, exchange, step.records, records);
     match step.end {
         None => LineState::Open(step.session),
