@@ -14,8 +14,7 @@ use Rattle.xp_lock.specs.Forced.{Stalls}
 use Rattle.xp_seats.specs.Handed.{handed, is_stall}
 use Rattle.xp_lock.specs.Passes.{AreStalls, GainsEvent, IsLegal, Pass}
 use Rattle.xp_lock.specs.CoreWithOutboxes.{CoreWithOutboxes, Takes}
-use Rattle.xp_seats.specs.Views.{StartsWith}
-use Rattle.xp_seats.specs.Views.{IsGrown}
+use Rattle.xp_seats.specs.Views.{IsGrown, StartsWith}
 use Rattle.xp_seats.proofs.Lists.{handed-append}
 
 module _ {A : Type 0} where

@@ -3,8 +3,7 @@ use Rattle.xp_subs.specs.Tables.{line_count}
 use Rattle.xp_core.specs.Records.{records_of}
 use Rattle.xp_seats.specs.Handed.{handed}
 use Rattle.xp_lock.specs.Passes.{GainsEvent, IsLegal, Pass}
-use Rattle.xp_seats.specs.Views.{StartsWith, keeping}
-use Rattle.xp_seats.specs.Views.{IsGrown}
+use Rattle.xp_seats.specs.Views.{IsGrown, StartsWith, keeping}
 use Rattle.xp_lock.proofs.Fresh.{freshened, grown}
 use Rattle.xp_lock.proofs.Queues.{queues_left, queues_taken}
 use Rattle.xp_lock.proofs.keeper.Keeper.take.Goals as goal
