@@ -1,9 +1,11 @@
 //! Hosts and ports that lines can't be served on.
 
 use crate::twice::read_twice;
-use std::net::{Ipv4Addr, SocketAddr, SocketAddrV4, TcpListener};
-use std::sync::Arc;
+use std::alloc::Global;
+use std::net::{Ipv4Addr, Net, SocketAddr, SocketAddrV4, TcpListener, TcpStream};
+use std::sync::{Arc, Wait};
 use std::test::Fail;
+use std::thread::Threads;
 use xp_serve::{Limits, RecordPrinter, ServeEnd, serve};
 use xp_tcp::Notices;
 
@@ -15,31 +17,40 @@ const REFUSALS: [(&str, &str); 4] = [
     ("", "xp: host"),
 ];
 
+/// What is told where line a1 is to be served at this host and port and cannot be, and how many octets were printed.
+fn refusal<R: Net<Listener = TcpListener, Stream = TcpStream> + Threads + Wait + Sync>(
+    rt: &R,
+    alloc: Global,
+    host: &str,
+    port: u16,
+) -> Result<(String, usize), Fail> {
+    let text = format!(in alloc;
+        "host = \"{host}\"\n[[station]]\naddress = \"2080010\"\nline = [{{ name = \"a1\", port = {port} }}]\n"
+    )?;
+    let (subs, names) = read_twice(alloc, text.as_str())?;
+    let limits = Limits {
+        records: 1,
+        turns: 1,
+    };
+    let notices = Arc::new(alloc, Notices::new(alloc)?)?;
+    let printer = RecordPrinter::new(alloc, names, Vec::new(alloc));
+    let ServeEnd { keeper, outcome } = serve(rt, alloc, subs, limits, notices, printer);
+    match outcome {
+        Ok(_) => Err("served".into()),
+        Err(failure) => Ok((format!(in alloc; "{failure}")?, keeper.into_writer().len())),
+    }
+}
+
 /// A host that is no address is told before the port.
 #[test]
 fn port_in_use(rt: HostRuntime) -> Result<(), Fail> {
     let any = SocketAddr::V4(SocketAddrV4::new(Ipv4Addr::LOCALHOST, 0));
     let other = TcpListener::bind(&rt, any)?;
     let port = other.local_addr()?.port();
-    let limits = Limits {
-        records: 1,
-        turns: 1,
-    };
-    for (host, told) in REFUSALS {
-        let text = format!(in rt.alloc();
-            "host = \"{host}\"\n[[station]]\naddress = \"2080010\"\nline = [{{ name = \"a1\", port = {port} }}]\n"
-        )?;
-        let alloc = rt.alloc();
-        let (subs, names) = read_twice(alloc, text.as_str())?;
-        let notices = Arc::new(alloc, Notices::new(alloc)?)?;
-        let printer = RecordPrinter::new(alloc, names, Vec::new(alloc));
-        let ServeEnd { keeper, outcome } = serve(&rt, alloc, subs, limits, notices, printer);
-        let Err(failure) = outcome else {
-            return Err("served".into());
-        };
-        let failure = format!(in rt.alloc(); "{failure}")?;
-        assert_eq!(rt; failure.as_str(), told, "at {host}");
-        assert_eq!(rt; keeper.into_writer().len(), 0);
+    for (host, wanted) in REFUSALS {
+        let (told, printed) = refusal(&rt, rt.alloc(), host, port)?;
+        assert_eq!(rt; told.as_str(), wanted, "at {host}");
+        assert_eq!(rt; printed, 0);
     }
     Ok(())
 }

@@ -32,21 +32,40 @@ fn listen_and_connect<R: Net<Listener = TcpListener, Stream = TcpStream>>(
     admitted: &str,
 ) -> Result<Scene, Fail> {
     let notices = Arc::new(alloc, Notices::new(alloc)?)?;
-    let mut admission = Admission::any();
-    admission.add(admitted)?;
-    let mut sockets = Sockets::new(alloc, 1, NonZeroUsize::MIN, Arc::try_clone(&notices)?)?;
-    sockets.listen(rt, IpAddr::V4(Ipv4Addr::LOCALHOST), 0, admission)?;
-    let number = sockets.port(0).ok_or("no port")?;
-    let at = SocketAddr::V4(SocketAddrV4::new(Ipv4Addr::LOCALHOST, number));
-    let patience = Duration::from_secs(PATIENCE);
-    let client = TcpStream::connect_timeout(rt, &at, patience)?;
-    client.set_read_timeout(Some(patience))?;
+    let sockets = listen(rt, alloc, admitted, Arc::try_clone(&notices)?)?;
+    let client = connect(rt, sockets.port(0).ok_or("no port")?)?;
     let (port, _clock) = sockets.into_ends(alloc)?.lines.pop().ok_or("no end")?;
     Ok(Scene {
         client,
         port,
         notices,
     })
+}
+
+/// Listens for the line.
+fn listen<R: Net<Listener = TcpListener, Stream = TcpStream>>(
+    rt: &R,
+    alloc: Global,
+    admitted: &str,
+    notices: Arc<Notices>,
+) -> Result<Sockets, Fail> {
+    let mut admission = Admission::any();
+    admission.add(admitted)?;
+    let mut sockets = Sockets::new(alloc, 1, NonZeroUsize::MIN, notices)?;
+    sockets.listen(rt, IpAddr::V4(Ipv4Addr::LOCALHOST), 0, admission)?;
+    Ok(sockets)
+}
+
+/// Connects the client to this port.
+fn connect<R: Net<Listener = TcpListener, Stream = TcpStream>>(
+    rt: &R,
+    port: u16,
+) -> Result<TcpStream, Fail> {
+    let at = SocketAddr::V4(SocketAddrV4::new(Ipv4Addr::LOCALHOST, port));
+    let patience = Duration::from_secs(PATIENCE);
+    let client = TcpStream::connect_timeout(rt, &at, patience)?;
+    client.set_read_timeout(Some(patience))?;
+    Ok(client)
 }
 
 /// Asks the port for its next link until there is a notice. The link, if one came.
