@@ -68,6 +68,7 @@ fn act_on<A: Allocator + Copy, W: Write>(
 }
 
 /// Drops the records that wait, where they are many: their text was made with their entries. Without memory they wait on.
+#[inline(always)]
 fn drop_records<A: Allocator + Copy>(core: &mut Core<A>)
     ensures { core.new ≡ record core.old { given = core.new.given; waiting = core.new.waiting } }
 {

@@ -198,6 +198,7 @@ fn moment_after<A: Allocator>(before: u64, command: &Command<A>) -> u64
 }
 
 /// Fills the queue with the events of a command at this moment. Puts the vector of its octets back into `memory`.
+#[inline(always)]
 fn read_events<A: Allocator + Copy>(
     core: &Core<A>,
     streams: &mut Streams<A>,
