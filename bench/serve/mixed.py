@@ -81,6 +81,11 @@ class Row:
         return outcome
 
 
+def without_seconds(frame):
+    """A frame, without the seconds of a call's duration (facility C1): in the replay a call takes no time, and here it takes some."""
+    return re.sub(rb"(\xc1\x04\0\0\0).", rb"\1\0", frame, flags=re.DOTALL)
+
+
 def frames_in(octets):
     """The packets of whole frames. A header that no frame has makes the row unfit."""
     packets = []
@@ -145,7 +150,7 @@ class Play:
         if name == ROUTER_LINE and name not in self.connections:
             self.connections[name] = XotCall(self.router.listener.accept()[0])
         came = self.connections[name].octets(len(frame), PATIENCE)
-        if came != frame:
+        if without_seconds(came) != without_seconds(frame):
             raise Wrong(f"{name} was put {came.hex()} in place of {frame.hex()}")
         return name == ROUTER_LINE and frame[6] == CLEAR_CONFIRMATION
 
