@@ -16,3 +16,21 @@ returns-in-Call-clause-ok g c = λ call h.
       ]
     ] in
     follows_unchanged c.args.here (turn_of c.args.here c.args.packet.now) none call c.args.self.now c.args.room.moves h c.requires.empty
+
+pub returns-in-Ready-clause-ok : goal.returns-in-Ready-clause-ok
+returns-in-Ready-clause-ok g c = rw (c.in-Ready.is) (c.flow.ensures)
+
+pub returns-in-NotReady-clause-ok : goal.returns-in-NotReady-clause-ok
+returns-in-NotReady-clause-ok g c = rw (c.in-NotReady.is) (c.flow-in-NotReady.ensures)
+
+pub returns-in-Reject-clause-ok : goal.returns-in-Reject-clause-ok
+returns-in-Reject-clause-ok g c = rw (c.in-Reject.is) (c.reject.ensures)
+
+pub returns-in-InterruptConfirm-clause-ok : goal.returns-in-InterruptConfirm-clause-ok
+returns-in-InterruptConfirm-clause-ok g c = rw (c.in-InterruptConfirm.is) (c.interrupt_confirm.ensures)
+
+pub returns-in-Reset-clause-ok : goal.returns-in-Reset-clause-ok
+returns-in-Reset-clause-ok g c = rw (c.in-Reset.is) (c.reset.ensures)
+
+pub returns-in-ResetConfirm-clause-ok : goal.returns-in-ResetConfirm-clause-ok
+returns-in-ResetConfirm-clause-ok g c = rw (c.in-ResetConfirm.is) (c.reset_confirm.ensures)
