@@ -23,7 +23,7 @@ pub(crate) const NO_USER: usize = 0;
 
 /// The address block, facilities and user data of a call set-up or clearing packet
 /// (X.25 clauses 5.2.1 to 5.2.5).
-#[derive(Clone, Debug, Drop, PartialEq)]
+#[derive(Clone, Debug, PartialEq)]
 pub struct Block<A: Allocator = Global> {
     /// The called address, 0 to 15 digits.
     pub called: Digits,
@@ -33,6 +33,17 @@ pub struct Block<A: Allocator = Global> {
     pub facilities: Octets<A>,
     /// User data, at most 128 octets; none in a clear confirmation.
     pub user: Octets<A>,
+}
+
+impl<A: Allocator> Drop for Block<A> {
+    fn drop(self) {
+        let Block {
+            called: _,
+            calling: _,
+            facilities: _,
+            user: _,
+        } = self;
+    }
 }
 
 /// Reads a block, which must use all the octets. Its user data has at most `most` octets. Nothing is copied before

@@ -1,5 +1,5 @@
 /// One of the two ends of a virtual call.
-#[derive(Clone, Copy, Debug, Default, PartialEq, Eq)]
+#[derive(Clone, Copy, Default, PartialEq, Eq)]
 pub enum End {
     /// The line that made the call request.
     #[default]

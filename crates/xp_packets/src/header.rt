@@ -19,7 +19,7 @@ const D_BIT: u8 = 0x40;
 const GROUP_BITS: u8 = 0x0f;
 
 /// The values of the general format identifier, the logical channel identifier and the packet type identifier.
-#[derive(Debug, Drop)]
+#[derive(Drop)]
 pub(crate) struct Header {
     pub(crate) identifier: u16,
     pub(crate) q: bool,

@@ -2,7 +2,7 @@ ghost use Rattle.std.specs.Prelude.{◌≡◌, ◌≤◌};
 ghost use Rattle.xp_packets.specs.Numbers.{numbers};
 
 /// The modulus of the packet numbers of a line (X.25 clause 4.4.1.1).
-#[derive(Clone, Copy, Debug, PartialEq, Eq)]
+#[derive(Clone, Copy, PartialEq, Eq)]
 pub enum Modulus {
     /// Modulo 8.
     Eight,

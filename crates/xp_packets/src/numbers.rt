@@ -20,7 +20,7 @@ const MORE_BIT: u8 = 0x10;
 const LONG_MORE_BIT: u8 = 0x01;
 
 /// What a data packet has beside its user data, and the Q and D bits.
-#[derive(Debug, Drop)]
+#[derive(Drop)]
 pub(crate) struct Numbers {
     pub(crate) ps: u8,
     pub(crate) pr: u8,

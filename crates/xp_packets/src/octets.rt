@@ -7,9 +7,15 @@ use std::sync::ArcSlice;
 
 /// The octets that a packet carries unchanged: user data, facilities or interrupt data. Copies share one block of
 /// memory.
-#[derive(Debug, Drop)]
+#[derive(Debug)]
 pub struct Octets<A: Allocator = Global> {
     held: Storage<A>,
+}
+
+impl<A: Allocator> Drop for Octets<A> {
+    fn drop(self) {
+        let Octets { held: _ } = self;
+    }
 }
 
 /// Where the octets are stored: a few in place, more in a shared block.

@@ -5,7 +5,7 @@ use crate::records::Records;
 use std::alloc::{Allocator, Global};
 
 /// One entry of the history: an event, and what it did.
-#[derive(Debug, Drop)]
+#[derive(Drop)]
 pub struct Entry<A: Allocator = Global> {
     /// The entry's number, from 1.
     pub number: u64,

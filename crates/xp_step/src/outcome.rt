@@ -7,7 +7,7 @@ use xp_machine::Agreement;
 use xp_subs::LineNo;
 
 /// What an event settled that the table of actions leaves open.
-#[derive(Clone, Copy, Debug, Default, PartialEq, Eq)]
+#[derive(Clone, Copy, Default, PartialEq, Eq)]
 pub enum Outcome {
     /// Nothing was left open.
     #[default]

@@ -6,7 +6,7 @@ use xp_packets::Packet;
 use xp_subs::LineNo;
 
 /// What is put out to a line: a packet over its connection, or the end of the connection.
-#[derive(Clone, Debug, Drop, PartialEq)]
+#[derive(Clone, Drop, PartialEq)]
 pub enum Put<A: Allocator = Global> {
     /// A packet, under this logical channel identifier, 0 to 4,095 (X.25 clauses 5.1.2 and 5.1.3).
     Send { identifier: u16, packet: Packet<A> },
@@ -15,7 +15,7 @@ pub enum Put<A: Allocator = Global> {
 }
 
 /// Something that is put out to one connection of a line.
-#[derive(Clone, Debug, Drop, PartialEq)]
+#[derive(Clone, Drop, PartialEq)]
 pub struct Outgoing<A: Allocator = Global> {
     /// The number of the connection. It is how often the line has come into service: 1 for its first connection.
     pub connection: u64,
@@ -24,7 +24,7 @@ pub struct Outgoing<A: Allocator = Global> {
 }
 
 /// Something that is put out to a line.
-#[derive(Clone, Debug, Drop, PartialEq)]
+#[derive(Clone, Drop, PartialEq)]
 pub struct Output<A: Allocator = Global> {
     /// The line, one of the subscriptions'.
     pub line: LineNo,
@@ -33,7 +33,7 @@ pub struct Output<A: Allocator = Global> {
 }
 
 /// What one event puts out, in order.
-#[derive(Debug, Drop)]
+#[derive(Drop)]
 pub struct Outputs<A: Allocator = Global> {
     outputs: Vec<Output<A>, A>,
 }
@@ -92,7 +92,7 @@ impl<A: Allocator> Outputs<A> {
 }
 
 /// Outputs that are being collected, with room for more. To add one within this room allocates nothing.
-#[derive(Debug, Drop)]
+#[derive(Drop)]
 pub struct Buffer<A: Allocator = Global> {
     outputs: Vec<Output<A>, A>,
     room: usize,

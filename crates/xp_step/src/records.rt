@@ -6,7 +6,7 @@ use xp_charge::Record;
 
 /// The records of one entry. Most entries have none, and then they allocate nothing. An entry has two at most, in a
 /// call collision (X.25 clause 4.1.6): that of the cancelled call, and that of the line's own call if it is refused.
-#[derive(Debug, Drop)]
+#[derive(Drop)]
 pub struct Records<A: Allocator = Global> {
     records: Vec<Record, A>,
 }

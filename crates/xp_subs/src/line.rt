@@ -6,7 +6,7 @@ use xp_file::{Access, Name, Sources};
 use xp_packets::{Digits, Modulus};
 
 /// One access line of a station.
-#[derive(Debug, Drop, PartialEq)]
+#[derive(Drop, PartialEq)]
 pub struct Line {
     pub name: Name,
     /// Its port or its router.

@@ -1,12 +1,12 @@
 //! Reads the subscriptions from the text of a file.
-ghost use Rattle.std.specs.Prelude.{◌≡◌, ◌≢◌, ◌<◌, length, true, Ok, Err, IfOk, IfErr};
+ghost use Rattle.std.specs.Prelude.{◌≡◌, [], ◌≢◌, ◌<◌, length, true, Ok, Err, IfOk, IfErr};
 ghost use Rattle.xp_file.specs.declared.fault.SubscriptionFault.TheVariants.{Memory as OutOfMemory};
 ghost use Rattle.std.specs.List.{list_all};
 ghost use Rattle.std.specs.Set.{distinct_count};
 ghost use Rattle.xp_file.specs.Entries.{AreLimits};
 ghost use Rattle.xp_file.specs.Routers.{IsPort};
 ghost use Rattle.xp_file.specs.SubscriptionFile.{file_in};
-ghost use Rattle.xp_subs.specs.Built.{SetsUp, tables_of, named_groups};
+ghost use Rattle.xp_subs.specs.Built.{SetsUp, tables_of, named_groups, mentions, stations_from, lines_from};
 ghost use Rattle.xp_subs.specs.steps.WithinLimits.{AreWithinLimits};
 ghost use Rattle.xp_subs.specs.Passes.{has_own_indexes};
 ghost use Rattle.xp_subs.specs.steps.Passes.{nothing_used, with_stations};
@@ -15,10 +15,13 @@ ghost use Rattle.xp_subs.specs.Tables.{group_count, same};
 use crate::build;
 use crate::indexes::all_have_own_indexes;
 use crate::limits::over_limit;
+use crate::line::Line;
+use crate::station::Station;
 use crate::subs::Subs;
 use crate::used_values::UsedValues;
+use indexmap::IndexSet;
 use std::alloc::{AllocError, Global};
-use xp_file::{SubscriptionFault, SubscriptionFile};
+use xp_file::{Name, StationEntry, SubscriptionFault, SubscriptionFile};
 
 impl Subs {
     /// Reads the text of a subscription file.
@@ -62,10 +65,46 @@ fn from_file(alloc: Global, file: SubscriptionFile, uses: UsedValues) -> Result<
     requires once { with_stations 0 0 file.stations nothing_used ≡ Ok uses }
     ensures { IfOk result (λ subs. subs ≡ tables_of file) }
 {
-    let known = build::group_names(alloc, &file.stations)?;
-    let stations = build::stations(alloc, &file.stations, &known)?;
-    let lines = build::lines(alloc, &file.stations)?;
-    Ok(Subs {
+    match parts_of(alloc, &file.stations) {
+        Ok((known, stations, lines)) => Ok(put_together(file, uses, known, stations, lines)),
+        Err(refused) => Err(refused),
+    }
+}
+
+fn parts_of(
+    alloc: Global,
+    entries: &[StationEntry],
+) -> Result<(IndexSet<Name>, Vec<Station>, Vec<Line>), AllocError>
+    requires fit { AreWithinLimits entries.now }
+    ensures names { IfOk result (λ parts. parts.0.keys ≡ mentions [] entries.now) }
+    ensures stations { IfOk result (λ parts. parts.1.items ≡ stations_from parts.0.keys 0 entries.now) }
+    ensures lines { IfOk result (λ parts. parts.2.items ≡ lines_from 0 entries.now) }
+{
+    let known = build::group_names(alloc, entries)?;
+    let stations = build::stations(alloc, entries, &known)?;
+    let lines = build::lines(alloc, entries)?;
+    Ok((known, stations, lines))
+}
+
+fn put_together(
+    file: SubscriptionFile,
+    uses: UsedValues,
+    known: IndexSet<Name>,
+    stations: Vec<Station>,
+    lines: Vec<Line>,
+) -> Subs
+    requires fit { AreWithinLimits file.stations }
+    requires some { 0 < length file.stations }
+    requires limits { AreLimits file.segment_limit file.journal }
+    requires port { IsPort file.xot_port }
+    requires own { list_all has_own_indexes file.stations ≡ true }
+    requires once { with_stations 0 0 file.stations nothing_used ≡ Ok uses }
+    requires names { known.keys ≡ mentions [] file.stations }
+    requires stations { stations.items ≡ stations_from known.keys 0 file.stations }
+    requires lines { lines.items ≡ lines_from 0 file.stations }
+    ensures { result ≡ tables_of file }
+{
+    Subs {
         stations,
         lines,
         groups: known,
@@ -75,5 +114,5 @@ fn from_file(alloc: Global, file: SubscriptionFile, uses: UsedValues) -> Result<
         xot_port: file.xot_port,
         targets: uses.targets,
         names: uses.names,
-    })
+    }
 }

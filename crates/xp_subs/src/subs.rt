@@ -12,7 +12,6 @@ use xp_file::{Access, Name, Sources};
 use xp_packets::{Digits, Modulus};
 
 /// The subscriptions of an exchange: its stations, with their lines, facilities and groups.
-#[derive(Drop)]
 pub struct Subs {
     pub(crate) stations: Vec<Station>,
     pub(crate) lines: Vec<Line>,
@@ -23,6 +22,22 @@ pub struct Subs {
     pub(crate) xot_port: u16,
     pub(crate) targets: IndexMap<Digits, Target>,
     pub(crate) names: IndexMap<Name, LineNo>,
+}
+
+impl Drop for Subs {
+    fn drop(self) {
+        let Subs {
+            stations: _,
+            lines: _,
+            groups: _,
+            segment_limit: _,
+            journal: _,
+            host: _,
+            xot_port: _,
+            targets: _,
+            names: _,
+        } = self;
+    }
 }
 
 impl Model for Subs {

@@ -62,11 +62,12 @@ pub fn fall<A: Allocator + Copy>(
     ensures { (before : List (Entered A)) → IsEventLine found.now before → IfOk result (λ plan. IsPlainPlan plan (event_line_context found.now before) (outputs_of_fall (event_line_context found.now before) what.now) (leaves found.now.line GoesOut GONE_OUT NO_INFORMATION (call_on found.now.machine.now found.now.line) ∷ [])) }
 {
     let (cause, diagnostic) = (OUT_OF_ORDER, NO_ADDITIONAL_INFORMATION);
-    let own = closing(found.machine, found.line, what);
-    let far = found.clear_far(alloc, cause, diagnostic);
-    let outputs = Buffer::with_room(alloc, 2)?.with_some(own).with_some(far);
+    let outputs = Buffer::with_room(alloc, 2)?;
     let withdrawal = found.withdraw(NoCallState::GoesOut, cause, diagnostic);
     let records = Records::of(alloc, withdrawal.charged)?;
+    let own = closing(found.machine, found.line, what);
+    let far = found.clear_far(alloc, cause, diagnostic);
+    let outputs = outputs.with_some(own).with_some(far);
     Ok(Plan::of(outputs, records).changing(withdrawal.change))
 }
 
@@ -133,11 +134,12 @@ fn clear_both<A: Allocator + Copy>(
     requires { IsShort found.now.charged }
     ensures { (before : List (Entered A)) → IsEventLine found.now before → IfOk result (λ plan. IsPlainPlan plan (event_line_context found.now before) (outputs_to_both (event_line_context found.now before) near far diagnostic) (leaves found.now.line IsCleared far diagnostic (call_on found.now.machine.now found.now.line) ∷ [])) }
 {
-    let own = found.clear_own(alloc, near, diagnostic);
-    let other = found.clear_far(alloc, far, diagnostic);
-    let outputs = Buffer::with_room(alloc, 2)?.with(own).with_some(other);
+    let outputs = Buffer::with_room(alloc, 2)?;
     let withdrawal = found.withdraw(NoCallState::IsCleared, far, diagnostic);
     let records = Records::of(alloc, withdrawal.charged)?;
+    let own = found.clear_own(alloc, near, diagnostic);
+    let other = found.clear_far(alloc, far, diagnostic);
+    let outputs = outputs.with(own).with_some(other);
     Ok(Plan::of(outputs, records).changing(withdrawal.change))
 }
 

@@ -36,7 +36,6 @@ use xp_packets::{End, Packet};
 use xp_subs::LineNo;
 
 /// The incoming call that a call request from its line cancels (X.25 clause 4.1.6), if there is one.
-#[derive(Drop)]
 pub struct Cancelled<A: Allocator> {
     /// The line that the incoming call was put to.
     pub line: Option<LineNo>,
@@ -45,7 +44,31 @@ pub struct Cancelled<A: Allocator> {
     pub told: Option<Output<A>>,
 }
 
+impl<A: Allocator> Drop for Cancelled<A> {
+    fn drop(self) {
+        let Cancelled {
+            line: _,
+            charged: _,
+            told: _,
+        } = self;
+    }
+}
+
 impl<A: Allocator> Cancelled<A> {
+    /// Takes it apart.
+    fn into_parts(self) -> (Option<LineNo>, Option<Record>, Option<Output<A>>)
+        ensures line { result.0 ≡ self.line }
+        ensures charged { result.1 ≡ self.charged }
+        ensures told { result.2 ≡ self.told }
+    {
+        let Cancelled {
+            line,
+            charged,
+            told,
+        } = self;
+        (line, charged, told)
+    }
+
     /// Returns that no call is cancelled.
     pub fn none() -> Cancelled<A>
         ensures { (at : StepContext A) → IsCancelled result at [] [] }
@@ -151,11 +174,7 @@ fn put<A: Allocator>(
     };
     let identifier = LogicalChannel::INITIAL_IDENTIFIER;
     let ring = send_as(found.machine, called, identifier, packet);
-    let Cancelled {
-        line,
-        charged,
-        told,
-    } = cancelled;
+    let (line, charged, told) = cancelled.into_parts();
     Plan::of(
         outputs.with_some(told).with(ring),
         records.with_some(charged),
@@ -204,11 +223,7 @@ fn refused<A: Allocator>(
         connected: None,
         ended: found.moment,
     };
-    let Cancelled {
-        line,
-        charged,
-        told,
-    } = cancelled;
+    let (line, charged, told) = cancelled.into_parts();
     let records = records.with_some(charged).with(record);
     Plan::of(outputs.with(own).with_some(told), records)
         .settling(Outcome::Refused(why))
