@@ -140,7 +140,7 @@ const FILE_HELP: &str = "The subscription file (TOML): the stations and their li
 const ADDRESS_HELP: &str = "The address of the console, as 127.0.0.1:9980";
 
 /// The arguments of the program: a subcommand, and what it has to be given.
-#[derive(Clone, Copy, Debug, PartialEq, Eq)]
+#[derive(Clone, Copy, PartialEq, Eq)]
 pub struct Arguments<'a> {
     pub subcommand: Subcommand<'a>,
     /// The name of the subscription file, or the address of the console that is asked.

@@ -65,7 +65,7 @@ pub const TURNS: &str = "turns";
 pub const UNTIL_EOF: &str = "until-eof";
 
 /// What a subcommand does.
-#[derive(Clone, Copy, Debug, PartialEq, Eq)]
+#[derive(Clone, Copy, PartialEq, Eq)]
 pub enum Verb {
     Check,
     Replay,
@@ -120,7 +120,7 @@ impl Verb {
 }
 
 /// The form in which a subscription file that sets up is told.
-#[derive(Clone, Copy, Debug, PartialEq, Eq)]
+#[derive(Clone, Copy, PartialEq, Eq)]
 pub enum CheckForm {
     /// A line of counts.
     Counts,
@@ -129,7 +129,7 @@ pub enum CheckForm {
 }
 
 /// The form in which a replay is told.
-#[derive(Clone, Copy, Debug, PartialEq, Eq)]
+#[derive(Clone, Copy, PartialEq, Eq)]
 pub enum ReplayForm<'a> {
     /// Lines of frames in hexadecimal digits, and of charging records.
     Digits,
@@ -142,7 +142,7 @@ pub enum ReplayForm<'a> {
 }
 
 /// A call request whose decision is to be explained.
-#[derive(Clone, Copy, Debug, PartialEq, Eq)]
+#[derive(Clone, Copy, PartialEq, Eq)]
 pub struct QuestionOrder<'a> {
     /// The name of the calling line.
     pub caller: &'a str,
@@ -159,7 +159,7 @@ pub struct QuestionOrder<'a> {
 }
 
 /// What is to be traced as lines are served.
-#[derive(Clone, Copy, Debug, PartialEq, Eq)]
+#[derive(Clone, Copy, PartialEq, Eq)]
 pub struct TraceOrder<'a> {
     /// The name of the file of the trace.
     pub path: &'a str,
@@ -168,7 +168,7 @@ pub struct TraceOrder<'a> {
 }
 
 /// How the lines are to be served.
-#[derive(Clone, Copy, Debug, PartialEq, Eq)]
+#[derive(Clone, Copy, PartialEq, Eq)]
 pub struct ServeOrder<'a> {
     pub limits: Limits,
     /// The name of the file of call detail records, if there is to be one.
@@ -184,7 +184,7 @@ pub struct ServeOrder<'a> {
 }
 
 /// What a console is asked for.
-#[derive(Clone, Copy, Debug, PartialEq, Eq)]
+#[derive(Clone, Copy, PartialEq, Eq)]
 pub enum ConsoleRequest {
     /// To show the exchange.
     Status,
@@ -193,7 +193,7 @@ pub enum ConsoleRequest {
 }
 
 /// A subcommand of the program.
-#[derive(Clone, Copy, Debug, PartialEq, Eq)]
+#[derive(Clone, Copy, PartialEq, Eq)]
 pub enum Subcommand<'a> {
     /// Checks a subscription file.
     Check(CheckForm),

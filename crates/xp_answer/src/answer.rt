@@ -17,7 +17,7 @@ use xp_facilities::{FastSelect, RequestedFacilities, parse};
 use xp_packets::{Block, Digits};
 
 /// The outcome of the answer to an incoming call.
-#[derive(Debug, Drop, PartialEq)]
+#[derive(Drop, PartialEq)]
 pub enum Answer<A: Allocator = Global> {
     /// The call is connected.
     Connected(Connection<A>),

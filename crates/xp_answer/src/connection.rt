@@ -12,7 +12,7 @@ use xp_facilities::{FastSelect, IndicatedFacilities, Reason, RequestedFacilities
 use xp_packets::{Block, Digits, Packet};
 
 /// A call that the called line has accepted.
-#[derive(Debug, Drop, PartialEq)]
+#[derive(Drop, PartialEq)]
 pub struct Connection<A: Allocator = Global> {
     /// The call connected packet, for the caller.
     pub packet: Packet<A>,

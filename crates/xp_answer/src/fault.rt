@@ -5,7 +5,7 @@ use xp_causes::diagnostic;
 use xp_facilities::FacilityFault;
 
 /// Why an answer does not connect the call.
-#[derive(Clone, Copy, Debug, PartialEq, Eq)]
+#[derive(Clone, Copy, PartialEq, Eq)]
 pub enum AnswerFault {
     /// The answer is a procedure error with this diagnostic (X.25 Annex E).
     Refused(u8),

@@ -11,7 +11,7 @@ use xp_facilities::{FastSelect, Reason};
 use xp_packets::End;
 
 /// What the exchange stores of the set-up of a call.
-#[derive(Clone, Copy, Debug, Default, PartialEq, Eq)]
+#[derive(Clone, Copy, Default, PartialEq, Eq)]
 pub struct Setup {
     /// The sizes that the incoming call indicated.
     pub indicated: Terms,

@@ -17,7 +17,7 @@ const USUAL_WINDOW_SIZES: DirectionSizes = DirectionSizes {
 };
 
 /// The packet and window sizes of a call, for each direction (X.25 clause 6.12).
-#[derive(Clone, Copy, Debug, Default, PartialEq, Eq)]
+#[derive(Clone, Copy, Default, PartialEq, Eq)]
 pub struct Terms {
     /// Packet sizes, as powers of two: 4 to 12.
     pub packet: DirectionSizes,

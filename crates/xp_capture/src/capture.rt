@@ -11,7 +11,7 @@ use std::marker::Model;
 use xp_words::Direction;
 
 /// A frame of a line, or any other octets that go over its connection.
-#[derive(Clone, Copy, Debug)]
+#[derive(Clone, Copy)]
 pub struct Frame<'a> {
     /// The second in which it goes. A file tells seconds up to 4,294,967,295, and that one in the place of later ones.
     pub moment: u64,

@@ -21,7 +21,7 @@ const FIRST_PORT: u16 = 49_152;
 const PORTS: u32 = 16_384;
 
 /// Where a segment comes from, and where it goes: IPv4 addresses and ports.
-#[derive(Clone, Copy, Debug)]
+#[derive(Clone, Copy)]
 pub struct Ends {
     pub(crate) from: u32,
     pub(crate) to: u32,

@@ -6,7 +6,7 @@ ghost use Rattle.xp_capture.specs.Capture.{first_flow, flow_after};
 use xp_words::Direction;
 
 /// The next sequence numbers of a line's connection, in both directions.
-#[derive(Clone, Copy, Debug)]
+#[derive(Clone, Copy)]
 pub(crate) struct Flow {
     pub(crate) from_line: u32,
     pub(crate) from_exchange: u32,

@@ -12,7 +12,7 @@ use std::alloc::{AllocError, Allocator};
 const HEADERS: u16 = 40;
 
 /// A segment of one end of a connection.
-#[derive(Clone, Copy, Debug)]
+#[derive(Clone, Copy)]
 pub struct Segment<'a> {
     /// The second in which it goes. A file tells seconds up to 4,294,967,295, and that one in the place of later ones.
     pub moment: u64,

@@ -1,7 +1,7 @@
 use crate::{clearing_cause, diagnostic};
 
 /// Why a call request is refused: the cause and the diagnostic of the clear indication (X.25 clause 5.2.4, Annex E).
-#[derive(Clone, Copy, Debug, PartialEq, Eq)]
+#[derive(Clone, Copy, PartialEq, Eq)]
 pub struct Refusal {
     pub cause: u8,
     pub diagnostic: u8,

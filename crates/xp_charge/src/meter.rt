@@ -13,7 +13,7 @@ use xp_packets::End;
 pub struct OverLimit;
 
 /// The segments of a call's accepted data packets, at most `limit` in each direction.
-#[derive(Clone, Copy, Debug, PartialEq, Eq)]
+#[derive(Clone, Copy, PartialEq, Eq)]
 pub struct Meter {
     limit: u32,
     from_caller: u32,

@@ -7,7 +7,7 @@ use crate::frame_watch::PassedFrame;
 
 /// How far the clearing of a connection's call is. The exchange is the DCE: it sends clear indications and confirms the router's
 /// clear requests, and the router confirms its indications (X.25 clause 4.1.7).
-#[derive(Clone, Copy, Debug, PartialEq)]
+#[derive(Clone, Copy, PartialEq)]
 pub enum Clearing {
     /// No side has cleared.
     NotBegun,

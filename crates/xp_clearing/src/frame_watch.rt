@@ -22,7 +22,7 @@ const CLEAR: u8 = 0x13;
 const CLEAR_CONFIRMATION: u8 = 0x17;
 
 /// What is to be known of a frame that has passed.
-#[derive(Clone, Copy, Debug, PartialEq)]
+#[derive(Clone, Copy, PartialEq)]
 pub struct PassedFrame {
     /// The length that the header tells.
     pub packet_length: usize,

@@ -17,7 +17,7 @@ const STOP_HEADER: &str = "x-gonukire";
 const STOP_WORD: &str = "stop";
 
 /// How the status is written.
-#[derive(Clone, Copy, Debug, PartialEq, Eq)]
+#[derive(Clone, Copy, PartialEq, Eq)]
 pub enum Format {
     /// `/status.json`: as JSON.
     Json,
@@ -28,7 +28,7 @@ pub enum Format {
 }
 
 /// What the console has to offer.
-#[derive(Clone, Copy, Debug, PartialEq, Eq)]
+#[derive(Clone, Copy, PartialEq, Eq)]
 pub enum Resource {
     /// `/`: the page.
     Page,
@@ -41,7 +41,7 @@ pub enum Resource {
 }
 
 /// What a request is answered.
-#[derive(Clone, Copy, Debug, PartialEq, Eq)]
+#[derive(Clone, Copy, PartialEq, Eq)]
 pub enum Answer {
     /// The resource is shown; the stop is taken.
     Granted(Resource),

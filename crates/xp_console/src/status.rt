@@ -4,7 +4,7 @@ use crate::refused::RefusedCalls;
 use std::net::SocketAddr;
 
 /// What an exchange shows of itself: all of it is of one moment. Moments are in seconds since 1970.
-#[derive(Debug, Drop)]
+#[derive(Drop)]
 pub struct ExchangeStatus {
     /// The moment at which the exchange began to serve.
     pub started: u64,
@@ -21,7 +21,7 @@ pub struct ExchangeStatus {
 }
 
 /// A line, and what it is doing.
-#[derive(Debug, Drop)]
+#[derive(Drop)]
 pub struct LineStatus {
     pub name: String,
     pub state: LineState,
@@ -34,7 +34,7 @@ pub struct LineStatus {
 }
 
 /// The state of a line's logical channel (X.25 Annex B).
-#[derive(Clone, Copy, Debug, Default, PartialEq, Eq)]
+#[derive(Clone, Copy, Default, PartialEq, Eq)]
 pub enum LineState {
     /// The line has no connection.
     #[default]
@@ -52,7 +52,7 @@ pub enum LineState {
 }
 
 /// A line's part in a call.
-#[derive(Debug, Drop)]
+#[derive(Drop)]
 pub struct Party {
     /// The name of the line.
     pub line: String,
@@ -61,7 +61,7 @@ pub struct Party {
 }
 
 /// A call that has not ended.
-#[derive(Debug, Drop)]
+#[derive(Drop)]
 pub struct LiveCall {
     /// The call's number, from 1.
     pub number: u64,
@@ -78,7 +78,7 @@ pub struct LiveCall {
 }
 
 /// A call that has ended, with the fields of its call detail record.
-#[derive(Debug, Drop)]
+#[derive(Drop)]
 pub struct EndedCall {
     /// The call's number, from 1.
     pub number: u64,
@@ -105,14 +105,14 @@ pub struct EndedCall {
 }
 
 /// The end that pays for a call.
-#[derive(Clone, Copy, Debug, PartialEq, Eq)]
+#[derive(Clone, Copy, PartialEq, Eq)]
 pub enum Payer {
     Caller,
     Called,
 }
 
 /// What was counted since the exchange began to serve, and how many records wait.
-#[derive(Clone, Copy, Debug, Default, PartialEq, Eq)]
+#[derive(Clone, Copy, Default, PartialEq, Eq)]
 pub struct Totals {
     /// Call requests, with those that were refused.
     pub calls: u64,

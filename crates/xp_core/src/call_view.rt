@@ -14,7 +14,7 @@ use xp_step::{Entry, MeteredCall, charged_on};
 use xp_subs::{LineNo, Subs};
 
 /// What can be seen of a live call: who is in it, since when, and what it carried so far.
-#[derive(Clone, Copy, Debug, PartialEq, Eq)]
+#[derive(Clone, Copy, PartialEq, Eq)]
 pub struct CallView {
     /// The call's number, from 1.
     pub number: u64,

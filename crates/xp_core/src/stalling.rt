@@ -32,7 +32,7 @@ use xp_subs::{LineNo, Subs};
 const MOST_OUTPUTS: usize = 2;
 
 /// Room for what one stall puts out, and for the record of the call that ends.
-#[derive(Debug, Drop)]
+#[derive(Drop)]
 pub struct Spare<A: Allocator> {
     outputs: Buffer<A>,
     records: Records<A>,

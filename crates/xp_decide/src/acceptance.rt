@@ -5,7 +5,7 @@ use xp_groups::{Admission, Intent, admit};
 use xp_subs::Station;
 
 /// What a call requests of each station that it reaches.
-#[derive(Clone, Copy, Debug)]
+#[derive(Clone, Copy)]
 pub struct Wanted {
     /// The closed user group within which it is made, and its outside access.
     pub intent: Intent,

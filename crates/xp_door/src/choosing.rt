@@ -8,7 +8,7 @@ use crate::hosts::is_same_host;
 use std::net::IpAddr;
 
 /// A line behind a router, as a connection comes.
-#[derive(Clone, Copy, Debug, PartialEq)]
+#[derive(Clone, Copy, PartialEq)]
 pub struct Candidate {
     /// The address of its router.
     pub router: IpAddr,

@@ -5,7 +5,7 @@ use xp_hunt::{LineState, Lines};
 use xp_subs::LineNo;
 
 /// The states of lines, as an operator states them.
-#[derive(Clone, Copy, Debug)]
+#[derive(Clone, Copy)]
 pub struct StatedLines<'a> {
     /// The lines in service. `None`: all lines are.
     pub up: Option<&'a [LineNo]>,

@@ -3,7 +3,7 @@ use xp_causes::Refusal;
 use xp_words::{ClearingCause, Diagnostic};
 
 /// A decision in words, such as `line b1 rings`.
-#[derive(Clone, Copy, Debug)]
+#[derive(Clone, Copy)]
 pub(crate) enum VerdictWords<'a> {
     /// The line with this name rings.
     Rings(&'a str),

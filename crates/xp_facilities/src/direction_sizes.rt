@@ -3,7 +3,7 @@ ghost use Rattle.xp_facilities.specs.Octets.{is_within};
 
 /// Two packet sizes (as powers of two, 4 to 12) or two window sizes (1 to 15), one for each direction (X.25 clause
 /// 6.12).
-#[derive(Clone, Copy, Debug, Default, PartialEq, Eq)]
+#[derive(Clone, Copy, Default, PartialEq, Eq)]
 pub struct DirectionSizes {
     /// For packets from the called DTE.
     pub from_called: u8,

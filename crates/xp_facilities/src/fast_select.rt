@@ -1,5 +1,5 @@
 /// Fast select (X.25 clause 6.16).
-#[derive(Clone, Copy, Debug, Default, PartialEq, Eq)]
+#[derive(Clone, Copy, Default, PartialEq, Eq)]
 pub enum FastSelect {
     /// No fast select.
     #[default]

@@ -4,7 +4,7 @@ ghost use Rattle.xp_facilities.specs.Octets.{reason_octet};
 use xp_packets::Digits;
 
 /// Why a call went to another line than the dialled one (X.25 clauses 6.25 and 6.26).
-#[derive(Clone, Copy, Debug, PartialEq, Eq)]
+#[derive(Clone, Copy, PartialEq, Eq)]
 pub enum Reason {
     /// The dialled station was busy.
     Busy,
@@ -31,7 +31,7 @@ impl Reason {
 }
 
 /// The call redirection notification (X.25 clause 6.25.3).
-#[derive(Debug, Drop, PartialEq)]
+#[derive(Drop, PartialEq)]
 pub struct RedirectionNotification {
     pub reason: Reason,
     /// The address that was dialled.

@@ -8,7 +8,7 @@ use std::marker::Model;
 use xp_packets::{Digits, Modulus};
 
 /// Where a station's calls are redirected, and for which reasons (X.25 clause 6.25.1).
-#[derive(Debug, Drop, PartialEq)]
+#[derive(Drop, PartialEq)]
 pub struct Redirection {
     /// The alternate address, 1 to 15 digits. It need not be an address of this exchange.
     pub to: Digits,
@@ -35,7 +35,7 @@ impl Redirection {
 }
 
 /// The facilities that a station has subscribed to (X.25 clause 6).
-#[derive(Clone, Copy, Debug, Default, PartialEq, Eq)]
+#[derive(Clone, Copy, Default, PartialEq, Eq)]
 pub struct Facilities {
     /// Outgoing calls barred (X.25 clause 6.6).
     pub outgoing_barred: bool,
@@ -52,7 +52,7 @@ pub struct Facilities {
 }
 
 /// Where the calls of a line come from and go to.
-#[derive(Debug, Drop, PartialEq)]
+#[derive(Drop, PartialEq)]
 pub enum Access {
     /// The TCP port of the line alone, 1 to 65,535: the exchange listens there for its one connection.
     Port(u16),

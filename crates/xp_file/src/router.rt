@@ -17,7 +17,7 @@ pub(crate) const REGISTERED_PORT: u16 = 1998;
 const MOST_PORT_DIGITS: usize = 5;
 
 /// The XOT router through which a line's calls come and go (RFC 1613).
-#[derive(Debug, Drop, PartialEq)]
+#[derive(Drop, PartialEq)]
 pub struct RouterAddress {
     address: AddressText,
     port: u16,

@@ -4,7 +4,7 @@ use crate::lines::{LineState, Lines};
 use xp_subs::LineNo;
 
 /// The result of hunting for an idle line in a hunt group.
-#[derive(Clone, Copy, Debug, PartialEq, Eq)]
+#[derive(Clone, Copy, PartialEq, Eq)]
 pub enum HuntOutcome {
     /// An idle line of the group. The contract does not say which, if there are several.
     Take(LineNo),

@@ -3,7 +3,7 @@ ghost use Rattle.std.specs.Prelude.{◌≡◌, ℕ};
 use xp_subs::LineNo;
 
 /// The state of a line when the exchange hunts for one that takes a call.
-#[derive(Clone, Copy, Debug, Default, PartialEq, Eq)]
+#[derive(Clone, Copy, Default, PartialEq, Eq)]
 pub enum LineState {
     /// Out of service.
     #[default]

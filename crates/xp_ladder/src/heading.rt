@@ -10,7 +10,7 @@ use std::fmt;
 
 /// The names of the lines, above their poles. It has 80 columns where the name at the left has at most 34 columns, and those at the
 /// right at most 27.
-#[derive(Clone, Copy, Debug)]
+#[derive(Clone, Copy)]
 pub struct Heading<'a> {
     /// The name of the line at the left.
     pub left: &'a str,
@@ -45,7 +45,7 @@ impl fmt::Display for Heading<'_> {
 }
 
 /// A name behind the column of moments.
-#[derive(Clone, Copy, Debug)]
+#[derive(Clone, Copy)]
 struct Indented<'a>(&'a str);
 
 impl fmt::Display for Indented<'_> {

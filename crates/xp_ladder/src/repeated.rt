@@ -7,7 +7,7 @@ use std::fmt;
 use unicode_width::UnicodeWidthStr;
 
 /// So many copies of a text.
-#[derive(Clone, Copy, Debug)]
+#[derive(Clone, Copy)]
 pub(crate) struct Repeated {
     pub(crate) text: &'static str,
     pub(crate) count: usize,

@@ -17,7 +17,7 @@ const BETWEEN: usize = 33;
 
 /// A message between a line and the exchange: an arrow with words. It has 80 columns where the moment has at most 10 digits and the
 /// words at most 29 columns; nothing is cut off.
-#[derive(Clone, Copy, Debug)]
+#[derive(Clone, Copy)]
 pub struct Rung<'a> {
     /// The second in which it goes.
     pub moment: u64,
@@ -61,7 +61,7 @@ impl fmt::Display for Rung<'_> {
 }
 
 /// What stands between the outer poles.
-#[derive(Clone, Copy, Debug)]
+#[derive(Clone, Copy)]
 struct Halves<'a> {
     side: Side,
     direction: Direction,
@@ -89,7 +89,7 @@ impl fmt::Display for Halves<'_> {
 }
 
 /// An arrow from one pole to the other.
-#[derive(Clone, Copy, Debug)]
+#[derive(Clone, Copy)]
 struct Arrow<'a> {
     side: Side,
     direction: Direction,

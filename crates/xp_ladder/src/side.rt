@@ -1,5 +1,5 @@
 /// Where a line stands in a ladder diagram.
-#[derive(Clone, Copy, Debug, PartialEq, Eq)]
+#[derive(Clone, Copy, PartialEq, Eq)]
 pub enum Side {
     /// At the left of the exchange.
     Left,

@@ -10,7 +10,7 @@ use xp_packets::Packet;
 const ANSWER_SECONDS: u64 = 180;
 
 /// Since when an incoming call waits for the line's answer, if one does, and the present time. Both are in seconds.
-#[derive(Clone, Copy, Debug, PartialEq)]
+#[derive(Clone, Copy, PartialEq)]
 pub struct AnswerTimer {
     pub since: Option<u64>,
     pub now: u64,

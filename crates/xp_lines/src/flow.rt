@@ -9,7 +9,7 @@ use crate::link::{Link, Pushed};
 use std::alloc::Allocator;
 
 /// Whether a link took all octets.
-#[derive(Clone, Copy, Debug, PartialEq)]
+#[derive(Clone, Copy, PartialEq)]
 pub enum Flow {
     /// It took all.
     Free,

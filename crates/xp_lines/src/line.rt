@@ -19,7 +19,7 @@ use xp_seats::Name;
 const MOST_DRAINED: usize = 64;
 
 /// Why a line has ended.
-#[derive(Clone, Copy, Debug, PartialEq)]
+#[derive(Clone, Copy, PartialEq)]
 pub enum EndReason {
     /// The line has had all its turns.
     Turns,

@@ -22,7 +22,7 @@ use xp_step::Event;
 use xp_subs::LineNo;
 
 /// Why the offering stopped before the last event.
-#[derive(Clone, Copy, Debug, PartialEq)]
+#[derive(Clone, Copy, PartialEq)]
 pub enum Stop {
     /// The gate did not let a packet go.
     Held,
@@ -35,7 +35,7 @@ pub enum Stop {
 }
 
 /// How far the offering went.
-#[derive(Clone, Copy, Debug, PartialEq)]
+#[derive(Clone, Copy, PartialEq)]
 pub struct Offered {
     /// Why it stopped before the last event, if it did.
     pub stop: Option<Stop>,

@@ -23,7 +23,7 @@ use xp_seats::Name;
 const PIECE: usize = 4096;
 
 /// How the reading of a turn ended.
-#[derive(Clone, Copy, Debug, PartialEq)]
+#[derive(Clone, Copy, PartialEq)]
 pub enum ReadOutcome {
     /// All octets that came are read. A packet waits only where the gate did not let it go.
     Open,
@@ -43,7 +43,7 @@ pub fn stays(outcome: ReadOutcome) -> bool
 }
 
 /// The result of the reading of a turn.
-#[derive(Clone, Copy, Debug, PartialEq)]
+#[derive(Clone, Copy, PartialEq)]
 pub struct Taken {
     /// How the reading ended.
     pub outcome: ReadOutcome,
@@ -56,7 +56,7 @@ pub struct Taken {
 }
 
 /// The result of a pull, after its octets were cut into frames.
-#[derive(Clone, Copy, Debug, PartialEq)]
+#[derive(Clone, Copy, PartialEq)]
 pub enum Pull {
     /// Octets came, and are cut into frames. No bad header is among them.
     Came,

@@ -14,7 +14,7 @@ use xp_seats::{Name, Recorder};
 use xp_view::ExchangeView;
 
 /// The answer of a sink.
-#[derive(Clone, Copy, Debug, PartialEq)]
+#[derive(Clone, Copy, PartialEq)]
 pub enum Received {
     /// Serving goes on.
     GoesOn,

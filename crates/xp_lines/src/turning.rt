@@ -24,7 +24,7 @@ use xp_lock::{Exchange, LinePass};
 use xp_seats::Name;
 
 /// How a turn leaves its line.
-#[derive(Clone, Copy, Debug, PartialEq)]
+#[derive(Clone, Copy, PartialEq)]
 pub enum TurnOutcome {
     /// With its link.
     Linked,
@@ -39,7 +39,7 @@ pub enum TurnOutcome {
 }
 
 /// The result of a turn.
-#[derive(Clone, Copy, Debug, PartialEq)]
+#[derive(Clone, Copy, PartialEq)]
 pub struct Turned {
     /// How the turn left the line.
     pub after: TurnOutcome,

@@ -24,7 +24,7 @@ use xp_step::{Outgoing, Put};
 const MOST_OUTPUTS: usize = 64;
 
 /// How the writing of a turn ended.
-#[derive(Clone, Copy, Debug, PartialEq)]
+#[derive(Clone, Copy, PartialEq)]
 pub enum Ended {
     /// All octets are pushed, or the rest waits until the link takes more.
     Open,
@@ -35,7 +35,7 @@ pub enum Ended {
 }
 
 /// The result of the writing of a turn.
-#[derive(Clone, Copy, Debug, PartialEq)]
+#[derive(Clone, Copy, PartialEq)]
 pub struct Written {
     /// How it ended.
     pub ended: Ended,

@@ -12,7 +12,7 @@ use xp_core::Core;
 use xp_subs::LineNo;
 
 /// The result of accepting an event.
-#[derive(Debug, Drop)]
+#[derive(Drop)]
 pub struct Receipt {
     entry: u64,
     records: u64,

@@ -15,7 +15,7 @@ use xp_packets::{Digits, End};
 use xp_subs::LineNo;
 
 /// A virtual call between two lines, from its call request to its clearing.
-#[derive(Debug, Drop, PartialEq)]
+#[derive(Drop, PartialEq)]
 pub struct LiveCall {
     /// The call's number, from 1.
     pub number: u64,
@@ -34,7 +34,7 @@ pub struct LiveCall {
 }
 
 /// Which live call a line is in. A key may be used again, for a call of another number.
-#[derive(Clone, Copy, Debug, PartialEq, Eq)]
+#[derive(Clone, Copy, PartialEq, Eq)]
 pub struct CallKey {
     /// The call's number.
     pub number: u64,

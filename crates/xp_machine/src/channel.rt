@@ -7,7 +7,7 @@ use xp_channel::Channel;
 use xp_hunt::LineState;
 
 /// The state of a line's logical channel (X.25 Annex B).
-#[derive(Clone, Copy, Debug, Default, PartialEq, Eq)]
+#[derive(Clone, Copy, Default, PartialEq, Eq)]
 pub enum ChannelState {
     /// Out of service: no connection.
     #[default]
@@ -75,7 +75,7 @@ impl ChannelState {
 }
 
 /// What the exchange keeps of one line.
-#[derive(Clone, Copy, Debug, Default, PartialEq, Eq)]
+#[derive(Clone, Copy, Default, PartialEq, Eq)]
 pub struct LogicalChannel {
     /// The state of its logical channel.
     pub state: ChannelState,

@@ -21,7 +21,7 @@ use xp_hunt::{LineState, Lines};
 use xp_subs::LineNo;
 
 /// The state of the exchange: its lines and its live calls.
-#[derive(Debug, Drop)]
+#[derive(Drop)]
 pub struct Machine<A: Allocator = Global> {
     lines: Vec<LogicalChannel, A>,
     calls: Slab<LiveCall, A>,

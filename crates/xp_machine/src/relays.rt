@@ -14,7 +14,7 @@ use xp_relay::{Judged, Moves, Relay, Terms};
 use xp_subs::LineNo;
 
 /// The relay of a connected call, and the meter of what it carries.
-#[derive(Debug, Drop)]
+#[derive(Drop)]
 pub struct MeteredRelay<A: Allocator> {
     /// What carries the call's data.
     pub relay: Relay<A>,
@@ -23,7 +23,7 @@ pub struct MeteredRelay<A: Allocator> {
 }
 
 /// A metered relay in memory of its own. So a plan, and the place of a line, hold only a pointer to it.
-#[derive(Debug, Drop)]
+#[derive(Drop)]
 pub struct StoredMeteredRelay<A: Allocator> {
     metered: Box<MeteredRelay<A>, A>,
 }
@@ -109,7 +109,7 @@ impl<A: Allocator + Copy> StoredMeteredRelay<A> {
 }
 
 /// The relay and the meter that a connected call has from now on.
-#[derive(Debug, Drop)]
+#[derive(Drop)]
 pub struct RelayUpdate<A: Allocator> {
     /// The line that asked for the call.
     pub caller: LineNo,
@@ -119,7 +119,7 @@ pub struct RelayUpdate<A: Allocator> {
 
 /// A place for each line. The place of a caller's line holds the relay of its call, once the call is connected. A line
 /// is in one call at a time.
-#[derive(Debug, Drop)]
+#[derive(Drop)]
 pub struct Relays<A: Allocator> {
     by_caller: Vec<Option<StoredMeteredRelay<A>>, A>,
 }

@@ -12,7 +12,7 @@ use xp_relay::{Moves, Relay, Terms};
 
 /// A relay that another one replaced, and a vector of earlier moves. Only their memory is used: what they hold does not
 /// matter.
-#[derive(Debug, Drop)]
+#[derive(Drop)]
 pub struct Workspace<A: Allocator> {
     metered: Option<StoredMeteredRelay<A>>,
     moves: Option<Moves<A>>,

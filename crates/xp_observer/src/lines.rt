@@ -19,7 +19,7 @@ pub(crate) struct NamedLine {
 }
 
 /// What is known of a line besides what the exchange shows.
-#[derive(Clone, Copy, Debug, PartialEq)]
+#[derive(Clone, Copy, PartialEq)]
 pub(crate) struct LineNotes {
     /// The far end of its connection.
     pub(crate) peer: Option<SocketAddr>,

@@ -16,7 +16,7 @@ use xp_subs::{LineNo, Subs};
 use xp_view::ExchangeView;
 
 /// The octets that the connections of all lines have moved.
-#[derive(Clone, Copy, Debug, Default, PartialEq, Eq)]
+#[derive(Clone, Copy, Default, PartialEq, Eq)]
 pub struct Traffic {
     pub received: u64,
     pub sent: u64,

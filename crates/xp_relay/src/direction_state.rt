@@ -20,7 +20,7 @@ mod putting;
 
 /// The stored state of a direction: numbers in place of counts, and the packets that wait. The queue has room for a
 /// whole window.
-#[derive(Debug, Drop)]
+#[derive(Drop)]
 pub(crate) struct DirectionState<A: Allocator = Global> {
     terms: DirectionTerms,
     /// P(R) to the sender.

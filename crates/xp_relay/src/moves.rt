@@ -5,7 +5,7 @@ use std::marker::Model;
 use xp_packets::{End, Packet};
 
 /// A packet for one end of the call.
-#[derive(Clone, Debug, Drop, PartialEq)]
+#[derive(Clone, Drop, PartialEq)]
 pub struct Move<A: Allocator = Global> {
     /// The end that receives it.
     pub side: End,
@@ -13,7 +13,7 @@ pub struct Move<A: Allocator = Global> {
 }
 
 /// A list of moves, with room for more. To add a move allocates nothing.
-#[derive(Debug, Drop)]
+#[derive(Drop)]
 pub struct Moves<A: Allocator = Global> {
     moves: Vec<Move<A>, A>,
     room: usize,

@@ -22,7 +22,7 @@ mod taking;
 
 /// What a live call carries between its ends. The methods that make or copy a relay allocate the room for the packets
 /// that can wait. The caller passes the other methods the room for their moves.
-#[derive(Debug, Drop)]
+#[derive(Drop)]
 pub struct Relay<A: Allocator = Global> {
     from_caller: DirectionState<A>,
     from_called: DirectionState<A>,

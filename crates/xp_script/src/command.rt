@@ -20,7 +20,7 @@ pub const MAX_LINE_OCTETS: usize = 8192;
 const AT: &[u8] = b"at";
 
 /// What a line of a script asks for.
-#[derive(Debug, Drop, PartialEq)]
+#[derive(Drop, PartialEq)]
 pub enum Command<A: Allocator = Global> {
     /// Nothing: an empty line or a comment.
     Nothing,

@@ -4,7 +4,7 @@ use std::alloc::{Allocator, Global};
 use std::marker::Model;
 
 /// Octets that come in on a line of the exchange. Their memory can be taken back for those of the next line.
-#[derive(Debug, Drop)]
+#[derive(Drop)]
 pub struct InputOctets<A: Allocator = Global> {
     octets: Vec<u8, A>,
 }

@@ -5,7 +5,7 @@ use xp_script::{Command, LineFault};
 use xp_subs::Subs;
 
 /// What a line of a script wants behind its first word.
-#[derive(Clone, Copy, Debug, PartialEq, Eq)]
+#[derive(Clone, Copy, PartialEq, Eq)]
 pub(crate) enum Form {
     /// The name of a line.
     Line,

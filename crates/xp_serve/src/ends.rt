@@ -11,7 +11,7 @@ use xp_seats::Name;
 use xp_subs::{LineNo, Subs};
 
 /// What ended a line before its time.
-#[derive(Clone, Copy, Debug, PartialEq)]
+#[derive(Clone, Copy, PartialEq)]
 pub enum EarlyEndCause {
     /// The history was full.
     Journal,
@@ -22,7 +22,7 @@ pub enum EarlyEndCause {
 }
 
 /// That a line ended before its time.
-#[derive(Clone, Copy, Debug, PartialEq)]
+#[derive(Clone, Copy, PartialEq)]
 pub struct EarlyEnd {
     /// The number of the line.
     pub line: LineNo,

@@ -10,7 +10,7 @@ const GREATEST: u64 = 1_000_000_000_000;
 const NO_LIMIT: u64 = u64::MAX;
 
 /// When serving ends.
-#[derive(Clone, Copy, Debug, PartialEq, Eq)]
+#[derive(Clone, Copy, PartialEq, Eq)]
 pub struct Limits {
     /// With so many charging records, 1 to 1,000,000,000,000; 2^64 - 1 where there is no limit.
     pub records: u64,

@@ -13,7 +13,7 @@ const PIECE: usize = 512;
 
 /// Standard input, as a pipe that whoever started the program holds open. Where it ends, serving is to stop: the pipe was closed,
 /// or who held it has ended.
-#[derive(Clone, Copy, Debug, Default)]
+#[derive(Clone, Copy, Default)]
 pub struct StopInput {
     has_ended: bool,
 }

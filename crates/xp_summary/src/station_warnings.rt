@@ -10,7 +10,7 @@ use xp_packets::Digits;
 use xp_subs::{Membership, Station, StationNo, Subs};
 
 /// What to look at again in a station.
-#[derive(Clone, Copy, Debug)]
+#[derive(Clone, Copy)]
 pub struct StationWarnings<'a> {
     /// Its calls may be redirected in a circle.
     pub in_circle: bool,

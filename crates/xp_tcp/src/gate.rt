@@ -6,7 +6,7 @@ use xp_lines::Gate;
 use xp_subs::LineNo;
 
 /// Lets every packet go.
-#[derive(Clone, Copy, Debug)]
+#[derive(Clone, Copy)]
 pub struct OpenGate;
 
 impl Gate for OpenGate {

@@ -9,7 +9,7 @@ use std::time::Duration;
 const CLOCK_OF_TICKS: i32 = 6;
 
 /// What two clocks of the system told at one time: the start of the clocks that tell the time of day.
-#[derive(Clone, Copy, Debug)]
+#[derive(Clone, Copy)]
 pub(crate) struct Start {
     /// The time of day, since 1970.
     pub(crate) time_of_day: Duration,

@@ -5,7 +5,7 @@ ghost use Rattle.std.specs.Prelude.{◌≡◌, ◌≤◌};
 use crate::start::Start;
 
 /// Tells the seconds since 1970, and never goes back.
-#[derive(Clone, Copy, Debug)]
+#[derive(Clone, Copy)]
 pub struct WallClock {
     start: Start,
     /// What it told last.

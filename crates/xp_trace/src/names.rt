@@ -29,7 +29,7 @@ impl From<AllocError> for NamesFault {
 }
 
 /// Which lines are traced.
-#[derive(Debug, Drop)]
+#[derive(Drop)]
 pub enum TracedLines {
     All,
     Named(Vec<LineNo>),

@@ -9,7 +9,7 @@ use xp_words::Direction;
 pub const MOST_OCTETS: usize = 4_096;
 
 /// Octets of one direction of a line's connection: at most 4,096.
-#[derive(Debug, Drop)]
+#[derive(Drop)]
 pub struct Piece {
     pub line: LineNo,
     /// The number of the connection among those of the line, from 0.

@@ -31,7 +31,7 @@ impl Model for TracedStream {
 }
 
 /// What is handed on of octets that pass.
-#[derive(Clone, Copy, Debug)]
+#[derive(Clone, Copy)]
 pub struct Part<'a> {
     /// The sequence number of the first of them.
     pub sequence: u32,

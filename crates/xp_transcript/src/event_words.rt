@@ -12,7 +12,7 @@ use xp_subs::Subs;
 use xp_words::{Diagnostic, Direction, PacketWords};
 
 /// What happened on a line.
-#[derive(Clone, Copy, Debug)]
+#[derive(Clone, Copy)]
 struct WhatWords<'a>(&'a What);
 
 impl fmt::Display for WhatWords<'_> {

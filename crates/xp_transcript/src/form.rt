@@ -1,5 +1,5 @@
 /// The form in which a script is told.
-#[derive(Clone, Copy, Debug, PartialEq, Eq)]
+#[derive(Clone, Copy, PartialEq, Eq)]
 pub enum Form {
     /// A line of words for each event, each packet that is put out and each charging record.
     Words,

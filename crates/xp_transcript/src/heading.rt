@@ -6,7 +6,7 @@ use std::fmt;
 use xp_words::Direction;
 
 /// What stands in front of the words of a packet: the moment in seconds, and who sends to whom.
-#[derive(Clone, Copy, Debug)]
+#[derive(Clone, Copy)]
 pub(crate) struct Heading<'a> {
     pub(crate) moment: u64,
     /// The name of the line.
@@ -30,7 +30,7 @@ impl fmt::Display for Heading<'_> {
 }
 
 /// The logical channel of a packet, such as `channel 1: `.
-#[derive(Clone, Copy, Debug)]
+#[derive(Clone, Copy)]
 pub(crate) struct Channel(pub(crate) u16);
 
 impl fmt::Display for Channel {

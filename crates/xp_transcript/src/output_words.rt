@@ -12,7 +12,7 @@ use xp_subs::Subs;
 use xp_words::{Direction, PacketWords};
 
 /// What is put out to a line.
-#[derive(Clone, Copy, Debug)]
+#[derive(Clone, Copy)]
 struct PutWords<'a>(&'a Put);
 
 impl fmt::Display for PutWords<'_> {

@@ -8,14 +8,14 @@ use xp_ladder::Side;
 use xp_subs::LineNo;
 
 /// Where a line stands: at the left if it called, at the right if it was called, and opposite to whom.
-#[derive(Clone, Copy, Debug)]
+#[derive(Clone, Copy)]
 pub(crate) struct Place {
     pub(crate) side: Side,
     pub(crate) other: Option<LineNo>,
 }
 
 /// The lines at both sides.
-#[derive(Clone, Copy, Debug)]
+#[derive(Clone, Copy)]
 pub(crate) struct Pair {
     pub(crate) left: Option<LineNo>,
     pub(crate) right: Option<LineNo>,

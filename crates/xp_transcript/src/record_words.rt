@@ -13,7 +13,7 @@ use xp_subs::{LineNo, Subs};
 use xp_words::{ClearingCause, Diagnostic};
 
 /// Which call ended.
-#[derive(Clone, Copy, Debug)]
+#[derive(Clone, Copy)]
 struct CallWords<'a> {
     number: u64,
     caller: &'a str,
@@ -37,7 +37,7 @@ impl fmt::Display for CallWords<'_> {
 }
 
 /// The digits that were dialled, if there are any.
-#[derive(Clone, Copy, Debug)]
+#[derive(Clone, Copy)]
 struct DialledWords<'a>(&'a Digits);
 
 impl fmt::Display for DialledWords<'_> {
@@ -54,7 +54,7 @@ impl fmt::Display for DialledWords<'_> {
 }
 
 /// Who pays, for how much.
-#[derive(Clone, Copy, Debug)]
+#[derive(Clone, Copy)]
 struct ChargeWords<'a>(&'a Record);
 
 impl fmt::Display for ChargeWords<'_> {
@@ -74,7 +74,7 @@ impl fmt::Display for ChargeWords<'_> {
 }
 
 /// How many segments each end sent.
-#[derive(Clone, Copy, Debug)]
+#[derive(Clone, Copy)]
 struct SegmentWords {
     from_caller: u32,
     from_called: u32,

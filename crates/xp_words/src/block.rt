@@ -9,7 +9,7 @@ use std::fmt;
 use xp_packets::{Block, Digits};
 
 /// A block, such as ` from 2080010 to 2080020 D, window 3/3, user data 01000000 "...."`.
-#[derive(Debug, Drop)]
+#[derive(Drop)]
 pub(crate) struct BlockWords<'a, A: Allocator> {
     /// The D bit of the packet.
     pub(crate) d: bool,
@@ -40,7 +40,7 @@ impl<'a, A: Allocator> fmt::Display for BlockWords<'a, A> {
 }
 
 /// A block, if there is one.
-#[derive(Debug, Drop)]
+#[derive(Drop)]
 pub(crate) struct OptionalBlockWords<'a, A: Allocator> {
     /// The D bit of the packet.
     pub(crate) d: bool,
@@ -62,7 +62,7 @@ impl<'a, A: Allocator> fmt::Display for OptionalBlockWords<'a, A> {
 }
 
 /// An address behind a preposition, if it has digits.
-#[derive(Debug, Drop)]
+#[derive(Drop)]
 struct AddressWords<'a> {
     preposition: &'static str,
     digits: &'a Digits,
@@ -82,7 +82,7 @@ impl fmt::Display for AddressWords<'_> {
 }
 
 /// User data, if there is any.
-#[derive(Clone, Copy, Debug)]
+#[derive(Clone, Copy)]
 struct UserWords<'a>(&'a [u8]);
 
 impl fmt::Display for UserWords<'_> {

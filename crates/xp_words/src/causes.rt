@@ -10,7 +10,7 @@ use std::fmt;
 
 /// A clearing cause (X.25 clause 5.2.4). Its text is the code in hexadecimal and the name, such as `09 out of order`, or the
 /// code alone where it has no name.
-#[derive(Clone, Copy, Debug, PartialEq, Eq)]
+#[derive(Clone, Copy, PartialEq, Eq)]
 pub struct ClearingCause(pub u8);
 
 impl ClearingCause {
@@ -37,7 +37,7 @@ impl fmt::Display for ClearingCause {
 }
 
 /// A resetting cause (X.25 clause 5.4.3). Its text is like that of a clearing cause.
-#[derive(Clone, Copy, Debug, PartialEq, Eq)]
+#[derive(Clone, Copy, PartialEq, Eq)]
 pub struct ResettingCause(pub u8);
 
 impl ResettingCause {
@@ -65,7 +65,7 @@ impl fmt::Display for ResettingCause {
 
 /// A diagnostic (X.25 Annex E). Its text is the code in decimal and the name, such as `39 packet too long`, or the code
 /// alone where it has no name.
-#[derive(Clone, Copy, Debug, PartialEq, Eq)]
+#[derive(Clone, Copy, PartialEq, Eq)]
 pub struct Diagnostic(pub u8);
 
 impl Diagnostic {
@@ -92,7 +92,7 @@ impl fmt::Display for Diagnostic {
 }
 
 /// A diagnostic, if there is one.
-#[derive(Clone, Copy, Debug)]
+#[derive(Clone, Copy)]
 pub(crate) struct OptionalDiagnostic(pub(crate) Option<u8>);
 
 impl fmt::Display for OptionalDiagnostic {

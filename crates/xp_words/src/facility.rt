@@ -15,7 +15,7 @@ pub(crate) const MARKER: u8 = 0x00;
 const FIRST_COUNTED: u8 = 0xc0;
 
 /// A facility: its code and its parameters.
-#[derive(Clone, Copy, Debug)]
+#[derive(Clone, Copy)]
 pub(crate) struct Facility<'a> {
     code: u8,
     parameters: &'a [u8],
@@ -95,7 +95,7 @@ impl fmt::Display for Facility<'_> {
 }
 
 /// A facility of one octet of parameters.
-#[derive(Clone, Copy, Debug)]
+#[derive(Clone, Copy)]
 struct OneOctet {
     code: u8,
     octet: u8,
@@ -155,7 +155,7 @@ fn request(octet: u8) -> &'static str
 }
 
 /// Why a call goes to another address.
-#[derive(Clone, Copy, Debug)]
+#[derive(Clone, Copy)]
 struct ReasonWords(u8);
 
 impl fmt::Display for ReasonWords {
@@ -170,7 +170,7 @@ impl fmt::Display for ReasonWords {
 }
 
 /// A facility of two octets of parameters, one for packets from the called DTE and one for those from the calling DTE.
-#[derive(Clone, Copy, Debug)]
+#[derive(Clone, Copy)]
 struct TwoOctets {
     code: u8,
     called: u8,
@@ -206,7 +206,7 @@ impl fmt::Display for TwoOctets {
 }
 
 /// A packet size, as a power of two.
-#[derive(Clone, Copy, Debug)]
+#[derive(Clone, Copy)]
 struct PacketSize(u8);
 
 impl fmt::Display for PacketSize {
@@ -224,7 +224,7 @@ impl fmt::Display for PacketSize {
 }
 
 /// A call redirection notification.
-#[derive(Clone, Copy, Debug)]
+#[derive(Clone, Copy)]
 struct Redirection<'a> {
     reason: u8,
     count: u8,
@@ -250,7 +250,7 @@ impl fmt::Display for Redirection<'_> {
 }
 
 /// An address in half-octets.
-#[derive(Clone, Copy, Debug)]
+#[derive(Clone, Copy)]
 struct Address<'a> {
     count: u8,
     octets: &'a [u8],
@@ -271,7 +271,7 @@ impl fmt::Display for Address<'_> {
 }
 
 /// A facility by its name, or else by its code, with its parameters in hexadecimal.
-#[derive(Clone, Copy, Debug)]
+#[derive(Clone, Copy)]
 struct Named<'a> {
     code: u8,
     parameters: &'a [u8],
@@ -292,7 +292,7 @@ impl fmt::Display for Named<'_> {
 }
 
 /// Octets behind their name, in hexadecimal.
-#[derive(Clone, Copy, Debug)]
+#[derive(Clone, Copy)]
 pub(crate) struct ValueWords<'a>(pub(crate) &'a [u8]);
 
 impl fmt::Display for ValueWords<'_> {

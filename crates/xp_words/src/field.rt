@@ -9,7 +9,7 @@ use std::fmt;
 
 /// A facility field in words, with a comma and a space before each facility, such as `, reverse charging, window 3/3`.
 /// What stands behind the first marker, or is cut off, is told in hexadecimal.
-#[derive(Clone, Copy, Debug)]
+#[derive(Clone, Copy)]
 pub(crate) struct FieldWords<'a>(pub(crate) &'a [u8]);
 
 impl fmt::Display for FieldWords<'_> {
@@ -26,7 +26,7 @@ impl fmt::Display for FieldWords<'_> {
 }
 
 /// What stands behind the facilities before the first marker.
-#[derive(Clone, Copy, Debug)]
+#[derive(Clone, Copy)]
 struct Rest<'a>(&'a [u8]);
 
 impl fmt::Display for Rest<'_> {

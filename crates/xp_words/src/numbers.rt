@@ -5,7 +5,7 @@ ghost use Rattle.xp_words.specs.Packets.{bit_text, numbers_text};
 use std::fmt;
 
 /// P(S), P(R), and the bits that are set, such as ` P(S)=2 P(R)=3 M`.
-#[derive(Clone, Copy, Debug)]
+#[derive(Clone, Copy)]
 pub(crate) struct NumberWords {
     pub(crate) q: bool,
     pub(crate) d: bool,
@@ -32,7 +32,7 @@ impl fmt::Display for NumberWords {
 }
 
 /// The bits that are set.
-#[derive(Clone, Copy, Debug)]
+#[derive(Clone, Copy)]
 struct Bits {
     q: bool,
     d: bool,

@@ -8,7 +8,7 @@ use std::fmt;
 
 /// User data in words: how many octets, each in hexadecimal, and as text, such as `5 octets 68656c6c6f "hello"`. In the text a
 /// full stop stands for an octet that is no printable character of ASCII.
-#[derive(Clone, Copy, Debug)]
+#[derive(Clone, Copy)]
 pub struct OctetWords<'a> {
     pub octets: &'a [u8],
 }
@@ -32,7 +32,7 @@ impl fmt::Display for OctetWords<'_> {
 }
 
 /// Octets in hexadecimal, and behind them as text.
-#[derive(Clone, Copy, Debug)]
+#[derive(Clone, Copy)]
 pub(crate) struct BothTexts<'a>(pub(crate) &'a [u8]);
 
 impl fmt::Display for BothTexts<'_> {
@@ -46,7 +46,7 @@ impl fmt::Display for BothTexts<'_> {
 }
 
 /// An octet as two hexadecimal digits.
-#[derive(Clone, Copy, Debug)]
+#[derive(Clone, Copy)]
 pub(crate) struct HexOctet(pub(crate) u8);
 
 impl fmt::Display for HexOctet {
@@ -72,7 +72,7 @@ pub(crate) fn hex_digit(half: u8) -> char
 }
 
 /// Octets in hexadecimal.
-#[derive(Clone, Copy, Debug)]
+#[derive(Clone, Copy)]
 pub(crate) struct HexOctets<'a>(pub(crate) &'a [u8]);
 
 impl fmt::Display for HexOctets<'_> {
@@ -89,7 +89,7 @@ impl fmt::Display for HexOctets<'_> {
 }
 
 /// Octets as text.
-#[derive(Clone, Copy, Debug)]
+#[derive(Clone, Copy)]
 struct OctetText<'a>(&'a [u8]);
 
 impl fmt::Display for OctetText<'_> {

@@ -14,7 +14,7 @@ use std::fmt;
 use xp_packets::Packet;
 
 /// A packet as a line of words, such as `data P(S)=2 P(R)=3 M, 5 octets 68656c6c6f "hello"`.
-#[derive(Debug, Drop)]
+#[derive(Drop)]
 pub struct PacketWords<'a, A: Allocator> {
     pub direction: Direction,
     pub packet: &'a Packet<A>,
@@ -47,7 +47,7 @@ impl<'a, A: Allocator> fmt::Display for PacketWords<'a, A> {
 }
 
 /// What a packet says, behind the name of its type.
-#[derive(Debug, Drop)]
+#[derive(Drop)]
 struct BodyWords<'a, A: Allocator>(&'a Packet<A>);
 
 impl<'a, A: Allocator> fmt::Display for BodyWords<'a, A> {

@@ -13,7 +13,7 @@ use xp_packets::{Digits, Packet};
 
 /// A packet in few words, such as `call request 2080020`, `data P(S)=2 P(R)=3 M` or `clear indication 09/0`: a cause in
 /// hexadecimal with a diagnostic in decimal.
-#[derive(Debug, Drop)]
+#[derive(Drop)]
 pub struct ShortPacketWords<'a, A: Allocator> {
     pub direction: Direction,
     pub packet: &'a Packet<A>,
@@ -46,7 +46,7 @@ impl<'a, A: Allocator> fmt::Display for ShortPacketWords<'a, A> {
 }
 
 /// What a packet says in few words, behind the name of its type.
-#[derive(Debug, Drop)]
+#[derive(Drop)]
 struct ShortBodyWords<'a, A: Allocator>(&'a Packet<A>);
 
 impl<'a, A: Allocator> fmt::Display for ShortBodyWords<'a, A> {
@@ -100,7 +100,7 @@ impl<'a, A: Allocator> fmt::Display for ShortBodyWords<'a, A> {
 }
 
 /// The digits of an address behind a space, if there are any.
-#[derive(Debug, Drop)]
+#[derive(Drop)]
 struct DialledWords<'a>(&'a Digits);
 
 impl fmt::Display for DialledWords<'_> {
