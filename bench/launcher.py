@@ -41,11 +41,12 @@ printf '[%s]\\n' "$@"
 cat
 exit "${{WANTED_STATUS-0}}"
 """
-# A tool in place of one that builds: it counts its runs, and writes a program, or fails.
+# A tool in place of one that builds: it counts its runs, reads what it is given, and writes a program, or fails.
 TOOL = """import os, pathlib, sys, time
 top = pathlib.Path(__file__).parent.parent
 with open(top / "{name}.runs", "a") as runs:
     runs.write("x")
+sys.stdin.read()
 time.sleep(float(os.environ.get("WANTED_PAUSE", 0)))
 if "WANTED_FAILURE" in os.environ:
     sys.exit(1)
@@ -120,9 +121,9 @@ def output_of(name, *words, given=""):
     return name + "\n" + "".join(f"[{word}]\n" for word in words) + given
 
 
-def serve_until_terminated(tree, *words):
+def serve_until_terminated(tree, *words, **wanted):
     """Starts serving, sends a signal to the launcher once the program runs, and returns the status, the output and what was told."""
-    launcher = tree.start(*words)
+    launcher = tree.start(*words, **wanted)
     select.select([launcher.stdout], [], [], LIMIT)
     # The launcher takes signals from the moment at which the program is started.
     time.sleep(PAUSE)
@@ -148,7 +149,8 @@ def version_without_a_program(tree):
 def unproved_is_built_once(tree):
     words = ("check", "a file.toml", "", "*", "it's")
     tool = "a line of the tool on standard output\n"
-    yield tree.run(*words, status=3), (3, output_of("unproved", *words), BUILDING + tool + NOT_PROVED)
+    begun = tree.run(*words, given="a script", status=3)
+    yield begun, (3, output_of("unproved", *words, given="a script"), BUILDING + tool + NOT_PROVED)
     yield tree.run("replay", given="a script"), (0, output_of("unproved", "replay", given="a script"), NOT_PROVED)
     yield tree.run("status", "::1", status=5), (5, output_of("unproved", "status", "::1"), NOT_PROVED)
     yield tree.runs_of("unproved"), 1
@@ -215,7 +217,7 @@ def proved_that_is_older_is_run(tree):
     tree.run("prove")
     tree.write("crates/low/specs/Lib.antt", "another definition")
     yield tree.run("check", "f"), (0, output_of("proved", "check", "f"), OLDER)
-    yield serve_until_terminated(tree, "serve", "f"), (0, output_of("proved", "serve", "--until-eof", "f"), OLDER)
+    yield serve_until_terminated(tree, "serve", "f", status=5), (5, output_of("proved", "serve", "--until-eof", "f"), OLDER)
     yield tree.run("--version")[1].splitlines()[2], "proved: yes, but older than the sources"
     yield tree.run("prove", failure="yes")[:2], (1, "")
     yield tree.run("check", "f"), (0, output_of("proved", "check", "f"), OLDER)
