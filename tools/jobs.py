@@ -69,7 +69,7 @@ class Running:
 
     def said(self):
         self.output.seek(0)
-        return self.output.read().rstrip("\n").split("\n")[-LINES_SHOWN:]
+        return self.output.read().rstrip("\n").splitlines()[-LINES_SHOWN:]
 
 
 class Board:
