@@ -37,7 +37,7 @@ SCRIPTS = [
     Script("commands.py", "--jobs 2", "the rows over the program: words, files, texts, exit status", 60),
     Script("launcher.py", "", "which program ./xp runs, and what it says", 15),
     Script("exchange.py", "--packets 10000", "10,000 packets of random calls in a replay, beside the model", 10, "--packets 50000"),
-    Script("windows.py", "", "each window of a call between lines of either modulus", 30),
+    Script("windows.py", "--rounds 2 --step 32", "each window of a call between lines of either modulus", 30, ""),
     Script("interrupted.py", "", "a replay whose every read is interrupted", 20, proved_only=True),
     Script("explain.py", "--requests 200 --jobs 2", "what explain says of random requests is what a replay does", 40, "--requests 1000 --jobs 2"),
     Script("words.py", "", "the words of each row say what its octets say", 60),
