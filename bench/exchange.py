@@ -17,8 +17,7 @@ from collections import Counter
 
 import model
 from packets import Block, Packet, framed, read, written
-
-TOP = pathlib.Path(__file__).resolve().parent.parent
+from program import DEFAULT, PROGRAM
 
 ADDRESSES = {"a1": "2080010", "b1": "2080020", "c1": "2080030", "d1": "2080040"}
 MODULI = {"a1": 8, "b1": 8, "c1": 128, "d1": 128}
@@ -413,7 +412,7 @@ def main():
     parser = argparse.ArgumentParser(description=__doc__.splitlines()[0])
     parser.add_argument("--packets", type=int, default=100_000, help="how many packets the two ends send (default: 100,000)")
     parser.add_argument("--seed", type=int, help="what the choices follow from (default: another each time)")
-    parser.add_argument("--xp", default=str(TOP / "crates/xp/out/xp"), help="the built program (default: the one that ./xp built)")
+    parser.add_argument("--xp", default=str(PROGRAM), help=f"the built program ({DEFAULT})")
     parser.add_argument("--no-program", action="store_true", help="make and check the script by the model alone")
     parser.add_argument("--keep", type=pathlib.Path, help="a folder for the script and its text, which then stay")
     arguments = parser.parse_args()

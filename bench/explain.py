@@ -20,8 +20,8 @@ from concurrent.futures import ThreadPoolExecutor
 from dataclasses import dataclass
 
 from packets import Block, Packet, framed, read, written
+from program import DEFAULT, PROGRAM
 
-TOP = pathlib.Path(__file__).resolve().parent.parent
 GROUPS = ("Bank", "Till", "Audit")
 RIGHTS = ("outgoing_barred", "incoming_barred", "reverse_charging", "fast_select", "outgoing_access", "incoming_access")
 REASONS = ("systematic", "busy", "out_of_order")
@@ -175,7 +175,7 @@ def main():
     parser.add_argument("--requests", type=int, default=10_000, help="how many requests are made (default: 10,000)")
     parser.add_argument("--seed", type=int, help="what the choices follow from (default: another each time)")
     parser.add_argument("--file", type=pathlib.Path, help="a subscription file (default: a random one for each hundred requests)")
-    parser.add_argument("--xp", default=str(TOP / "crates/xp/out/xp"), help="the built program (default: the one that ./xp built)")
+    parser.add_argument("--xp", default=str(PROGRAM), help=f"the built program ({DEFAULT})")
     parser.add_argument("--explain", help="a program that explains, where it is another one")
     parser.add_argument("--jobs", type=int, default=4, help="how many requests are made side by side (default: 4)")
     arguments = parser.parse_args()

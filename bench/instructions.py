@@ -13,7 +13,7 @@ import subprocess
 import sys
 import tempfile
 
-TOP = pathlib.Path(__file__).resolve().parent.parent
+from program import DEFAULT, PROGRAM
 
 FEW, MANY = 1_000, 3_000
 
@@ -83,7 +83,7 @@ def instructions(program, folder, lines, profile):
 
 def main():
     parser = argparse.ArgumentParser(description=__doc__.splitlines()[0])
-    parser.add_argument("--xp", default=str(TOP / "crates/xp/out/xp"), help="the built program (default: the one that ./xp built)")
+    parser.add_argument("--xp", default=str(PROGRAM), help=f"the built program ({DEFAULT})")
     parser.add_argument("--profile", type=pathlib.Path, help="a folder for callgrind's profiles, for callgrind_annotate")
     arguments = parser.parse_args()
 

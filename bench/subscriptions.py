@@ -13,7 +13,7 @@ import sys
 import tempfile
 import time
 
-TOP = pathlib.Path(__file__).resolve().parent.parent
+from program import DEFAULT, PROGRAM
 
 LINES_OF_STATION = 2
 GROUPS_OF_STATION = 64
@@ -53,7 +53,7 @@ def best_time(program, path, runs, expected):
 
 def main():
     parser = argparse.ArgumentParser(description=__doc__.splitlines()[0])
-    parser.add_argument("--xp", default=str(TOP / "xp"), help="the program (default: xp at the top of the repository)")
+    parser.add_argument("--xp", default=str(PROGRAM), help=f"the built program ({DEFAULT})")
     parser.add_argument("--runs", type=int, default=3, help="how often each file is read; the least time counts")
     parser.add_argument("--keep", type=pathlib.Path, help="a folder for the files, which then stay")
     arguments = parser.parse_args()

@@ -3,10 +3,10 @@
 
     python3 bench/words.py [COMMAND ..]
 
-The command, `./xp` if none is given, is called as `COMMAND replay subs.toml --words`, with the row's script as standard input.
-Each line of words is read back into an event or a packet: its line, direction, channel and type, and all that it says. The same
-is read from the octets of the script, and of the frames that the row expects, as docs/FORMATS.md says. Exit status 0: in every
-row they are the same, in the same order.
+The command, that of bench/program.py if none is given, is called as `COMMAND replay subs.toml --words`, with the row's script as
+standard input. Each line of words is read back into an event or a packet: its line, direction, channel and type, and all that it
+says. The same is read from the octets of the script, and of the frames that the row expects, as docs/FORMATS.md says. Exit status 0:
+in every row they are the same, in the same order.
 """
 import collections
 import os
@@ -14,6 +14,8 @@ import re
 import subprocess
 import sys
 import tomllib
+
+from program import PROGRAM
 
 TOP = os.path.join(os.path.dirname(os.path.abspath(__file__)), "..")
 ROWS = os.path.join(TOP, "crates", "xp_rows", "data")
@@ -363,7 +365,7 @@ def from_octets(folder):
 
 
 def main():
-    command = sys.argv[1:] or [os.path.join(TOP, "xp")]
+    command = sys.argv[1:] or [PROGRAM]
     count = packets = faults = 0
     for row in sorted(os.listdir(ROWS)):
         folder = os.path.join(ROWS, row)

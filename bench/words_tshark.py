@@ -3,7 +3,7 @@
 
     python3 bench/words_tshark.py [PROGRAM]
 
-PROGRAM, `crates/xp/out/xp` if none is given, replays each row with --words and with --pcap; `tshark` reads the capture. Both must
+PROGRAM, that of bench/program.py if none is given, replays each row with --words and with --pcap; `tshark` reads the capture. Both must
 have the same packets in the same order: the way, the line, the channel, the type, and the numbers of data and flow control.
 
 What the dissector (Wireshark 4.0) calls malformed is compared by its way and its line alone: clear and reset requests without a
@@ -16,6 +16,8 @@ import subprocess
 import sys
 import tempfile
 import tomllib
+
+from program import PROGRAM
 
 TOP = os.path.join(os.path.dirname(os.path.abspath(__file__)), "..")
 ROWS = os.path.join(TOP, "crates", "xp_rows", "data")
@@ -97,7 +99,7 @@ def replay(program, folder, *words):
 
 
 def main():
-    program = sys.argv[1] if len(sys.argv) > 1 else os.path.join(TOP, "crates", "xp", "out", "xp")
+    program = sys.argv[1] if len(sys.argv) > 1 else PROGRAM
     rows = packets = skipped = faults = 0
     with tempfile.TemporaryDirectory() as room:
         for row in sorted(os.listdir(ROWS)):

@@ -8,7 +8,6 @@ all the crates once, and builds each library as `rt lib` does. `rt run` then doe
 What a run proved is kept in the crates' folders out/, so a run after one that was cut off goes on from there.
 """
 
-import importlib.util
 import os
 import queue
 import signal
@@ -17,12 +16,15 @@ import sys
 import threading
 import time
 
+from kit import load_kit
+
 TOP = os.path.dirname(os.path.dirname(os.path.realpath(__file__)))
 PROGRAM = f"{TOP}/crates/xp"
 # What the program is run on once it is built.
 EXAMPLE = f"{TOP}/examples/three-stations.toml"
 
-MEMORY_OF_A_PROOF = 2 * 1024**3
+# Bytes. A crate for which rt plans 4.8 GB was measured at 1.6, so four proofs at once fit into 8 GB.
+MEMORY_OF_A_PROOF = 1600 * 1024**2
 # Lines from which a crate is proved sooner by several jobs. A crate of 800 lines took longer by four jobs than by one.
 LARGE = 1000
 # Seconds after which a line says what is still running.
@@ -32,18 +34,6 @@ LINES_SHOWN = 40
 
 def say(text):
     print(f"xp: {text}", file=sys.stderr, flush=True)
-
-
-def load_kit():
-    """Returns the module of the kit that the command rt is made of."""
-    page = subprocess.run(["rt", "doc"], stdout=subprocess.PIPE, universal_newlines=True, check=True)
-    file = f"{os.path.dirname(page.stdout.strip())}/bin/rtlib.py"
-    # The kit's folder is left as it is.
-    sys.dont_write_bytecode = True
-    spec = importlib.util.spec_from_file_location("rtlib", file)
-    kit = importlib.util.module_from_spec(spec)
-    spec.loader.exec_module(kit)
-    return kit
 
 
 def most_at_once(kit):

@@ -42,7 +42,7 @@ def measure(xp, pairs, seconds, folder):
 
 def main():
     parser = argparse.ArgumentParser(description=__doc__)
-    parser.add_argument("--xp", default=str(server.PROGRAM), help="the built program (default: the one that ./xp built)")
+    parser.add_argument("--xp", default=str(server.PROGRAM), help=f"the built program ({server.DEFAULT})")
     parser.add_argument("--seconds", type=int, default=3)
     arguments = parser.parse_args()
     for pairs in (1, 16, 128):

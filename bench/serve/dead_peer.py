@@ -131,7 +131,7 @@ def lose_peers(exchange, network, caller, called, silent):
 
 def main():
     parser = argparse.ArgumentParser(description=__doc__.splitlines()[0])
-    parser.add_argument("--xp", default=str(server.PROGRAM), help="the built program (default: the one that ./xp built)")
+    parser.add_argument("--xp", default=str(server.PROGRAM), help=f"the built program ({server.DEFAULT})")
     parser.add_argument("--as-peer-of", type=int, help=argparse.SUPPRESS)
     arguments = parser.parse_args()
     if arguments.as_peer_of is not None:

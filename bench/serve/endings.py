@@ -154,7 +154,7 @@ def play(program, folder, details, pairs, seed, kind):
 def main():
     parser = argparse.ArgumentParser(description=__doc__.splitlines()[0])
     parser.add_argument("--rounds", type=int, default=20, help="rounds of each kind (default: 20)")
-    parser.add_argument("--xp", default=str(server.PROGRAM), help="the built program, which is killed (default: the one that ./xp built)")
+    parser.add_argument("--xp", default=str(server.PROGRAM), help=f"the built program, which is killed ({server.DEFAULT})")
     parser.add_argument("--launcher", default=str(LAUNCHER), help="the launcher, which is stopped (default: ./xp)")
     parser.add_argument("--pairs", type=int, default=32, help="pairs of lines (default: 32)")
     parser.add_argument("--seed", type=int, help="what the choices follow from (default: at random)")

@@ -197,7 +197,7 @@ def good_pair(exchange, seconds, packets, choose):
 def main():
     parser = argparse.ArgumentParser(description=__doc__.splitlines()[0])
     parser.add_argument("seconds", type=float, help="how long")
-    parser.add_argument("--xp", default=str(server.PROGRAM), help="the built program (default: the one that ./xp built)")
+    parser.add_argument("--xp", default=str(server.PROGRAM), help=f"the built program ({server.DEFAULT})")
     parser.add_argument("--packets", type=int, default=20, help="data packets of a good call (default: 20)")
     parser.add_argument("--most", type=float, default=5, help="milliseconds that an exchange of packets may take in the mean (default: 5)")
     parser.add_argument("--seed", type=int, default=1)

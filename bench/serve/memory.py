@@ -185,7 +185,7 @@ def calls(arguments, folder):
 
 def main():
     parser = argparse.ArgumentParser(description=__doc__.splitlines()[0])
-    parser.add_argument("--xp", default=str(server.PROGRAM), help="the built program (default: the one that ./xp built)")
+    parser.add_argument("--xp", default=str(server.PROGRAM), help=f"the built program ({server.DEFAULT})")
     parser.add_argument("--events", type=int, default=5_000_000, help="events of data (default: 5,000,000; 0: none)")
     parser.add_argument("--calls", type=int, default=1_000_000, help="calls that come and go (default: 1,000,000; 0: none)")
     parser.add_argument("--first", type=int, default=100_000, help="events after which the memory is looked at first (default: 100,000)")

@@ -287,7 +287,7 @@ def try_codec():
 
 def main():
     parser = argparse.ArgumentParser(description=__doc__.splitlines()[0])
-    parser.add_argument("--xp", default=str(server.PROGRAM), help="the built program (default: the one that ./xp built)")
+    parser.add_argument("--xp", default=str(server.PROGRAM), help=f"the built program ({server.DEFAULT})")
     parser.add_argument("--packets", type=int, default=1_000, help="data packets each way in a call (default: 1000)")
     parser.add_argument("--seconds", type=float, default=4, help="how long a call lasts at least (default: 4)")
     parser.add_argument("--codec", action="store_true", help="try the packets of both moduli alone, without a program")

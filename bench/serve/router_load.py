@@ -115,7 +115,7 @@ def tell(of, runs):
 
 def main():
     parser = argparse.ArgumentParser(description=__doc__.splitlines()[0])
-    parser.add_argument("--xp", default=str(server.PROGRAM), help="the built program (default: the one that ./xp built)")
+    parser.add_argument("--xp", default=str(server.PROGRAM), help=f"the built program ({server.DEFAULT})")
     parser.add_argument("--calls", type=int, default=8, help="calls at once (default: 8)")
     parser.add_argument("--data", type=int, default=2, help="data packets of each call, 0 to 7 (default: 2)")
     parser.add_argument("--seconds", type=float, default=4, help="how long each run places calls (default: 4)")

@@ -552,7 +552,7 @@ def play(program, stations, checks):
 
 def main():
     parser = argparse.ArgumentParser(description=__doc__.splitlines()[0])
-    parser.add_argument("--xp", default=str(server.PROGRAM), help="the built program (default: the one that ./xp built)")
+    parser.add_argument("--xp", default=str(server.PROGRAM), help=f"the built program ({server.DEFAULT})")
     parser.add_argument("--rounds", type=int, default=1_000, help="calls from both sides at once (default: 1,000)")
     parser.add_argument("--seed", type=int, help="what the delays follow from (default: at random)")
     arguments = parser.parse_args()

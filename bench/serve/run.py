@@ -172,7 +172,7 @@ def tell_idle(programs, seconds, rounds, folder):
 
 def main():
     parser = argparse.ArgumentParser(description=__doc__.splitlines()[0])
-    parser.add_argument("--xp", default=str(server.PROGRAM), help="the built program (default: the one that ./xp built)")
+    parser.add_argument("--xp", default=str(server.PROGRAM), help=f"the built program ({server.DEFAULT})")
     parser.add_argument("--seconds", type=float, default=5, help="how long each run sends (default: 5)")
     parser.add_argument("--rounds", type=int, default=3, help="runs of each measurement, of which the median is told (default: 3)")
     parser.add_argument("--stolen", type=float, default=100, help="leave rounds out in which the host of a virtual machine took more than so many percent of its processors")

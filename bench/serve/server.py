@@ -12,12 +12,14 @@ import subprocess
 import sys
 import time
 
+sys.path.append(str(pathlib.Path(__file__).resolve().parent.parent))
+from program import DEFAULT, PROGRAM
+
 # An exchange has several files open for each line, which may be more than a process has by default.
 MOST_FILES = resource.getrlimit(resource.RLIMIT_NOFILE)[1]
 resource.setrlimit(resource.RLIMIT_NOFILE, (MOST_FILES, MOST_FILES))
 
 HERE = pathlib.Path(__file__).resolve().parent
-PROGRAM = HERE.parent.parent / "crates/xp/out/xp"
 
 # A station for each line, of which an exchange has at most 256.
 MOST_PAIRS = 128

@@ -323,7 +323,7 @@ def check_memory(samples):
 def main():
     parser = argparse.ArgumentParser(description=__doc__.splitlines()[0])
     parser.add_argument("seconds", type=float, help="how long calls begin")
-    parser.add_argument("--xp", default=str(server.PROGRAM), help="the built program (default: the one that ./xp built)")
+    parser.add_argument("--xp", default=str(server.PROGRAM), help=f"the built program ({server.DEFAULT})")
     parser.add_argument("--pairs", type=int, default=server.MOST_PAIRS, help="pairs of lines (default: 128)")
     parser.add_argument("--seed", type=int, help="what the choices follow from (default: at random)")
     arguments = parser.parse_args()

@@ -1,0 +1,286 @@
+#!/usr/bin/env python3
+"""Whether the launcher ./xp runs the program that it should, and says what it should.
+
+    python3 bench/launcher.py [--launcher PATH]
+
+A copy of the launcher stands in a small tree of its own, with tools that build nothing: each writes a program that prints its name,
+its words and its standard input. PATH has a command rt that only tells its version. It takes some seconds, and prints a line for
+each case. Exit status 0: every case is as it should be.
+"""
+
+import argparse
+import os
+import pathlib
+import select
+import shutil
+import signal
+import subprocess
+import sys
+import tempfile
+import time
+
+TOP = pathlib.Path(__file__).resolve().parent.parent
+# The commands that the launcher may use, beside rt.
+COMMANDS = "awk bash cat dirname env find flock git kill mkdir readlink rm sed sha256sum sort xargs".split()
+# Seconds after which a run counts as hung.
+LIMIT = 20
+PAUSE = 0.3
+
+NOT_PROVED = "xp: not proved on this machine: ./xp prove proves and builds it, in about an hour\n"
+ASKED = "xp: this is the program before any proof, as --unproved asks\n"
+BUILDING = "xp: building the program before any proof, which takes about four minutes; it is kept until a source changes\n"
+OLDER = "xp: the program is older than the sources: ./xp prove proves and builds them\n"
+NO_SERVING = (
+    "xp: serve runs the proved program, and none is here: ./xp prove proves and builds it, in about an hour\n"
+    "xp: for a try of the program before any proof: ./xp --unproved serve lines.toml\n"
+)
+
+PROGRAM = """#!/usr/bin/env bash
+echo {name}
+printf '[%s]\\n' "$@"
+cat
+exit "${{WANTED_STATUS-0}}"
+"""
+# A tool in place of one that builds: it counts its runs, reads what it is given, and writes a program, or fails.
+TOOL = """import os, pathlib, sys, time
+top = pathlib.Path(__file__).parent.parent
+with open(top / "{name}.runs", "a") as runs:
+    runs.write("x")
+sys.stdin.read()
+time.sleep(float(os.environ.get("WANTED_PAUSE", 0)))
+if "WANTED_FAILURE" in os.environ:
+    sys.exit(1)
+print("a line of the tool on standard output")
+path = {path}
+path.parent.mkdir(parents=True, exist_ok=True)
+path.write_text({text!r})
+path.chmod(0o755)
+"""
+
+
+class Tree:
+    """A tree with a launcher and tools that build nothing, and how to run the launcher there."""
+
+    def __init__(self, folder, launcher):
+        self.top = pathlib.Path(folder) / "a tree"
+        self.write("crates.txt", "# Crates.\nlow:\nhigh may_wait=4: low kit_library\nxp: high\n\nxp_tests: xp\n")
+        for name in ("low", "high", "xp", "xp_tests"):
+            self.write(f"crates/{name}/src/code.rt", name)
+        self.write("crates/low/specs/Lib.antt", "a definition")
+        self.write("CHANGELOG.md", "# Changes\n\n## 2026-11-27\n\n- One.\n\n## 2026-11-26\n")
+        self.write_tool("prove.py", "proved", 'top / "crates/xp/out/xp"')
+        self.write_tool("build_unproved.py", "unproved", "pathlib.Path(sys.argv[1])")
+        shutil.copy(launcher, self.top / "xp")
+        self.commands = pathlib.Path(folder) / "commands"
+        self.commands.mkdir()
+        for name in COMMANDS:
+            (self.commands / name).symlink_to(shutil.which(name))
+        (self.commands / "python3").symlink_to(sys.executable)
+        self.set_kit("kit 1")
+
+    def write(self, name, text):
+        path = self.top / name
+        path.parent.mkdir(parents=True, exist_ok=True)
+        path.write_text(text, encoding="utf-8")
+
+    def write_tool(self, file, name, path):
+        self.write(f"tools/{file}", TOOL.format(name=name, path=path, text=PROGRAM.format(name=name)))
+
+    def set_kit(self, version):
+        (self.commands / "rt").write_text(f'#!/usr/bin/env bash\n[ "$*" = version ] && echo "{version}"\n')
+        (self.commands / "rt").chmod(0o755)
+
+    def runs_of(self, name):
+        path = self.top / f"{name}.runs"
+        return len(path.read_text()) if path.exists() else 0
+
+    def start(self, *words, **wanted):
+        """Starts the launcher, with what is wanted of the tools and the program in its environment."""
+        environment = {"PATH": str(self.commands), "HOME": str(self.top), "GIT_CEILING_DIRECTORIES": str(self.top.parent)}
+        environment |= {f"WANTED_{key.upper()}": str(value) for key, value in wanted.items()}
+        pipes = {"stdin": subprocess.PIPE, "stdout": subprocess.PIPE, "stderr": subprocess.PIPE}
+        # From another folder than its own, by a link.
+        link = self.top.parent / "link"
+        if not link.exists():
+            link.symlink_to(self.top / "xp")
+        return subprocess.Popen([link, *words], cwd="/", env=environment, text=True, start_new_session=True, **pipes)
+
+    def run(self, *words, given="", **wanted):
+        """Runs the launcher, and returns its status, its output and what it told."""
+        launcher = self.start(*words, **wanted)
+        try:
+            output, told = launcher.communicate(given, timeout=LIMIT)
+        except subprocess.TimeoutExpired:
+            os.killpg(launcher.pid, signal.SIGKILL)
+            return None, "", f"the run of {words} hangs"
+        return launcher.returncode, output, told
+
+
+def output_of(name, *words, given=""):
+    """What the program of this name prints."""
+    return name + "\n" + "".join(f"[{word}]\n" for word in words) + given
+
+
+def serve_until_terminated(tree, *words, **wanted):
+    """Starts serving, sends a signal to the launcher once the program runs, and returns the status, the output and what was told."""
+    launcher = tree.start(*words, **wanted)
+    select.select([launcher.stdout], [], [], LIMIT)
+    # The launcher takes signals from the moment at which the program is started.
+    time.sleep(PAUSE)
+    launcher.send_signal(signal.SIGTERM)
+    try:
+        output, told = launcher.communicate(timeout=LIMIT)
+    except subprocess.TimeoutExpired:
+        os.killpg(launcher.pid, signal.SIGKILL)
+        return None, "", "serving does not end by a signal"
+    return launcher.returncode, output, told
+
+
+def serve_without_a_program(tree):
+    yield tree.run("serve", "lines.toml"), (1, "", NO_SERVING)
+    yield tree.runs_of("unproved") + tree.runs_of("proved"), 0
+
+
+def version_without_a_program(tree):
+    yield tree.run("--version"), (0, "xp 2026-11-27\ncommit: unknown\nproved: no\nkit: kit 1\n", "")
+    yield tree.runs_of("unproved") + tree.runs_of("proved"), 0
+
+
+def unproved_is_built_once(tree):
+    words = ("check", "a file.toml", "", "*", "it's")
+    tool = "a line of the tool on standard output\n"
+    begun = tree.run(*words, given="a script", status=3)
+    yield begun, (3, output_of("unproved", *words, given="a script"), BUILDING + tool + NOT_PROVED)
+    yield tree.run("replay", given="a script"), (0, output_of("unproved", "replay", given="a script"), NOT_PROVED)
+    yield tree.run("status", "::1", status=5), (5, output_of("unproved", "status", "::1"), NOT_PROVED)
+    yield tree.runs_of("unproved"), 1
+
+
+def unproved_follows_what_it_is_made_of(tree):
+    tree.run("check")
+    for file in ("crates/xp_tests/src/code.rt", "crates/low/specs/Lib.antt"):
+        tree.write(file, "changed")
+        tree.run("check")
+        yield (file, tree.runs_of("unproved")), (file, 1)
+    tree.write("crates/low/src/code.rt", "changed")
+    tree.run("check")
+    yield tree.runs_of("unproved"), 2
+    tree.write("crates/low/src/another.rt", "new")
+    tree.run("check")
+    yield tree.runs_of("unproved"), 3
+    tree.set_kit("kit 2")
+    tree.run("check")
+    yield tree.runs_of("unproved"), 4
+
+
+def unproved_that_cannot_be_built(tree):
+    tree.run("check")
+    tree.write("crates/low/src/code.rt", "broken")
+    yield tree.run("check", failure="yes"), (1, "", BUILDING)
+    # The one that was kept is not that of the sources, nor is it taken for it once they are as before.
+    tree.write("crates/low/src/code.rt", "low")
+    yield tree.run("check")[0], 0
+    yield tree.runs_of("unproved"), 3
+
+
+def unproved_serves_when_asked(tree):
+    words = ("serve", "--until-eof", "lines of mine.toml")
+    status, output, told = serve_until_terminated(tree, "--unproved", "serve", "lines of mine.toml")
+    yield (status, output), (0, output_of("unproved", *words))
+    yield told.endswith(NOT_PROVED), True
+    asked = tree.run("--unproved", "serve", "lines.toml", "--until-eof", status=4)
+    yield asked, (4, output_of("unproved", "serve", "lines.toml", "--until-eof"), NOT_PROVED)
+
+
+def two_at_once_build_once(tree):
+    both = [tree.start("check", pause=1) for _ in range(2)]
+    told = [it.communicate("", timeout=LIMIT)[1] for it in both]
+    yield [it.returncode for it in both], [0, 0]
+    yield sum("xp: another run is building the program: waiting for it\n" in it for it in told), 1
+    yield tree.runs_of("unproved"), 1
+
+
+def proved_is_run(tree):
+    status, output, _ = tree.run("prove")
+    yield (status, output), (0, "")
+    words = ("explain", "a file.toml", "", "*")
+    yield tree.run(*words, status=2), (2, output_of("proved", *words), "")
+    yield serve_until_terminated(tree, "serve", "lines.toml"), (0, output_of("proved", "serve", "--until-eof", "lines.toml"), "")
+    yield tree.run("--version")[1].splitlines()[2], "proved: yes"
+    yield tree.run("prove")[:2], (0, "")
+    yield (tree.runs_of("proved"), tree.runs_of("unproved")), (1, 0)
+    status, output, told = tree.run("--unproved", "check")
+    yield (status, output, told.endswith(ASKED)), (0, output_of("unproved", "check"), True)
+
+
+def proved_that_is_older_is_run(tree):
+    tree.run("prove")
+    tree.write("crates/low/specs/Lib.antt", "another definition")
+    yield tree.run("check", "f"), (0, output_of("proved", "check", "f"), OLDER)
+    yield serve_until_terminated(tree, "serve", "f", status=5), (5, output_of("proved", "serve", "--until-eof", "f"), OLDER)
+    yield tree.run("--version")[1].splitlines()[2], "proved: yes, but older than the sources"
+    yield tree.run("prove", failure="yes")[:2], (1, "")
+    yield tree.run("check", "f"), (0, output_of("proved", "check", "f"), OLDER)
+    yield tree.run("prove")[0], 0
+    yield tree.run("check", "f"), (0, output_of("proved", "check", "f"), "")
+    yield (tree.runs_of("proved"), tree.runs_of("unproved")), (3, 0)
+
+
+def prove_takes_no_words(tree):
+    yield tree.run("prove", "it"), (2, "", "xp: prove takes no further words\n")
+    yield tree.runs_of("proved"), 0
+
+
+def no_kit(tree):
+    (tree.commands / "rt").unlink()
+    yield tree.run("check"), (1, "", "xp: the program is not built, and there is no command rt to build it\n")
+    yield tree.run("prove"), (1, "", "xp: the program is not built, and there is no command rt to prove and build it\n")
+    yield tree.run("--version")[1].splitlines()[2:], ["proved: no", "kit: none"]
+    yield tree.runs_of("unproved") + tree.runs_of("proved"), 0
+
+
+def commit_is_told(tree):
+    git = ["git", "-C", tree.top, "-c", "user.name=a", "-c", "user.email=a"]
+    for words in (["init", "-q"], ["add", "."], ["commit", "-q", "-m", "a"]):
+        subprocess.run([*git, *words], check=True)
+    commit = subprocess.run([*git, "rev-parse", "--short", "HEAD"], check=True, capture_output=True, text=True).stdout.strip()
+    yield tree.run("--version")[1].splitlines()[1], f"commit: {commit}"
+    tree.write("crates.txt", "xp:\n")
+    yield tree.run("--version")[1].splitlines()[1], f"commit: {commit}-dirty"
+
+
+CASES = (
+    serve_without_a_program,
+    version_without_a_program,
+    unproved_is_built_once,
+    unproved_follows_what_it_is_made_of,
+    unproved_that_cannot_be_built,
+    unproved_serves_when_asked,
+    two_at_once_build_once,
+    proved_is_run,
+    proved_that_is_older_is_run,
+    prove_takes_no_words,
+    no_kit,
+    commit_is_told,
+)
+
+
+def main():
+    parser = argparse.ArgumentParser(description=__doc__, formatter_class=argparse.RawDescriptionHelpFormatter)
+    parser.add_argument("--launcher", default=TOP / "xp", help="the launcher (default: that of this repository)")
+    launcher = parser.parse_args().launcher
+    failed = 0
+    for case in CASES:
+        begun = time.monotonic()
+        with tempfile.TemporaryDirectory() as folder:
+            faults = [pair for pair in case(Tree(folder, launcher)) if pair[0] != pair[1]]
+        for found, wanted in faults:
+            print(f"{case.__name__}:\n    found  {found!r}\n    wanted {wanted!r}")
+        failed += bool(faults)
+        print(f"{'FAIL' if faults else 'ok  '} {case.__name__} ({time.monotonic() - begun:.1f} s)", flush=True)
+    print(f"{len(CASES) - failed} passed, {failed} failed")
+    return 1 if failed else 0
+
+
+if __name__ == "__main__":
+    sys.exit(main())
