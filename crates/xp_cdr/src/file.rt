@@ -44,22 +44,12 @@ pub struct Opened {
 ///
 /// No contract can say what a file holds. So proofs know the file by what it has told since it was opened: the octets that it
 /// took, those of them that it had when it last told that all are on the disk, and its failures.
+#[derive(Drop)]
 pub struct DetailFile {
     file: File,
     taken: Past<u8>,
     synced: Past<u8>,
     failures: Past<ErrorKind>,
-}
-
-impl Drop for DetailFile {
-    fn drop(self) {
-        let DetailFile {
-            file: _,
-            taken: _,
-            synced: _,
-            failures: _,
-        } = self;
-    }
 }
 
 impl RecordFile for DetailFile {

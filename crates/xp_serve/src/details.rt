@@ -34,6 +34,7 @@ const SECONDS_TO_RETRY: u64 = 1;
 
 /// Writes call detail records to a file, each as its call ends. Where the file fails, they wait in order, and are offered to it
 /// again each second. Once memory was wanting, it takes no more records.
+#[derive(Drop)]
 pub struct DetailKeeper<F: RecordFile, L: Log, W: Write> {
     /// The subscriptions, from which the lines have their names and addresses.
     subs: Subs,
@@ -52,23 +53,6 @@ pub struct DetailKeeper<F: RecordFile, L: Log, W: Write> {
     given: Past<Record>,
     /// The output as it was given.
     first: Snapshot<W>,
-}
-
-impl<F: RecordFile + Drop, L: Log + Drop, W: Write + Drop> Drop for DetailKeeper<F, L, W> {
-    fn drop(self) {
-        let DetailKeeper {
-            subs: _,
-            writer: _,
-            output: _,
-            clock: _,
-            log: _,
-            sync: _,
-            retry_at: _,
-            is_short: _,
-            given: _,
-            first: _,
-        } = self;
-    }
 }
 
 impl<F: RecordFile, L: Log, W: Write> Model for DetailKeeper<F, L, W> {

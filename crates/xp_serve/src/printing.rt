@@ -21,6 +21,7 @@ use xp_subs::Subs;
 use xp_view::ExchangeView;
 
 /// Writes charging records, each as one line. Once memory was wanting or the writer failed, it writes nothing more.
+#[derive(Drop)]
 pub struct RecordPrinter<W: Write> {
     /// The subscriptions, from which the lines have their names.
     subs: Subs,
@@ -33,19 +34,6 @@ pub struct RecordPrinter<W: Write> {
     first: Snapshot<W>,
     /// All records that it was given.
     given: Past<Record>,
-}
-
-impl<W: Write + Drop> Drop for RecordPrinter<W> {
-    fn drop(self) {
-        let RecordPrinter {
-            subs: _,
-            writer: _,
-            text: _,
-            outcome: _,
-            first: _,
-            given: _,
-        } = self;
-    }
 }
 
 impl<W: Write> Model for RecordPrinter<W> {

@@ -54,23 +54,13 @@ impl Default for SyncSignal {
 }
 
 /// A handle of the file of call detail records, by which it is synced.
+#[derive(Drop)]
 pub struct FileSyncer<L: Log> {
     file: File,
     clock: WallClock,
     log: OperatorLog<L>,
     /// Whether the last sync failed.
     has_failed: bool,
-}
-
-impl<L: Log + Drop> Drop for FileSyncer<L> {
-    fn drop(self) {
-        let FileSyncer {
-            file: _,
-            clock: _,
-            log: _,
-            has_failed: _,
-        } = self;
-    }
 }
 
 impl<L: Log + Drop> FileSyncer<L> {

@@ -56,6 +56,7 @@ pub fn create_trace_file<R: Files<File = File>>(
 }
 
 /// Writes what the lines of a trace receive and send to a capture file.
+#[derive(Drop)]
 pub struct TraceWriter<W: Write> {
     trace: Arc<Trace>,
     output: W,
@@ -63,17 +64,6 @@ pub struct TraceWriter<W: Write> {
     taken: WaitingPieces,
     /// Room for what one piece adds to the file.
     room: Vec<u8>,
-}
-
-impl<W: Write + Drop> Drop for TraceWriter<W> {
-    fn drop(self) {
-        let TraceWriter {
-            trace: _,
-            output: _,
-            taken: _,
-            room: _,
-        } = self;
-    }
 }
 
 impl<W: Write + Drop> TraceWriter<W> {

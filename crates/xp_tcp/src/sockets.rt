@@ -60,6 +60,7 @@ impl From<io::Error> for ListenFault {
 
 /// The sockets of the lines, in line order, and the door of those that are behind routers. Contracts see where the connections of
 /// each line come from.
+#[derive(Drop)]
 pub struct Sockets {
     lines: Vec<LineSockets>,
     wakers: Vec<LineWaker>,
@@ -68,19 +69,6 @@ pub struct Sockets {
     lines_of_thread: usize,
     door: Option<DoorSockets>,
     notices: Arc<Notices>,
-}
-
-impl Drop for Sockets {
-    fn drop(self) {
-        let Sockets {
-            lines: _,
-            wakers: _,
-            threads: _,
-            lines_of_thread: _,
-            door: _,
-            notices: _,
-        } = self;
-    }
 }
 
 /// What the lines are given, in line order, what their threads are, each for the next lines, and the door, if it was opened.
