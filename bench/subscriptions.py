@@ -2,21 +2,24 @@
 """Times `xp check` on the largest subscription file, and on one of half its size.
 
 The largest has 256 stations, 512 lines, and 64 closed user groups in each station: 16,384 memberships.
-Reading is meant to take time in proportion to the file. Groups are looked for by hashing, and only
-those of one station are compared with one another.
+Reading takes time in proportion to the file: groups are looked for by hashing, and only those of one station are compared
+with one another. It fails where twice the file takes more than three times the processor time, and where a run prints other
+counts than the file has.
 """
 
 import argparse
 import pathlib
+import resource
 import subprocess
 import sys
 import tempfile
-import time
 
 from program import DEFAULT, PROGRAM
 
 LINES_OF_STATION = 2
 GROUPS_OF_STATION = 64
+# A file of twice the size may take so many times the time. Every pair compared would take four times.
+MOST_RATIO = 3
 
 
 def station(number, distinct):
@@ -40,12 +43,12 @@ def file_of(stations, distinct):
 
 
 def best_time(program, path, runs, expected):
-    """The least time in seconds of some runs, each of which has to print what is expected."""
+    """The least processor time in seconds of some runs, each of which has to print what is expected."""
     times = []
     for _ in range(runs):
-        start = time.perf_counter()
-        run = subprocess.run([program, "check", str(path)], capture_output=True, text=True)
-        times.append(time.perf_counter() - start)
+        start = resource.getrusage(resource.RUSAGE_CHILDREN).ru_utime
+        run = subprocess.run([program, "check", str(path)], capture_output=True, text=True, check=False)
+        times.append(resource.getrusage(resource.RUSAGE_CHILDREN).ru_utime - start)
         if run.returncode != 0 or run.stdout != expected:
             sys.exit(f"{path.name}: status {run.returncode}, {run.stdout!r}, {run.stderr!r}; wanted {expected!r}")
     return min(times)
@@ -55,6 +58,7 @@ def main():
     parser = argparse.ArgumentParser(description=__doc__.splitlines()[0])
     parser.add_argument("--xp", default=str(PROGRAM), help=f"the built program ({DEFAULT})")
     parser.add_argument("--runs", type=int, default=3, help="how often each file is read; the least time counts")
+    parser.add_argument("--stations", type=int, default=256, help="stations of the largest file (default: 256)")
     parser.add_argument("--keep", type=pathlib.Path, help="a folder for the files, which then stay")
     arguments = parser.parse_args()
 
@@ -63,7 +67,8 @@ def main():
         folder.mkdir(parents=True, exist_ok=True)
         for label, distinct in (("the same 64 groups in each station", False), ("64 groups of its own in each station", True)):
             print(label)
-            for stations in (128, 256):
+            times = []
+            for stations in (arguments.stations // 2, arguments.stations):
                 text = file_of(stations, distinct)
                 path = folder / f"{stations}-{'own' if distinct else 'same'}.toml"
                 path.write_text(text)
@@ -71,7 +76,10 @@ def main():
                 groups = stations * GROUPS_OF_STATION if distinct else GROUPS_OF_STATION
                 expected = f"stations {stations} lines {lines} groups {groups}\n"
                 seconds = best_time(arguments.xp, path, arguments.runs, expected)
+                times.append(seconds)
                 print(f"  {stations:3} stations, {lines:3} lines, {groups:5} groups, {len(text):7} octets: {seconds:.3f} s")
+            if times[1] > MOST_RATIO * times[0]:
+                sys.exit(f"twice the file took {times[1] / times[0]:.1f} times the time")
 
 
 if __name__ == "__main__":

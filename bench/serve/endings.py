@@ -12,6 +12,7 @@ import csv
 import functools
 import pathlib
 import random
+import shlex
 import signal
 import sys
 import tempfile
@@ -42,7 +43,7 @@ class Exchange(server.Process):
         self.base = server.free_ports(2 * pairs)
         file = pathlib.Path(folder) / "subscriptions.toml"
         file.write_text(server.subscriptions(pairs, self.base))
-        super().__init__([program, "serve", file, "--cdr", details], folder)
+        super().__init__([*shlex.split(str(program)), "serve", file, "--cdr", details], folder)
 
 
 class Interrupted(soak.Soak):
@@ -155,7 +156,7 @@ def main():
     parser = argparse.ArgumentParser(description=__doc__.splitlines()[0])
     parser.add_argument("--rounds", type=int, default=20, help="rounds of each kind (default: 20)")
     parser.add_argument("--xp", default=str(server.PROGRAM), help=f"the built program, which is killed ({server.DEFAULT})")
-    parser.add_argument("--launcher", default=str(LAUNCHER), help="the launcher, which is stopped (default: ./xp)")
+    parser.add_argument("--launcher", default=str(LAUNCHER), help="the launcher, which is stopped, with its first words (default: ./xp)")
     parser.add_argument("--pairs", type=int, default=32, help="pairs of lines (default: 32)")
     parser.add_argument("--seed", type=int, help="what the choices follow from (default: at random)")
     arguments = parser.parse_args()

@@ -200,6 +200,7 @@ def main():
     parser.add_argument("--xp", default=str(server.PROGRAM), help=f"the built program ({server.DEFAULT})")
     parser.add_argument("--packets", type=int, default=20, help="data packets of a good call (default: 20)")
     parser.add_argument("--most", type=float, default=5, help="milliseconds that an exchange of packets may take in the mean (default: 5)")
+    parser.add_argument("--growth", type=float, default=10, help="percent by which the memory may grow after the first quarter (default: 10)")
     parser.add_argument("--seed", type=int, default=1)
     arguments = parser.parse_args()
 
@@ -224,6 +225,8 @@ def main():
     print(f"memory: {memory[len(memory) // 4]:,} octets after a quarter, {memory[-1]:,} in the end; {used:.0f} s of processor time on {os.cpu_count()} processors")
     if mean > arguments.most:
         sys.exit(f"an exchange of packets took more than {arguments.most} ms in the mean")
+    if memory[-1] > memory[len(memory) // 4] * (1 + arguments.growth / 100):
+        sys.exit(f"the memory grew by more than {arguments.growth:g} % after the first quarter")
 
 
 if __name__ == "__main__":

@@ -86,7 +86,7 @@ static int connect_to(const struct line *line) {
   struct timespec pause = {0, 20 * 1000 * 1000};
   int one = 1;
   at.sin_addr.s_addr = htonl(INADDR_LOOPBACK);
-  for (int i = 0; i < 500; i++) {
+  for (int i = 0; i < 3000; i++) {
     int made = socket(AF_INET, SOCK_STREAM, 0);
     if (!connect(made, (struct sockaddr *)&at, sizeof at)) {
       setsockopt(made, IPPROTO_TCP, TCP_NODELAY, &one, sizeof one);

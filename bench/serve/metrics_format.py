@@ -3,11 +3,21 @@ alone:
 
     curl -s http://127.0.0.1:9980/metrics | python3 bench/serve/metrics_format.py
 
+With --serve it starts an exchange of its own with a console, has a call on it, and reads its metrics before, during and after the call:
+
+    python3 bench/serve/metrics_format.py --serve
+
 Each fault is told on a line. The exit status is 0 where there is none.
 """
 
+import argparse
+import pathlib
 import re
 import sys
+import tempfile
+import urllib.request
+
+import server
 
 NAME = re.compile(r"[a-zA-Z_:][a-zA-Z0-9_:]*\Z")
 SAMPLE = re.compile(r"(?P<name>[a-zA-Z_:][a-zA-Z0-9_:]*)(?:\{(?P<labels>.*)\})? (?P<value>\S+)\Z")
@@ -108,14 +118,69 @@ class Metrics:
         return self.faults
 
 
+class Exchange(server.Process):
+    """An exchange over a pair of lines, with a console."""
+
+    def __init__(self, program, folder):
+        self.base = server.free_ports(3)
+        file = pathlib.Path(folder) / "subscriptions.toml"
+        file.write_text(server.subscriptions(1, self.base))
+        super().__init__([program, "serve", file, "--console", f"127.0.0.1:{self.base + 2}"], folder)
+
+    def metrics(self):
+        with urllib.request.urlopen(f"http://127.0.0.1:{self.base + 2}/metrics", timeout=10) as answer:
+            return answer.read().decode("utf-8")
+
+
+class Line:
+    """A line's connection, on which a packet goes out and another one is due."""
+
+    def __init__(self, exchange, place):
+        self.connection = exchange.connect(exchange.base + place)
+        self.connection.settimeout(10)
+
+    def send(self, packet):
+        self.connection.sendall(server.frame(packet))
+
+    def expect(self, kind):
+        head = self.connection.recv(4, server.socket.MSG_WAITALL)
+        packet = self.connection.recv(int.from_bytes(head[2:4], "big"), server.socket.MSG_WAITALL)
+        if packet[2] != kind:
+            sys.exit(f"{packet.hex()} came where a packet of type {kind:02x} is due")
+
+
+def read_while_serving(program):
+    """The metrics of an exchange before, during and after a call."""
+    with tempfile.TemporaryDirectory() as folder, Exchange(program, folder) as exchange:
+        caller, called = Line(exchange, 0), Line(exchange, 1)
+        for line in (caller, called):
+            line.send(server.CLEAR_REQUEST)
+            line.expect(0x17)
+        texts = [exchange.metrics()]
+        caller.send(server.call_request(server.address(0)))
+        called.expect(0x0B)
+        called.send(bytes.fromhex("10010f"))
+        caller.expect(0x0F)
+        texts.append(exchange.metrics())
+        caller.send(server.CLEAR_REQUEST)
+        caller.expect(0x17)
+        called.expect(0x13)
+        return [*texts, exchange.metrics()]
+
+
 def main():
-    metrics = Metrics()
-    faults = metrics.read(sys.stdin.buffer.read().decode("utf-8"))
-    for fault in faults:
-        print(fault)
-    if not faults:
-        print(f"{len(metrics.kinds)} metrics, {len(metrics.series)} series")
-    return 1 if faults else 0
+    parser = argparse.ArgumentParser(description="Checks metrics in Prometheus' text format, of standard input.")
+    parser.add_argument("--serve", action="store_true", help="read those of an exchange that is started for it")
+    parser.add_argument("--xp", default=str(server.PROGRAM), help="the program that serves, with --serve")
+    arguments = parser.parse_args()
+    texts = read_while_serving(arguments.xp) if arguments.serve else [sys.stdin.buffer.read().decode("utf-8")]
+    found = 0
+    for text in texts:
+        metrics = Metrics()
+        faults = metrics.read(text)
+        found += len(faults)
+        print("\n".join(faults or [f"{len(metrics.kinds)} metrics, {len(metrics.series)} series"]))
+    return 1 if found else 0
 
 
 if __name__ == "__main__":

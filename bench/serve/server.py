@@ -108,7 +108,7 @@ class Process:
 
     def connect(self, port):
         """A connection to one of its ports, which may not be open yet."""
-        for _ in range(500):
+        for _ in range(3_000):
             try:
                 return socket.create_connection(("127.0.0.1", port))
             except ConnectionRefusedError:

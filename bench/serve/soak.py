@@ -311,12 +311,12 @@ class Soak:
         self.run_until(lambda: self.over == self.wanted, 1.5 * self.seconds + 120)
 
 
-def check_memory(samples):
+def check_memory(samples, most):
     """The octets for an event in each half of the run. What the threads take at first is in the first half."""
     halves = [samples[0], samples[len(samples) // 2], samples[-1]]
     growth = [(end[1] - begin[1]) / max(1, end[0] - begin[0]) for begin, end in zip(halves, halves[1:])]
-    print(f"memory: {growth[0]:,.0f} octets an event in the first half, {growth[1]:,.0f} in the second, at most {OCTETS:,}")
-    if growth[1] > OCTETS:
+    print(f"memory: {growth[0]:,.0f} octets an event in the first half, {growth[1]:,.0f} in the second, at most {most:,}")
+    if growth[1] > most:
         sys.exit("the memory grows by more than the records")
 
 
@@ -326,6 +326,7 @@ def main():
     parser.add_argument("--xp", default=str(server.PROGRAM), help=f"the built program ({server.DEFAULT})")
     parser.add_argument("--pairs", type=int, default=server.MOST_PAIRS, help="pairs of lines (default: 128)")
     parser.add_argument("--seed", type=int, help="what the choices follow from (default: at random)")
+    parser.add_argument("--growth", type=int, default=OCTETS, help=f"octets of memory for an event in the second half (default: {OCTETS})")
     arguments = parser.parse_args()
 
     seed = random.SystemRandom().randrange(1 << 32) if arguments.seed is None else arguments.seed
@@ -337,7 +338,7 @@ def main():
         records = exchange.records()
     calls.check(soak.calls, records)
     calls.tell(soak.calls, records)
-    check_memory(soak.samples)
+    check_memory(soak.samples, arguments.growth)
 
 
 if __name__ == "__main__":

@@ -1,0 +1,412 @@
+#!/usr/bin/env python3
+"""The console of an exchange: what each request is answered, what it shows of an exchange whose state is known, and its stop.
+
+README.md says what is checked.
+"""
+
+import argparse
+import contextlib
+import json
+import socket
+import subprocess
+import sys
+import tempfile
+
+import metrics_format
+import server
+from routers import ACCEPTED, CALL, PATIENCE, Wrong
+from server import call_request
+from served import OUT_OF_ORDER, Served, data, require, run_checks, station, until
+
+GET = b"GET %s HTTP/1.1\r\nHost: localhost\r\n\r\n"
+STOP = b"POST /stop HTTP/1.1\r\nHost: localhost\r\nx-gonukire: stop\r\nContent-Length: 0\r\n\r\n"
+STOPPING = (
+    b"HTTP/1.1 202 Accepted\r\ncontent-type: text/plain; charset=utf-8\r\ncache-control: no-store\r\nx-content-type-options: nosniff\r\n"
+    b"content-security-policy: default-src 'none'; style-src 'unsafe-inline'; script-src 'unsafe-inline'; connect-src 'self'; "
+    b"base-uri 'none'; form-action 'none'; frame-ancestors 'none'\r\nconnection: close\r\ncontent-length: 9\r\n\r\nstopping\n"
+)
+
+# Requests, with the beginning of what they are answered.
+ANSWERS = (
+    (b"GET / HTTP/1.1\r\nHost: localhost\r\n\r\n", b"HTTP/1.1 200 OK\r\ncontent-type: text/html"),
+    (b"HEAD / HTTP/1.1\r\nHost: localhost\r\n\r\n", b"HTTP/1.1 200 OK\r\n"),
+    (b"GET /status.json HTTP/1.1\r\nHost: 127.0.0.1:9980\r\n\r\n", b"HTTP/1.1 200 OK\r\ncontent-type: application/json\r\n"),
+    (b"GET /status.json?again HTTP/1.1\r\nHost: 127.9.9.9\r\n\r\n", b"HTTP/1.1 200 OK\r\n"),
+    (b"GET /status.txt HTTP/1.1\r\nHost: LocalHost:1\r\n\r\n", b"HTTP/1.1 200 OK\r\n"),
+    (b"GET /metrics HTTP/1.1\r\nHost: localhost\r\n\r\n", b"HTTP/1.1 200 OK\r\ncontent-type: text/plain; version=0.0.4"),
+    (b"GET /healthz HTTP/1.1\r\nHost: [::1]:9980\r\n\r\n", b"HTTP/1.1 200 OK\r\n"),
+    (b"GET /healthz HTTP/1.1\r\nHost: [::1]\r\n\r\n", b"HTTP/1.1 200 OK\r\n"),
+    (b"GET /healthz HTTP/1.1\r\nHost: [::2]\r\n\r\n", b"HTTP/1.1 421 "),
+    (b"GET /healthz HTTP/1.1\r\nHost: 10.0.0.2\r\n\r\n", b"HTTP/1.1 421 "),
+    (b"GET /healthz HTTP/1.1\r\nHost: localhost.evil.example\r\n\r\n", b"HTTP/1.1 421 "),
+    (b"GET /healthz HTTP/1.1\r\nHost: evil.example\r\n\r\n", b"HTTP/1.1 421 "),
+    (b"GET http://evil.example/healthz HTTP/1.1\r\nHost: localhost\r\n\r\n", b"HTTP/1.1 421 "),
+    (b"GET /healthz HTTP/1.0\r\n\r\n", b"HTTP/1.0 421 "),
+    (b"GET /healthz HTTP/1.1\r\n\r\n", b"HTTP/1.1 400 "),
+    (b"GET /healthz HTTP/1.1\r\nHost: a\r\nHost: localhost\r\n\r\n", b"HTTP/1.1 400 "),
+    (b"GET /nothing HTTP/1.1\r\nHost: localhost\r\n\r\n", b"HTTP/1.1 404 "),
+    (b"GET /status.json/ HTTP/1.1\r\nHost: localhost\r\n\r\n", b"HTTP/1.1 404 "),
+    (b"OPTIONS * HTTP/1.1\r\nHost: localhost\r\n\r\n", b"HTTP/1.1 404 "),
+    (b"POST / HTTP/1.1\r\nHost: localhost\r\nContent-Length: 0\r\n\r\n", b"HTTP/1.1 405 "),
+    (b"get / HTTP/1.1\r\nHost: localhost\r\n\r\n", b"HTTP/1.1 405 "),
+    (b"GET /stop HTTP/1.1\r\nHost: localhost\r\nX-Gonukire: stop\r\n\r\n", b"HTTP/1.1 405 "),
+    (b"POST /stop HTTP/1.1\r\nHost: localhost\r\nContent-Length: 0\r\n\r\n", b"HTTP/1.1 403 "),
+    (b"POST /stop HTTP/1.1\r\nHost: localhost\r\nX-Gonukire: Stop\r\nContent-Length: 0\r\n\r\n", b"HTTP/1.1 403 "),
+    (b"POST /stop HTTP/1.1\r\nHost: evil.example\r\nX-Gonukire: stop\r\nContent-Length: 0\r\n\r\n", b"HTTP/1.1 421 "),
+    (b"GET /hea", b"HTTP/1.1 400 "),
+)
+
+# At a console that listens at 0.0.0.0, which is no address of this machine alone.
+OWN_ADDRESS = ((b"0.0.0.0:9980", b"HTTP/1.1 200 "), (b"0.0.0.0", b"HTTP/1.1 200 "), (b"10.0.0.1:9980", b"HTTP/1.1 421 "))
+
+REFUSALS = (
+    (1, "number busy"), (3, "invalid facility request"), (5, "network congestion"), (9, "out of order"), (11, "access barred"),
+    (13, "not obtainable"), (17, "remote procedure error"), (19, "local procedure error"),
+    (25, "reverse charging acceptance not subscribed"), (41, "fast select acceptance not subscribed"),
+)
+READY = bytes.fromhex("100121")
+STATES = ("out of service", "ready", "DTE waiting", "DCE waiting", "data transfer", "DCE clear indication")
+
+# Events of the lines in the state that is looked at: see bring_to_a_known_state.
+EVENTS = 19
+
+
+def ask(exchange, octets, ends=False):
+    """What the console answers to these octets, until it closes the connection. With `ends` nothing comes behind them."""
+    with exchange.reach() as connection:
+        connection.sendall(octets)
+        if ends:
+            connection.shutdown(socket.SHUT_WR)
+        return rest_of(connection)
+
+
+def rest_of(connection):
+    """All that comes until the connection ends."""
+    taken = b""
+    while more := connection.recv(65_536):
+        taken += more
+    return taken
+
+
+def shown(exchange, path):
+    head, _, body = ask(exchange, GET % path).partition(b"\r\n\r\n")
+    require(head.startswith(b"HTTP/1.1 200 "), f"{path} is answered {head}")
+    return body.decode()
+
+
+class Shown(Served):
+    """An exchange of three stations with a console."""
+
+    def __init__(self, program, folder, host="127.0.0.1"):
+        self.program = program
+        self.base = server.free_ports(5)
+        self.console = self.base + 4
+        text = (
+            station("200001", ("a1", self.base, "")) + station("200002", ("b1", self.base + 1, ""))
+            + station("200003", ("h1", self.base + 2, ""), ("h2", self.base + 3, ', address = "200032"'))
+        )
+        super().__init__(program, folder, text, "--console", f"{host}:{self.console}")
+
+    def reach(self):
+        """A connection to the console."""
+        connection = self.connect(self.console)
+        connection.settimeout(PATIENCE)
+        return connection
+
+    def asked(self, word, address=None):
+        """`xp status` or `xp stop` at this exchange, or at another address."""
+        command = [str(self.program), word, address or f"127.0.0.1:{self.console}"]
+        run = subprocess.run(command, stdin=subprocess.DEVNULL, capture_output=True, text=True, timeout=PATIENCE)
+        return run.returncode, run.stdout, run.stderr
+
+
+# ---- requests
+
+
+def answers(program, folder):
+    """26 requests with right and wrong hosts, methods, paths and headers, half a request, a head of 64 KiB: each has its answer."""
+    with Shown(program, folder) as exchange:
+        for request, wanted in ANSWERS:
+            came = ask(exchange, request, ends=not request.endswith(b"\r\n\r\n"))
+            require(came.startswith(wanted), f"{request} is answered {came[:200]}")
+        require(ask(exchange, ANSWERS[1][0]).endswith(b"\r\n\r\n"), "HEAD is answered a body")
+        came = ask(exchange, b"PUT / HTTP/1.1\r\nHost: localhost\r\nContent-Length: 0\r\n\r\n")
+        require(b"\r\nallow: GET, HEAD\r\n" in came, f"PUT is answered {came}")
+        came = ask(exchange, b"GET / HTTP/1.1\r\nHost: localhost\r\nX: " + 65_536 * b"a")
+        require(came.startswith(b"HTTP/1.1 431 "), f"a head of 64 KiB is answered {came[:200]}")
+        require("stopping" not in exchange.told(), "the exchange is stopping")
+        require(exchange.end() == 0, f"it ended badly; {exchange.said()}")
+
+
+def own_address(program, folder):
+    """A console that listens at another address than those of this machine alone has that name too, and no other."""
+    with Shown(program, folder, "0.0.0.0") as exchange:
+        for name, wanted in OWN_ADDRESS:
+            came = ask(exchange, b"GET /healthz HTTP/1.1\r\nHost: %s\r\n\r\n" % name)
+            require(came.startswith(wanted), f"the host {name} is answered {came[:200]}")
+
+
+def crowd(program, folder):
+    """Of 33 connections, 31 with half a request, the 32nd is answered, and the 33rd is closed."""
+    with Shown(program, folder) as exchange, contextlib.ExitStack() as opened:
+        made = [opened.enter_context(exchange.reach()) for _ in range(31)]
+        for connection in made:
+            connection.sendall(b"GET /healthz HTTP/1.1\r\nHost: local")
+        last = opened.enter_context(exchange.reach())
+        one_more = opened.enter_context(exchange.reach())
+        require(rest_of(one_more) == b"", "the 33rd connection is answered")
+        last.sendall(GET % b"/healthz")
+        require(rest_of(last).endswith(b"\r\n\r\nok\n"), "the 32nd connection is not answered")
+        made[0].sendall(b"host\r\n\r\n")
+        require(rest_of(made[0]).endswith(b"\r\n\r\nok\n"), "the other half of a request is not answered")
+
+
+def one_stop(program, folder):
+    """Of two stops that are sent at once the first is answered, and the exchange ends well."""
+    with Shown(program, folder) as exchange:
+        came = ask(exchange, 2 * STOP)
+        require(came == STOPPING, f"two stops are answered {came}")
+        require(exchange.end(is_asked=False) == 0, f"it ended badly; {exchange.said()}")
+        require(exchange.told().count("stopping: the console was asked to") == 1, exchange.said())
+
+
+def address_in_use(program, folder):
+    """A console whose address is in use, or is none, is told, and nothing is served."""
+    with socket.create_server(("127.0.0.1", 0)) as taken:
+        for address, wanted in (
+            (f"127.0.0.1:{taken.getsockname()[1]}", "xp: console: the console's address can't be listened on\n"),
+            ("localhost", "xp: console: no console answers there\n"),
+        ):
+            with Served(program, folder, station("200001", ("a1", server.free_ports(1), "")), "--console", address) as exchange:
+                status = exchange.end(is_asked=False)
+                require((status, exchange.told()) == (5, wanted), f"status {status}; {exchange.said()}")
+
+
+# ---- what is shown
+
+
+def call(caller, called, dialled):
+    """A call that is answered, with a data packet of two segments from the caller and one of one segment from the called line."""
+    caller.send(call_request(dialled))
+    called.expect(CALL)
+    called.accept()
+    caller.expect(ACCEPTED)
+    for sender, receiver, packet in (
+        (caller, called, data(0, 100 * b"x")), (called, caller, b"\x10\1\x20yes"), (caller, called, READY)
+    ):
+        sender.send(packet)
+        require(receiver.receive() == packet, f"another packet came than {packet.hex()}")
+
+
+def bring_to_a_known_state(exchange):
+    """Three calls: the first refused, since b1 is out of service; the second ended; the third goes on. Returns the lines a1 and h1."""
+    a1 = exchange.rise(exchange.base)
+    a1.send(call_request("200002"))
+    require(a1.cleared() == (0x09, 0), "a call to a line out of service is not refused as out of order")
+    h1 = exchange.rise(exchange.base + 2)
+    call(a1, h1, "200003")
+    clear(a1, h1)
+    call(a1, h1, "200003")
+    return a1, h1
+
+
+def clear(caller, called):
+    """The caller clears. Then the called line may be called again."""
+    caller.clear()
+    called.cleared()
+    called.clear()
+
+
+def age(seconds):
+    days, hours, minutes, seconds = seconds // 86_400, seconds // 3600 % 24, seconds // 60 % 60, seconds % 60
+    return (f"{days}d " if days else "") + f"{hours}:{minutes:02}:{seconds:02}"
+
+
+def wanted_status(came, a1, h1):
+    """What `/status.json` has to show in the known state, with the moments that came: these are looked at on their own."""
+    parties = {name: {"address": number, "line": name} for name, number in (("a1", "200001"), ("h1", "200003"))}
+    peers = {name: "%s:%d" % line.connection.getsockname() for name, line in (("a1", a1), ("h1", h1))}
+    lines = [
+        {"call": 3 if name in peers else None, "name": name, "peer": peers.get(name), "since": told["since"],
+         "state": "data transfer" if name in peers else "out of service"}
+        for name, told in zip(("a1", "b1", "h1", "h2"), came["lines"])
+    ]
+    live, (refused, ended) = came["calls"][0], came["recent"]
+    return {
+        "calls": [
+            {"called": parties["h1"], "caller": parties["a1"], "connected": live["connected"], "number": 3, "requested": live["requested"],
+             "seconds": live["seconds"], "segments": {"from_called": 1, "from_caller": 2}}
+        ],
+        "lines": lines, "moment": came["moment"],
+        "recent": [
+            {"called": None, "caller": parties["a1"], "cleared": {"cause": 9, "diagnostic": 0, "words": "out of order"}, "connected": None,
+             "dialled": "200002", "ended": refused["ended"], "number": 1, "payer": "caller", "requested": refused["requested"],
+             "seconds": 0, "segments": {"from_called": 0, "from_caller": 0}},
+            {"called": parties["h1"], "caller": parties["a1"], "cleared": {"cause": 0, "diagnostic": 0, "words": "DTE originated"},
+             "connected": ended["connected"], "dialled": "200003", "ended": ended["ended"], "number": 2, "payer": "caller",
+             "requested": ended["requested"], "seconds": ended["seconds"], "segments": {"from_called": 1, "from_caller": 2}},
+        ],
+        "started": came["started"],
+        "totals": {
+            "calls": 3, "events": EVENTS, "octets_received": came["totals"]["octets_received"], "octets_sent": came["totals"]["octets_sent"],
+            "records_waiting": 0, "refused": [{"cause": cause, "count": int(cause == 9), "words": words} for cause, words in REFUSALS],
+            "segments_from_called": 1, "segments_from_callers": 2, "stalls": 0,
+        },
+    }
+
+
+def check_moments(came):
+    """The moments of the known state, in the order in which they were."""
+    live, (refused, ended) = came["calls"][0], came["recent"]
+    order = [
+        came["started"], refused["requested"], refused["ended"], ended["requested"], ended["connected"], ended["ended"], live["requested"],
+        live["connected"], came["moment"],
+    ]
+    require(order == sorted(order), f"the moments are {order}")
+    for line, since in zip(came["lines"], (live["requested"], came["started"], live["requested"], came["started"])):
+        require(since <= line["since"] <= since + PATIENCE, f"{line} is since {since}")
+    require(live["seconds"] == came["moment"] - live["connected"], f"the live call is {live}")
+    require(ended["seconds"] == ended["ended"] - ended["connected"], f"the ended call is {ended}")
+
+
+METRICS = (
+    ("lines", "gauge", "Lines, by the state of their channel."),
+    ("calls_live", "gauge", "Calls that have not ended."),
+    ("calls_total", "counter", "Call requests, with those that were refused."),
+    ("refused_total", "counter", "Call requests that were refused, by the clearing cause."),
+    ("segments_total", "counter", "Segments of ended calls, by the end that sent them."),
+    ("link_octets_total", "counter", "Octets of the connections of lines."),
+    ("events_total", "counter", "Events of lines."),
+    ("stalls_total", "counter", "Lines taken out of service for not taking their output."),
+    ("records_waiting", "gauge", "Records of ended calls that are not written yet."),
+)
+
+
+def wanted_metrics(status):
+    """The metrics of a status."""
+    totals, states = status["totals"], [line["state"] for line in status["lines"]]
+    values = {
+        "lines": [('{state="%s"}' % state, states.count(state)) for state in STATES],
+        "calls_live": [("", len(status["calls"]))],
+        "calls_total": [("", totals["calls"])],
+        "refused_total": [('{cause="%s"}' % refused["words"], refused["count"]) for refused in totals["refused"]],
+        "segments_total": [
+            ('{direction="from_caller"}', totals["segments_from_callers"]), ('{direction="from_called"}', totals["segments_from_called"])
+        ],
+        "link_octets_total": [('{direction="received"}', totals["octets_received"]), ('{direction="sent"}', totals["octets_sent"])],
+        "events_total": [("", totals["events"])],
+        "stalls_total": [("", totals["stalls"])],
+        "records_waiting": [("", totals["records_waiting"])],
+    }
+    return "".join(
+        f"# HELP gonukire_{name} {words}\n# TYPE gonukire_{name} {kind}\n"
+        + "".join(f"gonukire_{name}{label} {value}\n" for label, value in values[name])
+        for name, kind, words in METRICS
+    )
+
+
+def wanted_table(status):
+    """The tables of a status, for a terminal."""
+    moment, totals = status["moment"], status["totals"]
+    rows = [f"serving for {age(moment - status['started'])}", "", "line             state                       for     call peer"]
+    for line in status["lines"]:
+        number = "-" if line["call"] is None else line["call"]
+        rows.append(f"{line['name']:<16} {line['state']:<20} {age(moment - line['since']):>10} {number:>8} {line['peer'] or '-'}")
+    rows += ["", "   call caller           called                  for  from caller  from called"]
+    for live in status["calls"]:
+        since = "ringing" if live["connected"] is None else age(live["seconds"])
+        rows.append(f"{live['number']:>7} {live['caller']['line']:<16} {live['called']['line']:<16} {since:>10} " + segments(live))
+    rows += ["", "  ended caller           called                  for  from caller  from called cause"]
+    for ended in reversed(status["recent"]):
+        called = ended["called"]["line"] if ended["called"] else "-"
+        cleared = ended["cleared"]
+        rows.append(
+            f"{ended['number']:>7} {ended['caller']['line']:<16} {called:<16} {age(ended['seconds']):>10} {segments(ended)}"
+            f" {cleared['cause']:02x} {cleared['diagnostic']}"
+        )
+    rows += [
+        "",
+        f"calls {totals['calls']}, refused {sum(refused['count'] for refused in totals['refused'])}, events {totals['events']},"
+        f" stalls {totals['stalls']}, records waiting {totals['records_waiting']}",
+        f"segments from callers {totals['segments_from_callers']}, from called {totals['segments_from_called']}",
+        f"octets received {totals['octets_received']}, sent {totals['octets_sent']}",
+    ]
+    return "\n".join(rows) + "\n"
+
+
+def segments(of_call):
+    return f"{of_call['segments']['from_caller']:>12} {of_call['segments']['from_called']:>12}"
+
+
+def of_one_moment(exchange, take):
+    """What `take` gets, with the status of the same second."""
+    for _ in range(20):
+        before, taken, after = shown(exchange, b"/status.json"), take(), shown(exchange, b"/status.json")
+        if before == after:
+            return json.loads(before), taken
+    raise Wrong("the status of no second was the same twice")
+
+
+def status(program, folder):
+    """The JSON, the metrics and the tables of an exchange whose state is known are to the octet what they are to be."""
+    with Shown(program, folder) as exchange:
+        a1, h1 = bring_to_a_known_state(exchange)
+        until(lambda: json.loads(shown(exchange, b"/status.json"))["totals"]["events"] >= EVENTS, "events are missing")
+        text = shown(exchange, b"/status.json")
+        came = json.loads(text)
+        require(text == json.dumps(came, separators=(",", ":"), sort_keys=True), f"the JSON is not in its one spelling: {text}")
+        wanted = wanted_status(came, a1, h1)
+        require(came == wanted, f"the status is\n{came} in place of\n{wanted}")
+        check_moments(came)
+        octets = came["totals"]["octets_received"], came["totals"]["octets_sent"]
+        require(octets == octets_of_the_known_state(), f"the octets are {octets} in place of {octets_of_the_known_state()}")
+        came, metrics = of_one_moment(exchange, lambda: shown(exchange, b"/metrics"))
+        require(metrics == wanted_metrics(came), f"the metrics are\n{metrics}in place of\n{wanted_metrics(came)}")
+        faults = metrics_format.Metrics().read(metrics)
+        require(not faults, f"the metrics have faults: {faults}")
+        came, table = of_one_moment(exchange, lambda: shown(exchange, b"/status.txt"))
+        require(table == wanted_table(came), f"the tables are\n{table}in place of\n{wanted_table(came)}")
+        came, run = of_one_moment(exchange, lambda: exchange.asked("status"))
+        require(run == (0, wanted_table(came), ""), f"`xp status` ends with {run}")
+
+
+def octets_of_the_known_state():
+    """The octets that both lines have sent and got, with the four octets before each packet."""
+    requested, incoming, connected, accepted, packets = 12, 21, 15, 7, 107 + 10 + 7
+    confirmation, cleared = 7, 9
+    received = cleared + requested + confirmation + cleared + 2 * (requested + accepted + packets) + cleared + confirmation + cleared
+    sent = confirmation + cleared + confirmation + 2 * (incoming + connected + packets) + confirmation + cleared + confirmation
+    return received, sent
+
+
+def stop(program, folder):
+    """`xp stop` ends the exchange and its live call, and nobody is at the address then."""
+    with Shown(program, folder) as exchange:
+        a1, h1 = bring_to_a_known_state(exchange)
+        require(exchange.asked("stop") == (0, "", ""), "`xp stop` failed")
+        for line in (a1, h1):
+            packet = line.receive()
+            require(packet in (OUT_OF_ORDER, b""), f"{packet.hex()} came as the exchange stopped")
+        require(exchange.end(is_asked=False) == 0, f"it ended badly; {exchange.said()}")
+        require(exchange.told().count("stopping: the console was asked to") == 1, exchange.said())
+        records = [line.split(" ")[:10] for line in exchange.printed().splitlines()]
+        wanted = "record 3 a1 h1 200003 caller 2 1 09 0".split(" ")
+        require(len(records) == 3 and records[2] == wanted, f"the records are {records}")
+        for address in (None, "nowhere"):
+            run = exchange.asked("status", address)
+            require(run == (5, "", "xp: console: no console answers there\n"), f"`xp status` of nobody ends with {run}")
+
+
+CHECKS = (answers, own_address, crowd, one_stop, address_in_use, status, stop)
+
+
+def main():
+    parser = argparse.ArgumentParser(description=__doc__.splitlines()[0])
+    parser.add_argument("--xp", default=str(server.PROGRAM), help=f"the program ({server.DEFAULT})")
+    arguments = parser.parse_args()
+    with tempfile.TemporaryDirectory() as folder:
+        run_checks(CHECKS, arguments.xp, folder)
+
+
+if __name__ == "__main__":
+    sys.exit(main())

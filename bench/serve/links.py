@@ -1,0 +1,317 @@
+#!/usr/bin/env python3
+"""The connections of lines behind routers, one situation after the other: which line a connection is given to, when it ends, what is dropped
+behind a call, and a router that connects as it is called. `routers.py` has the same at random and in number.
+
+README.md says what is checked.
+"""
+
+import argparse
+import contextlib
+import os
+import pathlib
+import signal
+import socket
+import sys
+import tempfile
+import time
+
+import server
+import traces
+from routers import ACCEPTED, BREATH, CALL, CLEAR, CONFIRMATION, FIRST, PATIENCE, STRANGER, THIRD, Router, Wrong, XotCall
+from server import CLEAR_CONFIRMATION, CLEAR_REQUEST, call_request, frame
+from served import Served, require, run_checks, station
+
+# The addresses of c, of z, behind the third router, and of d.
+CALLER, ROUTED, CALLED = "200001", "300003", "200002"
+
+# Behind the first router.
+SIBLINGS = ("x0", "x1", "x2")
+
+# So many lines more that z has another thread than c, and how often calls from both sides are tried until they meet in the exchange.
+MORE, MOST_ROUNDS = 28, 300
+
+
+class Routed(Served):
+    """An exchange with the lines c and d, which have ports of their own, and between them z and others behind routers."""
+
+    def __init__(self, program, folder, *words, more=0):
+        self.base = server.free_ports(3 + more)
+        self.first, self.third = (Router(address, self.base + 2) for address in (FIRST, THIRD))
+        behind = lambda name, router: f'{{ name = "{name}", router = "{router.address}:{router.port}" }}'
+        text = (
+            f"xot_port = {self.base + 2}\n" + station(CALLER, ("c", self.base, ""))
+            + "".join(station(f"40{place:04}", (f"m{place}", self.base + 3 + place, "")) for place in range(more))
+            + f'[[station]]\naddress = "{ROUTED}"\nline = [{behind("z", self.third)}]\n' + station(CALLED, ("d", self.base + 1, ""))
+            + f'[[station]]\naddress = "300001"\nline = [{", ".join(behind(name, self.first) for name in SIBLINGS)}]\n'
+        )
+        super().__init__(program, folder, text, *words)
+        self.c, self.d = self.rise(self.base), self.rise(self.base + 1)
+
+    def __exit__(self, *gone):
+        with contextlib.suppress(AttributeError, OSError):
+            self.third.leave()
+        super().__exit__(*gone)
+
+    def call_router(self, line):
+        """Calls z. Returns the router's end of the call, which it has yet to accept."""
+        line.send(call_request(ROUTED))
+        return self.third.called()[0]
+
+    def connect_calls(self, line):
+        """Calls z, and the router accepts."""
+        call = self.call_router(line)
+        call.accept()
+        line.expect(ACCEPTED)
+        return call
+
+    @contextlib.contextmanager
+    def held(self):
+        """The exchange stands still, so that what comes meanwhile finds it at once."""
+        self.process.send_signal(signal.SIGSTOP)
+        os.waitid(os.P_PID, self.process.pid, os.WSTOPPED | os.WNOWAIT)
+        yield
+        time.sleep(BREATH)
+        self.process.send_signal(signal.SIGCONT)
+
+    def finish(self, records):
+        """Stops it. It has to have so many records, each of another call."""
+        require(self.end() == 0, f"it ended badly; {self.said()}")
+        numbers = [server.read_record(line.rstrip("\n")).number for line in self.lines_printed]
+        require(numbers == list(range(1, records + 1)), f"the records are {self.printed()} of {records} calls")
+
+
+def peer_of(call):
+    return "%s:%d" % call.connection.getsockname()
+
+
+# ---- which line
+
+
+def lowest_free_line(program, folder):
+    """A router's connection is given to its lowest line that is free; one more, and one of a stranger, is closed and told."""
+    with Routed(program, folder) as exchange:
+        first = []
+        for name in SIBLINGS:
+            first.append(exchange.first.connect())
+            exchange.wait_until_told(f"line {name}: up from {peer_of(first[-1])}\n")
+        z = exchange.third.connect()
+        exchange.wait_until_told(f"line z: up from {peer_of(z)}\n")
+        one_more = exchange.first.connect()
+        peer = peer_of(one_more)
+        one_more.ends()
+        exchange.wait_until_told(f"routers: connection from {peer} refused: no line is free\n")
+        for place in (1, 0):
+            first[place].close()
+            exchange.wait_until_told(f"line {SIBLINGS[place]}: connection closed\n")
+            first[place] = exchange.first.connect()
+            exchange.wait_until_told(f"line {SIBLINGS[place]}: up from {peer_of(first[place])}\n")
+        stranger = socket.socket()
+        stranger.bind((STRANGER, 0))
+        stranger.connect(("127.0.0.1", exchange.base + 2))
+        peer = peer_of(XotCall(stranger))
+        XotCall(stranger).ends()
+        exchange.wait_until_told(f"routers: connection from {peer} refused: no line is behind this router\n")
+        exchange.finish(0)
+
+
+# ---- calls of the router, and to it
+
+
+def calls_of_the_router(program, folder):
+    """The router calls and clears. What comes behind its clear is dropped, the connection is closed, and the line has the next call."""
+    with Routed(program, folder) as exchange:
+        for _ in range(2):
+            call = exchange.third.place(CALLED, b"")
+            exchange.d.expect(CALL)
+            exchange.d.accept()
+            call.expect(ACCEPTED)
+            call.connection.sendall(frame(CLEAR_REQUEST) + frame(call_request(CALLER)))
+            call.expect(CONFIRMATION)
+            call.ends()
+            exchange.d.cleared()
+            exchange.d.clear()
+        exchange.c.clear()  # and no call has come to c
+        unused = exchange.third.connect()
+        exchange.wait_until_told(f"line z: up from {peer_of(unused)}\n")
+        before = exchange.told().count("line z: connection closed\n")
+        unused.close()
+        exchange.wait_until_told("line z: connection closed\n", before + 1)
+        exchange.finish(2)
+
+
+def cleared_by_the_exchange(program, folder):
+    """The caller of a router clears. What comes behind the router's confirmation is dropped, and the next call has a new connection."""
+    with Routed(program, folder) as exchange:
+        exchange.third.listen()
+        for _ in range(2):
+            call = exchange.connect_calls(exchange.c)
+            exchange.c.clear()
+            call.expect(CLEAR)
+            call.connection.sendall(frame(CLEAR_CONFIRMATION) + frame(call_request(CALLED)))
+            call.ends()
+        exchange.d.clear()  # and no call has come to d
+        exchange.finish(2)
+
+
+def cleared_by_the_router(program, folder):
+    """The router clears, and the next call to it comes at once: it has the confirmation, then the end, then the call by a new connection."""
+    with Routed(program, folder) as exchange:
+        exchange.third.listen()
+        call = exchange.connect_calls(exchange.c)
+        with exchange.held():
+            call.connection.sendall(frame(CLEAR_REQUEST) + frame(call_request(CALLED)))
+            exchange.d.send(call_request(ROUTED))
+        call.expect(CONFIRMATION)
+        call.ends()
+        exchange.c.cleared()
+        following, _ = exchange.third.called()
+        following.accept()
+        exchange.d.expect(ACCEPTED)
+        exchange.finish(2)
+
+
+def cleared_by_both(program, folder):
+    """The caller and the router clear at once: neither confirms, the connection ends, and the next call has a new one."""
+    with Routed(program, folder) as exchange:
+        exchange.third.listen()
+        call = exchange.connect_calls(exchange.c)
+        with exchange.held():
+            exchange.c.send(CLEAR_REQUEST)
+            call.send(CLEAR_REQUEST)
+        exchange.c.expect(CONFIRMATION)
+        call.expect(CLEAR)
+        call.ends()
+        call = exchange.connect_calls(exchange.c)
+        exchange.finish(2)
+
+
+def cut_by_the_router(program, folder):
+    """The router ends a connection before its call is cleared: the caller is told, and the line has the next call."""
+    with Routed(program, folder) as exchange:
+        exchange.third.listen()
+        exchange.call_router(exchange.c).close()
+        require(exchange.c.cleared() == (0x09, 0), "the caller is told something else")
+        time.sleep(BREATH)
+        exchange.connect_calls(exchange.c)
+        exchange.finish(2)
+
+
+def nobody_listens(program, folder):
+    """A router that refuses connections is told by its line, and so is each connection that is made."""
+    with Routed(program, folder) as exchange:
+        exchange.c.send(call_request(ROUTED))
+        require(exchange.c.cleared() == (0x09, 0), "the caller is told something else")
+        exchange.wait_until_told("line z: no connection to the router: refused\n")
+        time.sleep(BREATH)
+        exchange.third.listen()
+        exchange.connect_calls(exchange.c)
+        exchange.wait_until_told(f"line z: connected to {THIRD}:{exchange.third.port}\n")
+        exchange.finish(2)
+
+
+# ---- both at once
+
+
+def connected_and_called(program, folder):
+    """A router has connected and sent nothing yet, as it is called: the call has a connection of its own, and the router's is closed."""
+    with Routed(program, folder) as exchange:
+        exchange.third.listen()
+        theirs = exchange.third.connect()
+        exchange.wait_until_told(f"line z: up from {peer_of(theirs)}\n")
+        call = exchange.connect_calls(exchange.c)
+        theirs.ends()
+        exchange.c.clear()
+        call.cleared()
+        call.ends()
+        exchange.finish(1)
+
+
+def connecting_and_called(program, folder):
+    """A router connects while the exchange waits for its own connection to it: the router's is closed, and the call comes."""
+    with Routed(program, folder) as exchange:
+        third = exchange.third
+        # A listener whose queue is full: connections to it are neither made nor refused, until some are taken.
+        with socket.create_server((third.address, third.port), backlog=0) as full, contextlib.ExitStack() as waiting:
+            for _ in range(4):
+                connection = waiting.enter_context(socket.socket())
+                connection.bind((STRANGER, 0))
+                connection.setblocking(False)
+                connection.connect_ex((third.address, third.port))
+            time.sleep(BREATH)
+            exchange.c.send(call_request(ROUTED))
+            time.sleep(BREATH)
+            theirs = third.connect()
+            peer = peer_of(theirs)
+            theirs.ends()
+            exchange.wait_until_told(f"routers: connection from {peer} refused: no line is free\n")
+            full.settimeout(PATIENCE)
+            call = take_call(full)
+        call.accept()
+        exchange.c.expect(ACCEPTED)
+        exchange.finish(1)
+
+
+def take_call(listener):
+    """Takes connections until the exchange's comes, with its call."""
+    while True:
+        connection, (address, _) = listener.accept()
+        if address != STRANGER:
+            call = XotCall(connection)
+            call.expect(CALL)
+            return call
+
+
+def calls_that_meet(program, folder):
+    """The router's call was read as the exchange's is put to its line: that is cleared (72), the router gets the answer to its own alone."""
+    path = pathlib.Path(folder) / "z.pcap"
+    with Routed(program, folder, "--trace", path, "--trace-lines", "z", more=MORE) as exchange:
+        exchange.third.listen()
+        records = 0
+        for rounds in range(1, MOST_ROUNDS + 1):
+            theirs = exchange.third.connect()
+            exchange.wait_until_told(f"line z: up from {peer_of(theirs)}\n")
+            with exchange.held():
+                theirs.send(call_request(CALLED, user=b"\xc0\0\0\1"))
+                exchange.c.send(call_request(ROUTED))
+            answer, has_met = exchange.c.receive(), False
+            records += 1
+            if answer[2:3] == bytes([CLEAR]):
+                exchange.c.send(CLEAR_CONFIRMATION)
+                has_met = answer[3:] == bytes([0x01, 72])
+                exchange.d.expect(CALL)
+                exchange.d.accept()
+                theirs.expect(ACCEPTED)
+                theirs.clear()
+                theirs.ends()
+                exchange.d.cleared()
+                exchange.d.clear()
+                records += 1
+            else:
+                raise Wrong("the exchange's call has come, though the router's was read")
+            if has_met:
+                break
+        require(has_met, f"no calls met in {MOST_ROUNDS} rounds")
+        exchange.finish(records)
+    pieces, _ = traces.pieces_in(path.read_bytes())
+    traces.check_sequences(pieces)
+    for piece in pieces:
+        require(piece.way == traces.FROM_LINE or piece.octets[6] != CALL, f"a call is traced that was not written: {piece}")
+    print(f"  in round {rounds}")
+
+
+CHECKS = (
+    lowest_free_line, calls_of_the_router, cleared_by_the_exchange, cleared_by_the_router, cleared_by_both, cut_by_the_router, nobody_listens,
+    connected_and_called, connecting_and_called, calls_that_meet,
+)
+
+
+def main():
+    parser = argparse.ArgumentParser(description=__doc__.splitlines()[0])
+    parser.add_argument("--xp", default=str(server.PROGRAM), help=f"the program ({server.DEFAULT})")
+    arguments = parser.parse_args()
+    with tempfile.TemporaryDirectory() as folder:
+        run_checks(CHECKS, arguments.xp, folder)
+
+
+if __name__ == "__main__":
+    sys.exit(main())

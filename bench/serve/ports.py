@@ -1,0 +1,218 @@
+#!/usr/bin/env python3
+"""The ports of an exchange: calls between lines of few and of many threads, connections that may not come, hosts and ports that cannot be
+served, and output that fails.
+
+README.md says what is checked.
+"""
+
+import argparse
+import itertools
+import os
+import resource
+import socket
+import sys
+import tempfile
+
+import server
+from routers import PATIENCE, XotCall
+from server import CLEAR_CONFIRMATION, CLEAR_REQUEST, call_request, frame
+from served import ACCEPTED, OUT_OF_ORDER, Served, refused, require, run_checks, station
+
+# What b1 gets as a1 calls it, and a1 as b1 accepts (X.25 clauses 5.2.1 and 5.2.2): addresses, packet sizes of 128, windows of 2, user data.
+USER = b"\1\0\0\0"
+INCOMING = bytes.fromhex("10010b 66 200002 200001 06 420707 430202") + USER
+CONNECTED = bytes.fromhex("10010f 00 06 420707 430202")
+
+# So many lines that several threads serve them, and so few that one does.
+MANY, FEW = 64, 2
+
+# Ports at which each line finds an address from which it may be connected, and others.
+NAMED, UNNAMED = "127.0.0.9", "127.0.0.8"
+
+
+def pair(base, lines=FEW, more=""):
+    """Two lines, a1 the first and b1 the last of so many."""
+    others = (station(f"30{place:04}", (f"x{place}", base + place, "")) for place in range(1, lines - 1))
+    return station("200001", ("a1", base, more)) + "".join(others) + station("200002", ("b1", base + lines - 1, more))
+
+
+def connection_from(address, port):
+    """A connection from this address of the machine to a port."""
+    connection = socket.socket()
+    connection.settimeout(PATIENCE)
+    connection.bind((address, 0))
+    connection.connect(("127.0.0.1", port))
+    return connection
+
+
+def comes(line, *packets):
+    """These packets come next, to the octet; or the connection ends, where there are none."""
+    for packet in packets:
+        came = line.receive()
+        require(came == packet, f"{came.hex()} came in place of {packet.hex()}")
+    if not packets:
+        line.ends()
+
+
+def records_of(exchange):
+    """What was printed, without the seconds of each call, of which it took none or one."""
+    return [line.rpartition(" ")[0] for line in exchange.printed().splitlines()]
+
+
+# ---- calls
+
+
+def call_and_clear(exchange, a1, b1):
+    a1.send(call_request("200002", user=USER))
+    comes(b1, INCOMING)
+    b1.send(ACCEPTED)
+    comes(a1, CONNECTED)
+    a1.send(CLEAR_REQUEST)
+    comes(a1, CLEAR_CONFIRMATION)
+    comes(b1, CLEAR_REQUEST)
+
+
+def calls(program, folder):
+    """A call that is cleared, and one whose called line hangs up, by one thread and by several: each octet, the records, and the end."""
+    for lines in (FEW, MANY):
+        base = server.free_ports(lines)
+        with Served(program, folder, pair(base, lines), "--records", 2) as exchange:
+            a1, b1 = exchange.rise(base), exchange.rise(base + lines - 1)
+            call_and_clear(exchange, a1, b1)
+            b1.send(CLEAR_CONFIRMATION)
+            b1.clear()
+            a1.send(call_request("200002", user=USER))
+            comes(b1, INCOMING)
+            b1.close()
+            comes(a1, OUT_OF_ORDER)
+            # With the last record that was wanted the exchange ends, and closes what is connected.
+            comes(a1)
+            require(exchange.end(is_asked=False) == 0, f"it ended badly; {exchange.said()}")
+        wanted = ["record 1 a1 b1 200002 caller 0 0 00 0", "record 2 a1 b1 200002 caller 0 0 09 0"]
+        require(records_of(exchange) == wanted, f"of {lines} lines the records are {exchange.printed()}")
+
+
+def output_that_fails(program, folder):
+    """An exchange whose records cannot be printed stops all lines, by one thread and by several, and ends with status 5."""
+    unread, unwritten = os.pipe()
+    os.close(unread)
+    with open("/dev/full", "w") as full, open(unwritten, "w") as nobody_reads:
+        for output, lines in ((full, FEW), (full, MANY), (nobody_reads, FEW)):
+            base = server.free_ports(lines)
+            with Served(program, folder, pair(base, lines), output=output) as exchange:
+                a1, b1 = exchange.rise(base), exchange.rise(base + lines - 1)
+                call_and_clear(exchange, a1, b1)
+                comes(a1)
+                comes(b1)
+                status, last = exchange.end(is_asked=False), exchange.told().splitlines()[-1]
+                require((status, last) == (5, "xp: output"), f"of {lines} lines it ended with status {status}; {exchange.said()}")
+
+
+def at_localhost(program, folder):
+    """The host `localhost` is 127.0.0.1."""
+    base = server.free_ports(FEW)
+    with Served(program, folder, 'host = "localhost"\n' + pair(base), "--records", 1) as exchange:
+        call_and_clear(exchange, exchange.rise(base), exchange.rise(base + 1))
+        require(exchange.end(is_asked=False) == 0, f"it ended badly; {exchange.said()}")
+    require(records_of(exchange) == ["record 1 a1 b1 200002 caller 0 0 00 0"], f"the records are {exchange.printed()}")
+
+
+# ---- what is refused
+
+# Hosts, and what is told where the port of the line a1 is taken at 127.0.0.1. A host that is no address is told before.
+HOSTS = (("127.0.0.1", "xp: port a1\n"), ("localhost", "xp: port a1\n"), ("example.invalid", "xp: host\n"), ("", "xp: host\n"))
+
+# Lines with sources and routers that are no addresses.
+SOURCES = (
+    (', from = "10.0.0"', "xp: from a1\n"),
+    (', from = ["10.0.0.9", "10.0.0.999"]', "xp: from a1\n"),
+    (', from = ["::1", "10:20"]', "xp: from a1\n"),
+)
+ROUTERS = (("10.0.0", "xp: router z\n"), ("[::1::2]:1998", "xp: router z\n"))
+
+
+def refusals(program, folder):
+    """A port in use, a host, a source and a router that is no address: each is told by its own name, with status 5, and nothing is served."""
+    with socket.create_server(("127.0.0.1", 0)) as taken:
+        port = taken.getsockname()[1]
+        behind = '[[station]]\naddress = "200004"\nline = [{ name = "z", router = "%s" }]\n'
+        cases = [(f'host = "{host}"\n' + station("200001", ("a1", port, "")), told) for host, told in HOSTS]
+        cases += [(pair(server.free_ports(FEW), more=more), told) for more, told in SOURCES]
+        cases += [(behind % router, told) for router, told in ROUTERS]
+        cases.append((f"xot_port = {port}\n" + behind % "127.0.0.3", "xp: xot_port\n"))
+        for text, told in cases:
+            run = refused(program, folder, text)
+            require(run == (5, "", told), f"{text} ends with {run} in place of {told}")
+
+
+def strangers(program, folder):
+    """A connection from an address that a line does not name is closed at once and told; one from a named address makes the line up."""
+    base = server.free_ports(FEW)
+    with Served(program, folder, pair(base, more=f', from = ["{NAMED}", "::1"]')) as exchange:
+        exchange.connect(base).close()
+        for place, name in enumerate(("a1", "b1")):
+            stranger = connection_from(UNNAMED, base + place)
+            peer = "%s:%d" % stranger.getsockname()
+            XotCall(stranger).ends()
+            exchange.wait_until_told(f"line {name}: connection from {peer} refused\n")
+            require(f"line {name}: up" not in exchange.told(), f"the stranger has the line {name}; {exchange.said()}")
+            known = connection_from(NAMED, base + place)
+            peer = "%s:%d" % known.getsockname()
+            line = XotCall(known)
+            line.clear()
+            exchange.wait_until_told(f"line {name}: up from {peer}\n")
+            line.close()
+            exchange.wait_until_told(f"line {name}: down\n")
+        require(exchange.end() == 0, f"it ended badly; {exchange.said()}")
+        require(exchange.told().count("stopping: standard input has ended\n") == 1, exchange.said())
+
+
+def quiet(program, folder):
+    """With `--quiet` facts are not told."""
+    base = server.free_ports(FEW)
+    with Served(program, folder, pair(base), "--quiet") as exchange:
+        exchange.rise(base).close()
+        require((exchange.end(), exchange.told()) == (0, ""), f"it has told something; {exchange.said()}")
+
+
+def next_descriptor(pid):
+    """The descriptor that the system gives to a process next."""
+    used = {int(name) for name in os.listdir(f"/proc/{pid}/fd")}
+    return next(number for number in itertools.count() if number not in used)
+
+
+def no_descriptors(program, folder):
+    """A line and the routers' port for whose connections there are no descriptors are told, and told again when they work."""
+    base = server.free_ports(FEW + 1)
+    text = f"xot_port = {base + FEW}\n" + pair(base) + '[[station]]\naddress = "200004"\nline = [{ name = "z", router = "127.0.0.3" }]\n'
+    with Served(program, folder, text) as exchange:
+        exchange.rise(base).close()
+        exchange.wait_until_told("line a1: down\n")
+        pid, most = exchange.process.pid, resource.prlimit(exchange.process.pid, resource.RLIMIT_NOFILE)
+        resource.prlimit(pid, resource.RLIMIT_NOFILE, (next_descriptor(pid), most[1]))
+        line, router = connection_from("127.0.0.1", base), connection_from("127.0.0.3", base + FEW)
+        exchange.wait_until_told("line a1: port fails: no connection can be accepted\n")
+        exchange.wait_until_told("routers: port fails: no connection can be accepted\n")
+        resource.prlimit(pid, resource.RLIMIT_NOFILE, most)
+        exchange.wait_until_told("line a1: port works again\n")
+        exchange.wait_until_told("routers: port works again\n")
+        exchange.wait_until_told("line a1: up from 127.0.0.1:%d\n" % line.getsockname()[1])
+        exchange.wait_until_told("line z: up from 127.0.0.3:%d\n" % router.getsockname()[1])
+        XotCall(line).clear()
+        require(exchange.told().count("port fails") == 2, f"it is not told once; {exchange.said()}")
+        require(exchange.end() == 0, f"it ended badly; {exchange.said()}")
+
+
+CHECKS = (calls, output_that_fails, at_localhost, refusals, strangers, quiet, no_descriptors)
+
+
+def main():
+    parser = argparse.ArgumentParser(description=__doc__.splitlines()[0])
+    parser.add_argument("--xp", default=str(server.PROGRAM), help=f"the program ({server.DEFAULT})")
+    arguments = parser.parse_args()
+    with tempfile.TemporaryDirectory() as folder:
+        run_checks(CHECKS, arguments.xp, folder)
+
+
+if __name__ == "__main__":
+    sys.exit(main())

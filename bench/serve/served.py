@@ -1,0 +1,131 @@
+"""An exchange that the scripts of this folder look at from outside, until its standard input ends: what it tells, what it prints, and how
+it ends; and the lines that are connected to it."""
+
+import pathlib
+import resource
+import subprocess
+import sys
+import threading
+import time
+
+import server
+from routers import CONFIRMATION, PATIENCE, Wrong, XotCall
+
+# Packets of the calls of three stations, as X.25 clause 5.2 draws them, and a cause that has "out of order" in it.
+ACCEPTED = bytes.fromhex("10010f")
+OUT_OF_ORDER = bytes.fromhex("1001130900")
+
+
+def require(holds, what):
+    if not holds:
+        raise Wrong(what)
+
+
+def data(place, octets):
+    """The data packet of this place in its direction, modulo 8, of an end that got none."""
+    return bytes([0x10, 1, place % 8 << 1]) + octets
+
+
+def station(number, *lines, more=""):
+    """The text of a station, each of its lines a name, a port and what else its table has."""
+    tables = ", ".join(f'{{ name = "{name}", port = {port}{rest} }}' for name, port, rest in lines)
+    return f'[[station]]\naddress = "{number}"\n{more}line = [{tables}]\n'
+
+
+class Served(server.Process):
+    """`xp serve` on a text of subscriptions with further words. Its standard streams are pipes, which are read as it runs, unless its
+    standard output goes elsewhere. With `limit` its files may have so many octets: a write that goes further fails."""
+
+    def __init__(self, program, folder, text, *words, output=subprocess.PIPE, limit=None):
+        if not pathlib.Path(program).is_file():
+            sys.exit(f"there is no program {program}")
+        file = pathlib.Path(folder) / "subscriptions.toml"
+        file.write_text(text)
+        command = [str(part) for part in (program, "serve", file, "--until-eof", *words)]
+        self.process = subprocess.Popen(
+            command, stdin=subprocess.PIPE, stdout=output, stderr=subprocess.PIPE, text=True,
+            # The signal of a file that would get too long stays ignored, as this process has it.
+            restore_signals=limit is None,
+        )
+        if limit is not None:
+            self.limit_files(limit)
+        self.lines_told, self.lines_printed = [], []
+        self.readers = [self.reading(self.process.stderr, self.lines_told)]
+        if self.process.stdout:
+            self.readers.append(self.reading(self.process.stdout, self.lines_printed))
+
+    def reading(self, stream, lines):
+        def read():
+            for line in stream:
+                lines.append(line)
+
+        reader = threading.Thread(target=read, daemon=True)
+        reader.start()
+        return reader
+
+    def limit_files(self, octets):
+        """From now on its files may have so many octets."""
+        most = resource.RLIM_INFINITY if octets is None else octets
+        resource.prlimit(self.process.pid, resource.RLIMIT_FSIZE, (most, resource.RLIM_INFINITY))
+
+    def told(self):
+        """What it has told on standard error."""
+        return "".join(self.lines_told)
+
+    def printed(self):
+        """What it has printed on standard output."""
+        return "".join(self.lines_printed)
+
+    def said(self):
+        return f"the program that serves said: {self.told().strip() or 'nothing'}"
+
+    def wait_until_told(self, text, count=1):
+        """Waits until it has told this text so often."""
+        until(lambda: self.told().count(text) >= count, f"it has not told: {text}")
+
+    def rise(self, port):
+        """A connection to the port of a line, once the line is up: a clear request without a call is confirmed, and counts for
+        nothing."""
+        line = XotCall(self.connect(port))
+        line.send(server.CLEAR_REQUEST)
+        line.expect(CONFIRMATION)
+        return line
+
+    def end(self, is_asked=True):
+        """Waits until it has ended, as it is asked to by the end of its standard input. Returns its status."""
+        if is_asked:
+            self.process.stdin.close()
+        try:
+            status = self.process.wait(PATIENCE)
+        except subprocess.TimeoutExpired:
+            raise Wrong(f"it has not ended in {PATIENCE} seconds") from None
+        for reader in self.readers:
+            reader.join(PATIENCE)
+        return status
+
+
+def until(holds, what, seconds=PATIENCE):
+    """Waits until it holds."""
+    end = time.monotonic() + seconds
+    while not holds():
+        if time.monotonic() > end:
+            raise Wrong(what)
+        time.sleep(0.01)
+
+
+def refused(program, folder, text, *words):
+    """Has `xp serve` refuse to serve. Returns its status, what it printed and what it told."""
+    file = pathlib.Path(folder) / "refused.toml"
+    file.write_text(text)
+    run = subprocess.run([str(program), "serve", str(file), *map(str, words)], stdin=subprocess.DEVNULL, capture_output=True, text=True, timeout=PATIENCE)
+    return run.returncode, run.stdout, run.stderr
+
+
+def run_checks(checks, *given):
+    """Runs checks, and tells of each what it has looked at. The first that fails ends the script."""
+    for check in checks:
+        try:
+            check(*given)
+        except (Wrong, OSError) as wrong:
+            sys.exit(f"{check.__name__}: {wrong}")
+        print(f"{check.__name__}: {check.__doc__.splitlines()[0]}", flush=True)
