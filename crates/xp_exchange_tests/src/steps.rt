@@ -1,25 +1,19 @@
-//! `xp_core`: steps of which each request for memory is refused in turn.
-
-ghost use Rattle.std.specs.Prelude.{IfOk};
-ghost use Rattle.xp_step.specs.Exchange.{IsReadable};
-ghost use Rattle.xp_core.specs.Writable.{AreWritable};
-ghost use Rattle.xp_script.specs.Lines.{HasLines};
-ghost use Rattle.xp_subs.specs.Tables.{line_count};
+//! `xp_core`: steps of which each request for memory is refused in turn, and stalls.
 
 use std::alloc::{Allocator, Global};
 use std::process::Abort;
 use std::test::Fail;
-use xp_core::{Core, StepFault};
+use xp_core::Core;
+use xp_exchange::{ReplayFault, Replayed, replay_on};
 use xp_machine::LineView;
-use xp_packets::{Modulus, PacketFault, decode};
-use xp_script::{Command, write_entry};
-use xp_step::{Entry, Event, What};
+use xp_packets::{Modulus, decode};
+use xp_step::{Event, What};
 use xp_subs::{LineNo, Subs};
 use xp_testing::Refusing;
 
-pub const A1: LineNo = 0;
+const A1: LineNo = 0;
 
-pub const B1: LineNo = 1;
+const B1: LineNo = 1;
 
 const H1: LineNo = 2;
 
@@ -107,72 +101,8 @@ out h1 0000001a10010b77208003020800100e420707430202c306010720800200
 out a1 0000001110010f0720800300080801420707430202
 ";
 
-/// The moment of each event.
-const MOMENT: u64 = 7;
-
 /// A data packet of one octet, the first from a1.
-const DATA: [u8; 4] = [0x10, 0x01, 0x00, 0x41];
-
-pub fn event_of<A: Allocator + Copy>(
-    alloc: A,
-    line: LineNo,
-    packet: &[u8],
-) -> Result<Event<A>, PacketFault>
-    ensures { IfOk result (λ event. IsReadable event.what) }
-{
-    if packet.is_empty() {
-        return Ok(Event {
-            line,
-            moment: MOMENT,
-            what: What::Up,
-        });
-    }
-    let what = match decode(alloc, Modulus::Eight, packet) {
-        Ok((identifier, packet)) => What::frame(identifier, packet),
-        Err(PacketFault::Malformed(wrong)) => What::WrongFrame(wrong),
-        Err(fault) => return Err(fault),
-    };
-    Ok(Event {
-        line,
-        moment: MOMENT,
-        what,
-    })
-}
-
-/// Hands an event in, and adds the text of its entry.
-fn offer<A: Allocator + Copy>(
-    rt: &impl Abort,
-    core: &mut Core<A>,
-    event: Event<A>,
-    ample: A,
-    text: &mut Vec<u8, A>,
-) -> Result<(), StepFault<A>>
-    requires { IsReadable event.what }
-{
-    let lines = core.subs().counts().lines;
-    assert!(rt; usize::from(event.line) < lines);
-    match core.step(event) {
-        Ok(entry) => {
-            tell(rt, core.subs(), &entry, ample, text);
-            Ok(())
-        }
-        Err(fault) => Err(fault),
-    }
-}
-
-/// Adds the text of an entry.
-fn tell<A: Allocator + Copy>(
-    rt: &impl Abort,
-    subs: &Subs,
-    entry: &Entry<A>,
-    ample: A,
-    text: &mut Vec<u8, A>,
-)
-    requires writable { AreWritable subs.now entry.now.outputs }
-    requires lines { HasLines (line_count subs.now) entry.now }
-{
-    assert!(rt; write_entry(subs, entry, &mut Vec::new(ample), text).is_ok());
-}
+const DATA: &str = "in a1 0000000410010041";
 
 /// All that the exchange shows of its lines, and how long its lists are.
 fn shown<A: Allocator + Copy>(core: &Core<A>) -> ([LineView; 4], u64, usize) {
@@ -183,39 +113,25 @@ fn shown<A: Allocator + Copy>(core: &Core<A>) -> ([LineView; 4], u64, usize) {
     )
 }
 
-/// Hands an event in, and adds the text of its entry: whether it was taken. Where it is refused for memory nothing has
-/// changed, and it is handed in again.
-fn offer_again<A: Allocator + Copy>(
+/// Plays a line of a script, which is one event, and adds its text. Where the exchange refuses it for memory nothing has changed, and it
+/// is played again.
+fn played<A: Allocator + Copy>(
     rt: &impl Abort,
-    core: &mut Core<A>,
+    core: Core<A>,
     ample: A,
-    line: LineNo,
-    packet: &[u8],
+    line: &str,
     text: &mut Vec<u8, A>,
-) -> Result<bool, PacketFault> {
-    let before = shown(core);
-    let event = event_of(ample, line, packet)?;
-    match offer(rt, core, event, ample, text) {
-        Ok(()) => Ok(true),
-        Err(StepFault::JournalFull(_)) => Ok(false),
-        Err(StepFault::Memory(_)) => {
-            assert_eq!(rt; shown(core), before);
-            let event = event_of(ample, line, packet)?;
-            Ok(offer(rt, core, event, ample, text).is_ok())
-        }
+) -> Core<A> {
+    let before = shown(&core);
+    let Replayed { ended, core } = replay_on(ample, core, &mut line.as_bytes(), text);
+    if ended.is_ok() {
+        return core;
     }
-}
-
-/// What a line of the script brings: its line, and the packet that comes, or no octets where a connection does.
-fn brought(subs: &Subs, alloc: Global, line: &str) -> Result<(LineNo, Vec<u8>), Fail> {
-    match Command::read(subs, line.as_bytes(), Vec::new(alloc))? {
-        Command::Up(line) => Ok((line, Vec::new(alloc))),
-        Command::In(line, frame) => {
-            let packet = frame.as_slice().get(4..).ok_or("a frame")?;
-            Ok((line, Vec::from_slice(alloc, packet)?))
-        }
-        _ => Err("neither a connection nor a packet".into()),
-    }
+    assert_eq!(rt; ended, Err(ReplayFault::Memory), "{line}");
+    assert_eq!(rt; shown(&core), before, "{line}");
+    let Replayed { ended, core } = replay_on(ample, core, &mut line.as_bytes(), text);
+    assert_eq!(rt; ended, Ok(()), "{line}");
+    core
 }
 
 /// A new exchange of the four stations, where there is memory for it.
@@ -223,67 +139,42 @@ fn opened<A: Allocator + Copy>(alloc: Global, scarce: A) -> Result<Option<Core<A
     Ok(Core::new(scarce, Subs::read(alloc, FOUR_STATIONS)?).ok())
 }
 
-/// Plays a line of the script, and adds the text of its entry. A second refusal is a failure.
-fn play_line<A: Allocator + Copy>(
-    rt: &impl Abort,
-    core: &mut Core<A>,
-    alloc: Global,
-    ample: A,
-    line: &str,
-    text: &mut Vec<u8, A>,
-) -> Result<(), Fail> {
-    let (line, packet) = brought(core.subs(), alloc, line)?;
-    assert!(rt;
-        offer_again(rt, core, ample, line, &packet, text)?,
-        "a second refusal"
-    );
-    Ok(())
-}
-
-/// Plays the calls with scarce memory, and then stalls.
-fn play<A: Allocator + Copy>(
-    rt: &impl Abort,
-    alloc: Global,
-    ample: A,
-    scarce: A,
-) -> Result<(), Fail> {
-    let Some(mut core) = opened(alloc, scarce)? else {
-        return Ok(());
-    };
+/// Plays the calls over an exchange with scarce memory: each line, and what comes of all.
+fn play<A: Allocator + Copy>(rt: &impl Abort, mut core: Core<A>, ample: A) -> Core<A> {
     let mut text = Vec::new(ample);
     for line in SCRIPT.lines() {
-        play_line(rt, &mut core, alloc, ample, line, &mut text)?;
+        core = played(rt, core, ample, line, &mut text);
     }
     assert_eq!(rt; text.as_slice(), TEXT);
     assert_eq!(rt; core.records().len(), 4);
-    stall_all(rt, &mut core, ample)
+    core
+}
+
+/// Whether a line of the exchange is stalled.
+fn is_stalled<A: Allocator + Copy>(rt: &impl Abort, core: &mut Core<A>, line: LineNo) -> bool {
+    assert!(rt; usize::from(line) < core.subs().counts().lines);
+    let what = What::Stall;
+    let event = Event {
+        line,
+        moment: 7,
+        what,
+    };
+    core.step(event).is_ok()
 }
 
 /// Stalls are prepared, a packet comes, and three lines are stalled: both of its call, and one that rings. Each request for
 /// memory before the stalls is made again where it was refused; a prepared stall makes none, so none of them is refused.
 fn stall_all<A: Allocator + Copy>(
     rt: &impl Abort,
-    core: &mut Core<A>,
+    mut core: Core<A>,
     ample: A,
 ) -> Result<(), Fail> {
     if core.reserve_stalls().is_err() {
         core.reserve_stalls()?;
     }
-    let mut text = Vec::new(ample);
-    assert!(rt;
-        offer_again(rt, core, ample, A1, &DATA, &mut text)?,
-        "a second refusal"
-    );
+    let mut core = played(rt, core, ample, DATA, &mut Vec::new(ample));
     for line in [H1, A1, B1] {
-        let event = Event {
-            line,
-            moment: MOMENT,
-            what: What::Stall,
-        };
-        assert!(rt;
-            offer(rt, core, event, ample, &mut text).is_ok(),
-            "line {line}"
-        );
+        assert!(rt; is_stalled(rt, &mut core, line), "line {line}");
     }
     assert_eq!(rt; core.records().len(), 6);
     Ok(())
@@ -295,12 +186,29 @@ fn each_request_of_a_step_refused(rt: HostRuntime) -> Result<(), Fail> {
     let mut refused = 0u64;
     for number in 1..1000u64 {
         let scarce = Refusing::new(rt.alloc(), number);
-        play(&rt, rt.alloc(), &ample, &scarce)?;
+        if let Some(core) = opened(rt.alloc(), &scarce)? {
+            let core = play(&rt, core, &ample);
+            stall_all(&rt, core, &ample)?;
+        }
         if scarce.is_pending() {
             break;
         }
         refused = number;
     }
     assert!(rt; refused > 10 && refused < 999, "{refused} requests");
+    Ok(())
+}
+
+/// `xp_step`: a copy of a call request that came is equal to it.
+#[test]
+fn copies_of_events_are_equal(rt: HostRuntime) -> Result<(), Fail> {
+    let request = b"\x10\x01\x0b\x07\x20\x80\x02\x00\x02\x04\x01";
+    let (identifier, packet) = decode(rt.alloc(), Modulus::Eight, request)?;
+    let event = Event {
+        line: A1,
+        moment: 7,
+        what: What::frame(identifier, packet),
+    };
+    assert!(rt; event.copy()? == event);
     Ok(())
 }
