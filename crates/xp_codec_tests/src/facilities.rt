@@ -103,8 +103,6 @@ fn told_of_values(
 
 const NOT_ALLOWED: &str = "facility parameter not allowed";
 
-const NO_LENGTH: &str = "invalid facility length";
-
 // The items between DTEs are judged first.
 #[test]
 fn values_that_cannot_be_told(rt: HostRuntime) -> Result<(), Fail> {
@@ -114,8 +112,8 @@ fn values_that_cannot_be_told(rt: HostRuntime) -> Result<(), Fail> {
         (9999, 16, 0, b"\x0a\x01", NOT_ALLOWED),
         (9999, 0, 0, b"\x0a\x01", NOT_ALLOWED),
         (9999, 15, 8_640_000, b"\x0a\x01", NOT_ALLOWED),
-        (10_000, 16, 0, b"\x42\x07", NO_LENGTH),
-        (10_000, 16, 0, b"\x00\x0f", NO_LENGTH),
+        (10_000, 16, 0, b"\x42\x07", "invalid facility length"),
+        (10_000, 16, 0, b"\x00\x0f", "invalid facility length"),
     ] {
         let text = told_of_values(rt.alloc(), index, window, duration, dte)?;
         assert_eq!(rt; text.as_str(), expected);

@@ -7,7 +7,7 @@ use xp_packets::{Block, Digits, Modulus, Octets, Packet, PacketFault, decode, en
 use xp_testing::Refusing;
 
 // Packets of each kind modulo 8, with what each may have, as they are read and written again.
-const SPELLED: [&[u8]; 11] = [
+const SPELLED: [&[u8]; 10] = [
     b"\x10\x01\x0b\x77\x20\x80\x02\x02\x08\x00\x10\x06\x42\x07\x07\x43\x02\x02\x01\x00\x00\x00",
     b"\x5f\xff\x0b\x21\x91\x70\x00",
     b"\x51\x02\x0f\x00\x06\x42\x07\x07\x43\x02\x02",
@@ -16,17 +16,14 @@ const SPELLED: [&[u8]; 11] = [
     b"\x10\x01\x13\x00\x07\x00\x02\x04\x01\xc0\xff",
     b"\x10\x01\x17\x00\x0a\xc2\x08\x00\x00\x00\x00\x00\x00\x00\x02",
     b"\xd0\x01\xb6world",
-    b"\x10\x01\x61",
     b"\x10\x01\x23A",
     b"\x10\x00\x1f",
 ];
 
 // Packets modulo 128: data and flow control have P(R) in an octet of its own, and others differ in octet 1 alone.
-const SPELLED_LONG: [&[u8]; 7] = [
-    b"\x20\x01\x00\x00",
+const SPELLED_LONG: [&[u8]; 5] = [
     b"\xe0\x01\xfe\xffworld",
     b"\x2f\xff\x02\xfcA",
-    b"\x20\x01\x09\x00",
     b"\x60\x01\x0b\x07\x20\x80\x02\x00\x03\x43\x0f\x0f",
     b"\x20\x01\x13\x0d\x43",
     b"\x20\x00\x1b\x05\x27",
@@ -74,13 +71,10 @@ fn packets_are_read_and_written(rt: HostRuntime) -> Result<(), Fail> {
 }
 
 // Octets, and the name of what is wrong with them. Rows show the diagnostics of many more.
-const WRONG: [(&[u8], &str); 6] = [
+const WRONG: [(&[u8], &str); 3] = [
     (b"\x10\x01", "packet too short"),
-    (b"\x90\x01\xff", NO_IDENTIFIER),
     (b"\x10\x01\xff", "unidentifiable packet"),
     (b"\x10\x01\x0b\x01\xa0", "invalid address"),
-    (b"\x10\x01\x0b\x00\x6e", "invalid facility length"),
-    (b"\x10\x01\x1f\x00", "packet too long"),
 ];
 
 const NO_IDENTIFIER: &str = "invalid general format identifier";
@@ -115,14 +109,13 @@ fn octets(alloc: Global, count: usize) -> Result<Octets, AllocError> {
 
 // A data packet with so many octets.
 fn data(alloc: Global, ps: u8, count: usize) -> Result<Packet, AllocError> {
-    let octets = octets(alloc, count)?;
     Ok(Packet::DataPacket {
         q: false,
         d: false,
         more: false,
         ps,
         pr: 0,
-        octets,
+        octets: octets(alloc, count)?,
     })
 }
 
@@ -174,15 +167,12 @@ fn flow(kind: u8, pr: u8) -> Packet {
 
 #[test]
 fn numbers_without_spelling(rt: HostRuntime) -> Result<(), Fail> {
-    for (modulus, pr, expected) in [
-        (Modulus::Eight, 7, "ok"),
-        (Modulus::Eight, 8, NO_IDENTIFIER),
-        (Modulus::Long, 127, "ok"),
-        (Modulus::Long, 128, NO_IDENTIFIER),
-    ] {
+    for (modulus, most) in [(Modulus::Eight, 7u8), (Modulus::Long, 127)] {
         for kind in 0..3 {
-            let packet = flow(kind, pr);
-            assert!(rt; is_told(rt.alloc(), modulus, 1, &packet, expected)?);
+            let good = flow(kind, most);
+            assert!(rt; is_told(rt.alloc(), modulus, 1, &good, "ok")?);
+            let beyond = flow(kind, most.wrapping_add(1));
+            assert!(rt; is_told(rt.alloc(), modulus, 1, &beyond, NO_IDENTIFIER)?);
         }
     }
     Ok(())
@@ -210,16 +200,12 @@ fn clears_without_spelling(rt: HostRuntime) -> Result<(), Fail> {
     Ok(())
 }
 
-// Whether these octets are stored without memory.
-fn is_in_place(memory: Global, octets: &[u8]) -> bool {
-    let alloc = Refusing::new(memory, 1);
-    Octets::from_slice(&alloc, octets).is_ok()
-}
-
+// Up to 22 octets are stored without memory.
 #[test]
 fn few_octets_take_no_memory(rt: HostRuntime) {
-    assert!(rt; is_in_place(rt.alloc(), &[1; 22]));
-    assert!(rt; !is_in_place(rt.alloc(), &[1; 23]));
+    let alloc = Refusing::new(rt.alloc(), 1);
+    assert!(rt; Octets::from_slice(&alloc, &[1; 22]).is_ok());
+    assert!(rt; Octets::from_slice(&alloc, &[1; 23]).is_err());
     let charging: Octets = Octets::of_sixteen([0xc1; 16]);
     assert_eq!(rt; charging.as_slice(), [0xc1; 16].as_slice());
 }

@@ -67,13 +67,9 @@ impl Write for Sheet {
                 other => self.refusal = other,
             }
         }
-        match octets.first() {
-            Some(octet) => {
-                self.text.push(*octet)?;
-                Ok(1)
-            }
-            None => Ok(0),
-        }
+        let count = octets.len().min(1);
+        self.text.extend_from_slice(&octets[..count])?;
+        Ok(count)
     }
 
     fn flush(&mut self) -> io::Result<()> {

@@ -60,7 +60,11 @@ fn from_source(
     };
     let mut text = Vec::new(alloc);
     let replayed = replayed(alloc, &mut source, &mut text)?;
-    assert_eq!(rt; (replayed.ended, entries(&replayed.core)), expected, "at {before}");
+    assert_eq!(rt;
+        (replayed.ended, entries(&replayed.core)),
+        expected,
+        "at {before}"
+    );
     let whole = expected.1 < LINES || text.len() == TEXT.len();
     assert!(rt; whole && TEXT.starts_with(text.as_slice()), "at {before}");
     Ok(())

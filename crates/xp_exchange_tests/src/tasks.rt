@@ -10,12 +10,9 @@ use xp_testing::THREE_STATIONS;
 
 #[test]
 fn failures_that_are_told(rt: HostRuntime) -> Result<(), Fail> {
+    let refused = SubscriptionFault::Memory;
     let rows = [
-        (
-            TaskFailure::from(SubscriptionFault::Memory),
-            "xp: memory",
-            4,
-        ),
+        (TaskFailure::from(refused), "xp: memory", 4),
         (TaskFailure::from(ReplayFault::Memory), "xp: memory", 4),
         (TaskFailure::from(ReplayFault::Read), "xp: input", 5),
         (TaskFailure::from(ReplayFault::Write), "xp: output", 5),

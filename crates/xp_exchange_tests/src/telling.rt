@@ -109,7 +109,11 @@ fn faulty_lines_in_pieces(rt: HostRuntime) -> Result<(), Fail> {
             let (ended, wanted) = wanted_in(rt.alloc(), &script, most)?;
             let faulty = Err(ReplayFault::Script(comments.saturating_add(4)));
             assert_eq!(rt; ended, faulty, "{comments} {most}");
-            assert_eq!(rt; wanted.as_str(), "no line is named \"x9\"", "{comments} {most}");
+            assert_eq!(rt;
+                wanted.as_str(),
+                "no line is named \"x9\"",
+                "{comments} {most}"
+            );
         }
     }
     Ok(())
