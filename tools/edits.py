@@ -34,7 +34,11 @@ NAME = re.compile(r"[A-Za-z0-9_-][A-Za-z0-9_.-]*\.edit")
 MEMORY_OF_A_TRY = 1_800_000_000
 # The functions that are tried at most because they name the one that is changed.
 MOST_CALLERS = 12
+# The status of a check of a function that the prover has not, or of which it has several.
+UNKNOWN_NAME = 2
 ONE_JOB = ["--jobs", "1"]
+# Names that tell nothing of who calls a function.
+METHODS_OF_TRAITS = {"clone", "default", "drop", "eq", "fmt", "from", "hash", "new", "next"}
 
 
 def load_gate():
@@ -133,15 +137,18 @@ class Try:
         texts, why = self.gate.read_edit(str(self.edit), self.crate.folder)
         if why:
             return False, f"BAD EDIT: {why}"
+        notes = ""
         for how, functions in self.steps():
             ran = self.only(texts, functions) if functions else None
             refusal = ran and self.refusal(ran, texts)
             if refusal:
                 return True, f"{how}: {refusal}"
+            if ran and ran.returncode == UNKNOWN_NAME:
+                notes += f" (the prover has no one function of each name: {' '.join(functions)})"
         # The judgement of the whole crate is the gate's own.
         kind, said = self.gate.must_fail(self.crate, str(self.edit), ONE_JOB)
         said = said.partition(": ")[2]
-        return kind in (self.gate.REFUSED, self.gate.AT_LIMIT), f"the whole crate: {said}"
+        return kind in (self.gate.REFUSED, self.gate.AT_LIMIT), f"the whole crate{notes}: {said}"
 
     def run_unedited(self):
         """Returns whether the functions that the edit changes are proved as they stand."""
@@ -150,29 +157,29 @@ class Try:
         return ran.returncode == 0, ran.stdout.rstrip("\n").split("\n")[-1]
 
     def steps(self):
-        """The functions that the edit changes, and then those that name one of them."""
-        changed = self.changed()
+        """The functions that the edit changes, and then those that name one of them, or a constant that it changes."""
+        changed, names = self.changed()
         yield "the function", changed
-        names = {it.rpartition("::")[2] for it in changed}
-        callers = {it for file in self.sources() for it in file.naming(names)} - set(changed)
-        if callers and len(callers) <= MOST_CALLERS:
-            yield "its callers", sorted(callers)
+        naming = {it for file in self.sources() for it in file.naming(names)} - set(changed)
+        if naming and len(naming) <= MOST_CALLERS:
+            yield "what names it", sorted(naming)
 
     def sources(self):
         folder = pathlib.Path(self.crate.folder) / "src"
         return [Source(folder, it) for it in sorted(folder.rglob("*.rt"))]
 
     def changed(self):
-        """The functions that the texts behind `old:` stand in."""
-        folder, found, source = pathlib.Path(self.crate.folder) / "src", [], None
+        """The functions that the texts behind `old:` stand in, and the names of these and of constants that are changed."""
+        folder, found, names, source = pathlib.Path(self.crate.folder) / "src", [], set(), None
         for line in self.edit.read_text(encoding="utf-8").split("\n"):
             if line.startswith("file: "):
                 path = pathlib.Path(self.crate.folder) / line[len("file: ") :].strip()
                 source = Source(folder, path) if path.is_relative_to(folder) else None
             elif line.startswith("old: ") and source:
-                name = source.function_with(line[len("old: ") :])
-                found += [name] if name and name not in found else []
-        return found
+                function, constant = source.function_with(line[len("old: ") :]), source.constant_with(line[len("old: ") :])
+                found += [function] if function and function not in found else []
+                names |= {it for it in (constant, function and function.rpartition("::")[2]) if it}
+        return found, names - METHODS_OF_TRAITS
 
     def only(self, texts, functions):
         words = [word for it in functions for word in ("--only", it)]

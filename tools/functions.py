@@ -3,6 +3,7 @@
 import re
 
 FUNCTION = re.compile(r" *(?:pub(?:\([^)]*\))? )?(?:const )?(?:unsafe )?(?:extern \"C\" )?fn (\w+)")
+CONSTANT = re.compile(r" *(?:pub(?:\([^)]*\))? )?(?:const|static) (\w+):")
 BLOCK = re.compile(r" *(?:unsafe )?(?:impl|trait|pub trait|pub\(crate\) trait)\b")
 
 
@@ -38,6 +39,12 @@ class Source:
         at = next((number for number, line in enumerate(self.lines) if text in line), None)
         return None if at is None else self.function_at(at)
 
+    def constant_with(self, text):
+        """The name of the constant in whose line a text stands first, or None."""
+        line = next((it for it in self.lines if text in it), "")
+        found = CONSTANT.match(line)
+        return found[1] if found else None
+
     def naming(self, names):
         """The functions in which one of these names stands."""
         word = re.compile(rf"\b(?:{'|'.join(map(re.escape, sorted(names)))})\b") if names else None
@@ -50,7 +57,11 @@ class Source:
             return None
         name = FUNCTION.match(self.lines[heading])[1]
         block = self.block_above(heading)
-        return "::".join([*self.module, *([block] if block else []), name])
+        if block is None:
+            return "::".join([*self.module, name])
+        # A method has the path of its type, which may stand in another file. The end of a name is enough.
+        is_here = any(re.match(rf" *(?:pub(?:\([^)]*\))? )?(?:struct|enum) {block}\b", it) for it in self.lines)
+        return "::".join([*(self.module if is_here else []), block, name])
 
     def heading_above(self, at):
         """The line on which the function begins that this line stands in, or None."""

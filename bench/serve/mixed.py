@@ -15,6 +15,7 @@ import sys
 import tempfile
 import time
 import tomllib
+from concurrent.futures import ThreadPoolExecutor
 
 import server
 from routers import Router, Wrong, XotCall
@@ -212,25 +213,40 @@ def play(program, row, folder):
             played.end(played.play(outcome))
 
 
+def outcome_of(program, place, most_lines):
+    """Plays the row of this folder. Returns why it is not played and what went wrong, if so."""
+    with tempfile.TemporaryDirectory() as folder:
+        try:
+            row = Row(place)
+            if most_lines and len(row.script) > most_lines:
+                return f"more than {most_lines} lines", None
+            play(program, row, pathlib.Path(folder))
+        except Unfit as why:
+            return str(why), None
+        except (Wrong, OSError) as why:
+            return None, f"{place.name}: {why}"
+    return None, None
+
+
 def main():
     parser = argparse.ArgumentParser(description=__doc__.splitlines()[0])
     parser.add_argument("--xp", default=str(server.PROGRAM), help=f"the built program ({server.DEFAULT})")
     parser.add_argument("--row", action="append", help="this row only; may be given again")
+    parser.add_argument("--most-lines", type=int, help="leave out rows whose script has more lines (default: none)")
+    parser.add_argument("--jobs", type=int, default=1, help="rows that are played side by side (default: 1)")
     arguments = parser.parse_args()
 
+    places = [it for it in sorted(ROWS.iterdir()) if not arguments.row or it.name in arguments.row]
     unfit, wrong, count = collections.Counter(), [], 0
-    for place in sorted(ROWS.iterdir()):
-        if arguments.row and place.name not in arguments.row:
-            continue
-        with tempfile.TemporaryDirectory() as folder:
-            try:
-                play(arguments.xp, Row(place), pathlib.Path(folder))
-                count += 1
-            except Unfit as why:
-                unfit[str(why)] += 1
-            except (Wrong, OSError) as why:
+    with ThreadPoolExecutor(arguments.jobs) as pool:
+        for place, (left_out, fault) in zip(places, pool.map(lambda it: outcome_of(arguments.xp, it, arguments.most_lines), places)):
+            if left_out:
+                unfit[left_out] += 1
+            elif fault:
                 wrong.append(place.name)
-                print(f"{place.name}: {why}", flush=True)
+                print(fault, flush=True)
+            else:
+                count += 1
     for why, rows in unfit.most_common():
         print(f"{rows:4} rows left out: {why}")
     print(f"{count:4} rows came out as `xp replay` tells them, with {ROUTER_LINE} behind a router")
