@@ -7,9 +7,6 @@ use std::io::{ErrorKind, Read, Write};
 pub const SCRIPT: &[u8] = b"\
 up a1
 up b1
-up h1
-up h2
-up h3
 in a1 0000000d10010b07208002000001000000
 in b1 0000000310010f
 in a1 000000051001130000

@@ -14,7 +14,7 @@ use xp_subs::Subs;
 use xp_testing::THREE_STATIONS;
 
 /// How many lines and so entries the script is.
-const LINES: u64 = 9;
+const LINES: u64 = 6;
 
 /// What comes of them.
 const TEXT: &[u8] = b"\

@@ -39,7 +39,7 @@ fn a_reader_that_fails(rt: HostRuntime) -> Result<(), Fail> {
     Ok(())
 }
 
-/// How the telling of the script ends on a writer that fails where it has so many octets, and what it has then.
+/// How the telling of a call that is refused ends on a writer that fails where it has so many octets, and what it has then.
 fn told_to(
     alloc: Global,
     form: Form,
@@ -50,7 +50,8 @@ fn told_to(
         room,
         refusal: Some(Refusal::Fails(ErrorKind::BrokenPipe)),
     };
-    let ended = ending(alloc, form, SCRIPT, &mut sheet)?;
+    let script = b"up a1\nin a1 0000000710010b03999000\n".as_slice();
+    let ended = ending(alloc, form, script, &mut sheet)?;
     Ok((ended, sheet.text))
 }
 
