@@ -37,7 +37,7 @@ def interrupted(program, folder, seconds):
 def main():
     parser = argparse.ArgumentParser(description=__doc__.splitlines()[0])
     parser.add_argument("--program", default=str(PROGRAM), help="the built program (default: XP_PROGRAM, else the one that ./xp built)")
-    parser.add_argument("--seconds", type=float, default=120, help="how long it may take (default: 120)")
+    parser.add_argument("--seconds", type=float, default=300, help="how long it may take (default: 300)")
     arguments = parser.parse_args()
 
     begun = time.monotonic()

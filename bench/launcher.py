@@ -23,7 +23,7 @@ TOP = pathlib.Path(__file__).resolve().parent.parent
 # The commands that the launcher may use, beside rt.
 COMMANDS = "awk bash cat dirname env find flock git kill mkdir readlink rm sed sha256sum sort xargs".split()
 # Seconds after which a run counts as hung.
-LIMIT = 20
+LIMIT = 60
 PAUSE = 0.3
 
 NOT_PROVED = "xp: not proved on this machine: ./xp prove proves and builds it, in about an hour\n"
@@ -41,13 +41,15 @@ printf '[%s]\\n' "$@"
 cat
 exit "${{WANTED_STATUS-0}}"
 """
-# A tool in place of one that builds: it counts its runs, reads what it is given, and writes a program, or fails.
+# A tool in place of one that builds: it counts its runs, reads what it is given, waits for a file where it is to, and writes a
+# program, or fails.
 TOOL = """import os, pathlib, sys, time
 top = pathlib.Path(__file__).parent.parent
 with open(top / "{name}.runs", "a") as runs:
     runs.write("x")
 sys.stdin.read()
-time.sleep(float(os.environ.get("WANTED_PAUSE", 0)))
+while "WANTED_FILE" in os.environ and not (top / os.environ["WANTED_FILE"]).exists():
+    time.sleep(0.01)
 if "WANTED_FAILURE" in os.environ:
     sys.exit(1)
 print("a line of the tool on standard output")
@@ -193,10 +195,15 @@ def unproved_serves_when_asked(tree):
 
 
 def two_at_once_build_once(tree):
-    both = [tree.start("check", pause=1) for _ in range(2)]
-    told = [it.communicate("", timeout=LIMIT)[1] for it in both]
-    yield [it.returncode for it in both], [0, 0]
-    yield sum("xp: another run is building the program: waiting for it\n" in it for it in told), 1
+    first = tree.start("check", file="go")
+    for _ in range(LIMIT * 10):
+        if not tree.runs_of("unproved"):
+            time.sleep(0.1)
+    second = tree.start("check", file="go")
+    select.select([second.stderr], [], [], LIMIT)
+    yield second.stderr.readline(), "xp: another run is building the program: waiting for it\n"
+    tree.write("go", "")
+    yield [(it.communicate("", timeout=LIMIT)[0], it.returncode) for it in (first, second)], [(output_of("unproved", "check"), 0)] * 2
     yield tree.runs_of("unproved"), 1
 
 
@@ -224,6 +231,21 @@ def proved_that_is_older_is_run(tree):
     yield tree.run("prove")[0], 0
     yield tree.run("check", "f"), (0, output_of("proved", "check", "f"), "")
     yield (tree.runs_of("proved"), tree.runs_of("unproved")), (3, 0)
+
+
+def proved_by_another_command(tree):
+    tree.run("prove")
+    (tree.top / "crates/xp/out/xp.stamp").unlink()
+    yield tree.run("check"), (0, output_of("proved", "check"), "")
+    yield tree.run("prove")[0], 0
+    yield tree.runs_of("proved"), 1
+    tree.write("crates/low/src/code.rt", "changed")
+    yield tree.run("check"), (0, output_of("proved", "check"), OLDER)
+    # With a stamp it goes by what is in the files alone.
+    yield tree.run("prove")[0], 0
+    tree.write("crates/low/src/code.rt", "changed")
+    yield tree.run("check"), (0, output_of("proved", "check"), "")
+    yield tree.runs_of("proved"), 2
 
 
 def prove_takes_no_words(tree):
@@ -259,6 +281,7 @@ CASES = (
     two_at_once_build_once,
     proved_is_run,
     proved_that_is_older_is_run,
+    proved_by_another_command,
     prove_takes_no_words,
     no_kit,
     commit_is_told,

@@ -17,9 +17,9 @@ import time
 
 import server
 import traces
-from routers import ACCEPTED, BREATH, CALL, CLEAR, CONFIRMATION, FIRST, PATIENCE, STRANGER, THIRD, Router, Wrong, XotCall
+from routers import ACCEPTED, BREATH, CALL, CLEAR, CONFIRMATION, FIRST, PATIENCE, STRANGER, THIRD, Router, XotCall
 from server import CLEAR_CONFIRMATION, CLEAR_REQUEST, call_request, frame
-from served import Served, require, run_checks, station
+from served import Served, require, run_checks, station, until
 
 # The addresses of c, of z, behind the third router, and of d.
 CALLER, ROUTED, CALLED = "200001", "300003", "200002"
@@ -27,20 +27,19 @@ CALLER, ROUTED, CALLED = "200001", "300003", "200002"
 # Behind the first router.
 SIBLINGS = ("x0", "x1", "x2")
 
-# So many lines more that z has another thread than c, and how often calls from both sides are tried until they meet in the exchange.
-MORE, MOST_ROUNDS = 28, 300
+# Why a call to z is refused: the router has called.
+COLLISION = 0x01, 72
 
 
 class Routed(Served):
     """An exchange with the lines c and d, which have ports of their own, and between them z and others behind routers."""
 
-    def __init__(self, program, folder, *words, more=0):
-        self.base = server.free_ports(3 + more)
+    def __init__(self, program, folder, *words):
+        self.base = server.free_ports(3)
         self.first, self.third = (Router(address, self.base + 2) for address in (FIRST, THIRD))
         behind = lambda name, router: f'{{ name = "{name}", router = "{router.address}:{router.port}" }}'
         text = (
             f"xot_port = {self.base + 2}\n" + station(CALLER, ("c", self.base, ""))
-            + "".join(station(f"40{place:04}", (f"m{place}", self.base + 3 + place, "")) for place in range(more))
             + f'[[station]]\naddress = "{ROUTED}"\nline = [{behind("z", self.third)}]\n' + station(CALLED, ("d", self.base + 1, ""))
             + f'[[station]]\naddress = "300001"\nline = [{", ".join(behind(name, self.first) for name in SIBLINGS)}]\n'
         )
@@ -77,7 +76,7 @@ class Routed(Served):
         """Stops it. It has to have so many records, each of another call."""
         require(self.end() == 0, f"it ended badly; {self.said()}")
         numbers = [server.read_record(line.rstrip("\n")).number for line in self.lines_printed]
-        require(numbers == list(range(1, records + 1)), f"the records are {self.printed()} of {records} calls")
+        require(sorted(numbers) == list(range(1, records + 1)), f"the records are {self.printed()} of {records} calls")
 
 
 def peer_of(call):
@@ -262,41 +261,32 @@ def take_call(listener):
 
 
 def calls_that_meet(program, folder):
-    """The router's call was read as the exchange's is put to its line: that is cleared (72), the router gets the answer to its own alone."""
+    """A part of the router's call was read as it is called: the call to it is cleared (72), and the router gets the answer to its own alone."""
     path = pathlib.Path(folder) / "z.pcap"
-    with Routed(program, folder, "--trace", path, "--trace-lines", "z", more=MORE) as exchange:
+    with Routed(program, folder, "--trace", path, "--trace-lines", "z") as exchange:
         exchange.third.listen()
-        records = 0
-        for rounds in range(1, MOST_ROUNDS + 1):
-            theirs = exchange.third.connect()
-            exchange.wait_until_told(f"line z: up from {peer_of(theirs)}\n")
-            with exchange.held():
-                theirs.send(call_request(CALLED, user=b"\xc0\0\0\1"))
-                exchange.c.send(call_request(ROUTED))
-            answer, has_met = exchange.c.receive(), False
-            records += 1
-            if answer[2:3] == bytes([CLEAR]):
-                exchange.c.send(CLEAR_CONFIRMATION)
-                has_met = answer[3:] == bytes([0x01, 72])
-                exchange.d.expect(CALL)
-                exchange.d.accept()
-                theirs.expect(ACCEPTED)
-                theirs.clear()
-                theirs.ends()
-                exchange.d.cleared()
-                exchange.d.clear()
-                records += 1
-            else:
-                raise Wrong("the exchange's call has come, though the router's was read")
-            if has_met:
-                break
-        require(has_met, f"no calls met in {MOST_ROUNDS} rounds")
-        exchange.finish(records)
+        theirs, request = exchange.third.connect(), frame(call_request(CALLED))
+        theirs.connection.sendall(request[:6])
+        until(lambda: path.read_bytes().endswith(request[:6]), "the front of the router's call is not traced")
+        exchange.c.send(call_request(ROUTED))
+        exchange.d.clear()  # its thread, which all lines have, has served c before
+        theirs.connection.sendall(request[6:])
+        require(exchange.c.cleared() == COLLISION, "c is told something else")
+        exchange.d.expect(CALL)
+        exchange.d.accept()
+        connected = theirs.expect(ACCEPTED)
+        theirs.clear()
+        theirs.ends()
+        exchange.d.cleared()
+        exchange.finish(2)
     pieces, _ = traces.pieces_in(path.read_bytes())
     traces.check_sequences(pieces)
-    for piece in pieces:
-        require(piece.way == traces.FROM_LINE or piece.octets[6] != CALL, f"a call is traced that was not written: {piece}")
-    print(f"  in round {rounds}")
+    passed = [
+        (traces.FROM_LINE, request), (traces.TO_LINE, frame(connected)), (traces.FROM_LINE, frame(CLEAR_REQUEST)),
+        (traces.TO_LINE, frame(CLEAR_CONFIRMATION)),
+    ]
+    streams = traces.streams_of(pieces)
+    require(streams == [(1, 0, passed)], f"{streams} is traced in place of {passed}")
 
 
 CHECKS = (

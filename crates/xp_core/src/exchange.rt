@@ -24,7 +24,6 @@ use xp_step::{Entry, Event, Outputs, Workspace};
 use xp_subs::{LineNo, Subs};
 
 /// The exchange, which takes one event at a time.
-#[derive(Drop)]
 pub struct Core<A: Allocator = Global> {
     alloc: A,
     subs: Subs,
@@ -32,6 +31,19 @@ pub struct Core<A: Allocator = Global> {
     relays: Relays<A>,
     journal: Journal<A>,
     workspace: Workspace<A>,
+}
+
+impl<A: Allocator> Drop for Core<A> {
+    fn drop(self) {
+        let Core {
+            alloc: _,
+            subs: _,
+            machine: _,
+            relays: _,
+            journal: _,
+            workspace: _,
+        } = self;
+    }
 }
 
 impl<A: Allocator> Model for Core<A> {

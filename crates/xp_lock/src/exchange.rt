@@ -37,7 +37,6 @@ use xp_subs::LineNo;
 const MOST_TRIES: u32 = 100;
 
 /// The exchange that threads share. `N` names it.
-#[derive(Drop)]
 pub struct Exchange<N: Name, A: Allocator = Global> {
     lock: Mutex<Keeper<N, A>>,
     /// Whether the keeper refuses every event. It stands beside the lock, since each line reads it in each of its turns.
@@ -46,6 +45,18 @@ pub struct Exchange<N: Name, A: Allocator = Global> {
     lines: LineNo,
     /// Room for the counts of what the lines took, so that closing allocates nothing.
     taken: Vec<u64, A>,
+}
+
+impl<N: Name, A: Allocator> Drop for Exchange<N, A> {
+    fn drop(self) {
+        let Exchange {
+            lock: _,
+            halted: _,
+            history_length: _,
+            lines: _,
+            taken: _,
+        } = self;
+    }
 }
 
 impl<N: Name, A: Allocator> Model for Exchange<N, A> {

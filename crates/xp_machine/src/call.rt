@@ -15,7 +15,7 @@ use xp_packets::{Digits, End};
 use xp_subs::LineNo;
 
 /// A virtual call between two lines, from its call request to its clearing.
-#[derive(Drop, PartialEq)]
+#[derive(PartialEq)]
 pub struct LiveCall {
     /// The call's number, from 1.
     pub number: u64,
@@ -31,6 +31,20 @@ pub struct LiveCall {
     pub requested: u64,
     /// What its answer settled. It is None until the call is accepted.
     pub agreed: Option<Agreement>,
+}
+
+impl Drop for LiveCall {
+    fn drop(self) {
+        let LiveCall {
+            number: _,
+            caller: _,
+            called: _,
+            dialled: _,
+            setup: _,
+            requested: _,
+            agreed: _,
+        } = self;
+    }
 }
 
 /// Which live call a line is in. A key may be used again, for a call of another number.

@@ -21,11 +21,20 @@ use xp_hunt::{LineState, Lines};
 use xp_subs::LineNo;
 
 /// The state of the exchange: its lines and its live calls.
-#[derive(Drop)]
 pub struct Machine<A: Allocator = Global> {
     lines: Vec<LogicalChannel, A>,
     calls: Slab<LiveCall, A>,
     next: u64,
+}
+
+impl<A: Allocator> Drop for Machine<A> {
+    fn drop(self) {
+        let Machine {
+            lines: _,
+            calls: _,
+            next: _,
+        } = self;
+    }
 }
 
 impl<A: Allocator> Model for Machine<A> {

@@ -14,7 +14,6 @@ use xp_relay::{Judged, Moves, Relay, Terms};
 use xp_subs::LineNo;
 
 /// The relay of a connected call, and the meter of what it carries.
-#[derive(Drop)]
 pub struct MeteredRelay<A: Allocator> {
     /// What carries the call's data.
     pub relay: Relay<A>,
@@ -22,10 +21,21 @@ pub struct MeteredRelay<A: Allocator> {
     pub meter: Meter,
 }
 
+impl<A: Allocator> Drop for MeteredRelay<A> {
+    fn drop(self) {
+        let MeteredRelay { relay: _, meter: _ } = self;
+    }
+}
+
 /// A metered relay in memory of its own. So a plan, and the place of a line, hold only a pointer to it.
-#[derive(Drop)]
 pub struct StoredMeteredRelay<A: Allocator> {
     metered: Box<MeteredRelay<A>, A>,
+}
+
+impl<A: Allocator> Drop for StoredMeteredRelay<A> {
+    fn drop(self) {
+        let StoredMeteredRelay { metered: _ } = self;
+    }
 }
 
 impl<A: Allocator> Model for StoredMeteredRelay<A> {
@@ -119,9 +129,14 @@ pub struct RelayUpdate<A: Allocator> {
 
 /// A place for each line. The place of a caller's line holds the relay of its call, once the call is connected. A line
 /// is in one call at a time.
-#[derive(Drop)]
 pub struct Relays<A: Allocator> {
     by_caller: Vec<Option<StoredMeteredRelay<A>>, A>,
+}
+
+impl<A: Allocator> Drop for Relays<A> {
+    fn drop(self) {
+        let Relays { by_caller: _ } = self;
+    }
 }
 
 impl<A: Allocator> Model for Relays<A> {

@@ -5,7 +5,7 @@ use crate::octets::Octets;
 use std::alloc::{AllocError, Allocator, Global};
 
 /// A packet between a DTE and the exchange (X.25 clause 5), without its logical channel identifier.
-#[derive(Clone, Debug, Drop, PartialEq)]
+#[derive(Clone, Debug, PartialEq)]
 pub enum Packet<A: Allocator = Global> {
     /// Call request and incoming call (clause 5.2.2).
     Call {
@@ -77,6 +77,39 @@ pub enum Packet<A: Allocator = Global> {
     },
     /// Reset confirmation (clause 5.4.4).
     ResetConfirm,
+}
+
+impl<A: Allocator> Drop for Packet<A> {
+    fn drop(self) {
+        match self {
+            Packet::Call { d: _, block: _ } => {}
+            Packet::Accepted { d: _, block: _ } => {}
+            Packet::Clear {
+                cause: _,
+                diagnostic: _,
+                block: _,
+            } => {}
+            Packet::ClearConfirm { block: _ } => {}
+            Packet::DataPacket {
+                q: _,
+                d: _,
+                more: _,
+                ps: _,
+                pr: _,
+                octets: _,
+            } => {}
+            Packet::Ready { pr: _ } => {}
+            Packet::NotReady { pr: _ } => {}
+            Packet::Reject { pr: _ } => {}
+            Packet::Interrupt { octets: _ } => {}
+            Packet::InterruptConfirm => {}
+            Packet::Reset {
+                cause: _,
+                diagnostic: _,
+            } => {}
+            Packet::ResetConfirm => {}
+        }
+    }
 }
 
 impl<A: Allocator + Copy> Packet<A> {

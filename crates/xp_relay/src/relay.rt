@@ -22,10 +22,18 @@ mod taking;
 
 /// What a live call carries between its ends. The methods that make or copy a relay allocate the room for the packets
 /// that can wait. The caller passes the other methods the room for their moves.
-#[derive(Drop)]
 pub struct Relay<A: Allocator = Global> {
     from_caller: DirectionState<A>,
     from_called: DirectionState<A>,
+}
+
+impl<A: Allocator> Drop for Relay<A> {
+    fn drop(self) {
+        let Relay {
+            from_caller: _,
+            from_called: _,
+        } = self;
+    }
 }
 
 impl<A: Allocator> Model for Relay<A> {

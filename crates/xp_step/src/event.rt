@@ -12,7 +12,7 @@ use xp_subs::LineNo;
 pub const MOST_STALLS: usize = 3;
 
 /// What happened on one line.
-#[derive(Clone, Debug, Drop, PartialEq)]
+#[derive(Clone, Debug, PartialEq)]
 pub struct Event<A: Allocator = Global> {
     /// The line, one of the subscriptions'.
     pub line: LineNo,
@@ -22,8 +22,18 @@ pub struct Event<A: Allocator = Global> {
     pub what: What<A>,
 }
 
+impl<A: Allocator> Drop for Event<A> {
+    fn drop(self) {
+        let Event {
+            line: _,
+            moment: _,
+            what: _,
+        } = self;
+    }
+}
+
 /// What can happen on a line.
-#[derive(Clone, Debug, Drop, PartialEq)]
+#[derive(Clone, Debug, PartialEq)]
 pub enum What<A: Allocator = Global> {
     /// A connection came.
     Up,
@@ -38,6 +48,22 @@ pub enum What<A: Allocator = Global> {
     /// The line takes its packets too slowly, and is given up: its connection is closed. The exchange under its lock
     /// raises this event, and no line does.
     Stall,
+}
+
+impl<A: Allocator> Drop for What<A> {
+    fn drop(self) {
+        match self {
+            What::Up => {}
+            What::Down => {}
+            What::Frame {
+                identifier: _,
+                packet: _,
+            } => {}
+            What::WrongFrame(_) => {}
+            What::Expire => {}
+            What::Stall => {}
+        }
+    }
 }
 
 impl<A: Allocator + Copy> Event<A> {

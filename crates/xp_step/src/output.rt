@@ -15,12 +15,21 @@ pub enum Put<A: Allocator = Global> {
 }
 
 /// Something that is put out to one connection of a line.
-#[derive(Clone, Drop, PartialEq)]
+#[derive(Clone, PartialEq)]
 pub struct Outgoing<A: Allocator = Global> {
     /// The number of the connection. It is how often the line has come into service: 1 for its first connection.
     pub connection: u64,
     /// What is put out.
     pub put: Put<A>,
+}
+
+impl<A: Allocator> Drop for Outgoing<A> {
+    fn drop(self) {
+        let Outgoing {
+            connection: _,
+            put: _,
+        } = self;
+    }
 }
 
 /// Something that is put out to a line.

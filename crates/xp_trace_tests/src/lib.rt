@@ -1,8 +1,6 @@
-//! Tests of the trace of what lines receive and send.
+//! Tests of the trace of what lines receive and send: octets that are left out, and writers that fail.
 #![tactic(auto)]
 
-#[cfg(test)]
-mod names;
 #[cfg(test)]
 mod paper;
 #[cfg(test)]

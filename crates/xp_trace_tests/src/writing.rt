@@ -1,14 +1,13 @@
 //! Capture files of traced lines, on writers that fail.
 
 use crate::paper::Paper;
-use std::alloc::Global;
+use crate::taps::{new_trace, next_tap};
 use std::sync::Arc;
 use std::test::Fail;
-use xp_door::{LineShare, Notices, Trace};
+use xp_door::{Tap, Trace};
 use xp_serve::TraceWriter;
-use xp_trace::TracedLines;
 
-/// The call request, and the incoming call, of the frames of `xp_words_tests`, as they stand in a file at the second 1,795,694,400.
+/// An incoming call and a call connected packet, as frames; below is how they stand in a file at the second 1,795,694,400.
 const RECEIVED: &[u8] =
     b"\x00\x00\x00\x16\x10\x01\x0b\x77\x20\x80\x02\x02\x08\x00\x10\x06\x42\x07\x07\x43\x02\x02\x01\x00\x00\x00";
 
@@ -22,26 +21,8 @@ static FILE: [&[u8]; 3] = [
     b"\x6b\x08\x1f\x40\x00\x00\x00\x00\x00\x00\x00\x37\x00\x00\x00\x37\x45\x00\x00\x37\x00\x00\x40\x00\x40\x06\x26\xc0\x0a\x00\x00\x01\x0a\x01\x00\x00\x07\xce\xc0\x00\x00\x00\x00\x01\x00\x00\x00\x1b\x50\x18\xff\xff\x62\x7a\x00\x00\x00\x00\x00\x0b\x10\x01\x0f\x00\x06\x42\x07\x07\x43\x02\x02",
 ];
 
-/// What came of a file.
-#[derive(Drop)]
-struct Written {
-    octets: Vec<u8>,
-    /// How many of its calls failed.
-    failures: usize,
-    is_stopped: bool,
-}
-
-/// Writes a file, on a writer that takes so many writes.
-fn write_file(alloc: Global, writes: u64) -> Result<Written, Fail> {
-    let trace = Arc::new(alloc, Trace::new(alloc, TracedLines::All, 1)?)?;
-    let notices = Notices::with_trace(alloc, Some(Arc::try_clone(&trace)?))?;
-    let share = LineShare::new(
-        0,
-        &Arc::new(alloc, Vec::new(alloc))?,
-        &Arc::new(alloc, notices)?,
-    )?;
-    let mut tap = share.tap().ok_or("no tap")?;
-    let mut writer = TraceWriter::new(alloc, Arc::try_clone(&trace)?, Paper::new(alloc, writes))?;
+/// Writes a file of two pieces on this writer. How many of its calls failed.
+fn write_pieces(trace: &Trace, tap: &mut Tap, writer: &mut TraceWriter<Paper>) -> usize {
     let mut failures = usize::from(writer.begin().is_err());
     tap.receive(RECEIVED);
     tap.send(SENT);
@@ -49,36 +30,22 @@ fn write_file(alloc: Global, writes: u64) -> Result<Written, Fail> {
     for _look in 0..2 {
         failures = failures.wrapping_add(usize::from(writer.write_waiting(MOMENT).is_err()));
     }
-    Ok(Written {
-        octets: writer.into_output().text,
-        failures,
-        is_stopped: trace.is_stopped(),
-    })
+    failures.wrapping_add(usize::from(trace.is_stopped()))
 }
 
-#[test]
-fn file_of_two_pieces(rt: HostRuntime) -> Result<(), Fail> {
-    let written = write_file(rt.alloc(), 1_000)?;
-    let mut whole = Vec::new(rt.alloc());
-    for part in &FILE {
-        whole.extend_from_slice(part)?;
-    }
-    assert_eq!(rt; written.octets.as_slice(), whole.as_slice());
-    assert_eq!(rt; (written.failures, written.is_stopped), (0, false));
-    Ok(())
-}
-
-/// A file on a writer that fails at a write has all that was written before, and the failure is told once.
+/// A file on a writer that fails at a write has all that was written before; the failure is told once, and nothing is traced any more.
 #[test]
 fn writers_that_fail(rt: HostRuntime) -> Result<(), Fail> {
-    for writes in 1..3_u64 {
-        let written = write_file(rt.alloc(), writes)?;
-        let mut front = Vec::new(rt.alloc());
-        for part in &FILE[..writes as usize] {
-            front.extend_from_slice(part)?;
-        }
-        assert_eq!(rt; written.octets.as_slice(), front.as_slice());
-        assert_eq!(rt; (written.failures, written.is_stopped), (1, true));
+    let mut front = Vec::new(rt.alloc());
+    for (writes, part) in FILE.iter().enumerate() {
+        front.extend_from_slice(part)?;
+        let trace = new_trace(rt.alloc())?;
+        let mut tap = next_tap(rt.alloc(), &trace)?.ok_or("no tap")?;
+        let paper = Paper::new(rt.alloc(), writes as u64 + 1);
+        let mut writer = TraceWriter::new(rt.alloc(), Arc::try_clone(&trace)?, paper)?;
+        let failures = write_pieces(&trace, &mut tap, &mut writer);
+        assert_eq!(rt; failures, if writes < 2 { 2 } else { 0 });
+        assert_eq!(rt; writer.into_output().text.as_slice(), front.as_slice());
     }
     Ok(())
 }

@@ -50,6 +50,7 @@ pub fn answer<A: Allocator + Copy>(
         return Ok(Plan::none(alloc));
     };
     let address = found.subs.address_of(found.line);
+    let outputs = workspace.buffer(alloc, 1)?;
     match examine(
         alloc,
         &call.setup,
@@ -59,7 +60,6 @@ pub fn answer<A: Allocator + Copy>(
         answer.block,
     )? {
         Answer::Connected(connection) => {
-            let outputs = workspace.buffer(alloc, 1)?;
             let agreement = agreement_of(found.moment, &connection);
             let meter = Meter::new(found.subs.segment_limit());
             let metered = workspace

@@ -154,13 +154,14 @@ pub fn confirm<A: Allocator + Copy>(
     requires { IsShort found.now.charged }
     ensures { (before : List (Entered A)) → IsEventLine found.now before → IfOk result (PlansClear (event_line_context found.now before) (clear_of clear.now)) }
 {
-    let own = found.confirm_own(alloc);
-    let far = carry_on(alloc, found, clear)?;
-    let outputs = workspace.buffer(alloc, 2)?.with(own).with_some(far);
+    let outputs = workspace.buffer(alloc, 2)?;
     let cause = indicated_cause(clear.cause);
     let diagnostic = indicated_diagnostic(clear.diagnostic);
     let withdrawal = found.withdraw(NoCallState::IsFree, cause, diagnostic);
     let records = Records::of(alloc, withdrawal.charged)?;
+    let far = carry_on(alloc, found, clear)?;
+    let own = found.confirm_own(alloc);
+    let outputs = outputs.with(own).with_some(far);
     Ok(Plan::of(outputs, records).changing(withdrawal.change))
 }
 

@@ -55,8 +55,8 @@ pub fn carry<A: Allocator + Copy>(
     let Ok(meter) = metered.count(here, packet) else {
         return exceed(alloc, found);
     };
-    let mut metered = workspace.relays.copy_of(alloc, metered)?;
     let room = workspace.relays.moves(alloc, MOST_MOVES)?;
+    let mut metered = workspace.relays.copy_of(alloc, metered)?;
     let mut moves = metered.take(here, packet, room)?;
     let outputs = send_all(alloc, found.machine, call, &mut moves, workspace)?;
     workspace.relays.keep_moves(moves);

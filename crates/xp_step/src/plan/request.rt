@@ -120,11 +120,11 @@ pub fn request<A: Allocator + Copy>(
             Ok(refused(found, request, why, cancelled, outputs, records))
         }
         Verdict::Take(ring) => {
+            let records = Records::with_room(alloc, count(&cancelled.charged))?;
             let (called, calling) = (subs.address_of(ring.line), subs.address_of(caller));
-            let packet = incoming_call(alloc, &ring, called, calling, request.d, request.block)?;
             let setup = Setup::of(&ring);
             let line = ring.line;
-            let records = Records::with_room(alloc, count(&cancelled.charged))?;
+            let packet = incoming_call(alloc, &ring, called, calling, request.d, request.block)?;
             Ok(put(
                 found, request, line, setup, packet, cancelled, outputs, records,
             ))
