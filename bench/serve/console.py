@@ -14,6 +14,7 @@ import tempfile
 
 import metrics_format
 import server
+from console_forms import wanted_metrics, wanted_table
 from routers import ACCEPTED, CALL, PATIENCE, Wrong
 from server import call_request
 from served import OUT_OF_ORDER, Served, data, require, run_checks, station, until
@@ -65,7 +66,6 @@ REFUSALS = (
     (25, "reverse charging acceptance not subscribed"), (41, "fast select acceptance not subscribed"),
 )
 READY = bytes.fromhex("100121")
-STATES = ("out of service", "ready", "DTE waiting", "DCE waiting", "data transfer", "DCE clear indication")
 
 # Events of the lines in the state that is looked at: see bring_to_a_known_state.
 EVENTS = 19
@@ -217,11 +217,6 @@ def clear(caller, called):
     called.clear()
 
 
-def age(seconds):
-    days, hours, minutes, seconds = seconds // 86_400, seconds // 3600 % 24, seconds // 60 % 60, seconds % 60
-    return (f"{days}d " if days else "") + f"{hours}:{minutes:02}:{seconds:02}"
-
-
 def wanted_status(came, a1, h1):
     """What `/status.json` has to show in the known state, with the moments that came: these are looked at on their own."""
     parties = {name: {"address": number, "line": name} for name, number in (("a1", "200001"), ("h1", "200003"))}
@@ -269,82 +264,20 @@ def check_moments(came):
     require(ended["seconds"] == ended["ended"] - ended["connected"], f"the ended call is {ended}")
 
 
-METRICS = (
-    ("lines", "gauge", "Lines, by the state of their channel."),
-    ("calls_live", "gauge", "Calls that have not ended."),
-    ("calls_total", "counter", "Call requests, with those that were refused."),
-    ("refused_total", "counter", "Call requests that were refused, by the clearing cause."),
-    ("segments_total", "counter", "Segments of ended calls, by the end that sent them."),
-    ("link_octets_total", "counter", "Octets of the connections of lines."),
-    ("events_total", "counter", "Events of lines."),
-    ("stalls_total", "counter", "Lines taken out of service for not taking their output."),
-    ("records_waiting", "gauge", "Records of ended calls that are not written yet."),
-)
+def at(status, moment):
+    """The status of a quiet exchange at another moment."""
+    calls = [live | {"seconds": moment - live["connected"]} for live in status["calls"]]
+    return status | {"moment": moment, "calls": calls}
 
 
-def wanted_metrics(status):
-    """The metrics of a status."""
-    totals, states = status["totals"], [line["state"] for line in status["lines"]]
-    values = {
-        "lines": [('{state="%s"}' % state, states.count(state)) for state in STATES],
-        "calls_live": [("", len(status["calls"]))],
-        "calls_total": [("", totals["calls"])],
-        "refused_total": [('{cause="%s"}' % refused["words"], refused["count"]) for refused in totals["refused"]],
-        "segments_total": [
-            ('{direction="from_caller"}', totals["segments_from_callers"]), ('{direction="from_called"}', totals["segments_from_called"])
-        ],
-        "link_octets_total": [('{direction="received"}', totals["octets_received"]), ('{direction="sent"}', totals["octets_sent"])],
-        "events_total": [("", totals["events"])],
-        "stalls_total": [("", totals["stalls"])],
-        "records_waiting": [("", totals["records_waiting"])],
-    }
-    return "".join(
-        f"# HELP gonukire_{name} {words}\n# TYPE gonukire_{name} {kind}\n"
-        + "".join(f"gonukire_{name}{label} {value}\n" for label, value in values[name])
-        for name, kind, words in METRICS
-    )
-
-
-def wanted_table(status):
-    """The tables of a status, for a terminal."""
-    moment, totals = status["moment"], status["totals"]
-    rows = [f"serving for {age(moment - status['started'])}", "", "line             state                       for     call peer"]
-    for line in status["lines"]:
-        number = "-" if line["call"] is None else line["call"]
-        rows.append(f"{line['name']:<16} {line['state']:<20} {age(moment - line['since']):>10} {number:>8} {line['peer'] or '-'}")
-    rows += ["", "   call caller           called                  for  from caller  from called"]
-    for live in status["calls"]:
-        since = "ringing" if live["connected"] is None else age(live["seconds"])
-        rows.append(f"{live['number']:>7} {live['caller']['line']:<16} {live['called']['line']:<16} {since:>10} " + segments(live))
-    rows += ["", "  ended caller           called                  for  from caller  from called cause"]
-    for ended in reversed(status["recent"]):
-        called = ended["called"]["line"] if ended["called"] else "-"
-        cleared = ended["cleared"]
-        rows.append(
-            f"{ended['number']:>7} {ended['caller']['line']:<16} {called:<16} {age(ended['seconds']):>10} {segments(ended)}"
-            f" {cleared['cause']:02x} {cleared['diagnostic']}"
-        )
-    rows += [
-        "",
-        f"calls {totals['calls']}, refused {sum(refused['count'] for refused in totals['refused'])}, events {totals['events']},"
-        f" stalls {totals['stalls']}, records waiting {totals['records_waiting']}",
-        f"segments from callers {totals['segments_from_callers']}, from called {totals['segments_from_called']}",
-        f"octets received {totals['octets_received']}, sent {totals['octets_sent']}",
-    ]
-    return "\n".join(rows) + "\n"
-
-
-def segments(of_call):
-    return f"{of_call['segments']['from_caller']:>12} {of_call['segments']['from_called']:>12}"
-
-
-def of_one_moment(exchange, take):
-    """What `take` gets, with the status of the same second."""
-    for _ in range(20):
-        before, taken, after = shown(exchange, b"/status.json"), take(), shown(exchange, b"/status.json")
-        if before == after:
-            return json.loads(before), taken
-    raise Wrong("the status of no second was the same twice")
+def check_form(exchange, take, form):
+    """What `take` gets has to be this form of the status at one of the moments at which it may have been taken."""
+    before, taken, after = shown(exchange, b"/status.json"), take(), shown(exchange, b"/status.json")
+    before, after = json.loads(before), json.loads(after)
+    require(at(before, after["moment"]) == after, f"the status has changed from {before} to {after}")
+    wanted = [form(at(before, moment)) for moment in range(before["moment"], after["moment"] + 1)]
+    require(taken in wanted, f"it shows\n{taken}\nin place of\n{wanted[0]}")
+    return taken
 
 
 def status(program, folder):
@@ -360,14 +293,11 @@ def status(program, folder):
         check_moments(came)
         octets = came["totals"]["octets_received"], came["totals"]["octets_sent"]
         require(octets == octets_of_the_known_state(), f"the octets are {octets} in place of {octets_of_the_known_state()}")
-        came, metrics = of_one_moment(exchange, lambda: shown(exchange, b"/metrics"))
-        require(metrics == wanted_metrics(came), f"the metrics are\n{metrics}in place of\n{wanted_metrics(came)}")
+        metrics = check_form(exchange, lambda: shown(exchange, b"/metrics"), wanted_metrics)
         faults = metrics_format.Metrics().read(metrics)
         require(not faults, f"the metrics have faults: {faults}")
-        came, table = of_one_moment(exchange, lambda: shown(exchange, b"/status.txt"))
-        require(table == wanted_table(came), f"the tables are\n{table}in place of\n{wanted_table(came)}")
-        came, run = of_one_moment(exchange, lambda: exchange.asked("status"))
-        require(run == (0, wanted_table(came), ""), f"`xp status` ends with {run}")
+        check_form(exchange, lambda: shown(exchange, b"/status.txt"), wanted_table)
+        check_form(exchange, lambda: exchange.asked("status"), lambda status: (0, wanted_table(status), ""))
 
 
 def octets_of_the_known_state():

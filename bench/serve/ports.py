@@ -15,7 +15,7 @@ import tempfile
 
 import server
 from routers import PATIENCE, XotCall
-from server import CLEAR_CONFIRMATION, CLEAR_REQUEST, call_request, frame
+from server import CLEAR_CONFIRMATION, CLEAR_REQUEST, call_request
 from served import ACCEPTED, OUT_OF_ORDER, Served, refused, require, run_checks, station
 
 # What b1 gets as a1 calls it, and a1 as b1 accepts (X.25 clauses 5.2.1 and 5.2.2): addresses, packet sizes of 128, windows of 2, user data.

@@ -15,7 +15,7 @@ import time
 
 import server
 from endings import HEADER
-from routers import ACCEPTED, CALL, XotCall
+from routers import ACCEPTED, CALL
 from server import call_request
 from served import Served, data, refused, require, run_checks, station, until
 

@@ -117,7 +117,8 @@ def refused(program, folder, text, *words):
     """Has `xp serve` refuse to serve. Returns its status, what it printed and what it told."""
     file = pathlib.Path(folder) / "refused.toml"
     file.write_text(text)
-    run = subprocess.run([str(program), "serve", str(file), *map(str, words)], stdin=subprocess.DEVNULL, capture_output=True, text=True, timeout=PATIENCE)
+    command = [str(program), "serve", str(file), *map(str, words)]
+    run = subprocess.run(command, stdin=subprocess.DEVNULL, capture_output=True, text=True, timeout=PATIENCE)
     return run.returncode, run.stdout, run.stderr
 
 

@@ -178,7 +178,12 @@ def lines_of_their_own(program, folder):
 
 
 # Words that name lines, and the lines that are traced then.
-NAMED = ((("--trace-lines", "h3,b1"), "b1 h3"), (("--trace-lines", "a1,a1"), "a1"), (("--trace-lines", "a1,b1,h1,h2,h3"), "a1 b1 h1 h2 h3"), ((), "a1 b1 h1 h2 h3"))
+NAMED = (
+    (("--trace-lines", "h3,b1"), "b1 h3"),
+    (("--trace-lines", "a1,a1"), "a1"),
+    (("--trace-lines", "a1,b1,h1,h2,h3"), "a1 b1 h1 h2 h3"),
+    ((), "a1 b1 h1 h2 h3"),
+)
 
 # Names that no line has, and how they are told.
 UNNAMED = (("", ""), ("a1,", ""), ("a1,c9,d9", "c9"), ("a1 ,b1", "a1 "), ("A1", "A1"))
