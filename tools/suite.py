@@ -61,11 +61,8 @@ SCRIPTS = [
 # Seconds that a script may take, and a build or a part of the rows, on a machine that does other things too.
 MOST_OF_SCRIPT, MOST_OF_BUILD = 600, 1200
 
-# The files of bench/ that are no tests: what several scripts have in common, and measurements.
-NO_TESTS = {
-    "instructions.py", "model.py", "packets.py", "program.py", "words_tshark.py",
-    "serve/allocations.py", "serve/calls.py", "serve/router_load.py", "serve/run.py", "serve/served.py", "serve/server.py",
-}
+# The scripts of bench/ that are no tests: measurements, and what is read beside another program.
+NO_TESTS = {"instructions.py", "model.py", "words_tshark.py", "serve/allocations.py", "serve/router_load.py", "serve/run.py"}
 
 
 def launcher(is_proved):
@@ -87,8 +84,9 @@ def script_jobs(is_proved):
 
 
 def unlisted_scripts():
-    """The files of bench/ that stand in neither table."""
-    found = {str(it.relative_to(TOP / "bench")) for it in (TOP / "bench").rglob("*.py")}
+    """The scripts of bench/ that stand in neither table. What several scripts have in common is no script."""
+    files = [it for it in (TOP / "bench").rglob("*.py") if "__main__" in it.read_text(encoding="utf-8")]
+    found = {str(it.relative_to(TOP / "bench")) for it in files}
     return sorted(found - {it.name for it in SCRIPTS} - NO_TESTS)
 
 
