@@ -13,14 +13,16 @@ use xp_testing::THREE_STATIONS;
 use xp_transcript::{Form, tell};
 use xp_words::Direction;
 
-/// Tells a script over three stations, and returns how that ends.
+const STATION: &str = "[[station]]\naddress = '2080010'\nline = [{ name = 'a1', port = 19981 }]\n";
+
+/// Tells a script over one station, and returns how that ends.
 fn ending<R: Read + Drop, W: Write>(
     alloc: Global,
     form: Form,
     script: R,
     writer: &mut W,
 ) -> Result<Result<(), ReplayFault>, Fail> {
-    let subs = Subs::read(alloc, THREE_STATIONS)?;
+    let subs = Subs::read(alloc, STATION)?;
     Ok(tell(alloc, form, subs, script, writer))
 }
 
