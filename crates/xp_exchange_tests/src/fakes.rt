@@ -1,7 +1,11 @@
-//! A script, a reader and a writer that fail once.
+//! Stations, a script, a reader and a writer that fail once.
 
 use std::io;
 use std::io::{ErrorKind, Read, Write};
+
+/// The stations of a1 and b1.
+pub const STATIONS: &str = "[[station]]\naddress = '2080010'\nline = [{ name = 'a1', port = 1 }]
+[[station]]\naddress = '2080020'\nline = [{ name = 'b1', port = 2 }]\n";
 
 /// a1 calls b1, which accepts; a1 clears the call, and b1 confirms it.
 pub const SCRIPT: &[u8] = b"\

@@ -3,7 +3,7 @@
 ghost use Rattle.xp_step.specs.Exchange.{world_of};
 ghost use Rattle.xp_step.specs.Run.{Run};
 
-use crate::fakes::{Refusal, SCRIPT, Sheet, Source};
+use crate::fakes::{Refusal, SCRIPT, STATIONS, Sheet, Source};
 use std::alloc::{Allocator, Global};
 use std::io::{ErrorKind, Read, Write};
 use std::process::Abort;
@@ -11,7 +11,6 @@ use std::test::Fail;
 use xp_core::Core;
 use xp_exchange::{ReplayFault, Replayed, replay_on};
 use xp_subs::Subs;
-use xp_testing::THREE_STATIONS;
 
 /// How many lines and so entries the script is.
 const LINES: u64 = 6;
@@ -39,7 +38,7 @@ fn replayed<R: Read, W: Write>(
     reader: &mut R,
     writer: &mut W,
 ) -> Result<Replayed, Fail> {
-    let core = Core::new(alloc, Subs::read(alloc, THREE_STATIONS)?)?;
+    let core = Core::new(alloc, Subs::read(alloc, STATIONS)?)?;
     Ok(replay_on(alloc, core, reader, writer))
 }
 

@@ -1,7 +1,7 @@
 //! `xp_transcript`, `xp_ladder` and `xp_script_places`: readers and writers that fail while a script is told, scripts that come in
 //! pieces, and what no packet has in a ladder diagram.
 
-use crate::fakes::{Refusal, SCRIPT, Sheet, Source};
+use crate::fakes::{Refusal, SCRIPT, STATIONS, Sheet, Source};
 use std::alloc::{AllocError, Global};
 use std::io::{ErrorKind, Read, Write};
 use std::test::Fail;
@@ -9,18 +9,17 @@ use xp_exchange::{ReplayFault, replay};
 use xp_ladder::{Rung, Side};
 use xp_script_places::{KeptLines, wanted_at};
 use xp_subs::Subs;
-use xp_testing::THREE_STATIONS;
 use xp_transcript::{Form, tell};
 use xp_words::Direction;
 
-/// Tells a script over three stations, and returns how that ends.
+/// Tells a script over the stations, and returns how that ends.
 fn ending<R: Read + Drop, W: Write>(
     alloc: Global,
     form: Form,
     script: R,
     writer: &mut W,
 ) -> Result<Result<(), ReplayFault>, Fail> {
-    let subs = Subs::read(alloc, THREE_STATIONS)?;
+    let subs = Subs::read(alloc, STATIONS)?;
     Ok(tell(alloc, form, subs, script, writer))
 }
 
@@ -87,8 +86,8 @@ fn wanted_in(
     script: &[u8],
     most: usize,
 ) -> Result<(Result<(), ReplayFault>, String), Fail> {
-    let subs = Subs::read(alloc, THREE_STATIONS)?;
-    let names = Subs::read(alloc, THREE_STATIONS)?;
+    let subs = Subs::read(alloc, STATIONS)?;
+    let names = Subs::read(alloc, STATIONS)?;
     let source = Source {
         rest: script,
         most,
