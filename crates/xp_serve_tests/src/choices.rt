@@ -13,18 +13,11 @@ fn mapped(number: u8) -> IpAddr {
     IpAddr::V6(Ipv4Addr::new(10, 0, 0, number).to_ipv6_mapped())
 }
 
-/// The routers of four lines, and whether these are free.
-fn candidates() -> [Candidate; 4] {
-    let candidate = |number: u8, is_free: bool| Candidate {
+fn candidate(number: u8, is_free: bool) -> Candidate {
+    Candidate {
         router: host(number),
         is_free,
-    };
-    [
-        candidate(1, false),
-        candidate(2, true),
-        candidate(1, true),
-        candidate(4, false),
-    ]
+    }
 }
 
 /// Routers, the line that their connection is given to, and whether they are routers at all.
@@ -37,7 +30,12 @@ const GIVEN: [(u8, Option<usize>, bool); 4] = [
 
 #[test]
 fn first_free_line_of_the_router(rt: HostRuntime) {
-    let lines = candidates();
+    let lines = [
+        candidate(1, false),
+        candidate(2, true),
+        candidate(1, true),
+        candidate(4, false),
+    ];
     for (number, line, is_known) in GIVEN {
         assert_eq!(rt; line_for(host(number), &lines), line);
         assert_eq!(rt; line_for(mapped(number), &lines), line);

@@ -72,7 +72,12 @@ fn answered<R: AllocGlobal + RandomSource>(rt: &R, request: &[u8]) -> io::Result
         own: IpAddr::V4(Ipv4Addr::LOCALHOST),
         source: PaperSource,
     };
-    serve(&mut connection, &mut service, &mut &request[..], &mut output)?;
+    serve(
+        &mut connection,
+        &mut service,
+        &mut &request[..],
+        &mut output,
+    )?;
     Ok(output)
 }
 

@@ -1,5 +1,5 @@
-//! Tests of what no run of the program shows: addresses of other machines, notices for which there is no room, records that are printed on a
-//! writer that fails, a link without a call, the age of days.
+//! Tests of what no run of the program shows: addresses of other machines, notices for which there is no room, records and traces on
+//! writers that fail, a link without a call, the age of days.
 #![tactic(auto)]
 
 #[cfg(test)]
@@ -16,3 +16,5 @@ mod notices;
 mod paper;
 #[cfg(test)]
 mod printing;
+#[cfg(test)]
+mod tracing;

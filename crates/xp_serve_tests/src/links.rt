@@ -18,12 +18,12 @@ fn clear_without_a_call(rt: HostRuntime) -> Result<(), Fail> {
     let mut sockets = Sockets::new(rt.alloc(), 1, NonZeroUsize::MIN, notices)?;
     sockets.add_router(&rt, router)?;
     let mut ends = sockets.into_ends(rt.alloc())?;
-    let Some((mut port, _)) = ends.lines.pop() else {
-        return Err("no line".into());
-    };
-    let Arrived::Came(mut link) = port.next() else {
+    let (port, _clock) = ends.lines.pop().ok_or("no line")?;
+    let mut port = port;
+    let Arrived::Came(link) = port.next() else {
         return Err("no link".into());
     };
+    let mut link = link;
     assert_eq!(rt; link.push(CLEAR), Pushed::Fault);
     Ok(())
 }

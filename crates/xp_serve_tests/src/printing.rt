@@ -8,7 +8,7 @@ use crate::paper::Paper;
 use std::alloc::Global;
 use std::test::Fail;
 use xp_charge::Record;
-use xp_packets::Digits;
+use xp_packets::{Digits, End};
 use xp_serve::{KeepFault, RecordPrinter};
 use xp_subs::Subs;
 use xp_testing::THREE_STATIONS;
@@ -35,7 +35,14 @@ fn call(subs: &Subs, number: u64) -> Option<Record>
         caller,
         called: Some(called),
         dialled: Digits::from_text("2080020")?,
-        ..Record::default()
+        payer: End::Caller,
+        from_caller: 0,
+        from_called: 0,
+        cause: 0,
+        diagnostic: 0,
+        requested: 0,
+        connected: None,
+        ended: 0,
     })
 }
 

@@ -1,11 +1,7 @@
-//! Tests of the trace of what lines receive and send: octets that are left out, and writers that fail.
+//! Tests of the trace of what lines receive and send: octets that are left out, and a queue that is full.
 #![tactic(auto)]
 
-#[cfg(test)]
-mod paper;
 #[cfg(test)]
 mod streams;
 #[cfg(test)]
 mod taps;
-#[cfg(test)]
-mod writing;

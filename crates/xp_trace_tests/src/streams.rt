@@ -7,15 +7,40 @@ use xp_trace::TracedStream;
 /// Octets that pass, those of them that are handed on, with which sequence number, and whether these are left out. Of what follows
 /// octets that were left out, that from the next frame on is handed on.
 static STEPS: [(&[u8], &[u8], u32, bool); 7] = [
-    (b"\x00\x00\x00\x04\x10\x01\x00a", b"\x00\x00\x00\x04\x10\x01\x00a", 1, false),
+    (
+        b"\x00\x00\x00\x04\x10\x01\x00a",
+        b"\x00\x00\x00\x04\x10\x01\x00a",
+        1,
+        false,
+    ),
     // A frame and a front of another are left out: what follows that is of the other is, too.
-    (b"\x00\x00\x00\x03\x10\x01\x01\x00\x00", b"\x00\x00\x00\x03\x10\x01\x01\x00\x00", 9, true),
+    (
+        b"\x00\x00\x00\x03\x10\x01\x01\x00\x00",
+        b"\x00\x00\x00\x03\x10\x01\x01\x00\x00",
+        9,
+        true,
+    ),
     (b"\x00\x04\x10", b"", 21, true),
-    (b"\x01\x00a\x00\x00\x00\x03\x10", b"\x00\x00\x00\x03\x10", 24, false),
+    (
+        b"\x01\x00a\x00\x00\x00\x03\x10",
+        b"\x00\x00\x00\x03\x10",
+        24,
+        false,
+    ),
     (b"\x01\x01", b"\x01\x01", 29, true),
     // It was left out to the end of its frame.
-    (b"\x00\x00\x00\x03\x10\x01\x01", b"\x00\x00\x00\x03\x10\x01\x01", 31, true),
-    (b"\x00\x00\x00\x04\x10\x01\x00a", b"\x00\x00\x00\x04\x10\x01\x00a", 38, false),
+    (
+        b"\x00\x00\x00\x03\x10\x01\x01",
+        b"\x00\x00\x00\x03\x10\x01\x01",
+        31,
+        true,
+    ),
+    (
+        b"\x00\x00\x00\x04\x10\x01\x00a",
+        b"\x00\x00\x00\x04\x10\x01\x00a",
+        38,
+        false,
+    ),
 ];
 
 #[test]

@@ -13,13 +13,13 @@ const FRAME: &[u8] = b"\x00\x00\x00\x03\x10\x01\x0f";
 const ROOM: usize = 16_777_216;
 
 /// The trace of one line.
-pub fn new_trace(alloc: Global) -> Result<Arc<Trace>, Fail> {
+fn new_trace(alloc: Global) -> Result<Arc<Trace>, Fail> {
     let trace = Trace::new(alloc, TracedLines::All, 1)?;
     Ok(Arc::new(alloc, trace)?)
 }
 
 /// The tap of the line's next connection.
-pub fn next_tap(alloc: Global, trace: &Arc<Trace>) -> Result<Option<Tap>, Fail> {
+fn next_tap(alloc: Global, trace: &Arc<Trace>) -> Result<Option<Tap>, Fail> {
     let notices = Notices::with_trace(alloc, Some(Arc::try_clone(trace)?))?;
     let notices = Arc::new(alloc, notices)?;
     let share = LineShare::new(0, &Arc::new(alloc, Vec::new(alloc))?, &notices)?;
