@@ -29,6 +29,8 @@ class Job:
     environment: dict = dataclasses.field(default_factory=dict)
     # The names of the jobs that have to have passed before.
     after: tuple = ()
+    # Whether what else runs can make it fail. Then it is tried once more, alone.
+    is_timed: bool = False
 
 
 class Running:
@@ -77,12 +79,13 @@ class Board:
 
     def __init__(self, jobs, at_once):
         self.left = sorted(jobs, key=lambda it: -it.usual)
-        self.at_once, self.running, self.passed, self.failed = at_once, [], set(), set()
+        self.at_once, self.running, self.passed, self.failed, self.again = at_once, [], set(), set(), []
 
     def run(self):
         """Runs all jobs, and returns how many passed and how many failed."""
         try:
-            while self.left or self.running:
+            while self.left or self.running or self.again:
+                self.take_again()
                 self.drop_what_cannot_run()
                 self.start_what_can_run()
                 for it in [it for it in self.running if it.has_ended()]:
@@ -93,6 +96,11 @@ class Board:
             for it in self.running:
                 it.end()
         return len(self.passed), len(self.failed)
+
+    def take_again(self):
+        """Takes one job that is to be tried alone, where nothing else runs."""
+        if self.again and not self.left and not self.running:
+            self.left.append(self.again.pop())
 
     def drop_what_cannot_run(self):
         for job in [it for it in self.left if self.failed.intersection(it.after)]:
@@ -109,8 +117,13 @@ class Board:
                 self.running.append(Running(job))
 
     def tell(self, job, seconds, fault, said):
-        (self.failed if fault else self.passed).add(job.name)
-        print(f"{'FAIL' if fault else 'ok  '} {job.name} ({seconds:.0f} s){': ' + fault if fault else ''}", flush=True)
+        is_tried_again = fault and job.is_timed
+        if is_tried_again:
+            self.again.append(dataclasses.replace(job, is_timed=False))
+        else:
+            (self.failed if fault else self.passed).add(job.name)
+        word = "AGAIN" if is_tried_again else "FAIL" if fault else "ok  "
+        print(f"{word} {job.name} ({seconds:.0f} s){': ' + fault if fault else ''}", flush=True)
         for line in said if fault else ():
             print(f"       {line}", flush=True)
 

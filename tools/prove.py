@@ -23,8 +23,9 @@ PROGRAM = f"{TOP}/crates/xp"
 # What the program is run on once it is built.
 EXAMPLE = f"{TOP}/examples/three-stations.toml"
 
-# Bytes. A crate for which rt plans 4.8 GB was measured at 1.6, so four proofs at once fit into 8 GB.
-MEMORY_OF_A_PROOF = 1600 * 1024**2
+# Bytes, the most that the proof of a crate was seen to take: xp_console 3.9 GB, xp_lock 3.3, xp_lines 2.8, most others below 2.
+# So four proofs at once fit into 16 GB. rt plans two to three times as much.
+MEMORY_OF_A_PROOF = 4_000_000_000
 # Lines from which a crate is proved sooner by several jobs. A crate of 800 lines took longer by four jobs than by one.
 LARGE = 1000
 # Seconds after which a line says what is still running.

@@ -79,7 +79,9 @@ def script_jobs(is_proved):
         words = it.proved_words if is_proved and it.proved_words is not None else it.words
         command = [sys.executable, TOP / "bench" / it.name, *(word.replace("{launcher}", launcher(is_proved)) for word in words.split())]
         if is_proved or not it.proved_only:
-            jobs.append(Job(it.name, it.looks_at, command, it.usual, MOST_OF_SCRIPT, str(TOP), environment, after))
+            # Times over sockets depend on what else the machine does.
+            is_timed = it.name.startswith("serve/")
+            jobs.append(Job(it.name, it.looks_at, command, it.usual, MOST_OF_SCRIPT, str(TOP), environment, after, is_timed))
     return jobs
 
 
