@@ -5,6 +5,7 @@ ghost use Rattle.xp_charge.specs.Lines.{HasLines};
 ghost use Rattle.xp_subs.specs.Tables.{line_count};
 
 use crate::calls::{DETAILS, STARTED, call};
+use std::alloc::Global;
 use std::test::Fail;
 use xp_cdr::write_detail;
 use xp_charge::Record;
@@ -25,15 +26,26 @@ static MOMENTS: [(u64, &str); 9] = [
     (18_446_744_073_709_551_615, "18446744073709551615,"),
 ];
 
+/// Whether the call detail records of exchanges that begin at these moments begin with their texts.
+fn begin_with_moments(alloc: Global, subs: &Subs) -> Result<bool, Fail> {
+    let ended = call(subs, 1).ok_or("no call")?;
+    let mut text = Vec::new(alloc);
+    for (moment, wanted) in &MOMENTS {
+        text.clear();
+        write_detail(alloc, subs, *moment, &ended, &mut text)?;
+        if !text.as_slice().starts_with(wanted.as_bytes()) {
+            return Ok(false);
+        }
+    }
+    Ok(true)
+}
+
 #[test]
 fn moments(rt: HostRuntime) -> Result<(), Fail> {
     let subs = Subs::read(rt.alloc(), THREE_STATIONS)?;
-    let ended = call(&subs, 1).ok_or("no call")?;
-    for (moment, wanted) in &MOMENTS {
-        let mut text = Vec::new(rt.alloc());
-        write_detail(rt.alloc(), &subs, *moment, &ended, &mut text)?;
-        assert!(rt; text.as_slice().starts_with(wanted.as_bytes()));
-    }
+    let are_so = begin_with_moments(rt.alloc(), &subs);
+    drop(subs);
+    assert!(rt; are_so?);
     Ok(())
 }
 
@@ -56,27 +68,46 @@ fn greatest(subs: &Subs) -> Option<Record>
 const GREATEST: &str =
     "2026-11-26T12:00:00Z,18446744073709551615,a1,2080010,b1,2080020,2080020,called,99999999,99999999,2026-11-26T23:59:59Z,2026-11-27T00:00:00Z,2026-11-26T23:59:58Z,0,ff,255\n";
 
+/// The call detail record of that call.
+fn greatest_detail(alloc: Global, subs: &Subs) -> Result<Vec<u8>, Fail> {
+    let ended = greatest(subs).ok_or("no call")?;
+    let mut text = Vec::new(alloc);
+    write_detail(alloc, subs, STARTED, &ended, &mut text)?;
+    Ok(text)
+}
+
 #[test]
 fn greatest_numbers(rt: HostRuntime) -> Result<(), Fail> {
     let subs = Subs::read(rt.alloc(), THREE_STATIONS)?;
-    let ended = greatest(&subs).ok_or("no call")?;
-    let mut text = Vec::new(rt.alloc());
-    write_detail(rt.alloc(), &subs, STARTED, &ended, &mut text)?;
-    assert_eq!(rt; text.as_slice(), GREATEST.as_bytes());
+    let text = greatest_detail(rt.alloc(), &subs);
+    drop(subs);
+    assert_eq!(rt; text?.as_slice(), GREATEST.as_bytes());
     Ok(())
+}
+
+/// Writes a call detail record behind an octet, in a text whose second request for memory is refused, and once more. The length of the
+/// text after each, and whether it is the record in the end.
+fn write_behind(alloc: Global, subs: &Subs) -> Result<(usize, usize, bool), Fail> {
+    let ended = call(subs, 1).ok_or("no call")?;
+    let refusing = Refusing::new(alloc, 2);
+    let mut text = Vec::new(&refusing);
+    text.push(b'#')?;
+    let is_refused = write_detail(alloc, subs, STARTED, &ended, &mut text).is_err();
+    let first = text.len();
+    write_detail(alloc, subs, STARTED, &ended, &mut text)?;
+    Ok((
+        first,
+        text.len(),
+        is_refused && text.as_slice().ends_with(DETAILS[0].as_bytes()),
+    ))
 }
 
 /// A text that can't grow is as it was.
 #[test]
 fn no_memory_for_a_text(rt: HostRuntime) -> Result<(), Fail> {
     let subs = Subs::read(rt.alloc(), THREE_STATIONS)?;
-    let ended = call(&subs, 1).ok_or("no call")?;
-    let refusing = Refusing::new(rt.alloc(), 2);
-    let mut text = Vec::new(&refusing);
-    text.push(b'#')?;
-    assert!(rt; write_detail(rt.alloc(), &subs, STARTED, &ended, &mut text).is_err());
-    assert_eq!(rt; text.as_slice(), b"#".as_slice());
-    write_detail(rt.alloc(), &subs, STARTED, &ended, &mut text)?;
-    assert_eq!(rt; &text[1..], DETAILS[0].as_bytes());
+    let written = write_behind(rt.alloc(), &subs);
+    drop(subs);
+    assert_eq!(rt; written?, (1, DETAILS[0].len() + 1, true));
     Ok(())
 }

@@ -72,51 +72,76 @@ fn count_calls<R: Abort>(
     rt: &R,
     alloc: Global,
     subs: &Subs,
+    all: &[u8],
     most: usize,
     fails_at: u64,
 ) -> Result<u64, Fail>
     requires { 0 < most }
 {
-    let all = all_details(alloc)?;
     let file = FailingFile::new(alloc, most, fails_at);
     let mut writer = DetailWriter::new(alloc, file, subs, STARTED);
-    let failures = write_all(rt, subs, &all, &mut writer)?;
+    let failures = write_all(rt, subs, all, &mut writer)?;
     let calls = writer.file().calls();
     assert_eq!(rt; failures, u64::from(fails_at <= calls));
-    assert_eq!(rt; writer.file().octets(), all.as_slice());
+    assert_eq!(rt; writer.file().octets(), all);
     // Nothing new is there to write.
-    writer.flush()?;
+    assert!(rt; writer.flush().is_ok());
     assert_eq!(rt; writer.file().calls(), calls);
     Ok(calls)
+}
+
+/// Writes all to a file of which each call fails in turn, and which takes so many octets at a time.
+fn fail_each<R: Abort>(
+    rt: &R,
+    alloc: Global,
+    subs: &Subs,
+    all: &[u8],
+    most: usize,
+) -> Result<(), Fail>
+    requires { 0 < most }
+{
+    let mut calls = 1u64;
+    for fails_at in 1..1_000u64 {
+        if fails_at > calls.saturating_add(1) {
+            return Ok(());
+        }
+        calls = count_calls(rt, alloc, subs, all, most, fails_at)?;
+    }
+    Err("too many calls".into())
+}
+
+/// The same with few and with many octets at a time.
+fn fail_by_pieces<R: Abort>(rt: &R, alloc: Global, subs: &Subs) -> Result<(), Fail> {
+    let all = all_details(alloc)?;
+    fail_each(rt, alloc, subs, &all, 5)?;
+    fail_each(rt, alloc, subs, &all, 100)?;
+    fail_each(rt, alloc, subs, &all, 4_096)
 }
 
 /// Whichever call of the file fails, it has all call detail records in the end, once and in order.
 #[test]
 fn each_failure(rt: HostRuntime) -> Result<(), Fail> {
     let subs = Subs::read(rt.alloc(), THREE_STATIONS)?;
-    for most in [5, 100, 4_096] {
-        let mut calls = 1u64;
-        for fails_at in 1..1_000u64 {
-            if fails_at > calls.saturating_add(1) {
-                break;
-            }
-            calls = count_calls(&rt, rt.alloc(), &subs, most, fails_at)?;
-        }
-        assert!(rt; calls < 999);
-    }
-    Ok(())
+    fail_by_pieces(&rt, rt.alloc(), &subs)
+}
+
+/// Gives two calls, and flushes. How often the file was called before and after, and how often all was on the disk.
+fn write_once(alloc: Global, subs: &Subs) -> Result<(u64, u64, u64), Fail> {
+    let file = FailingFile::new(alloc, 4_096, 0);
+    let mut writer = DetailWriter::new(alloc, file, subs, STARTED);
+    give(&mut writer, subs, 1)?;
+    give(&mut writer, subs, 2)?;
+    let before = writer.file().calls();
+    writer.flush()?;
+    Ok((before, writer.file().calls(), writer.file().syncs()))
 }
 
 /// What waits is written by one call, and is then put on the disk by another.
 #[test]
 fn one_write(rt: HostRuntime) -> Result<(), Fail> {
     let subs = Subs::read(rt.alloc(), THREE_STATIONS)?;
-    let file = FailingFile::new(rt.alloc(), 4_096, 0);
-    let mut writer = DetailWriter::new(rt.alloc(), file, &subs, STARTED);
-    give(&mut writer, &subs, 1)?;
-    give(&mut writer, &subs, 2)?;
-    assert_eq!(rt; writer.file().calls(), 0);
-    writer.flush()?;
-    assert_eq!(rt; (writer.file().calls(), writer.file().syncs()), (2, 1));
+    let written = write_once(rt.alloc(), &subs);
+    drop(subs);
+    assert_eq!(rt; written?, (0, 2, 1));
     Ok(())
 }

@@ -46,10 +46,19 @@ fn call(subs: &Subs, number: u64) -> Option<Record>
     })
 }
 
+/// Two calls.
+fn two_calls(subs: &Subs) -> Option<(Record, Record)>
+    ensures first { IfSome result (λ calls. HasLines (line_count subs.now) calls.0) }
+    ensures second { IfSome result (λ calls. HasLines (line_count subs.now) calls.1) }
+{
+    let first = call(subs, 1)?;
+    let second = call(subs, 2)?;
+    Some((first, second))
+}
+
 /// The printer of two calls on a writer that takes so many writes.
 fn printed(alloc: Global, subs: Subs, writes: u64) -> Option<RecordPrinter<Paper>> {
-    let first = call(&subs, 1)?;
-    let second = call(&subs, 2)?;
+    let (first, second) = two_calls(&subs)?;
     let mut printer = RecordPrinter::new(alloc, subs, Paper::new(alloc, writes));
     printer.print(&[first]);
     printer.print(&[second]);
