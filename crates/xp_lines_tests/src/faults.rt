@@ -7,6 +7,7 @@ use std::sync::Wait;
 use std::test::Fail;
 use std::thread::Threads;
 use xp_testing::number;
+use xp_wires::words_of;
 
 /// a1 calls b1, which accepts; a1 clears the call, and b1 confirms it. A link fails at a pull, or at a push, each of which takes
 /// one octet then: below the number `called` before a1 calls, and below the number `cleared` before a1 clears the call, so that
@@ -15,15 +16,16 @@ use xp_testing::number;
 ///
 /// A line pulls once in a turn. a1 calls at its first pull and clears at its second; b1 accepts at its first and confirms at its
 /// second. The first 15 octets for a1 are the call connected packet, and the first 26 for b1 the incoming call.
-const FAILING: &str = "serve turns=9 records=9 called=1 cleared=2 met=8
+const PULLS: &str = "serve turns=9 records=9 called=1 cleared=2 met=8
 a1 pull-fault >call <connected >clear <confirmation
 b1 <incoming >accepted <clear >confirmation
 
 serve turns=9 records=9 called=0 cleared=1 met=8
 a1 >call <connected >clear <confirmation
-b1 pull-fault <incoming >accepted <clear >confirmation
+b1 pull-fault <incoming >accepted <clear >confirmation";
 
-serve turns=9 records=9 called=0 cleared=15 met=22
+/// The same at pushes.
+const PUSHES: &str = "serve turns=9 records=9 called=0 cleared=15 met=22
 a1 push-fault most=1 >call <connected >clear <confirmation
 b1 most=1 <incoming >accepted <clear >confirmation
 
@@ -42,27 +44,41 @@ fn wanted_record(scene: &str, at: u64) -> &'static str {
     }
 }
 
-/// One link fails at the first pull or push, then in a new run at the second, until a run meets no fault.
+/// One link fails at the first pull or push, then in a new run at the second, until a run meets no fault. What it took before is
+/// what it is to be given.
 fn fails(
     rt: &(impl Threads + Wait + Sync + Abort),
     alloc: Global,
     scene: &str,
 ) -> Result<(), Fail> {
     let met = number(scene, "met=", 0);
+    let failing = if words_of(scene, "a1").contains("-fault") {
+        "a1 wrong"
+    } else {
+        "b1 wrong"
+    };
     for at in 0..=met {
         let text = serve(rt, alloc, scene, true, at)?;
         let (told, records) = text.split_once('\n').unwrap_or(("", ""));
         assert_eq!(rt; records, wanted_record(scene, at), "{at}: {scene}");
         assert_eq!(rt; told.contains(" failed"), at < met, "{at}: {scene}");
-        assert!(rt; !told.contains(" wrong"), "{at}: {scene}");
+        assert!(rt; !told.contains(failing), "{at}: {scene}");
         assert!(rt; at < met || told == "TTTTTT 8", "{scene}: {told}");
     }
     Ok(())
 }
 
 #[test]
-fn links_fail(rt: HostRuntime) -> Result<(), Fail> {
-    for scene in FAILING.split("\n\n") {
+fn links_fail_at_pulls(rt: HostRuntime) -> Result<(), Fail> {
+    for scene in PULLS.split("\n\n") {
+        fails(&rt, rt.alloc(), scene)?;
+    }
+    Ok(())
+}
+
+#[test]
+fn links_fail_at_pushes(rt: HostRuntime) -> Result<(), Fail> {
+    for scene in PUSHES.split("\n\n") {
         fails(&rt, rt.alloc(), scene)?;
     }
     Ok(())

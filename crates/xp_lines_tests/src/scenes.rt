@@ -148,8 +148,7 @@ record 3 a1 - 2080099 caller 0 0 0d 67 0
 record 4 h2 - 2080099 caller 0 0 0d 67 0";
 
 /// Lines that are asked to stop while a call of a1 to b1 is live: it rings, both have sent data, or b1 owes a reset confirmation.
-/// The line that stops after the other is told a clear indication, out of order; one thread stops a1 before b1. Then b1's link takes
-/// the incoming call and no octet more: its line writes until 5 seconds have passed, or 10,000 times where the clock stands still.
+/// The line that stops after the other is told a clear indication, out of order; one thread stops a1 before b1.
 const STOPPED: &str = "serve threads together records=1000 stops=1
 a1 pulled=1 >call | <out-of-order
 b1 wakes=2 <incoming | <out-of-order
@@ -184,9 +183,11 @@ serve threads records=1000 stops=1
 a1 pulled=1 wakes=2 >call <connected >data0 >reset <reset-confirmation | <out-of-order
 b1 <incoming >accepted <data0 <reset | <out-of-order
 = SSSSSS 8 b1 43
-record 1 a1 b1 2080020 caller 1 0 09 0 0
+record 1 a1 b1 2080020 caller 1 0 09 0 0";
 
-serve threads together records=1000 stops=1 pause=1
+/// b1's link takes the incoming call and no octet more: its line writes until 5 seconds have passed, or 10,000 times where the clock
+/// stands still.
+const BLOCKED: &str = "serve threads together records=1000 stops=1 pause=1
 a1 pulled=1 >call | <out-of-order
 b1 wakes=2 all=26 pushed <incoming | <out-of-order
 = SSSSSS 5 a1 0 b1 26 b1 pushed 7
@@ -253,4 +254,9 @@ fn records_while_lines_are_served(rt: HostRuntime) -> Result<(), Fail> {
 #[test]
 fn lines_stop(rt: HostRuntime) -> Result<(), Fail> {
     all_as_told(&rt, rt.alloc(), STOPPED)
+}
+
+#[test]
+fn lines_stop_while_a_link_takes_nothing(rt: HostRuntime) -> Result<(), Fail> {
+    all_as_told(&rt, rt.alloc(), BLOCKED)
 }

@@ -79,7 +79,7 @@ impl Line {
     fn tell(&self, alloc: Global, name: &str, text: &mut Vec<u8>) -> Result<(), AllocError> {
         let got = self.got();
         if self.wrong.load(Ordering::SeqCst) {
-            text.extend_from_slice(b" wrong")?;
+            text.extend_from_slice(format!(in alloc; " {name} wrong")?.as_bytes())?;
         }
         if self.failed.load(Ordering::SeqCst) {
             text.extend_from_slice(b" failed")?;
@@ -117,7 +117,11 @@ fn comes(count: &AtomicU64, least: u64) -> bool {
 #[derive(Drop)]
 pub struct Board {
     /// The words for serving.
-    pub words: String,
+    words: String,
+    /// By how many seconds a clock goes on where it is read, its line has nothing to do, and its thread pauses.
+    pub read: u64,
+    pub step: u64,
+    pub pause: u64,
     /// Whether one thread serves all lines. Their gates must not wait for one another then.
     pub together: bool,
     /// The number of the pull or push that meets a fault, from 0.
@@ -134,12 +138,16 @@ pub struct Board {
 impl Board {
     /// The board of a scene.
     pub fn new(alloc: Global, scene: &str, together: bool, at: u64) -> Result<Board, AllocError> {
+        let serve = words_of(scene, "serve");
         let mut words = String::new(alloc);
-        words.push_str(words_of(scene, "serve"))?;
+        words.push_str(serve)?;
         let lines = lines_of(alloc, scene)?;
         let spare = Line::new(alloc, "none")?;
         Ok(Board {
             words,
+            read: number(serve, "read=", 0),
+            step: number(serve, "step=", 0),
+            pause: number(serve, "pause=", 0),
             together,
             at,
             lines,

@@ -79,9 +79,8 @@ impl Link for Part {
         if fails(line, "push-fault", time, self.board.at) {
             return Pushed::Fault;
         }
-        let most = number(&line.plan.words, "most=", u64::MAX);
-        let all = number(&line.plan.words, "all=", u64::MAX);
-        let room = most.min(all.saturating_sub(line.got() as u64));
+        let room = line.plan.all.saturating_sub(line.got() as u64);
+        let room = room.min(line.plan.most);
         let count = (from.len() as u64).min(room) as usize;
         line.take(&from[..count]);
         Pushed::Took(count)
@@ -113,17 +112,16 @@ impl Port for Part {
 impl Clock for Part {
     fn now(&mut self) -> u64 {
         let pauses = self.board.of(self.line).pauses.load(Ordering::SeqCst);
-        let paused = pauses.saturating_mul(self.board.number("pause=", 0));
+        let paused = pauses.saturating_mul(self.board.pause);
         let now = self.count;
-        self.count = now.saturating_add(self.board.number("read=", 0));
+        self.count = now.saturating_add(self.board.read);
         now.saturating_add(paused)
     }
 
     fn idle(&mut self) {
-        self.count = self.count.saturating_add(self.board.number("step=", 0));
+        self.count = self.count.saturating_add(self.board.step);
         let line = self.board.of(self.line);
         line.idles.fetch_add(1, Ordering::SeqCst);
-        thread::yield_now();
     }
 
     fn wake(&mut self, line: LineNo) {
@@ -160,6 +158,5 @@ impl Poller for Part {
             let line = self.board.of(self.line.saturating_add(place));
             line.pauses.fetch_add(1, Ordering::SeqCst);
         }
-        thread::yield_now();
     }
 }

@@ -1,7 +1,7 @@
 //! What a link does.
 
 use std::alloc::{AllocError, Global};
-use xp_testing::octets_of;
+use xp_testing::{number, octets_of};
 
 /// Octets that a link gives once it took so many; no octets are its end.
 #[derive(Drop)]
@@ -19,6 +19,9 @@ pub struct Plan {
     pub wants: Vec<u8>,
     /// How many of them it is given before a stop.
     pub before_stop: usize,
+    /// How many octets a push takes at most, and all pushes together.
+    pub most: u64,
+    pub all: u64,
 }
 
 impl Plan {
@@ -29,14 +32,11 @@ impl Plan {
             gives: Vec::new(alloc),
             wants: Vec::new(alloc),
             before_stop: 0,
+            most: number(words, "most=", u64::MAX),
+            all: number(words, "all=", u64::MAX),
         };
-        match plan.read(alloc, words) {
-            Ok(()) => Ok(plan),
-            Err(AllocError) => {
-                drop(plan);
-                Err(AllocError)
-            }
-        }
+        plan.read(alloc, words)?;
+        Ok(plan)
     }
 
     fn read(&mut self, alloc: Global, words: &str) -> Result<(), AllocError> {
