@@ -1,1 +1,2 @@
+mod Errands
 mod Twice

@@ -1,13 +1,11 @@
-//! Tests of the exchange's crates: readers and writers that fail, and memory that is refused in turn.
+//! Tests of the exchange's crates, a file for each: what no contract says, and no row of `xp_rows`.
 #![tactic(auto)]
 
 #[cfg(test)]
-mod fakes;
+mod events;
 #[cfg(test)]
 mod replays;
 #[cfg(test)]
 mod steps;
 #[cfg(test)]
 mod tasks;
-#[cfg(test)]
-mod telling;

@@ -1,13 +1,17 @@
-//! Tests of the exchange under a lock, and of outboxes.
+//! Tests of the exchange under a lock.
 #![tactic(auto)]
 
 #[cfg(test)]
-mod log;
+mod closing;
 #[cfg(test)]
-mod outbox;
+mod events;
 #[cfg(test)]
-mod playing;
+mod offers;
 #[cfg(test)]
-mod scenes;
+mod records;
 #[cfg(test)]
-mod starting;
+mod refusals;
+#[cfg(test)]
+mod slow;
+#[cfg(test)]
+mod threads;

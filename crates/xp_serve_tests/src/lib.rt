@@ -1,20 +1,25 @@
-//! Tests of what no run of the program shows: addresses of other machines, notices for which there is no room, records and traces on
-//! writers that fail, a link without a call, the age of days.
+//! Tests of lines that are served over TCP.
 #![tactic(auto)]
 
 #[cfg(test)]
 mod admissions;
 #[cfg(test)]
-mod choices;
+mod calls;
 #[cfg(test)]
-mod console;
+mod client;
 #[cfg(test)]
-mod links;
+mod frames;
+#[cfg(test)]
+mod hosts;
 #[cfg(test)]
 mod notices;
 #[cfg(test)]
 mod paper;
 #[cfg(test)]
-mod printing;
+mod ports;
 #[cfg(test)]
-mod tracing;
+mod serving;
+#[cfg(test)]
+mod strangers;
+#[cfg(test)]
+mod twice;

@@ -1,0 +1,5 @@
+//! Tests of outboxes.
+#![tactic(auto)]
+
+#[cfg(test)]
+mod outbox;

@@ -1,0 +1,48 @@
+//! Values of the key `from`, and what is told of a file with each.
+
+/// What stands behind `from = ` in the table of a line.
+pub const SOURCES: [(&str, &str); 34] = [
+    ("'10.1.2.3'", "ok"),
+    ("['10.1.2.3', '2001:db8::7']", "ok"),
+    ("'2001:DB8::CAFE'", "ok"),
+    ("'::'", "ok"),
+    ("':'", "field from"),
+    ("''", "field from"),
+    ("'0000:0000:0000:0000:0000:ffff:192.168.100.228'", "ok"),
+    (
+        "'0000:0000:0000:0000:0000:ffff:192.168.100.2280'",
+        "field from",
+    ),
+    ("'10.1.2.3/'", "field from"),
+    ("'10.1.2.3;'", "field from"),
+    ("'10.1.2.3@'", "field from"),
+    ("'10.1.2.3G'", "field from"),
+    ("'10.1.2.3`'", "field from"),
+    ("'10.1.2.3g'", "field from"),
+    ("'10.1.2.3-'", "field from"),
+    ("'10.1.2.3%'", "field from"),
+    ("'10.1.2.3 '", "field from"),
+    ("'999.999'", "ok"),
+    ("10", "field from"),
+    ("-1", "field from"),
+    ("1.5", "field from"),
+    ("true", "field from"),
+    ("1979-05-27", "field from"),
+    ("{}", "field from"),
+    ("[]", "field from"),
+    ("[1]", "field from"),
+    ("[[]]", "field from"),
+    ("['10.1.2.3', 1]", "field from"),
+    ("['10.1.2.3', '']", "field from"),
+    ("['g', '10.1.2.3']", "field from"),
+    ("[['10.1.2.3']]", "field from"),
+    ("['::1', '::1']", "ok"),
+    (
+        "['::1', '::2', '::3', '::4', '::5', '::6', '::7', '::8']",
+        "ok",
+    ),
+    (
+        "['::1', '::2', '::3', '::4', '::5', '::6', '::7', '::8', '::9']",
+        "field from",
+    ),
+];

@@ -1,0 +1,5 @@
+//! Tests of summaries, word by word.
+#![tactic(auto)]
+
+#[cfg(test)]
+mod texts;
