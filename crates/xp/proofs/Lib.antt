@@ -1,2 +1,1 @@
-mod Errands
 mod Twice

@@ -2,9 +2,9 @@
 
 use crate::failure::Failure;
 use crate::output::{WatchedWriter, print_text};
-use crate::subcommand::CheckForm;
 use std::alloc::AllocGlobal;
 use std::io;
+use xp_arguments::CheckForm;
 use xp_subs::Subs;
 use xp_summary::summary;
 use xp_tasks::{Task, perform};

@@ -2,10 +2,10 @@
 
 use crate::failure::Failure;
 use crate::output::print_text;
-use crate::subcommand::ConsoleRequest;
 use std::alloc::AllocGlobal;
 use std::net::{Net, SocketAddr, TcpStream};
 use std::time::Clock;
+use xp_arguments::ConsoleRequest;
 use xp_console::{AskFault, ask_status, ask_stop};
 
 /// Asks the console at this address, and prints what it shows.

@@ -5,10 +5,10 @@ ghost use Rattle.xp_subs.specs.Tables.{line_count};
 
 use crate::failure::Failure;
 use crate::output::print_text;
-use crate::subcommand::QuestionOrder;
 use hex::FromHexError;
 use std::alloc::{AllocGlobal, Global};
 use thiserror::Error;
+use xp_arguments::QuestionOrder;
 use xp_explain::{StatedLines, explain};
 use xp_packets::{Block, Digits, Octets};
 use xp_subs::{LineNo, Subs};

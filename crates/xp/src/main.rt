@@ -3,29 +3,24 @@
 
 ghost use Rattle.std.specs.Prelude.{◌≡◌};
 
-mod arguments;
 mod checking;
 mod console;
 mod explaining;
 mod failure;
-mod laws;
 mod output;
 mod replaying;
 mod served_console;
 mod serving;
 mod status_feed;
-mod subcommand;
 mod subscribing;
 mod tracing;
 
-use crate::arguments::Arguments;
 use crate::checking::check_file;
 use crate::console::ask_console;
 use crate::explaining::explain_call;
 use crate::failure::Failure;
 use crate::replaying::replay_script;
 use crate::serving::serve_lines;
-use crate::subcommand::{ServeOrder, Subcommand};
 use crate::subscribing::read_subscriptions;
 use log::Log;
 use std::fs::{File, Files};
@@ -38,6 +33,7 @@ use std::sync::Wait;
 use std::thread::Threads;
 use std::time::Clock;
 use std::{env, fs};
+use xp_arguments::{Arguments, ServeOrder, Subcommand, refused};
 use xp_subs::Subs;
 use xp_tasks::TaskFailure;
 
@@ -118,6 +114,6 @@ fn words<R: AllocGlobal + Env>(rt: &R) -> Result<Vec<String>, Failure> {
         Err(error) if error.kind() == ErrorKind::OutOfMemory => {
             Err(Failure::Task(TaskFailure::Memory))
         }
-        Err(_) => Err(Failure::from(arguments::refused(alloc, "an argument is not UTF-8")?)),
+        Err(_) => Err(Failure::from(refused(alloc, "an argument is not UTF-8")?)),
     }
 }

@@ -2,12 +2,12 @@
 
 use crate::failure::Failure;
 use crate::output::WatchedWriter;
-use crate::subcommand::ReplayForm;
 use crate::subscribing::read_subscriptions;
 use std::alloc::{AllocGlobal, Global};
 use std::fs::{File, Files};
 use std::io::{BufReader, ErrorKind, Read, Write};
 use std::{fs, io};
+use xp_arguments::ReplayForm;
 use xp_exchange::ReplayFault;
 use xp_script_places::{KeptLines, wanted_at};
 use xp_subs::Subs;

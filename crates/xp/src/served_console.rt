@@ -16,13 +16,23 @@ use xp_tasks::TaskFailure;
 use xp_tcp::{Notices, WallClock};
 
 /// A console that listens at its address, and the board over which it asks for what it shows.
-#[derive(Drop)]
 pub(crate) struct ServedConsole {
     console: Console,
     /// The address at which it listens.
     own: IpAddr,
     board: Arc<StatusBoard>,
     alloc: Global,
+}
+
+impl Drop for ServedConsole {
+    fn drop(self) {
+        let ServedConsole {
+            console: _,
+            own: _,
+            board: _,
+            alloc: _,
+        } = self;
+    }
 }
 
 impl ServedConsole {

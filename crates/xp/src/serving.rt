@@ -4,7 +4,6 @@ ghost use Rattle.std.specs.Prelude.{◌≡◌, []};
 
 use crate::failure::Failure;
 use crate::served_console::ServedConsole;
-use crate::subcommand::ServeOrder;
 use crate::tracing::Tracing;
 use log::Log;
 use std::alloc::AllocGlobal;
@@ -18,6 +17,7 @@ use std::sync::{Arc, Wait};
 use std::thread::{JoinHandle, Scope, Threads};
 use std::time::Clock;
 use std::{io, thread};
+use xp_arguments::ServeOrder;
 use xp_cdr::{DetailFile, Opened};
 use xp_serve::{
     Attending, ConsoleFeed, DetailKeeper, FileSyncer, NoConsole, OperatorLog, OperatorWatch,

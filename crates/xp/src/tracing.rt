@@ -1,11 +1,11 @@
 //! The trace of the lines that are served.
 
 use crate::failure::Failure;
-use crate::subcommand::TraceOrder;
 use std::alloc::{AllocGlobal, Global};
 use std::fs::{File, Files};
 use std::io::BufWriter;
 use std::sync::Arc;
+use xp_arguments::TraceOrder;
 use xp_serve::{TraceFault, TraceWriter, create_trace_file};
 use xp_subs::Subs;
 use xp_tasks::TaskFailure;

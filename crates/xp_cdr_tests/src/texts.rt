@@ -1,40 +1,19 @@
 //! The text of call detail records.
 
-use crate::calls::{CALLS, STARTED, record_of};
+ghost use Rattle.std.specs.Prelude.{◌≡◌, IfSome};
+ghost use Rattle.xp_charge.specs.Lines.{HasLines};
+ghost use Rattle.xp_subs.specs.Tables.{line_count};
+
+use crate::calls::{DETAILS, STARTED, call};
+use std::alloc::Global;
 use std::test::Fail;
-use xp_cdr::{HEADER, write_detail, write_header};
+use xp_cdr::write_detail;
+use xp_charge::Record;
+use xp_packets::End;
 use xp_subs::Subs;
 use xp_testing::{Refusing, THREE_STATIONS};
 
-#[test]
-fn each_kind_of_call(rt: HostRuntime) -> Result<(), Fail> {
-    let alloc = rt.alloc();
-    let subs = Subs::read(alloc, THREE_STATIONS)?;
-    let names = HEADER.split(',').count();
-    for call in &CALLS {
-        let ended = record_of(&subs, call)?;
-        let mut text = Vec::new(alloc);
-        write_detail(alloc, &subs, STARTED, &ended, &mut text)?;
-        let text = String::from_utf8(text)?;
-        assert_eq!(rt; text.as_str(), call.detail);
-        assert_eq!(rt; text.as_str().split(',').count(), names);
-    }
-    Ok(())
-}
-
-#[test]
-fn names_of_the_fields(rt: HostRuntime) -> Result<(), Fail> {
-    let mut text = Vec::new(rt.alloc());
-    write_header(&mut text)?;
-    let text = String::from_utf8(text)?;
-    assert_eq!(rt;
-        text.as_str(),
-        "started,number,caller_line,caller_address,called_line,called_address,dialled,payer,segments_from_caller,segments_from_called,requested,connected,ended,seconds,cause,diagnostic\n"
-    );
-    Ok(())
-}
-
-/// Moments, and their texts.
+/// Moments at which an exchange begins, and their texts.
 static MOMENTS: [(u64, &str); 9] = [
     (0, "1970-01-01T00:00:00Z,"),
     (59, "1970-01-01T00:00:59Z,"),
@@ -47,31 +26,88 @@ static MOMENTS: [(u64, &str); 9] = [
     (18_446_744_073_709_551_615, "18446744073709551615,"),
 ];
 
+/// Whether the call detail records of exchanges that begin at these moments begin with their texts.
+fn begin_with_moments(alloc: Global, subs: &Subs) -> Result<bool, Fail> {
+    let ended = call(subs, 1).ok_or("no call")?;
+    let mut text = Vec::new(alloc);
+    for (moment, wanted) in &MOMENTS {
+        text.clear();
+        write_detail(alloc, subs, *moment, &ended, &mut text)?;
+        if !text.as_slice().starts_with(wanted.as_bytes()) {
+            return Ok(false);
+        }
+    }
+    Ok(true)
+}
+
 #[test]
 fn moments(rt: HostRuntime) -> Result<(), Fail> {
-    let alloc = rt.alloc();
-    let subs = Subs::read(alloc, THREE_STATIONS)?;
-    let ended = record_of(&subs, &CALLS[0])?;
-    for (moment, wanted) in MOMENTS {
-        let mut text = Vec::new(alloc);
-        write_detail(alloc, &subs, moment, &ended, &mut text)?;
-        let text = String::from_utf8(text)?;
-        assert!(rt; text.as_str().starts_with(wanted), "{text}");
-    }
+    let subs = Subs::read(rt.alloc(), THREE_STATIONS)?;
+    let are_so = begin_with_moments(rt.alloc(), &subs);
+    drop(subs);
+    assert!(rt; are_so?);
     Ok(())
+}
+
+/// A call over midnight with the greatest of each number, whose clock goes back.
+fn greatest(subs: &Subs) -> Option<Record>
+    ensures { IfSome result (HasLines (line_count subs.now)) }
+{
+    let mut ended = call(subs, 18_446_744_073_709_551_615)?;
+    ended.payer = End::Called;
+    ended.from_caller = 99_999_999;
+    ended.from_called = 99_999_999;
+    ended.requested = 1_795_737_599;
+    ended.connected = Some(1_795_737_600);
+    ended.ended = 1_795_737_598;
+    ended.cause = 0xff;
+    ended.diagnostic = 255;
+    Some(ended)
+}
+
+const GREATEST: &str =
+    "2026-11-26T12:00:00Z,18446744073709551615,a1,2080010,b1,2080020,2080020,called,99999999,99999999,2026-11-26T23:59:59Z,2026-11-27T00:00:00Z,2026-11-26T23:59:58Z,0,ff,255\n";
+
+/// The call detail record of that call.
+fn greatest_detail(alloc: Global, subs: &Subs) -> Result<Vec<u8>, Fail> {
+    let ended = greatest(subs).ok_or("no call")?;
+    let mut text = Vec::new(alloc);
+    write_detail(alloc, subs, STARTED, &ended, &mut text)?;
+    Ok(text)
+}
+
+#[test]
+fn greatest_numbers(rt: HostRuntime) -> Result<(), Fail> {
+    let subs = Subs::read(rt.alloc(), THREE_STATIONS)?;
+    let text = greatest_detail(rt.alloc(), &subs);
+    drop(subs);
+    assert_eq!(rt; text?.as_slice(), GREATEST.as_bytes());
+    Ok(())
+}
+
+/// Writes a call detail record behind an octet, in a text whose second request for memory is refused, and once more. The length of the
+/// text after each, and whether it is the record in the end.
+fn write_behind(alloc: Global, subs: &Subs) -> Result<(usize, usize, bool), Fail> {
+    let ended = call(subs, 1).ok_or("no call")?;
+    let refusing = Refusing::new(alloc, 2);
+    let mut text = Vec::new(&refusing);
+    text.push(b'#')?;
+    let is_refused = write_detail(alloc, subs, STARTED, &ended, &mut text).is_err();
+    let first = text.len();
+    write_detail(alloc, subs, STARTED, &ended, &mut text)?;
+    Ok((
+        first,
+        text.len(),
+        is_refused && text.as_slice().ends_with(DETAILS[0].as_bytes()),
+    ))
 }
 
 /// A text that can't grow is as it was.
 #[test]
 fn no_memory_for_a_text(rt: HostRuntime) -> Result<(), Fail> {
     let subs = Subs::read(rt.alloc(), THREE_STATIONS)?;
-    let ended = record_of(&subs, &CALLS[0])?;
-    let refusing = Refusing::new(rt.alloc(), 2);
-    let mut text = Vec::new(&refusing);
-    text.push(b'#')?;
-    assert!(rt; write_detail(rt.alloc(), &subs, STARTED, &ended, &mut text).is_err());
-    assert_eq!(rt; text.as_slice(), b"#".as_slice());
-    write_detail(rt.alloc(), &subs, STARTED, &ended, &mut text)?;
-    assert_eq!(rt; text.len(), CALLS[0].detail.len() + 1);
+    let written = write_behind(rt.alloc(), &subs);
+    drop(subs);
+    assert_eq!(rt; written?, (1, DETAILS[0].len() + 1, true));
     Ok(())
 }

@@ -101,21 +101,17 @@ fn told_of_values(
     }
 }
 
+const NOT_ALLOWED: &str = "facility parameter not allowed";
+
 // The items between DTEs are judged first.
 #[test]
 fn values_that_cannot_be_told(rt: HostRuntime) -> Result<(), Fail> {
     for (index, window, duration, dte, expected) in [
         (9999, 15, 8_639_999, b"\x0a\x01", "ok"),
-        (10_000, 15, 0, b"\x0a\x01", "facility parameter not allowed"),
-        (9999, 16, 0, b"\x0a\x01", "facility parameter not allowed"),
-        (9999, 0, 0, b"\x0a\x01", "facility parameter not allowed"),
-        (
-            9999,
-            15,
-            8_640_000,
-            b"\x0a\x01",
-            "facility parameter not allowed",
-        ),
+        (10_000, 15, 0, b"\x0a\x01", NOT_ALLOWED),
+        (9999, 16, 0, b"\x0a\x01", NOT_ALLOWED),
+        (9999, 0, 0, b"\x0a\x01", NOT_ALLOWED),
+        (9999, 15, 8_640_000, b"\x0a\x01", NOT_ALLOWED),
         (10_000, 16, 0, b"\x42\x07", "invalid facility length"),
         (10_000, 16, 0, b"\x00\x0f", "invalid facility length"),
     ] {

@@ -50,12 +50,6 @@ fn bad_heads(rt: HostRuntime) -> Result<(), Fail> {
     Ok(())
 }
 
-// What is told where a packet of so many octets is to be framed.
-fn framed(alloc: Global, octets: usize) -> Result<String, AllocError> {
-    let packet = Vec::from_elem(alloc, 0xa5u8, octets)?;
-    told(alloc, write_frame(&packet, &mut Vec::new(alloc)))
-}
-
 #[test]
 fn lengths_of_packets(rt: HostRuntime) -> Result<(), Fail> {
     for (octets, expected) in [
@@ -65,7 +59,9 @@ fn lengths_of_packets(rt: HostRuntime) -> Result<(), Fail> {
         (1029, "packet length 1029 outside 3 to 1028 octets"),
         (65_536, "packet length 65535 outside 3 to 1028 octets"),
     ] {
-        assert_eq!(rt; framed(rt.alloc(), octets)?.as_str(), expected);
+        let packet = Vec::from_elem(rt.alloc(), 0xa5u8, octets)?;
+        let framed = write_frame(&packet, &mut Vec::new(rt.alloc()));
+        assert_eq!(rt; told(rt.alloc(), framed)?.as_str(), expected);
     }
     Ok(())
 }

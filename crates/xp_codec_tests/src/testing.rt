@@ -4,7 +4,7 @@ use std::alloc::Global;
 use std::test::Fail;
 use xp_testing::Refusing;
 
-// Three requests for memory, one after another.
+// Which of three requests for memory, one after another, is granted.
 fn three_boxes(alloc: &Refusing<Global>) -> [bool; 3] {
     [
         Box::new(alloc, 1u8).is_ok(),
@@ -15,16 +15,11 @@ fn three_boxes(alloc: &Refusing<Global>) -> [bool; 3] {
 
 #[test]
 fn refuses_the_numbered_request_alone(rt: HostRuntime) {
-    for (number, granted, pending) in [
-        (0, [true, true, true], false),
-        (1, [false, true, true], false),
-        (2, [true, false, true], false),
-        (3, [true, true, false], false),
-        (4, [true, true, true], true),
-    ] {
+    for number in 0..5 {
         let alloc = Refusing::new(rt.alloc(), number);
+        let granted = [number != 1, number != 2, number != 3];
         assert_eq!(rt; three_boxes(&alloc), granted, "at {number}");
-        assert_eq!(rt; alloc.is_pending(), pending, "at {number}");
+        assert_eq!(rt; alloc.is_pending(), number == 4, "at {number}");
     }
 }
 

@@ -1,11 +1,13 @@
-//! Tests of the exchange's crates, a file for each: what no contract says, and no row of `xp_rows`.
+//! Tests of the exchange's crates: readers and writers that fail, and memory that is refused in turn.
 #![tactic(auto)]
 
 #[cfg(test)]
-mod events;
+mod fakes;
 #[cfg(test)]
 mod replays;
 #[cfg(test)]
 mod steps;
 #[cfg(test)]
 mod tasks;
+#[cfg(test)]
+mod telling;

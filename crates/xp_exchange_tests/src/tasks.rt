@@ -1,7 +1,6 @@
 //! `xp_tasks`: failures that no row meets.
 
-use std::io;
-use std::io::{ErrorKind, Write};
+use crate::fakes::{Refusal, Sheet};
 use std::process::Abort;
 use std::test::Fail;
 use xp_exchange::ReplayFault;
@@ -11,12 +10,9 @@ use xp_testing::THREE_STATIONS;
 
 #[test]
 fn failures_that_are_told(rt: HostRuntime) -> Result<(), Fail> {
+    let refused = SubscriptionFault::Memory;
     let rows = [
-        (
-            TaskFailure::from(SubscriptionFault::Memory),
-            "xp: memory",
-            4,
-        ),
+        (TaskFailure::from(refused), "xp: memory", 4),
         (TaskFailure::from(ReplayFault::Memory), "xp: memory", 4),
         (TaskFailure::from(ReplayFault::Read), "xp: input", 5),
         (TaskFailure::from(ReplayFault::Write), "xp: output", 5),
@@ -29,20 +25,7 @@ fn failures_that_are_told(rt: HostRuntime) -> Result<(), Fail> {
     Ok(())
 }
 
-/// Takes all, and then cannot hand it on.
-#[derive(Drop)]
-struct Stuck;
-
-impl Write for Stuck {
-    fn write(&mut self, octets: &[u8]) -> io::Result<usize> {
-        Ok(octets.len())
-    }
-
-    fn flush(&mut self) -> io::Result<()> {
-        Err(ErrorKind::BrokenPipe.into())
-    }
-}
-
+/// The writer takes all, and then cannot hand it on.
 #[test]
 fn output_that_is_not_handed_on(rt: HostRuntime) -> Result<(), Fail> {
     let rows: [(Task, &[u8]); 3] = [
@@ -53,7 +36,12 @@ fn output_that_is_not_handed_on(rt: HostRuntime) -> Result<(), Fail> {
     let alloc = rt.alloc();
     for (task, script) in rows {
         let subs = Subs::read(alloc, THREE_STATIONS)?;
-        let ended = perform(alloc, task, subs, script, &mut Stuck);
+        let mut sheet = Sheet {
+            text: Vec::new(alloc),
+            room: usize::MAX,
+            refusal: Some(Refusal::AtFlush),
+        };
+        let ended = perform(alloc, task, subs, script, &mut sheet);
         let failure = ended.err().ok_or("all was handed on")?;
         assert_eq!(rt; failure.status(), 5);
     }

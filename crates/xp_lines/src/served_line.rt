@@ -29,7 +29,6 @@ pub struct LineInputs<N: Name, P: Port, C: Clock, G: Gate> {
 
 /// A line that a thread serves, with the links that come from its port, one at a time. Contracts see it as the pass with which it
 /// began.
-#[derive(Drop)]
 pub(crate) struct ServedLine<N: Name, P: Port, C: Clock, G: Gate> {
     /// The pass with which it began.
     first: Past<LinePass<N>>,
@@ -42,6 +41,21 @@ pub(crate) struct ServedLine<N: Name, P: Port, C: Clock, G: Gate> {
     has_new_records: bool,
     /// Whether a turn is due that waits for the recording thread.
     is_held: bool,
+}
+
+impl<N: Name, P: Port, C: Clock, G: Gate> Drop for ServedLine<N, P, C, G> {
+    fn drop(self) {
+        let ServedLine {
+            first: _,
+            pass: _,
+            port: _,
+            clock: _,
+            gate: _,
+            state: _,
+            has_new_records: _,
+            is_held: _,
+        } = self;
+    }
 }
 
 impl<N: Name, P: Port, C: Clock, G: Gate> Model for ServedLine<N, P, C, G> {

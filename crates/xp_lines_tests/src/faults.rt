@@ -1,164 +1,85 @@
 //! Links that fail at each pull and at each push in turn.
 
-use crate::board::Board;
-use crate::frames::{
-    ACCEPTED, CALL_WITH_DATA, CLEAR, CONFIRMATION, CONNECTED_AND_CONFIRMATION, INCOMING_AND_CLEAR,
-};
-use crate::plan::{FLAWLESS, Flaws, Piece, Plan, SILENT, Scenario};
-use crate::turning::{Playing, play};
+use crate::serving::serve;
 use std::alloc::Global;
 use std::process::Abort;
-use std::sync::atomic::Ordering;
-use std::sync::{Arc, Wait};
+use std::sync::Wait;
 use std::test::Fail;
-use xp_subs::LineNo;
+use std::thread::Threads;
+use xp_testing::number;
+use xp_testing_wires::words_of;
 
-/// a1 calls b1, which accepts; a1 clears the call, and b1 confirms it.
-pub static FAULTS: [Plan; 5] = [
-    Plan {
-        gives: &[
-            Piece {
-                after: 0,
-                octets: CALL_WITH_DATA,
-            },
-            Piece {
-                after: 15,
-                octets: CLEAR,
-            },
-        ],
-        count: 2,
-        wants: CONNECTED_AND_CONFIRMATION,
-        ..SILENT
-    },
-    Plan {
-        gives: &[
-            Piece {
-                after: 26,
-                octets: ACCEPTED,
-            },
-            Piece {
-                after: 35,
-                octets: CONFIRMATION,
-            },
-        ],
-        count: 2,
-        wants: INCOMING_AND_CLEAR,
-        ..SILENT
-    },
-    SILENT,
-    SILENT,
-    SILENT,
-];
+/// a1 calls b1, which accepts; a1 clears the call, and b1 confirms it. A link fails at a pull, or at a push, each of which takes
+/// one octet then: below the number `called` before a1 calls, and below the number `cleared` before a1 clears the call, so that
+/// the call ends as the line does. From the number `met` on the run meets no fault: as many as there are turns on the link, or
+/// octets that are wanted.
+///
+/// A line pulls once in a turn. a1 calls at its first pull and clears at its second; b1 accepts at its first and confirms at its
+/// second. The first 15 octets for a1 are the call connected packet, and the first 26 for b1 the incoming call.
+const PULLS: &str = "serve turns=9 records=9 called=1 cleared=2 met=8
+a1 pull-fault >call <connected >clear <confirmation
+b1 <incoming >accepted <clear >confirmation
 
-/// How a line's link fails: at a pull, or at a push, each of which takes one octet then. The number of the pull or push at
-/// which it fails decides what comes of the call.
-struct Failing {
-    line: LineNo,
-    at_push: bool,
-    /// Below this number the link is gone before a1 calls.
-    before_call: u64,
-    /// Below this number it is gone before a1 clears the call, and the call ends as the line does.
-    before_clear: u64,
-    /// From this number on the run meets no fault: as many as there are turns, or octets that are wanted.
-    met: u64,
-}
+serve turns=9 records=9 called=0 cleared=1 met=8
+a1 >call <connected >clear <confirmation
+b1 pull-fault <incoming >accepted <clear >confirmation";
 
-/// A line pulls once in a turn. a1 calls at its first pull and clears at its second; b1 accepts at its first and confirms at
-/// its second. The first 15 octets for a1 are the call connected packet, and the first 26 for b1 the incoming call.
-static FAILING: [Failing; 4] = [
-    Failing {
-        line: 0,
-        at_push: false,
-        before_call: 1,
-        before_clear: 2,
-        met: 8,
-    },
-    Failing {
-        line: 1,
-        at_push: false,
-        before_call: 0,
-        before_clear: 1,
-        met: 8,
-    },
-    Failing {
-        line: 0,
-        at_push: true,
-        before_call: 0,
-        before_clear: 15,
-        met: 22,
-    },
-    Failing {
-        line: 1,
-        at_push: true,
-        before_call: 0,
-        before_clear: 26,
-        met: 35,
-    },
-];
+/// The same at pushes.
+const PUSHES: &str = "serve turns=9 records=9 called=0 cleared=15 met=22
+a1 push-fault most=1 >call <connected >clear <confirmation
+b1 most=1 <incoming >accepted <clear >confirmation
+
+serve turns=9 records=9 called=0 cleared=26 met=35
+a1 most=1 >call <connected >clear <confirmation
+b1 push-fault most=1 <incoming >accepted <clear >confirmation";
 
 /// The record of the call where the link fails at the pull or push of this number.
-fn wanted_record(failing: &Failing, number: u64) -> &'static str {
-    if number < failing.before_call {
+fn wanted_record(scene: &str, at: u64) -> &'static str {
+    if at < number(scene, "called=", 0) {
         ""
-    } else if number < failing.before_clear {
+    } else if at < number(scene, "cleared=", 0) {
         "record 1 a1 b1 2080020 caller 0 0 09 0 0\n"
     } else {
         "record 1 a1 b1 2080020 caller 0 0 00 0 0\n"
     }
 }
 
-fn flaws(at_push: bool, number: u64) -> Flaws {
-    if at_push {
-        Flaws {
-            push: Some(number),
-            most: 1,
-            ..FLAWLESS
-        }
+/// One link fails at the first pull or push, then in a new run at the second, until a run meets no fault. What it took before is
+/// what it is to be given.
+fn fails(
+    rt: &(impl Threads + Wait + Sync + Abort),
+    alloc: Global,
+    scene: &str,
+) -> Result<(), Fail> {
+    let met = number(scene, "met=", 0);
+    let failing = if words_of(scene, "a1").contains("-fault") {
+        "a1 wrong"
     } else {
-        Flaws {
-            pull: Some(number),
-            ..FLAWLESS
-        }
+        "b1 wrong"
+    };
+    for at in 0..=met {
+        let text = serve(rt, alloc, scene, true, at)?;
+        let (told, records) = text.split_once('\n').unwrap_or(("", ""));
+        assert_eq!(rt; records, wanted_record(scene, at), "{at}: {scene}");
+        assert_eq!(rt; told.contains(" failed"), at < met, "{at}: {scene}");
+        assert!(rt; !told.contains(failing), "{at}: {scene}");
+        assert!(rt; at < met || told == "TTTTTT 8", "{scene}: {told}");
     }
-}
-
-/// One link fails at the first pull or push, then in a new run at the second, until a run meets no fault: how many did.
-fn faults(rt: &(impl Wait + Abort), alloc: Global, failing: &Failing) -> Result<u64, Fail> {
-    for number in 0..100u64 {
-        let board = Arc::new(alloc, Board::new())?;
-        let this = flaws(failing.at_push, number);
-        let other = flaws(failing.at_push, u64::MAX);
-        let playing = Playing {
-            scenario: Scenario::Faults,
-            flaws: if failing.line == 0 {
-                [this, other]
-            } else {
-                [other, this]
-            },
-            turns: 8,
-            step: 0,
-        };
-        let played = play(rt, alloc, &playing, &board)?;
-        assert_eq!(rt;
-            played.records.as_str(),
-            wanted_record(failing, number),
-            "{number}"
-        );
-        assert!(rt; board.of(failing.line).front().is_some(), "{number}");
-        if !board.of(failing.line).failed.load(Ordering::SeqCst) {
-            assert_eq!(rt; played.entries, 6);
-            assert!(rt; board.as_wanted(Scenario::Faults));
-            return Ok(number);
-        }
-    }
-    Ok(100)
+    Ok(())
 }
 
 #[test]
-fn links_fail(rt: HostRuntime) -> Result<(), Fail> {
-    for failing in &FAILING {
-        let runs = faults(&rt, rt.alloc(), failing)?;
-        assert_eq!(rt; runs, failing.met, "line {}", failing.line);
+fn links_fail_at_pulls(rt: HostRuntime) -> Result<(), Fail> {
+    for scene in PULLS.split("\n\n") {
+        fails(&rt, rt.alloc(), scene)?;
+    }
+    Ok(())
+}
+
+#[test]
+fn links_fail_at_pushes(rt: HostRuntime) -> Result<(), Fail> {
+    for scene in PUSHES.split("\n\n") {
+        fails(&rt, rt.alloc(), scene)?;
     }
     Ok(())
 }

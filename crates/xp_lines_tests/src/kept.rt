@@ -1,65 +1,28 @@
 //! A sink that keeps charging records as text.
 
-ghost use Rattle.std.specs.Prelude.{◌≡◌, IfOk};
-
-use crate::account::tell_records;
-use crate::board::Board;
-use crate::plan::Scenario;
-use std::alloc::{AllocError, Global};
+use crate::told::tell_records;
 use std::sync::Arc;
 use std::sync::atomic::Ordering;
 use xp_charge::Record;
 use xp_lines::{Received, RecordSink};
-use xp_lock::Book;
 use xp_past::Past;
 use xp_subs::Subs;
 use xp_view::ExchangeView;
+use xp_testing_wires::Board;
 
-/// A sink that keeps the lines of the records that it is given, and counts the records on a board.
+/// A sink that keeps the lines of the records that it is given, and counts the records on a board. It stops serving at as many
+/// records as the setting `kept` says, and with `stops` once the links were given what they are given before a stop.
 #[derive(Drop)]
 pub struct Kept {
     /// The lines of the records.
     pub text: Vec<u8>,
     /// The subscriptions, from which the lines have their names.
     pub subs: Subs,
-    board: Arc<Board>,
-    /// The number of records at which serving stops.
-    most: u64,
-    /// Serving stops too once the links were given what this scenario gives them before.
-    stops: Option<Scenario>,
+    pub board: Arc<Board>,
     /// How many lines and entries it saw last.
-    seen_lines: usize,
-    seen_entries: u64,
-    given: Past<Record>,
-}
-
-impl Kept {
-    /// A sink that is full with so many records, or stops the lines once the links of this scenario were given enough.
-    pub fn new(
-        alloc: Global,
-        subs: Subs,
-        board: &Arc<Board>,
-        most: u64,
-        stops: Option<Scenario>,
-    ) -> Result<Kept, AllocError>
-        ensures { IfOk result (λ kept. kept.subs ≡ subs) }
-    {
-        Ok(Kept {
-            text: Vec::new(alloc),
-            subs,
-            board: Arc::try_clone(board)?,
-            most,
-            stops,
-            seen_lines: 0,
-            seen_entries: 0,
-            given: Past::new(),
-        })
-    }
-
-    /// Whether it saw the exchange at last as the book has it.
-    pub fn saw_all(&self, book: &Book) -> bool {
-        self.seen_entries == book.count() && self.seen_lines == book.subs().counts().lines
-    }
+    pub seen_lines: usize,
+    pub seen_entries: u64,
+    pub given: Past<Record>,
 }
 
 impl RecordSink for Kept {
@@ -77,18 +40,13 @@ impl RecordSink for Kept {
         let _ = tell_records(&records, &self.subs, &mut self.text);
         self.given.extend(&records);
         let count = records.len() as u64;
+        drop(records);
         let before = self.board.recorded.fetch_add(count, Ordering::SeqCst);
-        if before.saturating_add(count) >= self.most {
-            return Received::Stops;
-        }
-        Received::GoesOn
+        stop_if(before.saturating_add(count) >= self.board.number("kept=", 1_000))
     }
 
     fn tick(&mut self) -> Received {
-        match self.stops {
-            Some(scenario) => stop_if(self.board.may_stop(scenario)),
-            None => Received::GoesOn,
-        }
+        stop_if(self.board.number("stops=", 0) == 1 && self.board.may_stop())
     }
 
     fn wants_look(&self) -> bool {
@@ -98,6 +56,7 @@ impl RecordSink for Kept {
     fn see(&mut self, view: ExchangeView) {
         self.seen_lines = view.lines.len();
         self.seen_entries = view.entries;
+        drop(view);
     }
 
     ghost keeps_itself = { λ _. tt };

@@ -3,68 +3,56 @@
 ghost use Rattle.std.specs.Prelude.{◌≡◌};
 ghost use Rattle.xp_subs.specs.Tables.{line_count};
 
-use crate::account::{subs, tell_records, why_letter};
-use crate::board::Board;
 use crate::kept::Kept;
-use crate::pace::{PlannedGate, Ticking, Yielding};
-use crate::plan::Scenario;
-use crate::wire::PlannedPort;
+use crate::told::{tell_book, why_letter};
 use std::alloc::{AllocError, Global};
 use std::marker::Brand;
 use std::sync::{Arc, Wait};
 use std::test::Fail;
 use std::thread::Threads;
 use xp_lines::{LineEnd, LineInputs, LinesServed, serve_all};
-use xp_lock::{Book, Exchange, LinePass, PreparedExchange, prepare};
+use xp_lock::{Exchange, LinePass, PreparedExchange, prepare};
+use xp_past::Past;
 use xp_seats::Name;
-use xp_subs::LineNo;
+use xp_subs::Subs;
+use xp_testing_wires::{Board, Part};
 
-/// How lines are served.
-#[derive(Clone, Copy)]
-pub struct Serving {
-    /// What their links do.
-    pub scenario: Scenario,
-    /// Whether one thread serves them all. Their gates must not wait for one another then.
-    pub together: bool,
-    /// By how many seconds a clock goes on where its line has nothing to do.
-    pub step: u64,
-    /// And by how many each time that its thread pauses, as lines end.
-    pub pause: u64,
-    /// Whether the exchange is halted before they are served.
-    pub halted: bool,
-    pub turns: u64,
-    pub records: u64,
-    /// The number of records at which the sink stops serving.
-    pub kept: u64,
-    /// Whether the sink stops serving once the links were given what they are given before a stop.
-    pub stops: bool,
-}
-
-/// Two calls, served as most acts are.
-pub const USUALLY: Serving = Serving {
-    scenario: Scenario::TwoCalls,
-    together: false,
-    step: 0,
-    pause: 0,
-    halted: false,
-    turns: 5_000_000,
-    records: 1,
-    kept: 1_000,
-    stops: false,
-};
+/// The three stations with a1, b1, h1, h2 and h3, and 2080040 with m1, which numbers modulo 128: six lines.
+const STATIONS: &str = r#"[[station]]
+address = "2080010"
+line = [{ name = "a1", port = 19981 }]
+[[station]]
+address = "2080020"
+fast_select = true
+line = [{ name = "b1", port = 19982 }]
+[[station]]
+address = "2080030"
+line = [{ name = "h1", port = 19983 }, { name = "h2", port = 19984, address = "2080032" }, { name = "h3", port = 19985 }]
+[[station]]
+address = "2080040"
+line = [{ name = "m1", port = 19986, modulus = 128 }]
+"#;
 
 /// A line that is served.
-type Line<N> = LineInputs<N, PlannedPort, Ticking, PlannedGate>;
+type Line<N> = LineInputs<N, Part, Part, Part>;
 
-fn line<N: Name>(
-    pass: LinePass<N>,
-    serving: &Serving,
-    board: &Arc<Board>,
-) -> Result<Line<N>, AllocError> {
+/// The subscriptions, with a journal of nine entries where that is asked for.
+fn subs(alloc: Global, board: &Board) -> Result<Subs, Fail> {
+    let mut text = String::new(alloc);
+    if board.number("journal=", 0) == 9 {
+        text.push_str("journal = 9\n")?;
+    }
+    text.push_str(STATIONS)?;
+    Ok(Subs::read(alloc, text.as_str())?)
+}
+
+fn line<N: Name>(pass: LinePass<N>, board: &Arc<Board>) -> Result<Line<N>, AllocError> {
     let line = pass.line();
-    let port = PlannedPort::new(serving.scenario, line, board)?;
-    let clock = Ticking::new(board, line, 0, serving.step, serving.pause)?;
-    let gate = PlannedGate::new(board, serving.scenario)?;
+    let (port, clock, gate) = (
+        Part::new(board, line, 0)?,
+        Part::new(board, line, 0)?,
+        Part::new(board, line, 0)?,
+    );
     Ok(LineInputs {
         pass,
         port,
@@ -76,63 +64,23 @@ fn line<N: Name>(
 fn lines<N: Name>(
     alloc: Global,
     passes: Vec<LinePass<N>>,
-    serving: &Serving,
     board: &Arc<Board>,
 ) -> Result<Vec<Line<N>>, AllocError> {
     let mut lines = Vec::new(alloc);
     for pass in passes {
-        lines.push(line(pass, serving, board)?)?;
+        lines.push(line(pass, board)?)?;
     }
     Ok(lines)
 }
 
-/// The numbers of the lines.
-fn numbers<N: Name>(alloc: Global, passes: &[LinePass<N>]) -> Result<Vec<LineNo>, AllocError> {
-    let mut numbers = Vec::new(alloc);
-    for pass in passes {
-        numbers.push(pass.line())?;
+/// The threads of the lines.
+fn pollers(alloc: Global, board: &Arc<Board>) -> Result<Vec<Part>, AllocError> {
+    let (threads, lines) = if board.together { (1, 6) } else { (6, 1) };
+    let mut pollers = Vec::new(alloc);
+    for first in 0..threads {
+        pollers.push(Part::new(board, first, lines)?)?;
     }
-    Ok(numbers)
-}
-
-/// A thread for each of these lines.
-fn threads(
-    alloc: Global,
-    lines: Vec<LineNo>,
-    board: &Arc<Board>,
-) -> Result<Vec<Yielding>, AllocError> {
-    let mut threads = Vec::new(alloc);
-    for line in lines {
-        let mut alone = Vec::new(alloc);
-        alone.push(line)?;
-        threads.push(Yielding::new(board, alone)?)?;
-    }
-    Ok(threads)
-}
-
-/// One thread for all of these lines.
-fn one_thread(
-    alloc: Global,
-    lines: Vec<LineNo>,
-    board: &Arc<Board>,
-) -> Result<Vec<Yielding>, AllocError> {
-    let mut threads = Vec::new(alloc);
-    threads.push(Yielding::new(board, lines)?)?;
-    Ok(threads)
-}
-
-/// The threads of these lines.
-fn pollers(
-    alloc: Global,
-    lines: Vec<LineNo>,
-    together: bool,
-    board: &Arc<Board>,
-) -> Result<Vec<Yielding>, AllocError> {
-    if together {
-        one_thread(alloc, lines, board)
-    } else {
-        threads(alloc, lines, board)
-    }
+    Ok(pollers)
 }
 
 /// Adds why each line has ended, and gives all passes back.
@@ -146,7 +94,6 @@ fn passes<N: Name>(
         text.push(why_letter(end.why))?;
         passes.push(end.pass)?;
     }
-    text.push(b'\n')?;
     Ok(passes)
 }
 
@@ -156,7 +103,7 @@ fn serves<N: Name + Send + Sync, R: Threads + Wait + Sync>(
     alloc: Global,
     prepared: PreparedExchange<Global>,
     sink: Kept,
-    serving: &Serving,
+    pollers: Vec<Part>,
     board: &Arc<Board>,
 ) -> Result<Vec<u8>, AllocError>
     requires lines { line_count sink.subs ≡ line_count prepared.subs }
@@ -164,18 +111,21 @@ fn serves<N: Name + Send + Sync, R: Threads + Wait + Sync>(
     requires history_length { N.history_length ≡ prepared.history_length }
     requires queues { N.queues ≡ prepared.queues }
 {
-    let (exchange, all, recorder) = Exchange::<N, Global>::start(alloc, prepared)?;
-    if serving.halted {
+    let (exchange, passes, recorder) = Exchange::<N, Global>::start(alloc, prepared)?;
+    if board.number("halted=", 0) == 1 {
         exchange.halt(rt);
     }
-    let pollers = pollers(alloc, numbers(alloc, &all)?, serving.together, board)?;
-    let lines = lines(alloc, all, serving, board)?;
-    let (turns, records) = (serving.turns, serving.records);
+    let turns = board.number("turns=", 5_000_000);
+    let records = board.number("records=", 1);
+    let lines = lines(alloc, passes, board)?;
     match serve_all(
         rt, alloc, &exchange, lines, pollers, recorder, sink, turns, records,
     ) {
         Ok(served) => close(rt, alloc, exchange, served),
-        Err(_) => Ok(Vec::new(alloc)),
+        Err(fault) => {
+            drop(fault);
+            Ok(Vec::new(alloc))
+        }
     }
 }
 
@@ -195,45 +145,45 @@ fn close<N: Name, R: Wait>(
     let all = passes(alloc, ends, &mut text)?;
     match exchange.close(rt, all, recorder) {
         Ok(book) => {
-            if !sink.saw_all(&book) {
-                text.extend_from_slice(b"not all seen\n")?;
-            }
-            tell_book(alloc, &book, &sink.text, text)
+            let told = tell_book(alloc, &book, &sink, &mut text);
+            drop(book);
+            told?;
         }
-        Err(_) => Ok(text),
+        Err(fault) => drop(fault),
     }
-}
-
-/// Adds how many entries the book has, the charging records that the sink kept, and those that the book still has.
-fn tell_book(
-    alloc: Global,
-    book: &Book,
-    kept: &[u8],
-    text: Vec<u8>,
-) -> Result<Vec<u8>, AllocError> {
-    let mut text = text;
-    text.extend_from_slice(format!(in alloc; "{}\n", book.count())?.as_bytes())?;
-    text.extend_from_slice(kept)?;
-    tell_records(book.records(), book.subs(), &mut text)?;
     Ok(text)
 }
 
-/// Serves the lines: why each has ended, how many entries the closed book has, and the charging records: those that the sink
-/// kept, and then those that the book still has.
+/// A sink that keeps the records of a board's lines.
+fn sink(alloc: Global, board: &Arc<Board>) -> Result<Kept, Fail> {
+    let board = Arc::try_clone(board)?;
+    Ok(Kept {
+        subs: subs(alloc, &board)?,
+        text: Vec::new(alloc),
+        board,
+        seen_lines: 0,
+        seen_entries: 0,
+        given: Past::new(),
+    })
+}
+
+/// Serves the lines of a scene: why each has ended, how many entries the closed book has, what differs from the plans of the lines,
+/// and the charging records: those that the sink kept, and then those that the book still has.
 pub fn serve<R: Threads + Wait + Sync>(
     rt: &R,
     alloc: Global,
-    serving: &Serving,
-    board: &Arc<Board>,
+    scene: &str,
+    together: bool,
+    at: u64,
 ) -> Result<String, Fail> {
-    let named = subs(alloc, serving.scenario)?;
-    let subs = subs(alloc, serving.scenario)?;
-    if named.counts().lines != subs.counts().lines {
+    let board = Arc::new(alloc, Board::new(alloc, scene, together, at)?)?;
+    let pollers = pollers(alloc, &board)?;
+    let subs = subs(alloc, &board)?;
+    let sink = sink(alloc, &board)?;
+    if sink.subs.counts().lines != subs.counts().lines {
         return Err("the subscriptions differ".into());
     }
-    let stops = serving.stops.then_some(serving.scenario);
-    let sink = Kept::new(alloc, named, board, serving.kept, stops)?;
     let prepared = prepare(alloc, subs)?;
-    let text = serves::<Brand, R>(rt, alloc, prepared, sink, serving, board)?;
+    let text = serves::<Brand, R>(rt, alloc, prepared, sink, pollers, &board)?;
     Ok(String::from_utf8(text)?)
 }

@@ -1,17 +1,13 @@
-//! Tests of the exchange under a lock.
+//! Tests of the exchange under a lock, and of outboxes.
 #![tactic(auto)]
 
 #[cfg(test)]
-mod closing;
+mod log;
 #[cfg(test)]
-mod events;
+mod outbox;
 #[cfg(test)]
-mod offers;
+mod playing;
 #[cfg(test)]
-mod records;
+mod scenes;
 #[cfg(test)]
-mod refusals;
-#[cfg(test)]
-mod slow;
-#[cfg(test)]
-mod threads;
+mod starting;

@@ -3,7 +3,6 @@ pub mod Details
 pub mod Ends
 pub mod Failures
 pub mod Hosts
-pub mod Limits
 pub mod Printing
 pub mod Served
 pub mod Serving

@@ -6,12 +6,12 @@ ghost use Rattle.xp_lines.specs.Recorded.{HandsOn};
 ghost use Rattle.xp_lines.specs.Sessions.{AreMoved, IsLineDown, IsLineServed};
 ghost use Rattle.xp_subs.specs.Tables.{line_count};
 
-use crate::limits::Limits;
 use std::alloc::Global;
 use std::net::{Net, TcpListener, TcpStream};
 use std::sync::Wait;
 use std::thread;
 use std::thread::{JoinHandle, Scope, Threads};
+use xp_limits::Limits;
 use xp_lines::{
     Clock, EndReason, Gate, LineInputs, LinesServed, Link, Poller, Port, RecordSink, ServeFault,
     serve_all,

@@ -1,25 +1,20 @@
-//! Tests of lines that are served over TCP.
+//! Tests of what no run of the program shows: addresses of other machines, notices for which there is no room, records and traces on
+//! writers that fail, a link without a call, the age of days.
 #![tactic(auto)]
 
 #[cfg(test)]
 mod admissions;
 #[cfg(test)]
-mod calls;
+mod choices;
 #[cfg(test)]
-mod client;
+mod console;
 #[cfg(test)]
-mod frames;
-#[cfg(test)]
-mod hosts;
+mod links;
 #[cfg(test)]
 mod notices;
 #[cfg(test)]
 mod paper;
 #[cfg(test)]
-mod ports;
+mod printing;
 #[cfg(test)]
-mod serving;
-#[cfg(test)]
-mod strangers;
-#[cfg(test)]
-mod twice;
+mod tracing;

@@ -7,34 +7,6 @@ use xp_tcp::{Notice, Notices};
 /// How many notices wait at most.
 const ROOM: u16 = 1_024;
 
-/// The notices of a line, with a peer at 10.0.0.9, and their texts.
-fn notices_and_texts(line: u16) -> [(Notice, &'static str); 5] {
-    let address = SocketAddrV4::new(Ipv4Addr::new(10, 0, 0, 9), 40_000);
-    let peer = SocketAddr::V4(address);
-    [
-        (
-            Notice::Refused { line, peer },
-            "connection from 10.0.0.9:40000 refused",
-        ),
-        (Notice::Up { line, peer }, "up from 10.0.0.9:40000"),
-        (Notice::Down { line }, "down"),
-        (
-            Notice::PortFailing { line },
-            "port fails: no connection can be accepted",
-        ),
-        (Notice::PortWorks { line }, "port works again"),
-    ]
-}
-
-#[test]
-fn texts_of_notices(rt: HostRuntime) -> Result<(), Fail> {
-    for (notice, text) in notices_and_texts(7) {
-        assert_eq!(rt; notice.line(), Some(7));
-        assert_eq!(rt; format!(in rt.alloc(); "{notice}")?.as_str(), text);
-    }
-    Ok(())
-}
-
 /// Those for which there is no room are counted, and those that wait come in the order in which they were told.
 #[test]
 fn more_notices_than_there_is_room_for(rt: HostRuntime) -> Result<(), Fail> {
@@ -50,5 +22,16 @@ fn more_notices_than_there_is_room_for(rt: HostRuntime) -> Result<(), Fail> {
     notices.tell(Notice::Down { line: 7 });
     assert_eq!(rt; notices.take(), Some(Notice::Down { line: 7 }));
     assert_eq!(rt; notices.take_lost(), 0);
+    Ok(())
+}
+
+/// A notice has its line, and a text without it.
+#[test]
+fn text_of_a_notice(rt: HostRuntime) -> Result<(), Fail> {
+    let peer = SocketAddr::V4(SocketAddrV4::new(Ipv4Addr::new(10, 0, 0, 9), 40_000));
+    let notice = Notice::Up { line: 7, peer };
+    assert_eq!(rt; notice.line(), Some(7));
+    let text = format!(in rt.alloc(); "{notice}")?;
+    assert_eq!(rt; text.as_str(), "up from 10.0.0.9:40000");
     Ok(())
 }

@@ -1,13 +1,7 @@
-//! Tests of the trace of what lines receive and send.
+//! Tests of the trace of what lines receive and send: octets that are left out, and a queue that is full.
 #![tactic(auto)]
 
-#[cfg(test)]
-mod names;
-#[cfg(test)]
-mod paper;
 #[cfg(test)]
 mod streams;
 #[cfg(test)]
 mod taps;
-#[cfg(test)]
-mod writing;

@@ -1,0 +1,145 @@
+-- What the arguments of a command ask for.
+use Rattle.std.proofs.Common.{◌≡◌, ◌∙◌, [], cond, refl, sym, ap, subst, codes, option_map, Option, Some, None, IfNone, IfSome, List, ℕ, Bool, true, false, nat_eq, slice_index_or}
+use Rattle.clap.specs.Words.{Row, Text, first_of}
+use Rattle.xp_arguments.specs.Commands.{AsksFor, HasLimits, HasReplayForm, HasTrace, IsOneForm, IsOrder, has_flag, IsQuestion, IsSubcommand, IsTrace, operand_of, verb_of, word_of}
+use Rattle.xp_arguments.specs.declared.subcommand.QuestionOrder.{QuestionOrder}
+use Rattle.xp_arguments.specs.declared.subcommand.ReplayForm.{ReplayForm}
+use Rattle.xp_arguments.specs.declared.subcommand.ServeOrder.{ServeOrder}
+use Rattle.xp_arguments.specs.declared.subcommand.Subcommand.{Subcommand}
+use Rattle.xp_arguments.specs.declared.subcommand.TraceOrder.{TraceOrder}
+use Rattle.xp_arguments.specs.declared.subcommand.Verb.{Verb}
+use Rattle.xp_arguments.specs.declared.subcommand.Verb.TheVariants.{Check, Replay, Explain, Serve, Status, Stop}
+use Rattle.xp_limits.specs.Limits.{AreLimits}
+use Rattle.xp_limits.specs.declared.limits.Limits.{Limits}
+
+pub if_none : {X : Type 0} (o : Option X) (P : Type 0) → P → IfNone o P
+if_none None P p = p
+if_none (Some x) P p = tt
+
+pub if_none_then : {X : Type 0} (o : Option X) (P Q : Type 0) → (P → Q) → IfNone o P → IfNone o Q
+if_none_then None P Q f p = f p
+if_none_then (Some x) P Q f p = tt
+
+pub if_some_then : {X : Type 0} (o : Option X) (P Q : X → Type 0) → ((x : X) → P x → Q x) → IfSome o P → IfSome o Q
+if_some_then None P Q f p = tt
+if_some_then (Some x) P Q f p = f x p
+
+pub none_is : {X : Type 0} (o : Option X) (P : Type 0) → o ≡ None → IfNone o P → P
+none_is None P none p = p
+none_is (Some x) P none p = absurd (cc)
+
+-- the limits of the texts that the arguments have
+module _ (rows : List Row) (records turns : Option (List ℕ)) (records_are : records ≡ first_of (codes "records") rows) (turns_are : turns ≡ first_of (codes "turns") rows) where
+  pub has_limits : (limits : Limits) → AreLimits records turns limits → HasLimits rows limits
+  has_limits limits are = subst (λ text. AreLimits text (first_of (codes "turns") rows) limits) records_are (subst (λ text. AreLimits records text limits) turns_are are)
+
+  pub are_limits : (limits : Limits) → HasLimits rows limits → AreLimits records turns limits
+  are_limits limits has =
+      subst (λ text. AreLimits text turns limits) (sym records_are) (subst (λ text. AreLimits (first_of (codes "records") rows) text limits) (sym turns_are) has)
+
+-- without limits nothing is ordered
+pub no_order : (rows : List Row) → ((limits : Limits) → HasLimits rows limits → ⊥) → (order : ServeOrder) → IsOrder rows order → ⊥
+no_order rows none order is = none order.limits is.limits
+
+-- arguments that name lines to be traced, and no file
+pub no_trace : (rows : List Row) → ((trace : Option TraceOrder) → HasTrace rows trace → ⊥) → (order : ServeOrder) → IsOrder rows order → ⊥
+no_trace rows none order is = none order.trace is.trace
+
+-- the trace for which the arguments ask
+module _ (rows : List Row) (path lines : Option Text) (path_is : path ≡ first_of (codes "trace") rows) (lines_are : lines ≡ first_of (codes "trace-lines") rows)
+    (found : Option (Option TraceOrder)) where
+  pub has_trace : IfSome found (IsTrace path lines) → IfSome found (HasTrace rows)
+  has_trace is =
+      subst (λ path. IfSome found (IsTrace path (first_of (codes "trace-lines") rows))) path_is (subst (λ lines. IfSome found (IsTrace path lines)) lines_are is)
+
+  pub has_no_trace : IfNone found ((trace : Option TraceOrder) → IsTrace path lines trace → ⊥) → IfNone found ((trace : Option TraceOrder) → HasTrace rows trace → ⊥)
+  has_no_trace none =
+      subst (λ path. IfNone found ((trace : Option TraceOrder) → IsTrace path (first_of (codes "trace-lines") rows) trace → ⊥)) path_is
+      (subst (λ lines. IfNone found ((trace : Option TraceOrder) → IsTrace path lines trace → ⊥)) lines_are none)
+
+-- arguments without a calling line
+pub no_caller : (rows : List Row) → first_of (codes "CALLER") rows ≡ None → (question : QuestionOrder) → IsQuestion rows question → ⊥
+no_caller rows none question is =
+    let there : Some question.caller.now ≡ None = is.caller ∙ none in
+    absurd (cc)
+
+-- arguments without an address that is called
+pub no_dialled : (rows : List Row) → first_of (codes "DIALLED") rows ≡ None → (question : QuestionOrder) → IsQuestion rows question → ⊥
+no_dialled rows none question is =
+    let there : Some question.dialled.now ≡ None = is.dialled ∙ none in
+    absurd (cc)
+
+-- the forms of a replay for which the arguments ask
+module _ (rows : List Row) (words ladder : Bool) (capture : Option Text) (words_are : words ≡ has_flag (codes "words") rows)
+    (ladder_is : ladder ≡ has_flag (codes "ladder") rows) (capture_is : capture ≡ first_of (codes "pcap") rows) (found : Option ReplayForm) where
+  pub has_form : IfSome found (IsOneForm words ladder capture) → IfSome found (HasReplayForm rows)
+  has_form is =
+      subst (λ words. IfSome found (IsOneForm words (has_flag (codes "ladder") rows) (first_of (codes "pcap") rows))) words_are
+      (subst (λ ladder. IfSome found (IsOneForm words ladder (first_of (codes "pcap") rows))) ladder_is
+      (subst (λ capture. IfSome found (IsOneForm words ladder capture)) capture_is is))
+
+  pub has_no_form : IfNone found ((form : ReplayForm) → IsOneForm words ladder capture form → ⊥) → IfNone found ((form : ReplayForm) → HasReplayForm rows form → ⊥)
+  has_no_form none =
+      subst (λ words. IfNone found ((form : ReplayForm) → IsOneForm words (has_flag (codes "ladder") rows) (first_of (codes "pcap") rows) form → ⊥)) words_are
+      (subst (λ ladder. IfNone found ((form : ReplayForm) → IsOneForm words ladder (first_of (codes "pcap") rows) form → ⊥)) ladder_is
+      (subst (λ capture. IfNone found ((form : ReplayForm) → IsOneForm words ladder capture form → ⊥)) capture_is none))
+
+-- the name of the argument that has to be given first behind this word
+abbrev operand_behind : Text → Text
+operand_behind word = cond (nat_eq (slice_index_or word 1 0) 116) (codes "ADDRESS") (codes "FILE")
+
+operand_is : (verb : Verb) → operand_of verb ≡ operand_behind (word_of verb)
+operand_is Check = refl
+operand_is Replay = refl
+operand_is Explain = refl
+operand_is Serve = refl
+operand_is Status = refl
+operand_is Stop = refl
+
+-- what a command of this word has to be given
+one_operand : (word : Text) (one other : Verb) → word ≡ word_of one → word ≡ word_of other → operand_of one ≡ operand_of other
+one_operand word one other is too = operand_is one ∙ ap operand_behind (sym is ∙ too) ∙ sym (operand_is other)
+
+-- a pair of which both parts are known
+pub pair_is : {X Y : Type 0} (o : Option (X × Y)) (x : X) (y : Y) → option_map (λ pair. pair.0) o ≡ Some x → option_map (λ pair. pair.1) o ≡ Some y → o ≡ Some (x, y)
+pair_is None x y first second = absurd (cc)
+pair_is (Some (a, b)) x y first second = cc
+
+abbrev rows_in : Option (Text × List Row) → List Row
+rows_in None = []
+rows_in (Some pair) = pair.1
+
+abbrev word_in : Option (Text × List Row) → Text
+word_in None = []
+word_in (Some pair) = pair.0
+
+module _ (found : Option (Text × List Row)) (word : Text) (rows : List Row) (found_is : found ≡ Some (word, rows)) where
+  both : (subcommand : Subcommand) (name : List ℕ) (asks : AsksFor found subcommand name) → ◌≡◌ {A = Option (Text × List Row)} (Some (asks.word, asks.rows)) (Some (word, rows))
+  both subcommand name asks = sym asks.found_is ∙ found_is
+
+  word_alike : (subcommand : Subcommand) (name : List ℕ) (asks : AsksFor found subcommand name) → asks.word ≡ word
+  word_alike subcommand name asks = ap word_in (both subcommand name asks)
+
+  rows_alike : (subcommand : Subcommand) (name : List ℕ) (asks : AsksFor found subcommand name) → asks.rows ≡ rows
+  rows_alike subcommand name asks = ap rows_in (both subcommand name asks)
+
+  -- a command that is no subcommand
+  pub asks_nothing : ((subcommand : Subcommand) → IsSubcommand word rows subcommand → ⊥) → (subcommand : Subcommand) (name : List ℕ) → AsksFor found subcommand name → ⊥
+  asks_nothing none subcommand name asks =
+      none subcommand
+      (subst (λ rows. IsSubcommand word rows subcommand) (rows_alike subcommand name asks)
+      (subst (λ word. IsSubcommand word asks.rows subcommand) (word_alike subcommand name asks) asks.subcommand_is))
+
+  is_here : (subcommand : Subcommand) (name : List ℕ) (asks : AsksFor found subcommand name) → IsSubcommand word rows subcommand
+  is_here subcommand name asks =
+      subst (λ rows. IsSubcommand word rows subcommand) (rows_alike subcommand name asks)
+      (subst (λ word. IsSubcommand word asks.rows subcommand) (word_alike subcommand name asks) asks.subcommand_is)
+
+  -- a command without its file or address
+  pub asks_without : (own : Verb) → word ≡ word_of own → first_of (operand_of own) rows ≡ None
+      → (subcommand : Subcommand) (name : List ℕ) → AsksFor found subcommand name → ⊥
+  asks_without own is none subcommand name asks =
+      let alike = one_operand word own (verb_of subcommand) is (is_here subcommand name asks).0 in
+      let there : None ≡ Some name =
+      sym none ∙ ap (λ operand. first_of operand rows) alike ∙ ap (first_of (operand_of (verb_of subcommand))) (sym (rows_alike subcommand name asks)) ∙ asks.named in
+      absurd (cc)

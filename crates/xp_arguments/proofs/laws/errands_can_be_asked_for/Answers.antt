@@ -1,0 +1,128 @@
+use Rattle.std.proofs.Common.{Some, ap, arith, codes, option_map, refl, sym}
+use Rattle.xp_limits.specs.Limits.{IsNumber}
+use Rattle.clap.proofs.OnLiterals.{clap_on_literals}
+use Rattle.xp_arguments.proofs.laws.errands_can_be_asked_for.Goals as goal
+
+pub returns-clause-check : goal.returns-clause-check
+unfolding clap_on_literals
+returns-clause-check c = record { faultless = refl; asked = record { word = _; rows = _; found_is = refl; subcommand_is = (refl, refl); named = refl } }
+
+pub returns-clause-replay : goal.returns-clause-replay
+unfolding clap_on_literals
+returns-clause-replay c = record { faultless = refl; asked = record { word = _; rows = _; found_is = refl; subcommand_is = (refl, (refl, refl, refl)); named = refl } }
+
+twelve : IsNumber (codes "12") 12
+twelve = record { numeral = (omega arith, (omega arith, (omega arith, tt))); value = refl; least = omega arith; most = omega arith }
+
+three : IsNumber (codes "3") 3
+three = record { numeral = (omega arith, (omega arith, tt)); value = refl; least = omega arith; most = omega arith }
+
+pub returns-clause-serve : goal.returns-clause-serve
+unfolding clap_on_literals
+returns-clause-serve c =
+    record {
+      faultless = refl;
+      asked = record {
+        word = _;
+        rows = _;
+        found_is = refl;
+        subcommand_is = (refl, record { limits = record { records_are = refl; turns_are = refl }; details = refl; trace = (refl, refl); console = refl; quiet = refl; until_eof = refl });
+        named = refl;
+      };
+    }
+
+pub returns-clause-limits : goal.returns-clause-limits
+unfolding clap_on_literals
+returns-clause-limits c =
+    record {
+      faultless = refl;
+      asked = record {
+        word = _;
+        rows = _;
+        found_is = refl;
+        subcommand_is = (refl, record { limits = record { records_are = twelve; turns_are = three }; details = refl; trace = (refl, refl); console = refl; quiet = refl; until_eof = refl });
+        named = refl;
+      };
+    }
+
+pub returns-clause-details : goal.returns-clause-details
+unfolding clap_on_literals
+returns-clause-details c =
+    λ order details limits trace console quiet until_eof. record {
+      faultless = refl;
+      asked = record {
+        word = _;
+        rows = _;
+        found_is = refl;
+        subcommand_is = (refl, record { limits = rw (limits) (record { records_are = refl; turns_are = refl }); details = details; trace = rw (trace) ((refl, refl)); console = ap (option_map (λ address. address.now)) console; quiet = quiet; until_eof = until_eof });
+        named = refl;
+      };
+    }
+
+pub returns-clause-trace : goal.returns-clause-trace
+unfolding clap_on_literals
+returns-clause-trace c =
+    λ order trace traced path lines limits details console quiet until_eof. record {
+      faultless = refl;
+      asked = record {
+        word = _;
+        rows = _;
+        found_is = refl;
+        subcommand_is = (
+          refl,
+          record {
+            limits = rw (limits) (record { records_are = refl; turns_are = refl });
+            details = ap (option_map (λ name. name.now)) details;
+            trace = rw (traced) ((ap Some (sym path), lines));
+            console = ap (option_map (λ address. address.now)) console;
+            quiet = quiet;
+            until_eof = until_eof;
+          },
+        );
+        named = refl;
+      };
+    }
+
+pub returns-clause-status : goal.returns-clause-status
+unfolding clap_on_literals
+returns-clause-status c = record { faultless = refl; asked = record { word = _; rows = _; found_is = refl; subcommand_is = (refl, tt); named = refl } }
+
+pub returns-clause-stop : goal.returns-clause-stop
+unfolding clap_on_literals
+returns-clause-stop c = record { faultless = refl; asked = record { word = _; rows = _; found_is = refl; subcommand_is = (refl, tt); named = refl } }
+
+pub returns-clause-summary : goal.returns-clause-summary
+unfolding clap_on_literals
+returns-clause-summary c = record { faultless = refl; asked = record { word = _; rows = _; found_is = refl; subcommand_is = (refl, refl); named = refl } }
+
+pub returns-clause-words : goal.returns-clause-words
+unfolding clap_on_literals
+returns-clause-words c = record { faultless = refl; asked = record { word = _; rows = _; found_is = refl; subcommand_is = (refl, (refl, refl, refl)); named = refl } }
+
+pub returns-clause-ladder : goal.returns-clause-ladder
+unfolding clap_on_literals
+returns-clause-ladder c = record { faultless = refl; asked = record { word = _; rows = _; found_is = refl; subcommand_is = (refl, (refl, refl, refl)); named = refl } }
+
+pub returns-clause-explain : goal.returns-clause-explain
+unfolding clap_on_literals
+returns-clause-explain c =
+    λ question caller dialled facilities user up busy. record {
+      faultless = refl;
+      asked = record {
+        word = _;
+        rows = _;
+        found_is = refl;
+        subcommand_is = (
+          refl,
+          record {
+            caller = ap Some caller;
+            dialled = ap Some dialled;
+            facilities = facilities;
+            user = ap (option_map (λ text. text.now)) user;
+            up = ap (option_map (λ text. text.now)) up;
+            busy = busy;
+          },
+        );
+        named = refl;
+      };
+    }

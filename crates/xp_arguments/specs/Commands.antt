@@ -1,0 +1,203 @@
+-- The command lines that the program takes, as `clap` reads them.
+use Rattle.std.specs.Prelude.{◌≡◌, ℕ, List, [], Bool, Option, Some, None, true, false, codes, option_map}
+use Rattle.clap.specs.Words.{App, Row, Rule, Text, fault_of, first_of, new_app, new_rule, subcommand_of, with_rule, with_subcommand}
+use Rattle.clap.specs.declared.builder.action.ArgAction.TheVariants.{SetTrue}
+use Rattle.xp_arguments.specs.declared.subcommand.CheckForm.{CheckForm}
+use Rattle.xp_arguments.specs.declared.subcommand.CheckForm.TheVariants as check_forms
+use Rattle.xp_arguments.specs.declared.subcommand.ConsoleRequest.{ConsoleRequest}
+use Rattle.xp_arguments.specs.declared.subcommand.ConsoleRequest.TheVariants as requests
+use Rattle.xp_arguments.specs.declared.subcommand.QuestionOrder.{QuestionOrder}
+use Rattle.xp_arguments.specs.declared.subcommand.ReplayForm.{ReplayForm}
+use Rattle.xp_arguments.specs.declared.subcommand.ReplayForm.TheVariants as replay_forms
+use Rattle.xp_arguments.specs.declared.subcommand.ServeOrder.{ServeOrder}
+use Rattle.xp_arguments.specs.declared.subcommand.Subcommand.{Subcommand}
+use Rattle.xp_arguments.specs.declared.subcommand.Subcommand.TheVariants as subcommands
+use Rattle.xp_arguments.specs.declared.subcommand.TraceOrder.{TraceOrder}
+use Rattle.xp_arguments.specs.declared.subcommand.Verb.{Verb}
+use Rattle.xp_arguments.specs.declared.subcommand.Verb.TheVariants.{Check, Replay, Explain, Serve, Status, Stop}
+use Rattle.xp_limits.specs.Limits.{AreLimits}
+use Rattle.xp_limits.specs.declared.limits.Limits.{Limits}
+use Rattle.xp_subs.specs.Tables.{same}
+
+-- an argument that has to be there, as `FILE`
+abbrev pub positional : Text → Rule
+positional name = record (new_rule name) { required = true }
+
+-- an argument with a value, as `--records N`
+abbrev pub valued : Text → Rule
+valued name = record (new_rule name) { long = Some name; value_names = 1 }
+
+-- an argument that is there or not, as `--until-eof`
+abbrev pub flag : Text → Rule
+flag name = record (new_rule name) { long = Some name; action = Some SetTrue }
+
+-- the word of a verb
+abbrev pub word_of : Verb → Text
+word_of Check = codes "check"
+word_of Replay = codes "replay"
+word_of Explain = codes "explain"
+word_of Serve = codes "serve"
+word_of Status = codes "status"
+word_of Stop = codes "stop"
+
+-- the name of the argument that a verb has to be given first: a file, or the address of a console
+abbrev pub operand_of : Verb → Text
+operand_of Check = codes "FILE"
+operand_of Replay = codes "FILE"
+operand_of Explain = codes "FILE"
+operand_of Serve = codes "FILE"
+operand_of Status = codes "ADDRESS"
+operand_of Stop = codes "ADDRESS"
+
+-- the command of a verb, with that argument alone
+abbrev pub command_of : Verb → App
+command_of verb = with_rule (new_app (word_of verb)) (positional (operand_of verb))
+
+-- the command that checks a file
+abbrev pub check : App
+check = with_rule (command_of Check) (flag (codes "words"))
+
+-- the command that replays a script
+abbrev pub replay : App
+replay = with_rule (with_rule (with_rule (command_of Replay) (flag (codes "words"))) (flag (codes "ladder"))) (valued (codes "pcap"))
+
+-- the command that explains a decision, with the calling line and the address
+abbrev pub call : App
+call = with_rule (with_rule (command_of Explain) (positional (codes "CALLER"))) (positional (codes "DIALLED"))
+
+-- with the rest of the call request, and the states of the lines
+abbrev pub explain : App
+explain =
+    with_rule (with_rule (with_rule (with_rule call (valued (codes "facilities"))) (valued (codes "user"))) (valued (codes "up")))
+    (valued (codes "busy"))
+
+-- the command that serves, with the arguments that tell of records
+abbrev pub recording : App
+recording = with_rule (with_rule (command_of Serve) (valued (codes "cdr"))) (valued (codes "records"))
+
+-- with those that tell of a trace
+abbrev pub tracing : App
+tracing = with_rule (with_rule recording (valued (codes "trace"))) (valued (codes "trace-lines"))
+
+-- the command that asks for the lines to be served
+abbrev pub serve : App
+serve =
+    with_rule (with_rule (with_rule (with_rule tracing (valued (codes "turns"))) (valued (codes "console"))) (flag (codes "quiet")))
+    (flag (codes "until-eof"))
+
+-- a command of which something has to be asked
+abbrev pub asked : App → App
+asked app = record app { top = record app.top { subcommand_required = true; arg_required_else_help = true } }
+
+-- the program with the commands that check a file and replay a script
+abbrev pub replaying : App
+replaying = with_subcommand (with_subcommand (asked (new_app (codes "xp"))) check.top) replay.top
+
+-- the program with the commands over a file
+abbrev pub over_files : App
+over_files = with_subcommand replaying explain.top
+
+-- with the command that serves
+abbrev pub serving : App
+serving = with_subcommand over_files serve.top
+
+abbrev pub program : App
+program = with_subcommand (with_subcommand serving (command_of Status).top) (command_of Stop).top
+
+-- an argument that is there or not is there
+abbrev pub says_true : Option Text → Bool
+says_true None = false
+says_true (Some text) = same text (codes "true")
+
+-- whether the flag of this name is among the arguments
+abbrev pub has_flag : Text → List Row → Bool
+has_flag name rows = says_true (first_of name rows)
+
+-- the arguments ask for what a file sets up in this form
+abbrev pub HasCheckForm : List Row → CheckForm → Type 0
+HasCheckForm rows check_forms.Counts = has_flag (codes "words") rows ≡ false
+HasCheckForm rows check_forms.Words = has_flag (codes "words") rows ≡ true
+
+-- this form is asked for, and no other: words, a ladder, or a capture of this name
+abbrev pub IsOneForm : Bool → Bool → Option Text → ReplayForm → Type 0
+IsOneForm words ladder capture replay_forms.Digits = (words ≡ false) × (ladder ≡ false) × (capture ≡ None)
+IsOneForm words ladder capture replay_forms.Words = (words ≡ true) × (ladder ≡ false) × (capture ≡ None)
+IsOneForm words ladder capture replay_forms.Ladder = (words ≡ false) × (ladder ≡ true) × (capture ≡ None)
+IsOneForm words ladder capture (replay_forms.Capture path) = (words ≡ false) × (ladder ≡ false) × (capture ≡ Some path.now)
+
+-- the arguments ask for a replay in this form
+abbrev pub HasReplayForm : List Row → ReplayForm → Type 0
+HasReplayForm rows form = IsOneForm (has_flag (codes "words") rows) (has_flag (codes "ladder") rows) (first_of (codes "pcap") rows) form
+
+-- the arguments ask how this call request is decided
+pub record IsQuestion (rows : List Row) (question : QuestionOrder) : Type 0 where
+  pub caller : Some question.caller.now ≡ first_of (codes "CALLER") rows
+  pub dialled : Some question.dialled.now ≡ first_of (codes "DIALLED") rows
+  pub facilities : option_map (λ text. text.now) question.facilities ≡ first_of (codes "facilities") rows
+  pub user : option_map (λ text. text.now) question.user ≡ first_of (codes "user") rows
+  pub up : option_map (λ text. text.now) question.up ≡ first_of (codes "up") rows
+  pub busy : option_map (λ text. text.now) question.busy ≡ first_of (codes "busy") rows
+
+-- the arguments say when serving ends
+abbrev pub HasLimits : List Row → Limits → Type 0
+HasLimits rows limits = AreLimits (first_of (codes "records") rows) (first_of (codes "turns") rows) limits
+
+-- a trace into the file of this name, of these lines or of all; nothing is traced where neither is there
+abbrev pub IsTrace : Option Text → Option Text → Option TraceOrder → Type 0
+IsTrace path lines None = (path ≡ None) × (lines ≡ None)
+IsTrace path lines (Some trace) = (path ≡ Some trace.path.now) × (option_map (λ names. names.now) trace.lines ≡ lines)
+
+-- the arguments say what is to be traced
+abbrev pub HasTrace : List Row → Option TraceOrder → Type 0
+HasTrace rows trace = IsTrace (first_of (codes "trace") rows) (first_of (codes "trace-lines") rows) trace
+
+-- the arguments say how the lines are to be served
+pub record IsOrder (rows : List Row) (order : ServeOrder) : Type 0 where
+  pub limits : HasLimits rows order.limits
+  pub details : option_map (λ name. name.now) order.details ≡ first_of (codes "cdr") rows
+  pub trace : HasTrace rows order.trace
+  pub console : option_map (λ address. address.now) order.console ≡ first_of (codes "console") rows
+  pub quiet : order.quiet ≡ has_flag (codes "quiet") rows
+  pub until_eof : order.until_eof ≡ has_flag (codes "until-eof") rows
+
+-- what a console is asked for
+abbrev pub verb_to : ConsoleRequest → Verb
+verb_to requests.Status = Status
+verb_to requests.Stop = Stop
+
+-- what a subcommand does
+abbrev pub verb_of : Subcommand → Verb
+verb_of (subcommands.Check form) = Check
+verb_of (subcommands.Replay form) = Replay
+verb_of (subcommands.Explain question) = Explain
+verb_of (subcommands.Serve order) = Serve
+verb_of (subcommands.Ask request) = verb_to request
+
+-- the arguments that were found are those of this subcommand
+abbrev pub Suits : List Row → Subcommand → Type 0
+Suits rows (subcommands.Check form) = HasCheckForm rows form
+Suits rows (subcommands.Replay form) = HasReplayForm rows form
+Suits rows (subcommands.Explain question) = IsQuestion rows question
+Suits rows (subcommands.Serve order) = IsOrder rows order
+Suits rows (subcommands.Ask request) = Unit {0}
+
+-- a command of this word, with its arguments as they were found, asks for this
+abbrev pub IsSubcommand : Text → List Row → Subcommand → Type 0
+IsSubcommand word rows subcommand = (word ≡ word_of (verb_of subcommand)) × Suits rows subcommand
+
+-- A command, with its arguments as they were found, asks for this with this file or address.
+pub record AsksFor (found : Option (Text × List Row)) (subcommand : Subcommand) (name : List ℕ) : Type 0 where
+  pub word : Text
+  pub rows : List Row
+  pub found_is : found ≡ Some (word, rows)
+  pub subcommand_is : IsSubcommand word rows subcommand
+  pub named : first_of (operand_of (verb_of subcommand)) rows ≡ Some name
+
+-- The words, of which the first is the program's own, are without fault, and ask for this with this file or address.
+pub record Ask (words : List Text) (subcommand : Subcommand) (name : List ℕ) : Type 0 where
+  pub faultless : fault_of program words ≡ []
+  pub asked : AsksFor (subcommand_of program words) subcommand name
+
+-- words that ask for something
+abbrev pub AreRight : List Text → Type 0
+AreRight words = (subcommand : Subcommand) × (name : List ℕ) × Ask words subcommand name

@@ -1,0 +1,12 @@
+//! The command line of the program: its subcommands, and what they are given.
+#![tactic(auto)]
+
+mod arguments;
+mod laws;
+mod subcommand;
+
+pub use arguments::{Arguments, refused};
+pub use laws::errands_can_be_asked_for;
+pub use subcommand::{
+    CheckForm, ConsoleRequest, QuestionOrder, ReplayForm, ServeOrder, Subcommand, TraceOrder, Verb,
+};

@@ -1,4 +1,0 @@
-use Rattle.xp_lines_tests.proofs.turning.play.Given as goal
-
-abbrev pub ghosts-plays : goal.ghosts-plays
-ghosts-plays g a = record { subs = a.prepared.subs; history_length = a.prepared.history_length; queues = a.prepared.queues }

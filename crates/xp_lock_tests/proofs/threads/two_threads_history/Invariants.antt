@@ -1,4 +1,0 @@
-use Rattle.xp_lock_tests.proofs.threads.two_threads_history.Given as goal
-
-abbrev pub ghosts-both : goal.ghosts-both
-ghosts-both g a = record { subs = a.prepared.subs; history_length = a.prepared.history_length; queues = a.prepared.queues }

@@ -1,0 +1,109 @@
+//! Outboxes: two threads hand items over in order, and places are filled and freed, also where an outbox was refused before.
+
+ghost use Rattle.std.specs.Prelude.{◌≡◌};
+
+use std::alloc::{Allocator, Global};
+use std::process::Abort;
+use std::sync::Wait;
+use std::test::Fail;
+use std::thread;
+use xp_outbox::{PutEnd, TakeEnd, count_untaken, outbox};
+use xp_testing::Refusing;
+
+const PLACES: usize = 64;
+
+const ITEMS: usize = 1000;
+
+/// Puts the numbers in order, each once a place is free.
+fn put_all<R: Wait>(rt: &R, end: PutEnd<usize, Global>) -> PutEnd<usize, Global>
+    ensures { result.queue ≡ end.queue }
+{
+    let mut end = end;
+    let mut next = 0;
+    for _ in rt.forever() {
+        if next >= ITEMS {
+            break;
+        }
+        if end.room(rt) > 0 {
+            end.put(rt, next);
+            next += 1;
+        } else {
+            thread::yield_now();
+        }
+    }
+    end
+}
+
+/// Takes as many items: how many came in order.
+fn take_all<R: Wait>(rt: &R, end: TakeEnd<usize, Global>) -> (TakeEnd<usize, Global>, usize)
+    ensures { result.0.queue ≡ end.queue }
+{
+    let mut end = end;
+    let mut next = 0;
+    for _ in rt.forever() {
+        if next >= ITEMS {
+            break;
+        }
+        match end.take(rt) {
+            Some(item) if item == next => next += 1,
+            Some(_) => break,
+            None => thread::yield_now(),
+        }
+    }
+    (end, next)
+}
+
+#[test]
+fn two_threads_hand_items_over_in_order(rt: HostRuntime) -> Result<(), Fail> {
+    let (put, taken) = outbox(rt.alloc(), PLACES)?;
+    let (mut put, (taken, count)) = thread::join(
+        &rt,
+        move ||
+            ensures { result.queue ≡ put.queue }
+        { put_all(&rt, put) },
+        move ||
+            ensures { result.0.queue ≡ taken.queue }
+        { take_all(&rt, taken) },
+    );
+    assert_eq!(rt; (count_untaken(&rt, &mut put, taken), count), (0, ITEMS));
+    Ok(())
+}
+
+/// Fills the places in order, and frees them.
+fn fill_and_free<A: Allocator + Copy>(
+    rt: &(impl Wait + Abort),
+    put: &mut PutEnd<usize, A>,
+    taken: &mut TakeEnd<usize, A>,
+) {
+    assert_eq!(rt; put.room(rt), PLACES);
+    for place in 0..PLACES {
+        if put.free() > 0 {
+            put.put(rt, place);
+        }
+    }
+    assert_eq!(rt; (put.free(), put.room(rt)), (0, 0));
+    assert_eq!(rt; (taken.take(rt), put.free(), put.room(rt)), (Some(0), 0, 1));
+    for place in 1..PLACES {
+        assert_eq!(rt; taken.take(rt), Some(place));
+    }
+    assert_eq!(rt; (taken.take(rt), put.room(rt)), (None, PLACES));
+}
+
+#[test]
+fn places_are_filled_and_freed(rt: HostRuntime) -> Result<(), Fail> {
+    let mut refused = 0u64;
+    for number in 1..20u64 {
+        let scarce = Refusing::new(rt.alloc(), number);
+        let (mut put, mut taken) = match outbox(&scarce, PLACES) {
+            Ok(ends) => ends,
+            Err(_) => outbox(&scarce, PLACES)?,
+        };
+        fill_and_free(&rt, &mut put, &mut taken);
+        if scarce.is_pending() {
+            break;
+        }
+        refused = number;
+    }
+    assert!(rt; refused > 1 && refused < 19, "{refused} requests");
+    Ok(())
+}

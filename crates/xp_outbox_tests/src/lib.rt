@@ -1,5 +1,0 @@
-//! Tests of outboxes.
-#![tactic(auto)]
-
-#[cfg(test)]
-mod outbox;

@@ -1,0 +1,37 @@
+//! A link to a router over which no call goes.
+
+use std::alloc::Global;
+use std::net::{Ipv4Addr, Net, SocketAddr, SocketAddrV4};
+use std::num::NonZeroUsize;
+use std::sync::Arc;
+use std::test::Fail;
+use xp_lines::{Arrived, Link, Port, Pushed};
+use xp_tcp::{Ends, Notices, Sockets};
+
+/// A clear request, as a frame (RFC 1613).
+const CLEAR: &[u8] = b"\x00\x00\x00\x05\x10\x01\x13\x00\x00";
+
+/// The ends of a line behind a router.
+fn ends_of<R: Net>(rt: &R, alloc: Global) -> Result<Ends, Fail> {
+    let router = SocketAddr::V4(SocketAddrV4::new(Ipv4Addr::LOCALHOST, 1998));
+    let notices = Arc::new(alloc, Notices::new(alloc)?)?;
+    let mut sockets = Sockets::new(alloc, 1, NonZeroUsize::MIN, notices)?;
+    sockets.add_router(rt, router)?;
+    Ok(sockets.into_ends(alloc)?)
+}
+
+/// Only a call begins a connection to the router.
+#[test]
+fn clear_without_a_call(rt: HostRuntime) -> Result<(), Fail> {
+    let mut ends = ends_of(&rt, rt.alloc())?;
+    let Some((port, _clock)) = ends.lines.pop() else {
+        return Err("no line".into());
+    };
+    let mut port = port;
+    let Arrived::Came(link) = port.next() else {
+        return Err("no link".into());
+    };
+    let mut link = link;
+    assert_eq!(rt; link.push(CLEAR), Pushed::Fault);
+    Ok(())
+}

@@ -1,5 +1,0 @@
-//! Tests of summaries, word by word.
-#![tactic(auto)]
-
-#[cfg(test)]
-mod texts;

@@ -1,0 +1,162 @@
+//! Parts of a line: its link and the port that it comes from, its clock and its gate; and what its thread does between the turns.
+
+ghost use Rattle.std.specs.Prelude.{◌≤◌, length};
+ghost use Rattle.xp_lines.specs.Counts.{pulled_count};
+
+use crate::board::{Board, Line};
+use std::alloc::AllocError;
+use std::sync::Arc;
+use std::sync::atomic::Ordering;
+use std::thread;
+use xp_lines::{Arrived, Clock, Gate, Link, Patience, Poller, Port, Pulled, Pushed};
+use xp_subs::LineNo;
+use xp_testing::{number, setting};
+
+/// A part of a line, which does what the line's plan tells.
+#[derive(Drop)]
+pub struct Part {
+    board: Arc<Board>,
+    line: LineNo,
+    /// How many pieces a link gave, how many links a port gave, what time it is by a clock, and how many lines a thread has, this
+    /// line the first.
+    count: u64,
+}
+
+impl Part {
+    pub fn new(board: &Arc<Board>, line: LineNo, count: u64) -> Result<Part, AllocError> {
+        Ok(Part {
+            board: Arc::try_clone(board)?,
+            line,
+            count,
+        })
+    }
+}
+
+/// Whether this pull or push meets a fault.
+fn fails(line: &Line, word: &str, number: u64, at: u64) -> bool {
+    let fails = number == at && line.has(word);
+    if fails {
+        line.failed.store(true, Ordering::SeqCst);
+    }
+    fails
+}
+
+/// Puts octets at the front of the buffer. No octets are the end of the link.
+fn fill(octets: &[u8], into: &mut [u8]) -> Pulled
+    ensures { pulled_count result ≤ length into.new }
+{
+    if octets.is_empty() {
+        return Pulled::Ended;
+    }
+    let count = octets.len().min(into.len());
+    into[..count].copy_from_slice(&octets[..count]);
+    Pulled::Octets(count)
+}
+
+impl Link for Part {
+    fn pull(&mut self, into: &mut [u8]) -> Pulled {
+        let line = self.board.of(self.line);
+        let time = line.pulls.fetch_add(1, Ordering::SeqCst);
+        if fails(line, "pull-fault", time, self.board.at) {
+            return Pulled::Fault;
+        }
+        let Some(piece) = line.plan.gives.get(self.count as usize) else {
+            if !self.board.together {
+                line.hold();
+            }
+            return Pulled::Nothing;
+        };
+        if line.got() < piece.after {
+            return Pulled::Nothing;
+        }
+        self.count = self.count.saturating_add(1);
+        fill(&piece.octets, into)
+    }
+
+    fn push(&mut self, from: &[u8]) -> Pushed {
+        let line = self.board.of(self.line);
+        let time = line.pushes.fetch_add(1, Ordering::SeqCst);
+        if fails(line, "push-fault", time, self.board.at) {
+            return Pushed::Fault;
+        }
+        let room = line.plan.all.saturating_sub(line.got() as u64);
+        let room = room.min(line.plan.most);
+        let count = (from.len() as u64).min(room) as usize;
+        line.take(&from[..count]);
+        Pushed::Took(count)
+    }
+}
+
+/// It gives at most one link.
+impl Port for Part {
+    type Link = Part;
+
+    fn next(&mut self) -> Arrived<Part> {
+        let line = self.board.of(self.line);
+        if line.has("broken") {
+            line.pulls.fetch_add(1, Ordering::SeqCst);
+            return Arrived::Fault;
+        }
+        if self.count > 0 || line.has("none") {
+            return Arrived::Nothing;
+        }
+        self.count = 1;
+        match Part::new(&self.board, self.line, 0) {
+            Ok(link) => Arrived::Came(link),
+            Err(_) => Arrived::Fault,
+        }
+    }
+}
+
+/// It goes on by so many seconds where it is read (`read`), its line has nothing to do (`step`) and its thread pauses (`pause`).
+impl Clock for Part {
+    fn now(&mut self) -> u64 {
+        let pauses = self.board.of(self.line).pauses.load(Ordering::SeqCst);
+        let paused = pauses.saturating_mul(self.board.pause);
+        let now = self.count;
+        self.count = now.saturating_add(self.board.read);
+        now.saturating_add(paused)
+    }
+
+    fn idle(&mut self) {
+        self.count = self.count.saturating_add(self.board.step);
+        let line = self.board.of(self.line);
+        line.idles.fetch_add(1, Ordering::SeqCst);
+    }
+
+    fn wake(&mut self, line: LineNo) {
+        self.board.of(line).wakes.fetch_add(1, Ordering::SeqCst);
+    }
+}
+
+impl Gate for Part {
+    fn may_go(&mut self, line: LineNo) -> bool {
+        let board = &self.board;
+        let this = board.of(line);
+        let words = this.plan.words.as_str();
+        if this.asks.fetch_add(1, Ordering::SeqCst) == 0 {
+            board.meet(setting(words, "meets=").unwrap_or(""));
+        }
+        board.are_pulled(setting(words, "pulled=").unwrap_or(""))
+            && board.of(2).got() as u64 >= number(words, "h1-took=", 0)
+            && board.recorded.load(Ordering::SeqCst) >= number(words, "recorded=", 0)
+    }
+}
+
+/// Between the turns of its lines the thread lets others run.
+impl Poller for Part {
+    fn lines(&self) -> usize {
+        self.count as usize
+    }
+
+    fn poll(&mut self, _patience: Patience) {
+        thread::yield_now();
+    }
+
+    fn pause(&mut self) {
+        for place in 0..self.count.min(6) as LineNo {
+            let line = self.board.of(self.line.saturating_add(place));
+            line.pauses.fetch_add(1, Ordering::SeqCst);
+        }
+    }
+}
