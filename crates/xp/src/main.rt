@@ -20,7 +20,7 @@ use crate::console::ask_console;
 use crate::explaining::explain_call;
 use crate::failure::Failure;
 use crate::replaying::replay_script;
-use crate::serving::serve_lines;
+use crate::serving::{ThreeSubs, serve_lines};
 use crate::subscribing::read_subscriptions;
 use log::Log;
 use std::fs::{File, Files};
@@ -52,6 +52,8 @@ fn main(rt: HostRuntime) -> ExitCode {
 fn run<
     R: AllocGlobal
         + Clock
+        + Copy
+        + Drop
         + Env
         + Files<File = File>
         + Input
@@ -59,9 +61,11 @@ fn run<
         + Net<Listener = TcpListener, Stream = TcpStream>
         + Print
         + RandomSource
+        + Send
         + Sync
         + Threads
-        + Wait,
+        + Wait
+        + 'static,
 >(rt: &R) -> Result<(), Failure> {
     let words = words(rt)?;
     let arguments = Arguments::read(rt.alloc(), &words)?;
@@ -82,20 +86,25 @@ fn run<
 fn serve_file<
     R: AllocGlobal
         + Clock
+        + Copy
+        + Drop
         + Files<File = File>
         + Log
         + Net<Listener = TcpListener, Stream = TcpStream>
         + Print
         + RandomSource
+        + Send
         + Sync
         + Threads
-        + Wait,
+        + Wait
+        + 'static,
 >(rt: &R, order: &ServeOrder<'_>, file: &str) -> Result<(), Failure> {
     let alloc = rt.alloc();
     let text = fs::read_to_string(rt, file);
-    let subs = read_subscriptions(alloc, &text)?;
+    let own = read_subscriptions(alloc, &text)?;
     let names = read_subscriptions(alloc, &text)?;
-    serve_lines(rt, order, subs, names)
+    let spare = read_subscriptions(alloc, &text)?;
+    serve_lines(rt, order, ThreeSubs { own, names, spare })
 }
 
 /// The subscriptions of the file of this name.

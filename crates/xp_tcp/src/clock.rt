@@ -3,7 +3,7 @@
 ghost use Rattle.std.specs.Prelude.{◌≡◌, ◌≤◌, ◌/◌};
 ghost use Rattle.std.specs.Duration.{as_nanos};
 
-use crate::start::Start;
+use xp_clock::Start;
 use std::marker::Model;
 use std::sync::Arc;
 use xp_door::{LineWaker, wake_if_asleep};

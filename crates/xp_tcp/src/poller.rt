@@ -1,6 +1,6 @@
 //! What a thread does between the turns of its lines.
 
-use crate::start::uptime;
+use xp_clock::uptime;
 use crate::tokens::line_of;
 use mio::{Events, Poll};
 use std::sync::Arc;

@@ -6,7 +6,7 @@ ghost use Rattle.xp_lines.specs.Counts.{pulled_count, pushed_count};
 use crate::link::{count_pulled, count_pushed, wait_for};
 use crate::options::Patience;
 use crate::router_connection::RouterConnection;
-use crate::start::uptime;
+use xp_clock::uptime;
 use mio::Registry;
 use mio::net::TcpStream;
 use std::mem;

@@ -15,7 +15,7 @@ use crate::line_sockets::{LineSockets, LineSource, listen_at, open_port};
 use crate::poller::TcpPoller;
 use crate::port::TcpPort;
 use crate::router_port::RouterPort;
-use crate::start::Start;
+use xp_clock::Start;
 use crate::thread_sockets::ThreadSockets;
 use crate::tokens::{WAKER, listener_of};
 use mio::{Events, Poll, Registry, Waker};

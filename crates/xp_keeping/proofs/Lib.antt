@@ -1,0 +1,5 @@
+pub mod Flushed
+pub mod Fronts
+mod Kept
+mod Printed
+mod QueueLemmas
