@@ -1,5 +1,5 @@
-mod BatchLemmas
 mod DigitLemmas
+mod FileLemmas
 mod MomentLemmas
 mod PlainLemmas
 mod WriterLemmas
