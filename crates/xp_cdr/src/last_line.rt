@@ -1,5 +1,9 @@
 //! The last line of a file of call detail records.
 
+ghost use Rattle.std.specs.Prelude.{IfSome};
+ghost use Rattle.xp_cdr.specs.Moments.{moment_text};
+ghost use Rattle.xp_cdr.specs.steps.LastLine.{LastBegins};
+
 use crate::moment::read_moment;
 use memchr::{memchr, memrchr};
 use std::io;
@@ -24,7 +28,9 @@ pub fn last_started<S: Read + Seek>(file: &mut S, end: u64) -> io::Result<Option
 }
 
 /// The first field of the last of these lines, as a moment. A line whose begin is not there has none.
-fn started_in(lines: &[u8]) -> Option<u64> {
+fn started_in(lines: &[u8]) -> Option<u64>
+    ensures { IfSome result (λ seconds. LastBegins lines.now (moment_text seconds)) }
+{
     let (_, text) = lines.split_last()?;
     let start = memrchr(b'\n', text)? + 1;
     let line = &text[start..];

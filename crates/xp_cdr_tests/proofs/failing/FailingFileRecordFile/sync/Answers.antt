@@ -1,6 +1,6 @@
 use Rattle.std.proofs.Common.{◌≡◌, ap, drop, refl, sym, take, ◌∙◌}
 use Rattle.std.proofs.lemmas.List.{take-append-drop}
-use Rattle.xp_cdr.specs.Files.{HasFront, LosesAnEnd}
+use Rattle.xp_cdr.specs.Files.{LosesAnEnd}
 use Rattle.xp_cdr_tests.proofs.failing.FailingFileRecordFile.sync.Goals as goal
 
 pub returns-then-fails-clause-lost : goal.returns-then-fails-clause-lost
