@@ -32,7 +32,7 @@ BUILDING = "xp: building the program before any proof, which takes about four mi
 OLDER = "xp: the program is older than its {}: ./xp prove proves and builds it\n"
 NO_SERVING = (
     "xp: serve runs the proved program, and none is here: ./xp prove proves and builds it, in about an hour\n"
-    "xp: for a try of the program before any proof: ./xp --unproved {}\n"
+    "xp: for a try of the program before any proof: ./xp --unproved serve lines.toml\n"
 )
 
 PROGRAM = """#!/usr/bin/env bash
@@ -139,9 +139,12 @@ def serve_until_terminated(tree, *words, **wanted):
 
 
 def serve_without_a_program(tree):
-    yield tree.run("serve", "lines.toml"), (1, "", NO_SERVING.format("serve lines.toml"))
-    yield tree.run("serve", "--cdr", "calls.csv"), (1, "", NO_SERVING.format("serve --cdr calls.csv FILE"))
+    yield tree.run("serve", "lines.toml"), (1, "", NO_SERVING)
     yield tree.runs_of("unproved") + tree.runs_of("proved"), 0
+    # What serves nothing is told by the program before any proof.
+    for words in ((), ("--help",), ("--cdr", "calls.csv")):
+        status, output, told = tree.run("serve", *words, status=2)
+        yield (status, output, told.endswith(NOT_PROVED)), (2, output_of("unproved", "serve", *words), True)
 
 
 def version_without_a_program(tree):

@@ -27,7 +27,7 @@ def ask(line, what, packet):
     answer = receive(line)
     print(f"  answered by {answer.hex()}")
     if answer[2] == 0x13:  # clear indication
-        print(f"the call is refused or cleared: cause {answer[3]:02x}, diagnostic {answer[4]}")
+        print(f"{'refused' if what == 'call request' else 'cleared'}: cause {answer[3]:02x}, diagnostic {answer[4]}")
     return answer
 
 
