@@ -1,6 +1,6 @@
 //! A queue of pieces that is full.
 
-use std::alloc::{AllocError, Global};
+use std::alloc::Global;
 use std::sync::Arc;
 use std::test::Fail;
 use xp_door::{LineShare, Notices, Tap, Trace};
@@ -27,19 +27,19 @@ fn next_tap(alloc: Global, trace: &Arc<Trace>) -> Result<Option<Tap>, Fail> {
 }
 
 /// Frames of 4,096 octets, the last one without its end.
-fn two_frames(alloc: Global) -> Result<Vec<u8>, AllocError> {
-    let mut octets = Vec::from_slice(alloc, &[0; 8_192])?;
+fn two_frames() -> [u8; 8_192] {
+    let mut octets = [0; 8_192];
     octets[2] = 0x0f;
     octets[3] = 0xfc;
     octets[4_098] = 0x0f;
     octets[4_099] = 0xfc;
-    Ok(octets)
+    octets
 }
 
 /// What a full queue has no room for is counted to the octet, and what comes when there is room again begins with a frame.
 #[test]
 fn queue_that_is_full(rt: HostRuntime) -> Result<(), Fail> {
-    let octets = two_frames(rt.alloc())?;
+    let octets = two_frames();
     let mut pieces = WaitingPieces::new(rt.alloc())?;
     let trace = new_trace(rt.alloc())?;
     let mut tap = next_tap(rt.alloc(), &trace)?.ok_or("no tap")?;
