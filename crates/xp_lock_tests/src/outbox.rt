@@ -1,8 +1,8 @@
 //! Outboxes: two threads hand items over in order, and places are filled and freed, also where an outbox was refused before.
 
-ghost use Rattle.std.specs.Prelude.{◌≡◌};
+ghost use Rattle.std.specs.Prelude.{◌≡◌, IfOk};
 
-use std::alloc::{Allocator, Global};
+use std::alloc::{AllocError, Allocator, Global};
 use std::process::Abort;
 use std::sync::Wait;
 use std::test::Fail;
@@ -89,15 +89,24 @@ fn fill_and_free<A: Allocator + Copy>(
     assert_eq!(rt; (taken.take(rt), put.room(rt)), (None, PLACES));
 }
 
+/// The ends of an outbox. Where memory is refused it is asked for once more.
+fn ends_of<A: Allocator + Copy>(
+    alloc: A,
+) -> Result<(PutEnd<usize, A>, TakeEnd<usize, A>), AllocError>
+    ensures { IfOk result (λ ends. ends.0.queue ≡ ends.1.queue) }
+{
+    match outbox(alloc, PLACES) {
+        Ok(ends) => Ok(ends),
+        Err(_) => outbox(alloc, PLACES),
+    }
+}
+
 #[test]
 fn places_are_filled_and_freed(rt: HostRuntime) -> Result<(), Fail> {
     let mut refused = 0u64;
     for number in 1..20u64 {
         let scarce = Refusing::new(rt.alloc(), number);
-        let (mut put, mut taken) = match outbox(&scarce, PLACES) {
-            Ok(ends) => ends,
-            Err(_) => outbox(&scarce, PLACES)?,
-        };
+        let (mut put, mut taken) = ends_of(&scarce)?;
         fill_and_free(&rt, &mut put, &mut taken);
         if scarce.is_pending() {
             break;

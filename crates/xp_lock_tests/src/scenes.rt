@@ -62,8 +62,7 @@ records";
 fn as_told(rt: &(impl Wait + Abort), alloc: Global, text: &str) -> Result<(), Fail> {
     let (scripts, told) = text.split_once("= ").unwrap_or(("", text));
     let prepared = prepare(alloc, Subs::read(alloc, THREE_STATIONS)?)?;
-    let mut log = Log::new(alloc);
-    scene::<Brand, Global>(rt, alloc, prepared, scripts, &mut log)?;
+    let log = scene::<Brand, Global>(rt, alloc, prepared, scripts, Log::new(alloc))?;
     assert_eq!(rt; log.told.as_str().trim_end(), told);
     Ok(())
 }
@@ -81,12 +80,12 @@ fn refused_offers_change_nothing(rt: HostRuntime) -> Result<(), Fail> {
     let (mut offers, mut takes) = (0u64, 0u64);
     for number in 1..5000u64 {
         let scarce = Refusing::new(rt.alloc(), number);
-        let mut log = Log::new(rt.alloc());
         let subs = Subs::read(rt.alloc(), THREE_STATIONS)?;
         let Ok(prepared) = prepare(&scarce, subs) else {
             continue;
         };
-        scene::<Brand, _>(&rt, &scarce, prepared, REFUSED, &mut log)?;
+        let log = Log::new(rt.alloc());
+        let log = scene::<Brand, _>(&rt, &scarce, prepared, REFUSED, log)?;
         if log.told.is_empty() {
             continue;
         }

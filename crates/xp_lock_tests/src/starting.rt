@@ -18,26 +18,30 @@ pub fn scene<N: Name, A: Allocator + Copy>(
     alloc: A,
     prepared: PreparedExchange<A>,
     scripts: &str,
-    log: &mut Log,
-) -> Result<(), AllocError>
+    log: Log,
+) -> Result<Log, AllocError>
     requires subs { N.subs ≡ prepared.subs }
     requires history_length { N.history_length ≡ prepared.history_length }
     requires queues { N.queues ≡ prepared.queues }
 {
+    let mut log = log;
     let Ok((exchange, mut passes, mut recorder)) = Exchange::<N, A>::start(alloc, prepared) else {
-        return Ok(());
+        return Ok(log);
     };
     let mut played: Result<(), AllocError> = Ok(());
     for script in scripts.lines() {
         let done = if script == "records" {
-            tell_records(rt, &exchange, &mut recorder, log)
+            tell_records(rt, &exchange, &mut recorder, &mut log)
         } else {
-            play(rt, alloc, &exchange, &mut passes, script, log)
+            play(rt, alloc, &exchange, &mut passes, script, &mut log)
         };
         played = played.and(done);
     }
-    let closed = close(rt, exchange, passes, recorder, log);
-    played.and(closed)
+    let closed = close(rt, exchange, passes, recorder, &mut log);
+    match played.and(closed) {
+        Ok(()) => Ok(log),
+        Err(refused) => Err(refused),
+    }
 }
 
 /// Takes the records that wait, and tells the number of the last.
