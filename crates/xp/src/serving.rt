@@ -96,7 +96,7 @@ fn serve_into_file<
     requires { subs.names ≡ subs.own }
 {
     let ThreeSubs { own, names, spare } = subs;
-    let (file, opened) = DetailFile::open(*rt, rt.alloc(), path)?;
+    let (file, opened) = DetailFile::open(rt.alloc(), *rt, path)?;
     tell_torn(rt, clock, &opened);
     let started = moment_of_start(clock, &opened);
     let tracing = Tracing::begin(rt, order, clock, &own)?;

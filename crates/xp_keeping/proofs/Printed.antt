@@ -15,7 +15,8 @@ use Rattle.xp_subs.specs.Tables.{Tables}
 front_before : (front first second : List ℕ) → IsFront front first → IsFront front (first ++ second)
 front_before front first second is = (is.0 ++ second, ap (λ text. text ++ second) is.1 ∙ append_assoc front is.0 second)
 
-prints_both : (before between after : Option (List ℕ)) (first second : List ℕ) (so_far result : Result (Unit {0}) KeepFault)
+-- a text, and then another
+pub prints_both : (before between after : Option (List ℕ)) (first second : List ℕ) (so_far result : Result (Unit {0}) KeepFault)
     → Prints before between first so_far → PrintsOn so_far between after second result → Prints before after (first ++ second) result
 prints_both before between after first second (Ok done) (Ok also) printed more = appends_both before between after first second printed more
 prints_both before between after first second (Ok done) (Err fault) printed more =

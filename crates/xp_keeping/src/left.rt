@@ -4,6 +4,7 @@ ghost use Rattle.std.specs.Prelude.{◌≡◌, flat_map};
 ghost use Rattle.xp_cdr.specs.Details.{detail_text};
 ghost use Rattle.xp_charge.specs.Lines.{HasLines};
 ghost use Rattle.xp_keeping.specs.Printing.{Prints};
+ghost use Rattle.xp_keeping.specs.steps.Printing.{PrintsOn};
 ghost use Rattle.xp_subs.specs.Tables.{line_count};
 
 use crate::keep_fault::KeepFault;
@@ -31,8 +32,25 @@ pub fn write_left<W: Write>(
     ensures { Prints (W.contents output.old) (W.contents output.new) (flat_map (detail_text subs.now started) left.now.items) result }
 {
     let (first, second) = left.as_slices();
-    write_slice(alloc, subs, started, first, output)?;
-    write_slice(alloc, subs, started, second, output)
+    let so_far = write_slice(alloc, subs, started, first, output);
+    write_on(so_far, alloc, subs, started, second, output)
+}
+
+/// Writes the call detail records of these records, unless there was a fault before.
+fn write_on<W: Write>(
+    before: Result<(), KeepFault>,
+    alloc: Global,
+    subs: &Subs,
+    started: u64,
+    left: &[Record],
+    output: &mut W,
+) -> Result<(), KeepFault>
+    ensures { PrintsOn before (W.contents output.old) (W.contents output.new) (flat_map (detail_text subs.now started) left.now) result }
+{
+    match before {
+        Ok(()) => write_slice(alloc, subs, started, left, output),
+        Err(fault) => Err(fault),
+    }
 }
 
 /// Writes the call detail records of these records.
