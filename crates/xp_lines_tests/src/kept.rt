@@ -7,8 +7,8 @@ use xp_charge::Record;
 use xp_lines::{Received, RecordSink};
 use xp_past::Past;
 use xp_subs::Subs;
-use xp_view::ExchangeView;
 use xp_testing_wires::Board;
+use xp_view::ExchangeView;
 
 /// A sink that keeps the lines of the records that it is given, and counts the records on a board. It stops serving at as many
 /// records as the setting `kept` says, and with `stops` once the links were given what they are given before a stop.

@@ -3,7 +3,7 @@
 ghost use Rattle.std.specs.Prelude.{◌≡◌};
 
 use crate::log::Log;
-use crate::starting::scene;
+use crate::starting::{Scripts, scene};
 use std::alloc::Global;
 use std::marker::Brand;
 use std::process::Abort;
@@ -62,6 +62,7 @@ records";
 fn as_told(rt: &(impl Wait + Abort), alloc: Global, text: &str) -> Result<(), Fail> {
     let (scripts, told) = text.split_once("= ").unwrap_or(("", text));
     let prepared = prepare(alloc, Subs::read(alloc, THREE_STATIONS)?)?;
+    let scripts = Scripts { text: scripts };
     let log = scene::<Brand, Global>(rt, alloc, prepared, scripts, Log::new(alloc))?;
     assert_eq!(rt; log.told.as_str().trim_end(), told);
     Ok(())
@@ -85,7 +86,8 @@ fn refused_offers_change_nothing(rt: HostRuntime) -> Result<(), Fail> {
             continue;
         };
         let log = Log::new(rt.alloc());
-        let log = scene::<Brand, _>(&rt, &scarce, prepared, REFUSED, log)?;
+        let scripts = Scripts { text: REFUSED };
+        let log = scene::<Brand, _>(&rt, &scarce, prepared, scripts, log)?;
         if log.told.is_empty() {
             continue;
         }

@@ -11,13 +11,19 @@ use std::sync::Wait;
 use xp_lock::{CloseFault, Exchange, LinePass, PreparedExchange};
 use xp_seats::{Name, Recorder};
 
+/// Scripts, a line each.
+#[derive(Clone, Copy)]
+pub struct Scripts<'a> {
+    pub text: &'a str,
+}
+
 /// Plays a scene of scripts, a line each: `records` takes the records that wait, and tells the number of the last. Nothing is told where
 /// memory is wanting at the start.
 pub fn scene<N: Name, A: Allocator + Copy>(
     rt: &impl Wait,
     alloc: A,
     prepared: PreparedExchange<A>,
-    scripts: &str,
+    scripts: Scripts<'_>,
     log: Log,
 ) -> Result<Log, AllocError>
     requires subs { N.subs ≡ prepared.subs }
@@ -29,7 +35,7 @@ pub fn scene<N: Name, A: Allocator + Copy>(
         return Ok(log);
     };
     let mut played: Result<(), AllocError> = Ok(());
-    for script in scripts.lines() {
+    for script in scripts.text.lines() {
         let done = if script == "records" {
             tell_records(rt, &exchange, &mut recorder, &mut log)
         } else {
