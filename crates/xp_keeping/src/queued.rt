@@ -183,7 +183,11 @@ impl<K: RecordKeeper, R: Threads + Wait + Copy> QueuedKeeper<K, R> {
                 return true;
             }
             let now = self.signal.kept();
-            looks = if now == kept { looks.saturating_add(1) } else { 0 };
+            looks = if now == kept {
+                looks.saturating_add(1)
+            } else {
+                0
+            };
             kept = now;
             if looks > MOST_LOOKS {
                 return false;
