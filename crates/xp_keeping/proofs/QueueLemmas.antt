@@ -1,5 +1,5 @@
 -- Records on their way through a queue.
-use Rattle.std.proofs.Common.{◌≡◌, ℕ, zero, suc, ◌+◌, ◌-◌, ◌<◌, ◌≤◌, List, [], ◌∷◌, ◌++◌, ap, append_assoc, arith, length, sym, take, ◌∙◌}
+use Rattle.std.proofs.Common.{◌≡◌, ℕ, ◌-◌, ◌<◌, List, [], ◌∷◌, ◌++◌, ap, append_assoc, arith, sym, take, ◌∙◌}
 use Rattle.std.proofs.lemmas.Grind.{common_steps}
 
 first_of : {X : Type 0} (x : X) (xs : List X) (count : ℕ) → 0 < count → take count (x ∷ xs) ≡ x ∷ take (count - 1) xs

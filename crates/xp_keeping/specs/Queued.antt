@@ -1,5 +1,5 @@
 -- What is kept of charging records by a keeper on a thread of its own (`AreKeptBeside`).
-use Rattle.std.specs.Prelude.{◌≡◌, List, ◌++◌, Bool, true, false, Option, None, Some, Result, Ok, Err}
+use Rattle.std.specs.Prelude.{◌≡◌, List, ◌++◌, Bool, true, false, Option, None, Some, Result, Err}
 use Rattle.xp_charge.specs.declared.record.Record.{Record}
 use Rattle.xp_keeping.specs.Details.{IsFirstOf}
 use Rattle.xp_keeping.specs.declared.keep_fault.KeepFault.{KeepFault}

@@ -37,7 +37,7 @@ const MOST_LOOKS: usize = 1_000;
 pub struct QueuedKeeper<K: RecordKeeper, R: Threads + Wait> {
     rt: R,
     /// The subscriptions, by which the records name lines.
-    subs: Subs,
+    subs: Snapshot<Subs>,
     queue: RecordQueue,
     signal: Arc<KeepingSignal>,
     /// The thread, until it has ended.
@@ -59,7 +59,7 @@ impl<K: RecordKeeper, R: Threads + Wait> Model for QueuedKeeper<K, R> {
 
     ghost Value = { Queued K };
 
-    ghost view = { λ k. record { subs = k.subs; given = k.given.items; is_short = k.is_short; first = k.first.value; last = k.last; left = k.queue.left; fault = k.fault } };
+    ghost view = { λ k. record { subs = k.subs.value; given = k.given.items; is_short = k.is_short; first = k.first.value; last = k.last; left = k.queue.left; fault = k.fault } };
 
     ghost invariant = { λ k. IsHandedOn k.queue.all k.given.items k.is_short × IfSome k.thread (λ handle. (handle.promise.first.value ≡ k.first.value) × (handle.promise.records.value.queue ≡ k.queue.queue)) };
 }
@@ -76,13 +76,13 @@ impl<K: RecordKeeper + Send + 'static, R: Threads + Wait + Copy + Send + 'static
     pub fn start(
         rt: R,
         alloc: Global,
-        subs: Subs,
+        subs: &Subs,
         keeper: K,
         fault: KeepFault,
     ) -> Result<QueuedKeeper<K, R>, AllocError>
-        requires lines { K.lines keeper ≡ line_count subs }
+        requires lines { K.lines keeper ≡ line_count subs.now }
         requires received { K.received keeper ≡ [] }
-        ensures { IfOk result (λ queued. queued ≡ record { subs = subs; given = []; is_short = false; first = keeper; last = None; left = []; fault = fault }) }
+        ensures { IfOk result (λ queued. queued ≡ record { subs = subs.now; given = []; is_short = false; first = keeper; last = None; left = []; fault = fault }) }
     {
         let (queue, records) = RecordQueue::new(alloc)?;
         let signal = Arc::new(alloc, KeepingSignal::new())?;
@@ -102,7 +102,7 @@ impl<K: RecordKeeper + Send + 'static, R: Threads + Wait + Copy + Send + 'static
         let thread = thread::spawn_with(&rt, promise, run)?;
         Ok(QueuedKeeper {
             rt,
-            subs,
+            subs: Snapshot::of(subs),
             queue,
             signal,
             thread: Some(thread),

@@ -1,4 +1,4 @@
-use Rattle.std.proofs.Common.{◌≡◌, ◌≤◌, ◌+◌, ◌++◌, All, vec_capacity, vec_len}
+use Rattle.std.proofs.Common.{◌≡◌, ◌≤◌, ◌++◌, All, vec_capacity, vec_len}
 use Rattle.xp_charge.specs.Lines.{HasLines}
 use Rattle.xp_keeping.proofs.record_thread.take_batch.Given as goal
 

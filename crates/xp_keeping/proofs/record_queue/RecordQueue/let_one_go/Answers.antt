@@ -1,4 +1,4 @@
-use Rattle.std.proofs.Common.{◌≡◌, ◌-◌, ◌<◌, ◌++◌, ap, arith, length, sym, take, ◌∙◌}
+use Rattle.std.proofs.Common.{◌-◌, ◌<◌, ◌++◌, ap, arith, length, sym, take, ◌∙◌}
 use Rattle.xp_keeping.proofs.QueueLemmas.{one_gone}
 use Rattle.xp_keeping.proofs.record_queue.RecordQueue.let_one_go.Goals as goal
 
