@@ -34,6 +34,7 @@ use xp_tasks::TaskFailure;
 use xp_tcp::Notices;
 
 /// The subscriptions of the lines that are served, three times.
+#[derive(Drop)]
 pub(crate) struct ThreeSubs {
     /// Those of the exchange.
     pub(crate) own: Subs,
@@ -207,6 +208,7 @@ fn attend<
 }
 
 /// What the lines are watched with.
+#[derive(Drop)]
 struct Watching<'a, 'o, R: Wait> {
     order: &'a ServeOrder<'o>,
     clock: WallClock,
