@@ -44,6 +44,15 @@ fn wanted_record(scene: &str, at: u64) -> &'static str {
     }
 }
 
+/// What is told where the line whose link fails was given something that it was not to be given.
+fn unfair_to(scene: &str) -> &'static str {
+    if words_of(scene, "a1").contains("-fault") {
+        "a1 wrong"
+    } else {
+        "b1 wrong"
+    }
+}
+
 /// One link fails at the first pull or push, then in a new run at the second, until a run meets no fault. What it took before is
 /// what it is to be given.
 fn fails(
@@ -52,17 +61,12 @@ fn fails(
     scene: &str,
 ) -> Result<(), Fail> {
     let met = number(scene, "met=", 0);
-    let failing = if words_of(scene, "a1").contains("-fault") {
-        "a1 wrong"
-    } else {
-        "b1 wrong"
-    };
     for at in 0..=met {
         let text = serve(rt, alloc, scene, true, at)?;
         let (told, records) = text.split_once('\n').unwrap_or(("", ""));
         assert_eq!(rt; records, wanted_record(scene, at), "{at}: {scene}");
         assert_eq!(rt; told.contains(" failed"), at < met, "{at}: {scene}");
-        assert!(rt; !told.contains(failing), "{at}: {scene}");
+        assert!(rt; !told.contains(unfair_to(scene)), "{at}: {scene}");
         assert!(rt; at < met || told == "TTTTTT 8", "{scene}: {told}");
     }
     Ok(())
