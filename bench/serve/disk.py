@@ -80,9 +80,10 @@ def syncs_that_fail(program, folder):
             # So that there are several syncs.
             if place % 20 == 0:
                 time.sleep(0.3)
-        exchange.wait_until_told("call detail records are written again", 3)
+        # The 3rd and the 5th are of the file that is opened anew, so the first two failures are told as one.
+        exchange.wait_until_told("call detail records are written again", 2)
         until(lambda: waiting(exchange.connect(exchange.console)) == 0, "records wait that were written")
-        require(exchange.told().count("call detail records wait: ") == 3, f"three failures are told otherwise; {exchange.said()}")
+        require(exchange.told().count("call detail records wait: ") == 2, f"the failures are told otherwise; {exchange.said()}")
         require(exchange.end_late() == 0, f"it ended badly; {exchange.said()}")
         require(exchange.printed() == "", "it has printed something")
     require(numbers(rows_of(details)) == list(range(1, CALLS + 1)), f"the file has {numbers(rows_of(details))}")

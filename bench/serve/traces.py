@@ -306,13 +306,17 @@ def files_that_are_kept(program, folder):
     details.write_text(NAMES)
     is_refused(details, "holds something else than a capture")
     is_refused(details, "is in use", "--cdr", details)
-    is_refused(pathlib.Path(folder) / "refused.toml", "holds something else than a capture")
+    other = pathlib.Path(folder) / "other.toml"
+    other.write_text(subscriptions(server.free_ports(len(LINES))))
+    is_refused(other, "holds something else than a capture")
     path.write_bytes(FILE_HEADER[:3])
     is_refused(path, "holds something else than a capture")
     path.unlink()
     with Traced(program, folder, path, "--trace-lines", "a1") as exchange:
         a1, b1 = exchange.line("a1"), exchange.line("b1")
         whole_call(a1, b1)
+        # What waits for the file has been written by then.
+        time.sleep(0.5)
         is_refused(path, "is in use")
         b1.clear()
         whole_call(a1, b1)

@@ -145,8 +145,9 @@ fn serve_and_print<
     let keeper = RecordPrinter::new(rt.alloc(), names, output);
     let keeper = QueuedKeeper::start(*rt, rt.alloc(), &own, keeper, KeepFault::Output)?;
     let end = attend(rt, order, clock, own, tracing, keeper)?;
-    if end.keeper.is_given_up() {
-        tell_unprinted(rt, clock, end.keeper.left().len());
+    let lost = end.keeper.left().len();
+    if lost > 0 && end.keeper.is_given_up() {
+        tell_unprinted(rt, clock, lost);
     }
     end.outcome?;
     Ok(())
