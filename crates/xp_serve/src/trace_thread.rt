@@ -75,7 +75,9 @@ impl<R: Log + Threads + Wait + Copy + Drop + Send + 'static> TraceThread<R> {
         let _thread = thread::spawn(&rt, move || tracing.run(&rt, &theirs))?;
         Ok(TraceThread { rt, signal })
     }
+}
 
+impl<R: Wait> TraceThread<R> {
     /// Tells that the lines are served.
     pub(crate) fn begin(&self) {
         self.signal.is_begun.store(true, SeqCst);

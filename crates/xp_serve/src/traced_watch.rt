@@ -2,9 +2,7 @@
 
 use crate::attending::Watch;
 use crate::trace_thread::TraceThread;
-use log::Log;
 use std::sync::Wait;
-use std::thread::Threads;
 use xp_charge::Record;
 use xp_lines::Received;
 use xp_view::ExchangeView;
@@ -23,7 +21,7 @@ impl<T: Watch, R: Wait> TracedWatch<T, R> {
     }
 }
 
-impl<T: Watch, R: Log + Threads + Wait + Copy + Drop + Send + 'static> Watch for TracedWatch<T, R> {
+impl<T: Watch, R: Wait + Drop> Watch for TracedWatch<T, R> {
     fn look(&mut self) -> Received {
         if let Some(trace) = &self.trace {
             trace.begin();
