@@ -43,8 +43,9 @@ fn queue_that_is_full(rt: HostRuntime) -> Result<(), Fail> {
     let mut pieces = WaitingPieces::new(rt.alloc())?;
     let trace = new_trace(rt.alloc())?;
     let mut tap = next_tap(rt.alloc(), &trace)?.ok_or("no tap")?;
+    let first = &octets[..4_096];
     for _frame in 0..ROOM / 4_096 {
-        tap.receive(&octets[..4_096]);
+        tap.receive(first);
     }
     assert_eq!(rt; trace.left_out(), 0);
     tap.receive(&octets[..8_000]);
