@@ -2,9 +2,9 @@
 """Counts the definitions that a reader of the promises has to believe, and finds those in the wrong folder.
 
 A promise is a clause of the contract of a public call. From the clauses of every crate's public calls, from what a public type
-is seen as (its `ghost Value` and `ghost view`), and from what it gives as the ghost members of a trait of these crates, this follows each
-definition of `specs/` that is cited, and those that it cites in turn, through all crates. It counts the lines of these that are neither empty, nor a comment, nor a `use`.
-The kit's own definitions of lists, numbers and maps are not counted.
+is seen as (its `ghost Value` and `ghost view`), and from what it gives as the ghost members of a trait of these crates, this
+follows each definition of `specs/` that is cited, and those that it cites in turn, through all crates. It counts the lines of
+these that are neither empty, nor a comment, nor a `use`. The kit's own definitions of lists, numbers and maps are not counted.
 
 The definitions that only private steps cite stand in `specs/steps/`. It ends with status 1 where a public contract reaches
 one of these, and where a definition in `specs/` itself is reached by none.
