@@ -43,19 +43,19 @@ fn queue_that_is_full(rt: HostRuntime) -> Result<(), Fail> {
     let mut pieces = WaitingPieces::new(rt.alloc())?;
     let trace = new_trace(rt.alloc())?;
     let mut tap = next_tap(rt.alloc(), &trace)?.ok_or("no tap")?;
-    let first = &octets[..4_096];
+    let first = &octets[..octets.len().min(4_096)];
     for _frame in 0..ROOM / 4_096 {
         tap.receive(first);
     }
     assert_eq!(rt; trace.left_out(), 0);
-    tap.receive(&octets[..8_000]);
+    tap.receive(&octets[..octets.len().min(8_000)]);
     assert_eq!(rt; trace.left_out(), 8_000);
     tap.send(FRAME);
     assert_eq!(rt; trace.left_out(), 8_007);
     trace.exchange(&mut pieces);
     assert_eq!(rt; pieces.pieces().len(), ROOM / 4_096);
     pieces.clear();
-    tap.receive(&octets[8_000..]);
+    tap.receive(&octets[octets.len().min(8_000)..]);
     assert_eq!(rt; trace.left_out(), 8_199);
     tap.receive(FRAME);
     trace.exchange(&mut pieces);
