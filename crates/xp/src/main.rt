@@ -38,7 +38,7 @@ use xp_subs::Subs;
 use xp_tasks::TaskFailure;
 
 fn main(rt: HostRuntime) -> ExitCode {
-    match run(&rt) {
+    match run(&rt, rt) {
         Ok(()) => ExitCode::SUCCESS,
         Err(failure) => {
             // If standard error fails too, nobody is left to read it.
@@ -66,7 +66,7 @@ fn run<
         + Threads
         + Wait
         + 'static,
->(rt: &R) -> Result<(), Failure> {
+>(rt: &R, host: HostRuntime) -> Result<(), Failure> {
     let words = words(rt)?;
     let arguments = Arguments::read(rt.alloc(), &words)?;
     let operand = arguments.operand;
@@ -77,7 +77,7 @@ fn run<
             let subs = subscriptions_in(rt, operand)?;
             explain_call(rt, &subs, &question)
         }
-        Subcommand::Serve(order) => serve_file(rt, &order, operand),
+        Subcommand::Serve(order) => serve_file(rt, host, &order, operand),
         Subcommand::Ask(request) => ask_console(rt, request, operand),
     }
 }
@@ -98,13 +98,13 @@ fn serve_file<
         + Threads
         + Wait
         + 'static,
->(rt: &R, order: &ServeOrder<'_>, file: &str) -> Result<(), Failure> {
+>(rt: &R, host: HostRuntime, order: &ServeOrder<'_>, file: &str) -> Result<(), Failure> {
     let alloc = rt.alloc();
     let text = fs::read_to_string(rt, file);
     let own = read_subscriptions(alloc, &text)?;
     let names = read_subscriptions(alloc, &text)?;
     let spare = read_subscriptions(alloc, &text)?;
-    serve_lines(rt, order, ThreeSubs { own, names, spare })
+    serve_lines(rt, host, order, ThreeSubs { own, names, spare })
 }
 
 /// The subscriptions of the file of this name.

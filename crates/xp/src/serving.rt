@@ -45,7 +45,7 @@ pub(crate) struct ThreeSubs {
 }
 
 /// Serves the lines as they were ordered. Their charging records are kept in the file of call detail records if there is one, and
-/// are otherwise printed.
+/// are otherwise printed: by `host`, since what a thread of its own works with has no type parameter.
 pub(crate) fn serve_lines<
     R: AllocGlobal
         + Clock
@@ -61,13 +61,13 @@ pub(crate) fn serve_lines<
         + Threads
         + Wait
         + 'static,
->(rt: &R, order: &ServeOrder<'_>, subs: ThreeSubs) -> Result<(), Failure>
+>(rt: &R, host: HostRuntime, order: &ServeOrder<'_>, subs: ThreeSubs) -> Result<(), Failure>
     requires { subs.names ≡ subs.own }
 {
     let clock = WallClock::start();
     match order.details {
-        Some(path) => serve_into_file(rt, order, path, clock, subs),
-        None => serve_and_print(rt, order, clock, subs),
+        Some(path) => serve_into_file(rt, host, order, path, clock, subs),
+        None => serve_and_print(rt, host, order, clock, subs),
     }
 }
 
@@ -89,6 +89,7 @@ fn serve_into_file<
         + 'static,
 >(
     rt: &R,
+    host: HostRuntime,
     order: &ServeOrder<'_>,
     path: &str,
     clock: WallClock,
@@ -97,17 +98,17 @@ fn serve_into_file<
     requires { subs.names ≡ subs.own }
 {
     let ThreeSubs { own, names, spare } = subs;
-    let (file, opened) = DetailFile::open(rt.alloc(), *rt, path)?;
+    let (file, opened) = DetailFile::open(rt.alloc(), host, path)?;
     tell_torn(rt, clock, &opened);
     let started = moment_of_start(clock, &opened);
     let tracing = Tracing::begin(rt, order, clock, &own)?;
-    let log = OperatorLog::new(*rt, order.quiet);
-    let output = StandardOutput::new(*rt);
+    let log = OperatorLog::new(host, order.quiet);
+    let output = StandardOutput::new(host);
     let keeper = DetailKeeper::new(rt.alloc(), file, names, started, clock, log, output);
     let keeper = QueuedKeeper::start(*rt, rt.alloc(), &own, keeper, KeepFault::Details)?;
     let end = attend(rt, order, clock, own, tracing, keeper)?;
     if end.keeper.is_given_up() {
-        let mut output = PatientOutput::new(*rt);
+        let mut output = PatientOutput::new(host);
         let written = write_left(rt.alloc(), &spare, started, end.keeper.left(), &mut output);
         written.map_err(ServeFailure::from)?;
     }
@@ -131,7 +132,13 @@ fn serve_and_print<
         + Threads
         + Wait
         + 'static,
->(rt: &R, order: &ServeOrder<'_>, clock: WallClock, subs: ThreeSubs) -> Result<(), Failure>
+>(
+    rt: &R,
+    host: HostRuntime,
+    order: &ServeOrder<'_>,
+    clock: WallClock,
+    subs: ThreeSubs,
+) -> Result<(), Failure>
     requires { subs.names ≡ subs.own }
 {
     let ThreeSubs {
@@ -140,7 +147,7 @@ fn serve_and_print<
         spare: _,
     } = subs;
     let tracing = Tracing::begin(rt, order, clock, &own)?;
-    let output = StandardOutput::new(*rt);
+    let output = StandardOutput::new(host);
     let output = BufWriter::new(rt.alloc(), output).map_err(|_| TaskFailure::Memory)?;
     let keeper = RecordPrinter::new(rt.alloc(), names, output);
     let keeper = QueuedKeeper::start(*rt, rt.alloc(), &own, keeper, KeepFault::Output)?;
