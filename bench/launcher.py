@@ -29,7 +29,7 @@ PAUSE = 0.3
 NOT_PROVED = "xp: not proved on this machine: ./xp prove proves and builds it, in about an hour\n"
 ASKED = "xp: this is the program before any proof, as --unproved asks\n"
 BUILDING = "xp: building the program before any proof, which takes about four minutes; it is kept until a source changes\n"
-OLDER = "xp: the program is older than the sources: ./xp prove proves and builds them\n"
+OLDER = "xp: the program is older than its {}: ./xp prove proves and builds it\n"
 NO_SERVING = (
     "xp: serve runs the proved program, and none is here: ./xp prove proves and builds it, in about an hour\n"
     "xp: for a try of the program before any proof: ./xp --unproved serve lines.toml\n"
@@ -141,6 +141,10 @@ def serve_until_terminated(tree, *words, **wanted):
 def serve_without_a_program(tree):
     yield tree.run("serve", "lines.toml"), (1, "", NO_SERVING)
     yield tree.runs_of("unproved") + tree.runs_of("proved"), 0
+    # What serves nothing is told by the program before any proof.
+    for words in ((), ("--help",), ("--cdr", "calls.csv")):
+        status, output, told = tree.run("serve", *words, status=2)
+        yield (status, output, told.endswith(NOT_PROVED)), (2, output_of("unproved", "serve", *words), True)
 
 
 def version_without_a_program(tree):
@@ -186,7 +190,7 @@ def unproved_that_cannot_be_built(tree):
 
 
 def unproved_serves_when_asked(tree):
-    words = ("serve", "--until-eof", "lines of mine.toml")
+    words = ("serve", "lines of mine.toml", "--until-eof")
     status, output, told = serve_until_terminated(tree, "--unproved", "serve", "lines of mine.toml")
     yield (status, output), (0, output_of("unproved", *words))
     yield told.endswith(NOT_PROVED), True
@@ -212,7 +216,7 @@ def proved_is_run(tree):
     yield (status, output), (0, "")
     words = ("explain", "a file.toml", "", "*")
     yield tree.run(*words, status=2), (2, output_of("proved", *words), "")
-    yield serve_until_terminated(tree, "serve", "lines.toml"), (0, output_of("proved", "serve", "--until-eof", "lines.toml"), "")
+    yield serve_until_terminated(tree, "serve", "lines.toml"), (0, output_of("proved", "serve", "lines.toml", "--until-eof"), "")
     yield tree.run("--version")[1].splitlines()[2], "proved: yes"
     yield tree.run("prove")[:2], (0, "")
     yield (tree.runs_of("proved"), tree.runs_of("unproved")), (1, 0)
@@ -220,17 +224,56 @@ def proved_is_run(tree):
     yield (status, output, told.endswith(ASKED)), (0, output_of("unproved", "check"), True)
 
 
+def serve_gets_the_launchers_word_behind_its_own(tree):
+    tree.run("prove")
+    for words, wanted in (
+        (("f", "--cdr", "a file.csv"), ("f", "--cdr", "a file.csv", "--until-eof")),
+        (("--quiet", "--trace", "t", "f"), ("--quiet", "--trace", "t", "f", "--until-eof")),
+        (("--cdr=c", "--", "-f"), ("--cdr=c", "--until-eof", "--", "-f")),
+        (("-",), ("-", "--until-eof")),
+        (("",), ("", "--until-eof")),
+    ):
+        yield serve_until_terminated(tree, "serve", *words), (0, output_of("proved", "serve", *wanted), "")
+
+
+def serve_without_a_file_has_no_word_of_the_launcher(tree):
+    tree.run("prove")
+    options = ("--cdr", "--console", "--records", "--trace", "--trace-lines", "--turns")
+    for words in ((), ("--help",), ("--quiet", "--"), *((option, "x") for option in options), *((option,) for option in options)):
+        yield tree.run("serve", *words, status=2), (2, output_of("proved", "serve", *words), "")
+    yield tree.run("--unproved", "serve", status=2)[:2], (2, output_of("unproved", "serve"))
+
+
 def proved_that_is_older_is_run(tree):
     tree.run("prove")
     tree.write("crates/low/specs/Lib.antt", "another definition")
-    yield tree.run("check", "f"), (0, output_of("proved", "check", "f"), OLDER)
-    yield serve_until_terminated(tree, "serve", "f", status=5), (5, output_of("proved", "serve", "--until-eof", "f"), OLDER)
+    older = OLDER.format("source crates/low/specs/Lib.antt")
+    yield tree.run("check", "f"), (0, output_of("proved", "check", "f"), older)
+    yield serve_until_terminated(tree, "serve", "f", status=5), (5, output_of("proved", "serve", "f", "--until-eof"), older)
     yield tree.run("--version")[1].splitlines()[2], "proved: yes, but older than the sources"
     yield tree.run("prove", failure="yes")[:2], (1, "")
-    yield tree.run("check", "f"), (0, output_of("proved", "check", "f"), OLDER)
+    yield tree.run("check", "f"), (0, output_of("proved", "check", "f"), older)
     yield tree.run("prove")[0], 0
     yield tree.run("check", "f"), (0, output_of("proved", "check", "f"), "")
     yield (tree.runs_of("proved"), tree.runs_of("unproved")), (3, 0)
+
+
+def younger_source_is_named(tree):
+    tree.run("prove")
+    for file in ("crates/xp_tests/src/code.rt", "CHANGELOG.md"):
+        tree.write(file, "changed")
+        yield tree.run("check"), (0, output_of("proved", "check"), "")
+    # The first one by its path, of the crates that the program stands on.
+    for file in ("crates/xp/src/code.rt", "crates/low/src/a new one.rt", "crates/high/src/code.rt"):
+        tree.write(file, "changed")
+        yield tree.run("check"), (0, output_of("proved", "check"), OLDER.format(f"source {file}"))
+    tree.run("prove")
+    # Where one was removed, none is younger.
+    (tree.top / "crates/low/src/a new one.rt").unlink()
+    yield tree.run("check"), (0, output_of("proved", "check"), OLDER.format("sources"))
+    tree.run("prove")
+    tree.write("crates.txt", "low:\nxp: low\n")
+    yield tree.run("check"), (0, output_of("proved", "check"), OLDER.format("source crates.txt"))
 
 
 def proved_by_another_command(tree):
@@ -239,8 +282,10 @@ def proved_by_another_command(tree):
     yield tree.run("check"), (0, output_of("proved", "check"), "")
     yield tree.run("prove")[0], 0
     yield tree.runs_of("proved"), 1
+    tree.write("crates/xp_tests/src/code.rt", "changed")
+    yield tree.run("check"), (0, output_of("proved", "check"), "")
     tree.write("crates/low/src/code.rt", "changed")
-    yield tree.run("check"), (0, output_of("proved", "check"), OLDER)
+    yield tree.run("check"), (0, output_of("proved", "check"), OLDER.format("source crates/low/src/code.rt"))
     # With a stamp it goes by what is in the files alone.
     yield tree.run("prove")[0], 0
     tree.write("crates/low/src/code.rt", "changed")
@@ -280,7 +325,10 @@ CASES = (
     unproved_serves_when_asked,
     two_at_once_build_once,
     proved_is_run,
+    serve_gets_the_launchers_word_behind_its_own,
+    serve_without_a_file_has_no_word_of_the_launcher,
     proved_that_is_older_is_run,
+    younger_source_is_named,
     proved_by_another_command,
     prove_takes_no_words,
     no_kit,

@@ -1,23 +1,66 @@
 #!/usr/bin/env python3
-"""Places a call over TCP: client.py PORT ADDRESS, as client.py 19981 2080020 for the line a1 of three-stations.toml."""
+"""Places a call over TCP: client.py PORT ADDRESS, as client.py 19981 2080020 for the line a1 of three-stations.toml.
+
+It sends some data once the call is accepted, and clears. Where the call is refused, it tells the cause and the diagnostic as
+docs/PROTOCOL.md writes them.
+"""
 import socket
 import sys
 
+USAGE = "usage: python3 {0} PORT ADDRESS, as python3 {0} 19981 2080020"
+NOBODY = "nobody listens at 127.0.0.1:{}: start the exchange first: ./xp serve examples/three-stations.toml"
 
-def ask(what, packet):
-    """Sends a packet as a frame, which is version 0, the packet's length, the packet, and shows what comes back."""
-    line.sendall(bytes([0, 0, 0, len(packet)]) + packet)
+
+def receive(line):
+    """The next packet. It comes as a frame: version 0, the packet's length, the packet."""
     head = line.recv(4, socket.MSG_WAITALL)
-    answer = line.recv(int.from_bytes(head[2:], "big"), socket.MSG_WAITALL)
-    print(f"{what:<14}{packet.hex()}\n  answered by {answer.hex() or 'the end of the connection'}")
+    packet = line.recv(int.from_bytes(head[2:], "big"), socket.MSG_WAITALL)
+    if not packet or len(packet) < int.from_bytes(head[2:], "big"):
+        raise ConnectionError
+    return packet
+
+
+def ask(line, what, packet):
+    """Sends a packet as a frame, and shows what comes back."""
+    print(f"{what:<14}{packet.hex()}")
+    line.sendall(bytes([0, 0, 0, len(packet)]) + packet)
+    answer = receive(line)
+    print(f"  answered by {answer.hex()}")
+    if answer[2] == 0x13:  # clear indication
+        print(f"{'refused' if what == 'call request' else 'cleared'}: cause {answer[3]:02x}, diagnostic {answer[4]}")
     return answer
 
 
-line, address = socket.create_connection(("127.0.0.1", int(sys.argv[1]))), sys.argv[2]
-digits = bytes.fromhex(address + "0" * (len(address) % 2))
-connected = ask("call request", bytes([0x10, 1, 0x0B, len(address)]) + digits + b"\0")
-if connected[2:3] == b"\x0f":
-    ask("data", b"\x10\x01\x00" + b"Hello over X.25")  # answered once the far end has taken it
-    ask("clear request", b"\x10\x01\x13\0\0")
-else:
-    print("refused: the last two octets are the cause and the diagnostic")
+def place_call(line, address):
+    digits = bytes.fromhex(address + "0" * (len(address) % 2))
+    connected = ask(line, "call request", bytes([0x10, 1, 0x0B, len(address)]) + digits + b"\0")
+    if connected[2] == 0x0F:
+        ask(line, "data", b"\x10\x01\x00" + b"Hello over X.25")  # answered once the far end has taken it
+        ask(line, "clear request", b"\x10\x01\x13\0\0")
+
+
+def main(words):
+    try:
+        port, address = words
+        if not (0 < int(port) < 65536 and address.isascii() and address.isdigit() and len(address) <= 15):
+            raise ValueError
+    except ValueError:
+        print(USAGE.format(sys.argv[0]), file=sys.stderr)
+        return 2
+    try:
+        line = socket.create_connection(("127.0.0.1", int(port)))
+    except ConnectionRefusedError:
+        return NOBODY.format(port)
+    with line:
+        try:
+            place_call(line, address)
+        except ConnectionError:
+            return "the exchange has closed the connection"
+    return 0
+
+
+if __name__ == "__main__":
+    try:
+        sys.exit(main(sys.argv[1:]))
+    except KeyboardInterrupt:
+        sys.exit("stopped")

@@ -1,21 +1,27 @@
 #!/usr/bin/env python3
 """Takes calls over TCP: host.py PORT, as host.py 19982 for the line b1 of three-stations.toml.
 
-The exchange opens no connections, so a host that wants to be called keeps its line connected. It accepts each incoming
-call, acknowledges what it gets, and confirms that the call is cleared; then the next call may come.
+The exchange opens connections to XOT routers alone, so a host that wants to be called keeps its line connected. It accepts each
+incoming call, acknowledges what it gets, and confirms that the call is cleared; then the next call may come. Ctrl-C ends it.
 """
 import socket
 import sys
 
+USAGE = "usage: python3 {0} PORT, as python3 {0} 19982"
+NOBODY = "nobody listens at 127.0.0.1:{}: start the exchange first: ./xp serve examples/three-stations.toml"
+
 
 def receive(line):
-    """The next packet, or no octets at the end of the connection."""
+    """The next packet, or no octets at the end of the connection. It comes as a frame: version 0, the packet's length, the packet."""
     head = line.recv(4, socket.MSG_WAITALL)
-    return line.recv(int.from_bytes(head[2:], "big"), socket.MSG_WAITALL)
+    packet = line.recv(int.from_bytes(head[2:], "big"), socket.MSG_WAITALL)
+    if 0 < len(head) < 4 or len(packet) < int.from_bytes(head[2:], "big"):
+        raise ConnectionError
+    return packet
 
 
 def send(line, packet):
-    line.sendall(bytes([0, 0, 0, len(packet)]) + packet)  # as a frame: version 0 and the packet's length
+    line.sendall(bytes([0, 0, 0, len(packet)]) + packet)
 
 
 def take_calls(line):
@@ -29,13 +35,36 @@ def take_calls(line):
             following = ((kind >> 1) + 1) % 8
             send(line, b"\x10" + channel[1:] + bytes([following << 5 | 0x01]))  # receive ready, with P(R) in bits 8 to 6
         elif kind == 0x13:  # clear indication
-            print(f"cleared, cause {packet[3]:02x}, diagnostic {packet[4]}")
+            print(f"cleared: cause {packet[3]:02x}, diagnostic {packet[4]}")
             send(line, b"\x10" + channel[1:] + b"\x17")  # clear confirmation
         elif kind == 0x1B:  # reset indication
             send(line, b"\x10" + channel[1:] + b"\x1f")  # reset confirmation
 
 
-with socket.create_connection(("127.0.0.1", int(sys.argv[1]))) as line:
-    print("connected, and waiting for a call")
-    take_calls(line)
+def main(words):
+    try:
+        [port] = words
+        if not 0 < int(port) < 65536:
+            raise ValueError
+    except ValueError:
+        print(USAGE.format(sys.argv[0]), file=sys.stderr)
+        return 2
+    try:
+        line = socket.create_connection(("127.0.0.1", int(port)))
+    except ConnectionRefusedError:
+        return NOBODY.format(port)
+    with line:
+        print("connected, and waiting for a call", flush=True)
+        try:
+            take_calls(line)
+        except ConnectionError:
+            return "the connection broke off"
     print("the exchange has closed the connection")
+    return 0
+
+
+if __name__ == "__main__":
+    try:
+        sys.exit(main(sys.argv[1:]))
+    except KeyboardInterrupt:
+        sys.exit("stopped")
