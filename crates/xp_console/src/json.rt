@@ -22,17 +22,13 @@ pub(crate) fn status_json(alloc: Global, status: &ExchangeStatus) -> Result<Stri
 fn status_value(alloc: Global, status: &ExchangeStatus) -> Result<Value, AllocError>
     ensures { IfOk result (λ value. view value ≡ status_data status.now) }
 {
-    let calls = calls_value(alloc, &status.calls)?;
-    let lines = lines_value(alloc, &status.lines)?;
-    let recent = recent_value(alloc, &status.recent)?;
-    let totals = totals_value(alloc, &status.totals)?;
     json!(in alloc; {
-        "calls": calls,
-        "lines": lines,
+        "calls": calls_value(alloc, &status.calls)?,
+        "lines": lines_value(alloc, &status.lines)?,
         "moment": status.moment,
-        "recent": recent,
+        "recent": recent_value(alloc, &status.recent)?,
         "started": status.started,
-        "totals": totals,
+        "totals": totals_value(alloc, &status.totals)?,
     })
 }
 
@@ -49,12 +45,10 @@ fn lines_value(alloc: Global, lines: &[LineStatus]) -> Result<Value, AllocError>
 fn line_value(alloc: Global, line: &LineStatus) -> Result<Value, AllocError>
     ensures { IfOk result (λ value. view value ≡ line_data line.now) }
 {
-    let call = optional_value(line.call);
-    let peer = peer_value(alloc, line.peer)?;
     json!(in alloc; {
-        "call": call,
+        "call": optional_value(line.call),
         "name": line.name.as_str(),
-        "peer": peer,
+        "peer": peer_value(alloc, line.peer)?,
         "since": line.since,
         "state": state_text(line.state),
     })
@@ -73,17 +67,14 @@ fn calls_value(alloc: Global, calls: &[LiveCall]) -> Result<Value, AllocError>
 fn live_value(alloc: Global, call: &LiveCall) -> Result<Value, AllocError>
     ensures { IfOk result (λ value. view value ≡ live_data call.now) }
 {
-    let called = party_value(alloc, &call.called)?;
-    let caller = party_value(alloc, &call.caller)?;
-    let segments = segments_value(alloc, call.segments_from_caller, call.segments_from_called)?;
     json!(in alloc; {
-        "called": called,
-        "caller": caller,
+        "called": party_value(alloc, &call.called)?,
+        "caller": party_value(alloc, &call.caller)?,
         "connected": optional_value(call.connected),
         "number": call.number,
         "requested": call.requested,
         "seconds": call.seconds,
-        "segments": segments,
+        "segments": segments_value(alloc, call.segments_from_caller, call.segments_from_called)?,
     })
 }
 
@@ -100,14 +91,10 @@ fn recent_value(alloc: Global, calls: &[EndedCall]) -> Result<Value, AllocError>
 fn ended_value(alloc: Global, call: &EndedCall) -> Result<Value, AllocError>
     ensures { IfOk result (λ value. view value ≡ ended_data call.now) }
 {
-    let called = optional_party_value(alloc, &call.called)?;
-    let caller = party_value(alloc, &call.caller)?;
-    let cleared = cleared_value(alloc, call.cause, call.diagnostic)?;
-    let segments = segments_value(alloc, call.segments_from_caller, call.segments_from_called)?;
     json!(in alloc; {
-        "called": called,
-        "caller": caller,
-        "cleared": cleared,
+        "called": optional_party_value(alloc, &call.called)?,
+        "caller": party_value(alloc, &call.caller)?,
+        "cleared": cleared_value(alloc, call.cause, call.diagnostic)?,
         "connected": optional_value(call.connected),
         "dialled": call.dialled.as_str(),
         "ended": call.ended,
@@ -115,21 +102,20 @@ fn ended_value(alloc: Global, call: &EndedCall) -> Result<Value, AllocError>
         "payer": payer_text(call.payer),
         "requested": call.requested,
         "seconds": call.seconds,
-        "segments": segments,
+        "segments": segments_value(alloc, call.segments_from_caller, call.segments_from_called)?,
     })
 }
 
 fn totals_value(alloc: Global, totals: &Totals) -> Result<Value, AllocError>
     ensures { IfOk result (λ value. view value ≡ totals_data totals.now) }
 {
-    let refused = causes_value(alloc, &totals.refused.by_cause())?;
     json!(in alloc; {
         "calls": totals.calls,
         "events": totals.events,
         "octets_received": totals.octets_received,
         "octets_sent": totals.octets_sent,
         "records_waiting": totals.records_waiting,
-        "refused": refused,
+        "refused": causes_value(alloc, &totals.refused.by_cause())?,
         "segments_from_called": totals.segments_from_called,
         "segments_from_callers": totals.segments_from_callers,
         "stalls": totals.stalls,
