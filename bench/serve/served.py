@@ -1,7 +1,6 @@
 """An exchange that the scripts of this folder look at from outside, until its standard input ends: what it tells, what it prints, and how
 it ends; and the lines that are connected to it."""
 
-import os
 import pathlib
 import resource
 import subprocess
@@ -37,7 +36,7 @@ class Served(server.Process):
     """`xp serve` on a text of subscriptions with further words. Its standard streams are pipes, which are read as it runs, unless its
     standard output goes elsewhere. With `limit` its files may have so many octets: a write that goes further fails."""
 
-    def __init__(self, program, folder, text, *words, output=subprocess.PIPE, limit=None, environment=None):
+    def __init__(self, program, folder, text, *words, output=subprocess.PIPE, limit=None):
         if not pathlib.Path(program).is_file():
             sys.exit(f"there is no program {program}")
         file = pathlib.Path(folder) / "subscriptions.toml"
@@ -46,7 +45,7 @@ class Served(server.Process):
         self.process = subprocess.Popen(
             command, stdin=subprocess.PIPE, stdout=output, stderr=subprocess.PIPE, text=True,
             # The signal of a file that would get too long stays ignored, as this process has it.
-            restore_signals=limit is None, env={**os.environ, **(environment or {})},
+            restore_signals=limit is None,
         )
         if limit is not None:
             self.limit_files(limit)

@@ -1,6 +1,5 @@
+mod BatchLemmas
 mod DigitLemmas
-mod FileLemmas
-mod LineLemmas
 mod MomentLemmas
 mod PlainLemmas
 mod WriterLemmas

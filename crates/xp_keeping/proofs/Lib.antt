@@ -1,5 +1,0 @@
-pub mod Flushed
-pub mod Fronts
-mod Kept
-mod Printed
-mod QueueLemmas

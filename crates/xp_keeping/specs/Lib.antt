@@ -1,4 +1,0 @@
-pub mod Details
-pub mod Printing
-pub mod Queued
-pub mod steps
