@@ -51,7 +51,7 @@ SCRIPTS = [
     Script("serve/routers.py", "--rounds 50", "calls of routers in both directions, and from both sides at once", 60, "--rounds 300"),
     Script("serve/mixed.py", "--jobs 8 --most-lines 60", "the rows over TCP, with a router among hosts", 60, "--jobs 8"),
     Script("serve/moduli.py", "--packets 300 --seconds 2", "calls over TCP between lines of modulo 8 and 128", 15),
-    Script("serve/hostile.py", "20 --most 250", "a good pair beside hostile lines: octets, times, memory", 25, "20 --most 50"),
+    Script("serve/hostile.py", "20 --most 2000", "a good pair beside hostile lines: octets, times, memory", 25, "20 --most 50"),
     Script("serve/memory.py", "--events 60000 --calls 4000 --first 16000 --most 10", "memory under data, and under calls that come and go", 90,
            "--events 1000000 --calls 100000 --most 3"),
     Script("serve/soak.py", "20 --pairs 32 --growth 20000", "calls that come and go at random: octets and records", 40, "20"),

@@ -18,7 +18,7 @@ import tomllib
 from concurrent.futures import ThreadPoolExecutor
 
 import server
-from routers import Router, Wrong, XotCall
+from routers import CLEAR, Router, Wrong, XotCall
 
 ROWS = server.HERE.parent.parent / "crates/xp_rows/data"
 EXCHANGE, ROUTER, ROUTER_LINE = "127.0.0.1", "127.0.0.3", "b1"
@@ -112,6 +112,8 @@ class Play:
         self.router = Router(ROUTER, self.xot_port)
         self.ports = {name: self.base + place for place, name in enumerate(names)}
         self.connections = {}
+        # Whether the router's line was told to clear, and has not confirmed it.
+        self.is_cleared = False
         self.file = folder / "subscriptions.toml"
         self.file.write_text(f'host = "{EXCHANGE}"\nxot_port = {self.xot_port}\n' + re.sub(r'name = "([a-z0-9]+)", port = \d+', self.access, row.file))
         self.process = Served(program, folder, self.file)
@@ -144,7 +146,9 @@ class Play:
         if name not in self.connections:
             raise Unfit("a line that is down sends")
         self.connections[name].connection.sendall(octets)
-        return name == ROUTER_LINE and any(packet[2] == CLEAR_CONFIRMATION for packet in packets)
+        # A clear request that meets a clear indication takes the place of its confirmation.
+        endings = (CLEAR_CONFIRMATION, CLEAR) if self.is_cleared else (CLEAR_CONFIRMATION,)
+        return name == ROUTER_LINE and any(packet[2] in endings for packet in packets)
 
     def take(self, name, frame):
         """The next frame that comes to a line."""
@@ -153,6 +157,8 @@ class Play:
         came = self.connections[name].octets(len(frame), PATIENCE)
         if without_seconds(came) != without_seconds(frame):
             raise Wrong(f"{name} was put {came.hex()} in place of {frame.hex()}")
+        if name == ROUTER_LINE:
+            self.is_cleared |= frame[6] == CLEAR
         return name == ROUTER_LINE and frame[6] == CLEAR_CONFIRMATION
 
     def play(self, outcome):
@@ -177,6 +183,7 @@ class Play:
                     records.append(text)
             if is_over:
                 self.connections.pop(ROUTER_LINE).ends()
+                self.is_cleared = False
         return records
 
     def end(self, wanted):
