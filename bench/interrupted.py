@@ -31,7 +31,7 @@ def interrupted(program, folder, seconds):
         ran = subprocess.run(words, stdin=subprocess.DEVNULL, capture_output=True, text=True, env=environment, timeout=seconds)
     except subprocess.TimeoutExpired:
         sys.exit(f"it had not given up after {seconds} seconds")
-    return (ran.returncode, ran.stdout, ran.stderr), int(told.read_text() if told.exists() else 0)
+    return (ran.returncode, ran.stdout, ran.stderr), int.from_bytes(told.read_bytes(), sys.byteorder) if told.exists() else 0
 
 
 def main():
