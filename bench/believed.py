@@ -1,10 +1,10 @@
 #!/usr/bin/env python3
 """Counts the definitions that a reader of the promises has to believe, and finds those in the wrong folder.
 
-A promise is a clause of the contract of a public call. From the clauses of every crate's public calls, and from what a
-public type is seen as (its `ghost Value` and `ghost view`), this follows each definition of `specs/` that is cited, and those
-that it cites in turn, through all crates. It counts the lines of these that are neither empty, nor a comment, nor a `use`.
-The kit's own definitions of lists, numbers and maps are not counted.
+A promise is a clause of the contract of a public call. From the clauses of every crate's public calls, from what a public type
+is seen as (its `ghost Value` and `ghost view`), and from what it gives as the ghost members of a trait of these crates, this
+follows each definition of `specs/` that is cited, and those that it cites in turn, through all crates. It counts the lines of
+these that are neither empty, nor a comment, nor a `use`. The kit's own definitions of lists, numbers and maps are not counted.
 
 The definitions that only private steps cite stand in `specs/steps/`. It ends with status 1 where a public contract reaches
 one of these, and where a definition in `specs/` itself is reached by none.
@@ -12,6 +12,7 @@ one of these, and where a definition in `specs/` itself is reached by none.
     python3 bench/believed.py [--files] [--names]
 """
 import collections
+import functools
 import pathlib
 import re
 import sys
@@ -167,15 +168,20 @@ def owner_of(line):
     return words[0] if words else None
 
 
+@functools.cache
+def own_traits():
+    """The names of the traits of all crates."""
+    return {name for path in CRATES.glob("*/src/**/*.rt") for name in re.findall(r"^(?:pub )?trait (\w+)", path.read_text(), re.M)}
+
+
 def views_of(path, names, is_public_module):
-    """What the public types of a file are seen as."""
-    text = path.read_text()
-    for block in re.findall(r"^impl[^\n]*\bModel for (\w+).*?^\}", text, re.M | re.S):
-        pass
+    """What the public types of a file are seen as, and what they give as the ghost members of traits."""
     seen = []
-    for found in re.finditer(r"^impl[^\n]*\bModel for (\w+)(.*?)^\}", text, re.M | re.S):
-        if names is None or found[1] in names or is_public_module:
-            seen += re.findall(r"ghost (?:Value|view)\b.*", found[2])
+    for found in re.finditer(r"^impl[^\n]*\b(\w+)(?:<[^\n]*>)? for (\w+)(.*?)^\}", path.read_text(), re.M | re.S):
+        if names is None or found[2] in names or is_public_module:
+            # A model's invariant is for private steps, and so is what a trait of the kit asks.
+            members = r"Value|view" if found[1] == "Model" else r"\w+ =" if found[1] in own_traits() else r"(?!)"
+            seen += re.findall(rf"ghost (?:{members}).*", found[3])
     return "\n".join(seen)
 
 

@@ -45,6 +45,7 @@ SCRIPTS = [
     Script("serve/console.py", "", "the console: answers, what it shows, its stop", 40),
     Script("serve/records_file.py", "", "the file of call detail records", 40),
     Script("serve/traces.py", "", "the trace of lines", 40),
+    Script("serve/disk.py", "", "disks that fail or hang, and outputs that nobody reads", 60),
     Script("serve/ports.py", "", "hosts, ports, strangers, and output that fails", 40),
     Script("serve/links.py", "", "the connections of lines behind routers", 40),
     Script("serve/endings.py", "--rounds 3 --launcher={launcher}", "three kills and three stops under calls: the records", 60),

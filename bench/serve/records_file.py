@@ -233,7 +233,9 @@ def full_disk(program, folder):
     console = server.free_ports(1)
     with Recorded(program, folder, details, "--console", f"127.0.0.1:{console}", limit=len(NAMES) + 150) as exchange:
         b1 = exchange.line("b1")
-        for _ in range(3):
+        refused_call(b1)
+        until(lambda: waiting(exchange.connect(console)) == 0, "the first record is not kept")
+        for _ in range(2):
             refused_call(b1)
         exchange.wait_until_told("call detail records wait: ")
         text = details.read_text()
@@ -256,9 +258,12 @@ def full_disk(program, folder):
 def full_disk_at_the_end(program, folder):
     """An exchange that stops while records wait prints the lines that the file does not hold whole, and ends with status 5."""
     details = pathlib.Path(folder) / "last.csv"
-    with Recorded(program, folder, details, limit=len(NAMES) + 150) as exchange:
+    console = server.free_ports(1)
+    with Recorded(program, folder, details, "--console", f"127.0.0.1:{console}", limit=len(NAMES) + 150) as exchange:
         b1 = exchange.line("b1")
-        for _ in range(3):
+        refused_call(b1)
+        until(lambda: waiting(exchange.connect(console)) == 0, "the first record is not kept")
+        for _ in range(2):
             refused_call(b1)
         exchange.wait_until_told("call detail records wait: ")
         status = exchange.end()

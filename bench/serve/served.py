@@ -1,6 +1,7 @@
 """An exchange that the scripts of this folder look at from outside, until its standard input ends: what it tells, what it prints, and how
 it ends; and the lines that are connected to it."""
 
+import os
 import pathlib
 import resource
 import subprocess
@@ -36,7 +37,7 @@ class Served(server.Process):
     """`xp serve` on a text of subscriptions with further words. Its standard streams are pipes, which are read as it runs, unless its
     standard output goes elsewhere. With `limit` its files may have so many octets: a write that goes further fails."""
 
-    def __init__(self, program, folder, text, *words, output=subprocess.PIPE, limit=None):
+    def __init__(self, program, folder, text, *words, output=subprocess.PIPE, limit=None, environment=None):
         if not pathlib.Path(program).is_file():
             sys.exit(f"there is no program {program}")
         file = pathlib.Path(folder) / "subscriptions.toml"
@@ -45,7 +46,7 @@ class Served(server.Process):
         self.process = subprocess.Popen(
             command, stdin=subprocess.PIPE, stdout=output, stderr=subprocess.PIPE, text=True,
             # The signal of a file that would get too long stays ignored, as this process has it.
-            restore_signals=limit is None,
+            restore_signals=limit is None, env={**os.environ, **(environment or {})},
         )
         if limit is not None:
             self.limit_files(limit)

@@ -7,13 +7,16 @@ README.md says what is checked.
 import argparse
 import collections
 import ipaddress
+import os
 import pathlib
 import struct
 import sys
 import tempfile
+import threading
 import time
 
 import server
+from records_file import NAMES
 from routers import ACCEPTED, CALL, CLEAR, CONFIRMATION, Router, XotCall
 from server import CLEAR_CONFIRMATION, CLEAR_REQUEST, call_request, frame
 from served import Served, data, refused, require, run_checks, station
@@ -156,7 +159,7 @@ def whole_call(caller, called, number="200002"):
 def lines_of_their_own(program, folder):
     """The capture file of a line has what it sent and got, in order, of each of its connections, and has it while the exchange serves."""
     path = pathlib.Path(folder) / "own.pcap"
-    path.write_bytes(b"a file that is replaced")
+    path.write_bytes(FILE_HEADER + 100 * b"an older trace, which is replaced")
     begun = int(time.time())
     with Traced(program, folder, path, "--trace-lines", "a1") as exchange:
         lines, b1 = [exchange.line("a1")], exchange.line("b1")
@@ -291,7 +294,63 @@ def passed_of(line, wanted):
     return b"".join(octets for way, octets in line.passed if way == wanted)
 
 
-CHECKS = (lines_of_their_own, names, lines_behind_a_router, full_disk)
+def files_that_are_kept(program, folder):
+    """A file that is no capture, that is in use, or the file of call detail records: each is told, and is as it was; nothing is served."""
+    def is_refused(path, why, *words):
+        before = path.read_bytes()
+        run = refused(program, folder, subscriptions(server.free_ports(len(LINES))), "--trace", path, *words)
+        require(run == (5, "", f"xp: trace: {why}\n"), f"a trace to {path} ends with {run}")
+        require(path.read_bytes() == before, f"{path} was changed")
+
+    details, path = pathlib.Path(folder) / "calls.csv", pathlib.Path(folder) / "kept.pcap"
+    details.write_text(NAMES)
+    is_refused(details, "holds something else than a capture")
+    is_refused(details, "is in use", "--cdr", details)
+    other = pathlib.Path(folder) / "other.toml"
+    other.write_text(subscriptions(server.free_ports(len(LINES))))
+    is_refused(other, "holds something else than a capture")
+    path.write_bytes(FILE_HEADER[:3])
+    is_refused(path, "holds something else than a capture")
+    path.unlink()
+    with Traced(program, folder, path, "--trace-lines", "a1") as exchange:
+        a1, b1 = exchange.line("a1"), exchange.line("b1")
+        whole_call(a1, b1)
+        # What waits for the file has been written by then.
+        time.sleep(0.5)
+        is_refused(path, "is in use")
+        b1.clear()
+        whole_call(a1, b1)
+        require(exchange.end() == 0, f"it ended badly; {exchange.said()}")
+    pieces, torn = pieces_in(path.read_bytes())
+    require(torn == 0 and streams_of(pieces) == [(0, 0, a1.passed)], "the trace of the exchange that runs was cut off")
+    # A port that is in use is told before the older trace goes.
+    before = path.read_bytes()
+    with server.socket.socket() as taken:
+        taken.bind(("127.0.0.1", 0))
+        taken.listen()
+        base = taken.getsockname()[1]
+        run = refused(program, folder, station("200001", ("a1", base, "")), "--trace", path)
+    require(run == (5, "", "xp: port a1\n"), f"a port in use ends with {run}")
+    require(path.read_bytes() == before, "the older trace is gone, and nothing was served")
+
+
+def named_pipe(program, folder):
+    """A trace goes to a named pipe as to a file."""
+    path = pathlib.Path(folder) / "pipe"
+    os.mkfifo(path)
+    read = []
+    reader = threading.Thread(target=lambda: read.append(path.read_bytes()), daemon=True)
+    reader.start()
+    with Traced(program, folder, path, "--trace-lines", "a1") as exchange:
+        a1, b1 = exchange.line("a1"), exchange.line("b1")
+        whole_call(a1, b1)
+        require(exchange.end() == 0, f"it ended badly; {exchange.said()}")
+    reader.join(10)
+    pieces, torn = pieces_in(read[0])
+    require(torn == 0 and streams_of(pieces) == [(0, 0, a1.passed)], f"the pipe got {read}")
+
+
+CHECKS = (lines_of_their_own, names, lines_behind_a_router, full_disk, files_that_are_kept, named_pipe)
 
 
 def main():

@@ -13,7 +13,7 @@ use std::io;
 use thiserror::Error;
 use xp_cdr::OpenFault;
 use xp_console::{AskFault, ConsoleFault};
-use xp_serve::{ServeFailure, TraceFault};
+use xp_serve::{ServeFailure, TraceFileFault};
 use xp_tasks::TaskFailure;
 
 /// Why the program failed.
@@ -37,9 +37,9 @@ pub enum Failure {
     /// The file of call detail records was not opened.
     #[error("xp: cdr: {0}")]
     Cdr(OpenFault),
-    /// The file of the trace can't be made.
+    /// The file of the trace can't be opened.
     #[error("xp: trace: {0}")]
-    Trace(TraceFault),
+    Trace(TraceFileFault),
     /// No line has this name, of those that were to be traced.
     #[error("xp: trace-lines {0}")]
     TraceLines(String),

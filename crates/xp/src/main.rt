@@ -20,7 +20,7 @@ use crate::console::ask_console;
 use crate::explaining::explain_call;
 use crate::failure::Failure;
 use crate::replaying::replay_script;
-use crate::serving::serve_lines;
+use crate::serving::{ThreeSubs, serve_lines};
 use crate::subscribing::read_subscriptions;
 use log::Log;
 use std::fs::{File, Files};
@@ -38,7 +38,7 @@ use xp_subs::Subs;
 use xp_tasks::TaskFailure;
 
 fn main(rt: HostRuntime) -> ExitCode {
-    match run(&rt) {
+    match run(&rt, rt) {
         Ok(()) => ExitCode::SUCCESS,
         Err(failure) => {
             // If standard error fails too, nobody is left to read it.
@@ -52,6 +52,8 @@ fn main(rt: HostRuntime) -> ExitCode {
 fn run<
     R: AllocGlobal
         + Clock
+        + Copy
+        + Drop
         + Env
         + Files<File = File>
         + Input
@@ -59,10 +61,12 @@ fn run<
         + Net<Listener = TcpListener, Stream = TcpStream>
         + Print
         + RandomSource
+        + Send
         + Sync
         + Threads
-        + Wait,
->(rt: &R) -> Result<(), Failure> {
+        + Wait
+        + 'static,
+>(rt: &R, host: HostRuntime) -> Result<(), Failure> {
     let words = words(rt)?;
     let arguments = Arguments::read(rt.alloc(), &words)?;
     let operand = arguments.operand;
@@ -73,7 +77,7 @@ fn run<
             let subs = subscriptions_in(rt, operand)?;
             explain_call(rt, &subs, &question)
         }
-        Subcommand::Serve(order) => serve_file(rt, &order, operand),
+        Subcommand::Serve(order) => serve_file(rt, host, &order, operand),
         Subcommand::Ask(request) => ask_console(rt, request, operand),
     }
 }
@@ -82,20 +86,25 @@ fn run<
 fn serve_file<
     R: AllocGlobal
         + Clock
+        + Copy
+        + Drop
         + Files<File = File>
         + Log
         + Net<Listener = TcpListener, Stream = TcpStream>
         + Print
         + RandomSource
+        + Send
         + Sync
         + Threads
-        + Wait,
->(rt: &R, order: &ServeOrder<'_>, file: &str) -> Result<(), Failure> {
+        + Wait
+        + 'static,
+>(rt: &R, host: HostRuntime, order: &ServeOrder<'_>, file: &str) -> Result<(), Failure> {
     let alloc = rt.alloc();
     let text = fs::read_to_string(rt, file);
-    let subs = read_subscriptions(alloc, &text)?;
+    let own = read_subscriptions(alloc, &text)?;
     let names = read_subscriptions(alloc, &text)?;
-    serve_lines(rt, order, subs, names)
+    let spare = read_subscriptions(alloc, &text)?;
+    serve_lines(rt, host, order, ThreeSubs { own, names, spare })
 }
 
 /// The subscriptions of the file of this name.

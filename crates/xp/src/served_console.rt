@@ -9,11 +9,12 @@ use std::random::RandomSource;
 use std::sync::atomic::AtomicBool;
 use std::sync::{Arc, Wait};
 use std::time::Clock;
+use xp_clock::WallClock;
 use xp_console::{Console, ConsoleService};
 use xp_observer::{BoardSource, StatusBoard};
 use xp_subs::Subs;
 use xp_tasks::TaskFailure;
-use xp_tcp::{Notices, WallClock};
+use xp_tcp::Notices;
 
 /// A console that listens at its address, and the board over which it asks for what it shows.
 pub(crate) struct ServedConsole {

@@ -3,10 +3,11 @@
 use std::alloc::{AllocError, Global};
 use std::sync::Arc;
 use xp_charge::Record;
+use xp_clock::WallClock;
 use xp_observer::{Observer, StatusBoard, Traffic};
 use xp_serve::ConsoleFeed;
 use xp_subs::Subs;
-use xp_tcp::{Notice, Notices, WallClock};
+use xp_tcp::{Notice, Notices};
 use xp_view::ExchangeView;
 
 /// Feeds the console: it shows what can be seen of the exchange each time that the console asks for it. The exchange is seen each

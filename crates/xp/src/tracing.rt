@@ -1,50 +1,66 @@
 //! The trace of the lines that are served.
 
 use crate::failure::Failure;
+use log::Log;
 use std::alloc::{AllocGlobal, Global};
 use std::fs::{File, Files};
 use std::io::BufWriter;
-use std::sync::Arc;
-use xp_arguments::TraceOrder;
-use xp_serve::{TraceFault, TraceWriter, create_trace_file};
+use std::sync::{Arc, Wait};
+use std::thread::Threads;
+use xp_arguments::{ServeOrder, TraceOrder};
+use xp_clock::WallClock;
+use xp_keeping::OperatorLog;
+use xp_serve::{TraceFault, TraceFile, TraceFileFault, TraceThread, TraceWriter};
 use xp_subs::Subs;
 use xp_tasks::TaskFailure;
 use xp_tcp::{NamesFault, Notices, Trace, TracedLines};
 
-/// What the lines put into the trace, and what writes it to its file. Neither is there where nothing is traced.
+/// What the lines put into the trace, and the thread that writes it to its file. Neither is there where nothing is traced.
 #[derive(Drop)]
-pub(crate) struct Tracing {
+pub(crate) struct Tracing<R: Wait> {
     trace: Option<Arc<Trace>>,
-    pub(crate) writer: Option<TraceWriter<BufWriter<File>>>,
+    pub(crate) thread: Option<TraceThread<R>>,
 }
 
-impl Tracing {
-    /// Makes the file of the trace that was ordered, if one was.
+impl<R: AllocGlobal + Copy + Drop + Log + Send + Threads + Wait + 'static> Tracing<R> {
+    /// Opens the file of the trace that was ordered, if one was. What the file held is there until the lines are served.
     ///
     /// # Errors
     ///
-    /// `TraceLines` with the first name that no line has, `Trace` where the file can't be made, and want of memory.
-    pub(crate) fn begin<R: AllocGlobal + Files<File = File>>(
+    /// `TraceLines` with the first name that no line has, `Trace` where the file can't be opened, and want of memory.
+    pub(crate) fn begin(
         rt: &R,
-        order: Option<&TraceOrder<'_>>,
+        order: &ServeOrder<'_>,
+        clock: WallClock,
         subs: &Subs,
-    ) -> Result<Tracing, Failure> {
-        let Some(order) = order else {
+    ) -> Result<Tracing<R>, Failure>
+    where
+        R: Files<File = File>,
+    {
+        let Some(traced) = order.trace.as_ref() else {
             return Ok(Tracing {
                 trace: None,
-                writer: None,
+                thread: None,
             });
         };
         let alloc = rt.alloc();
-        let lines = traced_lines(alloc, order, subs).map_err(failure_of_names)?;
+        let lines = traced_lines(alloc, traced, subs).map_err(failure_of_names)?;
         let trace = Trace::new(alloc, lines, subs.counts().lines)?;
         let trace = Arc::new(alloc, trace).map_err(|_| TaskFailure::Memory)?;
-        let writer = create_trace_file(rt, alloc, order.path, Arc::try_clone(&trace)?).map_err(
+        let file = TraceFile::open(rt, traced.path).map_err(Failure::Trace)?;
+        let is_old = file.is_old();
+        let file = BufWriter::new(alloc, file).map_err(|_| TaskFailure::Memory)?;
+        let mut writer = TraceWriter::new(alloc, Arc::try_clone(&trace)?, file).map_err(
             failure_of_trace,
         )?;
+        if !is_old {
+            writer.begin().map_err(failure_of_trace)?;
+        }
+        let log = OperatorLog::new(*rt, order.quiet);
+        let thread = TraceThread::start(*rt, alloc, writer, clock, log, !is_old)?;
         Ok(Tracing {
             trace: Some(trace),
-            writer: Some(writer),
+            thread: Some(thread),
         })
     }
 
@@ -80,6 +96,6 @@ fn failure_of_names(fault: NamesFault) -> Failure {
 fn failure_of_trace(fault: TraceFault) -> Failure {
     match fault {
         TraceFault::Memory => Failure::Task(TaskFailure::Memory),
-        TraceFault::Create(_) | TraceFault::Write => Failure::Trace(fault),
+        TraceFault::Write => Failure::Trace(TraceFileFault::Write),
     }
 }

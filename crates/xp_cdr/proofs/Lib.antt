@@ -1,5 +1,6 @@
-mod BatchLemmas
 mod DigitLemmas
+mod FileLemmas
+mod LineLemmas
 mod MomentLemmas
 mod PlainLemmas
 mod WriterLemmas

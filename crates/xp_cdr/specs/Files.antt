@@ -1,16 +1,15 @@
--- How many of several texts a file does not hold whole.
-use Rattle.std.specs.Prelude.{◌≡◌, ℕ, ◌+◌, ◌<◌, ◌≤◌, List, [], ◌∷◌, ◌++◌, length, sum, ⊤}
+-- What a file has of octets that are on their way to it.
+use Rattle.std.specs.Prelude.{◌≡◌, List, ◌++◌, ℕ}
 
--- the first `taken` octets end within the first text of `rest`, which begins behind `before` octets
-abbrev pub EndsWithin : ℕ → ℕ → List ℕ → Type 0
-EndsWithin taken before [] = ⊤
-EndsWithin taken before (size ∷ rest) = taken < before + size
-
--- Of texts of these sizes, one after the other, the first `taken` octets hold all but the last `count` whole.
-pub record HoldAllBut (taken : ℕ) (sizes : List ℕ) (count : ℕ) : Type 0 where
-  pub whole : List ℕ
+-- Behind what it has on the disk (`synced`), the file has taken a front of these octets.
+pub record HasFront (synced octets taken : List ℕ) : Type 0 where
+  pub front : List ℕ
   pub rest : List ℕ
-  pub sizes_are : sizes ≡ whole ++ rest
-  pub count_is : count ≡ length rest
-  pub held : sum whole ≤ taken
-  pub next : EndsWithin taken (sum whole) rest
+  pub octets_are : octets ≡ front ++ rest
+  pub taken_is : taken ≡ synced ++ front
+
+-- Of what the file had taken (`old`), it has lost at most an end, and nothing of what it has on the disk.
+pub record LosesAnEnd (synced old new : List ℕ) : Type 0 where
+  pub behind : List ℕ
+  pub had : old ≡ synced ++ behind
+  pub has : HasFront synced behind new

@@ -1,11 +1,10 @@
 //! Several call detail records as one text.
 
-ghost use Rattle.std.specs.Prelude.{◌≡◌, ◌<◌, All, OnErr, OnOk, length, take};
+ghost use Rattle.std.specs.Prelude.{◌≡◌, All, OnErr, OnOk};
 ghost use Rattle.xp_charge.specs.Lines.{HasLines};
 ghost use Rattle.xp_subs.specs.Tables.{line_count};
 ghost use Rattle.xp_cdr.specs.Details.{detail_text};
-ghost use Rattle.xp_cdr.specs.Files.{HoldAllBut};
-ghost use Rattle.xp_cdr.specs.steps.Batch.{EndsWhole, no_texts, with_text, with_texts};
+ghost use Rattle.xp_cdr.specs.steps.Batch.{no_texts, with_text, with_texts};
 
 use crate::detail::write_detail;
 use std::alloc::{AllocError, Global};
@@ -17,8 +16,8 @@ use xp_subs::Subs;
 #[derive(Drop)]
 pub struct Batch {
     octets: Vec<u8>,
-    /// How many octets each of them has.
-    sizes: Vec<usize>,
+    /// How many there are.
+    count: usize,
 }
 
 impl Model for Batch {
@@ -26,7 +25,7 @@ impl Model for Batch {
 
     ghost Value = { Texts };
 
-    ghost view = { λ batch. record { octets = batch.octets.items; sizes = batch.sizes.items } };
+    ghost view = { λ batch. record { octets = batch.octets.items; count = batch.count } };
 }
 
 impl Batch {
@@ -36,7 +35,7 @@ impl Batch {
     {
         Batch {
             octets: Vec::new(alloc),
-            sizes: Vec::new(alloc),
+            count: 0,
         }
     }
 
@@ -47,12 +46,19 @@ impl Batch {
         self.octets.as_slice()
     }
 
+    /// How many there are.
+    pub fn count(&self) -> usize
+        ensures { result ≡ self.now.count }
+    {
+        self.count
+    }
+
     /// Drops all of them, and keeps the memory.
     pub fn clear(&mut self)
         ensures { self.new ≡ no_texts }
     {
         self.octets.clear();
-        self.sizes.clear();
+        self.count = 0;
     }
 
     /// Adds the call detail records of these records.
@@ -70,13 +76,13 @@ impl Batch {
         ensures ok { OnOk result (self.new ≡ with_texts (detail_text subs.now started) self.old records.now) }
         ensures err { OnErr result (self.new ≡ self.old) }
     {
-        let (octets, count) = (self.octets.len(), self.sizes.len());
+        let (octets, count) = (self.octets.len(), self.count);
         for ended in records {
             match self.push(subs, started, ended) {
                 Ok(()) => {}
                 Err(refused) => {
                     self.octets.truncate(octets);
-                    self.sizes.truncate(count);
+                    self.count = count;
                     return Err(refused);
                 }
             }
@@ -90,46 +96,10 @@ impl Batch {
         ensures ok { OnOk result (self.new ≡ with_text self.old (detail_text subs.now started ended.now)) }
         ensures err { OnErr result (self.new ≡ self.old) }
     {
-        let before = self.octets.len();
+        let count = self.count.checked_add(1).ok_or(AllocError)?;
         let alloc = *self.octets.allocator();
         write_detail(alloc, subs, started, ended, &mut self.octets)?;
-        let size = self.octets.len() - before;
-        match self.sizes.push(size) {
-            Ok(()) => Ok(()),
-            Err(_) => {
-                self.octets.truncate(before);
-                Err(AllocError)
-            }
-        }
-    }
-
-    /// How many of them the first `taken` octets do not hold whole.
-    pub fn count_unfinished(&self, taken: usize) -> usize
-        ensures { HoldAllBut taken self.now.sizes result }
-    {
-        let mut left = taken;
-        let sizes = self.sizes.as_slice();
-        for (place, size) in sizes.iter().enumerate() {
-            if left < *size {
-                return sizes.len() - place;
-            }
-            left -= *size;
-        }
-        0
-    }
-
-    /// Where the last of them that the first `taken` octets hold whole ends.
-    pub fn end_of_whole(&self, taken: usize) -> usize
-        ensures { EndsWhole taken self.now.sizes result }
-    {
-        let mut end = 0;
-        let sizes = self.sizes.as_slice();
-        for size in sizes {
-            if taken - end < *size {
-                return end;
-            }
-            end += *size;
-        }
-        end
+        self.count = count;
+        Ok(())
     }
 }

@@ -5,8 +5,10 @@
 mod append;
 mod batch;
 mod detail;
+mod disk;
 mod fields;
 mod file;
+mod last_line;
 mod laws;
 mod moment;
 mod record_file;

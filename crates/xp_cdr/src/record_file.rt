@@ -1,6 +1,7 @@
 //! What a writer of call detail records asks of a file.
 
 ghost use Rattle.std.specs.Prelude.{◌≡◌, ◌+◌, ◌<◌, ◌≤◌, ◌++◌, IfOk, MatchResult, OnErr, OnOk, length, take};
+ghost use Rattle.xp_cdr.specs.Files.{LosesAnEnd};
 
 use std::io;
 
@@ -8,9 +9,10 @@ use std::io;
 pub trait RecordFile: Drop {
     ghost use Rattle.std.specs.Prelude.{ℕ, List};
 
-    // All octets that the file has taken since it was opened, in order, and those of them that it has on the disk.
+    // All octets that the file has taken since it was opened, in order: what it holds behind its old end.
     ghost taken: { Self → List ℕ };
 
+    // The front of them that a good sync covers, with no failed one since they were written.
     ghost synced: { Self → List ℕ };
 
     // How often the file has failed: how many of its calls have told an error.
@@ -33,10 +35,22 @@ pub trait RecordFile: Drop {
     ///
     /// # Errors
     ///
-    /// It is not known what of it is on the disk.
+    /// Any end of what was not on the disk may be lost. A later success says nothing of it: cut the file back, and write it again.
     fn sync(&mut self) -> io::Result<()>
-        ensures taken { taken self.new ≡ taken self.old }
+        ensures taken { OnOk result (taken self.new ≡ taken self.old) }
         ensures ok { OnOk result (synced self.new ≡ taken self.new) }
         ensures err { OnErr result (synced self.new ≡ synced self.old) }
+        ensures lost { OnErr result (LosesAnEnd (synced self.old) (taken self.old) (taken self.new)) }
+        ensures failures { MatchResult result (λ _. failures self.new ≡ failures self.old) (λ _. failures self.new ≡ failures self.old + 1) };
+
+    /// Opens the file anew, and cuts it back to where the last good sync left it.
+    ///
+    /// # Errors
+    ///
+    /// Any end of what was not on the disk may be lost. The file has to be cut back once more.
+    fn cut_back(&mut self) -> io::Result<()>
+        ensures synced { synced self.new ≡ synced self.old }
+        ensures ok { OnOk result (taken self.new ≡ synced self.new) }
+        ensures lost { OnErr result (LosesAnEnd (synced self.old) (taken self.old) (taken self.new)) }
         ensures failures { MatchResult result (λ _. failures self.new ≡ failures self.old) (λ _. failures self.new ≡ failures self.old + 1) };
 }

@@ -8,42 +8,56 @@ use std::io::{Error, ErrorKind};
 use xp_cdr::RecordFile;
 use xp_past::Past;
 
-/// A file in memory, which fails at one call of it, and takes few octets at a time.
+/// How such a file fails: some of its calls, one after the other, from one on. The first call has number 1.
+#[derive(Clone, Copy)]
+pub struct Failing {
+    pub from: u64,
+    pub calls: u64,
+    /// The most octets that a failed sync leaves of those that were not on the disk.
+    pub leaves: usize,
+}
+
+/// A file in memory, which fails at some of its calls, and takes few octets at a time.
 #[derive(Drop)]
 pub struct FailingFile {
-    octets: Vec<u8>,
-    synced: Past<u8>,
+    /// What is on the disk, and what it has taken behind it.
+    synced: Vec<u8>,
+    behind: Vec<u8>,
     failures: Past<ErrorKind>,
     /// The most octets that it takes at a time.
     most: usize,
     ghost takes_some: { 0 < most },
-    /// The number of the call at which it fails. The first call has number 1.
-    fails_at: u64,
+    failing: Failing,
     calls: u64,
-    syncs: u64,
+    cuts: u64,
 }
 
 impl FailingFile {
-    pub fn new(alloc: Global, most: usize, fails_at: u64) -> FailingFile
+    pub fn new(alloc: Global, most: usize, failing: Failing) -> FailingFile
         requires { 0 < most }
-        ensures octets { result.octets.items ≡ [] }
         ensures synced { result.synced.items ≡ [] }
+        ensures behind { result.behind.items ≡ [] }
         ensures failures { result.failures.items ≡ [] }
     {
         FailingFile {
-            octets: Vec::new(alloc),
-            synced: Past::new(),
+            synced: Vec::new(alloc),
+            behind: Vec::new(alloc),
             failures: Past::new(),
             most,
-            fails_at,
+            failing,
             calls: 0,
-            syncs: 0,
+            cuts: 0,
         }
     }
 
-    /// What it has taken.
-    pub fn octets(&self) -> &[u8] {
-        self.octets.as_slice()
+    /// What it has on the disk.
+    pub fn synced(&self) -> &[u8] {
+        self.synced.as_slice()
+    }
+
+    /// What it has taken behind that.
+    pub fn behind(&self) -> &[u8] {
+        self.behind.as_slice()
     }
 
     /// How often it was called.
@@ -51,25 +65,26 @@ impl FailingFile {
         self.calls
     }
 
-    /// How often all of it was on the disk.
-    pub fn syncs(&self) -> u64 {
-        self.syncs
+    /// How often it was cut back.
+    pub fn cuts(&self) -> u64 {
+        self.cuts
     }
 
     /// Counts a call, and tells whether it fails.
     fn fails(&mut self) -> bool
-        ensures octets { self.new.octets ≡ self.old.octets }
         ensures synced { self.new.synced ≡ self.old.synced }
+        ensures behind { self.new.behind ≡ self.old.behind }
         ensures failures { self.new.failures ≡ self.old.failures }
     {
         self.calls = self.calls.saturating_add(1);
-        self.calls == self.fails_at
+        let end = self.failing.from.saturating_add(self.failing.calls);
+        self.failing.from <= self.calls && self.calls < end
     }
 
     /// Notes a failure of this kind, and tells it.
     fn failure(&mut self, kind: ErrorKind) -> Error
-        ensures octets { self.new.octets ≡ self.old.octets }
         ensures synced { self.new.synced ≡ self.old.synced }
+        ensures behind { self.new.behind ≡ self.old.behind }
         ensures failures { length self.new.failures.items ≡ length self.old.failures.items + 1 }
     {
         self.failures.push(&kind);
@@ -78,7 +93,9 @@ impl FailingFile {
 }
 
 impl RecordFile for FailingFile {
-    ghost taken = { λ file. file.octets.items };
+    ghost use Rattle.std.specs.Prelude.{◌++◌};
+
+    ghost taken = { λ file. file.synced.items ++ file.behind.items };
 
     ghost synced = { λ file. file.synced.items };
 
@@ -89,7 +106,7 @@ impl RecordFile for FailingFile {
             return Err(self.failure(ErrorKind::StorageFull));
         }
         let count = octets.len().min(self.most);
-        match self.octets.extend_from_slice(&octets[..count]) {
+        match self.behind.extend_from_slice(&octets[..count]) {
             Ok(()) => Ok(count),
             Err(_) => Err(self.failure(ErrorKind::OutOfMemory)),
         }
@@ -97,11 +114,25 @@ impl RecordFile for FailingFile {
 
     fn sync(&mut self) -> io::Result<()> {
         if self.fails() {
+            let left = self.behind.len().min(self.failing.leaves);
+            self.behind.truncate(left);
             return Err(self.failure(ErrorKind::Other));
         }
-        self.synced = Past::new();
-        self.synced.extend(self.octets.as_slice());
-        self.syncs = self.syncs.saturating_add(1);
+        match self.synced.extend_from_slice(self.behind.as_slice()) {
+            Ok(()) => {
+                self.behind.clear();
+                Ok(())
+            }
+            Err(_) => Err(self.failure(ErrorKind::OutOfMemory)),
+        }
+    }
+
+    fn cut_back(&mut self) -> io::Result<()> {
+        if self.fails() {
+            return Err(self.failure(ErrorKind::NotFound));
+        }
+        self.cuts = self.cuts.saturating_add(1);
+        self.behind.clear();
         Ok(())
     }
 }

@@ -3,7 +3,7 @@
 ghost use Rattle.std.specs.Prelude.{◌≡◌, ◌<◌, OnOk};
 
 use crate::calls::{DETAILS, STARTED, call};
-use crate::failing::FailingFile;
+use crate::failing::{Failing, FailingFile};
 use std::alloc::Global;
 use std::process::Abort;
 use std::test::Fail;
@@ -20,18 +20,20 @@ fn all_details(alloc: Global) -> Result<Vec<u8>, Fail> {
     Ok(text)
 }
 
-/// Asserts that the file has a front of the first `given` lines, which are as long as one another, and that the rest of these waits.
+/// Asserts that the file has whole lines of the first `given` lines on the disk, which are as long as one another, and behind them
+/// a front of those that wait.
 fn assert_front<R: Abort>(rt: &R, writer: &DetailWriter<FailingFile>, all: &[u8], given: usize) {
     let one = DETAILS[0].len().max(1);
     let length = one.saturating_mul(given);
-    let taken = writer.file().octets();
-    let whole = taken.len() / one;
-    assert!(rt; all.starts_with(taken));
+    let synced = writer.file().synced();
+    let whole = synced.len() / one;
+    let waiting = all.get(one.saturating_mul(whole)..length).unwrap_or(b"");
+    assert!(rt; all.starts_with(synced));
+    assert!(rt; waiting.starts_with(writer.file().behind()));
+    assert_eq!(rt; synced.len(), one.saturating_mul(whole));
     assert_eq!(rt; writer.waiting_records(), given.saturating_sub(whole));
-    assert_eq!(rt; writer.waiting_octets(), length.saturating_sub(taken.len()));
-    // A line that is torn in the file is unfinished as a whole.
-    let unfinished = all.get(one.saturating_mul(whole)..length);
-    assert_eq!(rt; Some(writer.unfinished_lines()), unfinished);
+    assert_eq!(rt; writer.waiting_octets(), waiting.len());
+    assert_eq!(rt; writer.unfinished_lines(), waiting);
 }
 
 /// Gives the writer the call of this number.
@@ -44,7 +46,7 @@ fn give(writer: &mut DetailWriter<FailingFile>, subs: &Subs, number: u64) -> Res
     Ok(())
 }
 
-/// Gives each call for itself, and flushes after each. Returns how often the file failed.
+/// Gives each call for itself, and flushes after each, and a few times more. Returns how often the file failed.
 fn write_all<R: Abort>(
     rt: &R,
     subs: &Subs,
@@ -54,94 +56,127 @@ fn write_all<R: Abort>(
     requires { subs.now ≡ writer.old.subs }
 {
     let mut failures = 0u64;
-    for given in 1..=DETAILS.len() {
-        give(writer, subs, given as u64)?;
-        assert_front(rt, writer, all, given);
-        if writer.flush().is_err() {
-            failures = failures.saturating_add(1);
+    for turn in 1..=8usize {
+        let given = turn.min(DETAILS.len());
+        if given == turn {
+            give(writer, subs, given as u64)?;
         }
         assert_front(rt, writer, all, given);
+        let failed = u64::from(writer.flush().is_err());
+        failures = failures.saturating_add(failed);
+        assert_front(rt, writer, all, given);
     }
-    writer.flush()?;
-    assert_front(rt, writer, all, DETAILS.len());
     Ok(failures)
 }
 
-/// Writes all to a file that takes so many octets at a time, and fails once. Returns how often it was called.
+/// Writes all to a file that takes so many octets at a time, and fails so. Returns how often it was called.
 fn count_calls<R: Abort>(
     rt: &R,
     alloc: Global,
     subs: &Subs,
     all: &[u8],
     most: usize,
-    fails_at: u64,
+    failing: Failing,
 ) -> Result<u64, Fail>
     requires { 0 < most }
 {
-    let file = FailingFile::new(alloc, most, fails_at);
+    let file = FailingFile::new(alloc, most, failing);
     let mut writer = DetailWriter::new(alloc, file, subs, STARTED);
     let failures = write_all(rt, subs, all, &mut writer)?;
     let calls = writer.file().calls();
-    assert_eq!(rt; failures, u64::from(fails_at <= calls));
-    assert_eq!(rt; writer.file().octets(), all);
+    let reached = calls.saturating_add(1).saturating_sub(failing.from);
+    assert_eq!(rt; failures, reached.min(failing.calls));
+    assert_eq!(rt; writer.file().synced(), all);
     // Nothing new is there to write.
     assert!(rt; writer.flush().is_ok());
     assert_eq!(rt; writer.file().calls(), calls);
     Ok(calls)
 }
 
-/// Writes all to a file of which each call fails in turn, and which takes so many octets at a time.
+/// Writes all to a file of which each call fails in turn, with those that follow it.
 fn fail_each<R: Abort>(
     rt: &R,
     alloc: Global,
     subs: &Subs,
     all: &[u8],
     most: usize,
+    failing: Failing,
 ) -> Result<(), Fail>
     requires { 0 < most }
 {
+    let mut failing = failing;
     let mut calls = 1u64;
-    for fails_at in 1..1_000u64 {
-        if fails_at > calls.saturating_add(1) {
+    for from in 1..1_000u64 {
+        if from > calls.saturating_add(1) {
             return Ok(());
         }
-        calls = count_calls(rt, alloc, subs, all, most, fails_at)?;
+        failing.from = from;
+        calls = count_calls(rt, alloc, subs, all, most, failing)?;
     }
     Err("too many calls".into())
 }
 
-/// The same with few and with many octets at a time.
-fn fail_by_pieces<R: Abort>(rt: &R, alloc: Global, subs: &Subs) -> Result<(), Fail> {
+/// How many octets a file takes at a time, how many of its calls fail, and how many octets a failed sync leaves.
+static WAYS: [(usize, u64, usize); 8] = [
+    (5, 1, 0),
+    (100, 1, 1_000),
+    (4_096, 1, 0),
+    (4_096, 1, 133),
+    (4_096, 1, 1_000),
+    (4_096, 2, 0),
+    (4_096, 3, 133),
+    (100, 4, 7),
+];
+
+/// The same in each of these ways.
+fn fail_in_ways<R: Abort>(rt: &R, alloc: Global, subs: &Subs) -> Result<(), Fail> {
     let all = all_details(alloc)?;
-    fail_each(rt, alloc, subs, &all, 5)?;
-    fail_each(rt, alloc, subs, &all, 100)?;
-    fail_each(rt, alloc, subs, &all, 4_096)
+    for (most, calls, leaves) in &WAYS {
+        let failing = Failing {
+            from: 1,
+            calls: *calls,
+            leaves: *leaves,
+        };
+        fail_each(rt, alloc, subs, &all, (*most).max(1), failing)?;
+    }
+    Ok(())
 }
 
-/// Whichever call of the file fails, it has all call detail records in the end, once and in order.
+/// Whichever calls of the file fail, it has all call detail records in the end, once and in order.
 #[test]
 fn each_failure(rt: HostRuntime) -> Result<(), Fail> {
     let subs = Subs::read(rt.alloc(), THREE_STATIONS)?;
-    fail_by_pieces(&rt, rt.alloc(), &subs)
+    fail_in_ways(&rt, rt.alloc(), &subs)
 }
 
-/// Gives two calls, and flushes. How often the file was called before and after, and how often all was on the disk.
-fn write_once(alloc: Global, subs: &Subs) -> Result<(u64, u64, u64), Fail> {
-    let file = FailingFile::new(alloc, 4_096, 0);
+/// Gives two calls, and flushes twice. How often the file was called before, after the first time and after the second, and how
+/// often it was cut back.
+fn write_twice(alloc: Global, subs: &Subs, from: u64) -> Result<[u64; 4], Fail> {
+    let failing = Failing {
+        from,
+        calls: 1,
+        leaves: 0,
+    };
+    let file = FailingFile::new(alloc, 4_096, failing);
     let mut writer = DetailWriter::new(alloc, file, subs, STARTED);
     give(&mut writer, subs, 1)?;
     give(&mut writer, subs, 2)?;
     let before = writer.file().calls();
-    writer.flush()?;
-    Ok((before, writer.file().calls(), writer.file().syncs()))
+    let _first = writer.flush();
+    let first = writer.file().calls();
+    let _second = writer.flush();
+    Ok([before, first, writer.file().calls(), writer.file().cuts()])
 }
 
-/// What waits is written by one call, and is then put on the disk by another.
+/// What waits is written by one call, and is then put on the disk by another. After a failed write it is written again. After a
+/// failed sync the file is cut back first.
 #[test]
-fn one_write(rt: HostRuntime) -> Result<(), Fail> {
+fn few_calls(rt: HostRuntime) -> Result<(), Fail> {
     let subs = Subs::read(rt.alloc(), THREE_STATIONS)?;
-    let written = write_once(rt.alloc(), &subs);
-    drop(subs);
-    assert_eq!(rt; written?, (0, 2, 1));
+    let wanted = [[0, 2, 2, 0], [0, 1, 3, 0], [0, 2, 5, 1]];
+    for from in 0..3u64 {
+        let written = write_twice(rt.alloc(), &subs, from)?;
+        assert_eq!(rt; Some(&written), wanted.get(from as usize));
+    }
     Ok(())
 }

@@ -1,9 +1,5 @@
 mod Accesses
 mod Addresses
 mod EarlyEnds
-mod Flushed
-mod Fronts
-mod Kept
 mod Passes
-mod Printed
 mod Told

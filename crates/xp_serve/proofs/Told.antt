@@ -13,8 +13,8 @@ use Rattle.xp_serve.specs.declared.ends.EarlyEndCause.TheVariants as causes
 use Rattle.xp_serve.specs.declared.ends.EarlyEnd.{EarlyEnd}
 use Rattle.xp_serve.specs.declared.failure.ServeFailure.{ServeFailure}
 use Rattle.xp_serve.specs.declared.failure.ServeFailure.TheVariants.{Host, Memory}
-use Rattle.xp_serve.specs.declared.keep_fault.KeepFault.{KeepFault}
-use Rattle.xp_serve.specs.declared.keep_fault.KeepFault.TheVariants as faults
+use Rattle.xp_keeping.specs.declared.keep_fault.KeepFault.{KeepFault}
+use Rattle.xp_keeping.specs.declared.keep_fault.KeepFault.TheVariants as faults
 use Rattle.xp_serve.specs.declared.served.Served.{Served}
 use Rattle.xp_subs.specs.Tables.{Tables, line_count}
 

@@ -8,8 +8,8 @@ use Rattle.xp_subs.specs.Tables.{Tables, has_routers, line_at, line_count}
 use Rattle.xp_serve.specs.Hosts.{HasNoAddress, IsNoHost}
 use Rattle.xp_serve.specs.declared.failure.ServeFailure.{ServeFailure}
 use Rattle.xp_serve.specs.declared.failure.ServeFailure.TheVariants.{Host, From, Router, Port, XotPort, Journal, Thread, Memory, Output, Details}
-use Rattle.xp_serve.specs.declared.keep_fault.KeepFault.{KeepFault}
-use Rattle.xp_serve.specs.declared.keep_fault.KeepFault.TheVariants as faults
+use Rattle.xp_keeping.specs.declared.keep_fault.KeepFault.{KeepFault}
+use Rattle.xp_keeping.specs.declared.keep_fault.KeepFault.TheVariants as faults
 
 -- 4 for want of room, 5 for input and output
 abbrev pub status_of : ServeFailure → ℕ

@@ -1,9 +1,7 @@
 pub mod Accesses
-pub mod Details
 pub mod Ends
 pub mod Failures
 pub mod Hosts
-pub mod Printing
 pub mod Served
 pub mod Serving
 pub mod steps

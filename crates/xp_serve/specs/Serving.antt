@@ -8,7 +8,7 @@ use Rattle.xp_serve.specs.Failures.{IsWanting, failure_to_keep}
 use Rattle.xp_serve.specs.Served.{IsServed}
 use Rattle.xp_serve.specs.declared.ends.EarlyEnd.{EarlyEnd}
 use Rattle.xp_serve.specs.declared.failure.ServeFailure.{ServeFailure}
-use Rattle.xp_serve.specs.declared.keep_fault.KeepFault.{KeepFault}
+use Rattle.xp_keeping.specs.declared.keep_fault.KeepFault.{KeepFault}
 use Rattle.xp_serve.specs.declared.served.Served.{Served}
 use Rattle.xp_subs.specs.Tables.{Tables}
 

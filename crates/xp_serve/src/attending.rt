@@ -1,8 +1,7 @@
 //! What goes on beside the lines while they are served.
 
-use crate::keep_fault::KeepFault;
-use crate::keeping::RecordKeeper;
 use xp_charge::Record;
+use xp_keeping::{KeepFault, RecordKeeper};
 use xp_lines::{Received, RecordSink};
 use xp_view::ExchangeView;
 

@@ -5,10 +5,10 @@ ghost use Rattle.xp_serve.specs.Failures.{failure_to_keep, name_at, status_of};
 ghost use Rattle.xp_serve.specs.declared.failure.ServeFailure.TheVariants.{Memory as OutOfMemory, Port as OfPort};
 ghost use Rattle.xp_subs.specs.Tables.{line_count};
 
-use crate::keep_fault::KeepFault;
 use std::alloc::AllocError;
 use thiserror::Error;
 use xp_file::Name;
+use xp_keeping::KeepFault;
 use xp_subs::{LineNo, Subs};
 
 /// Why lines were not served to the end.

@@ -5,8 +5,8 @@ ghost use Rattle.xp_serve.specs.Serving.{Tells};
 ghost use Rattle.xp_subs.specs.Tables.{line_count};
 
 use crate::failure::ServeFailure;
-use crate::keeping::RecordKeeper;
 use crate::served::Served;
+use xp_keeping::RecordKeeper;
 
 /// Keeps the charging records that were not handed over while the lines were served, and tells the lowest line that ended
 /// before its time.

@@ -1,73 +1,31 @@
 //! A watch, beside which what lines receive and send is written to a capture file.
 
 use crate::attending::Watch;
-use crate::operator_log::OperatorLog;
-use crate::tracing::TraceWriter;
-use log::Log;
-use std::io::Write;
+use crate::trace_thread::TraceThread;
+use std::sync::Wait;
 use xp_charge::Record;
 use xp_lines::Received;
-use xp_tcp::WallClock;
 use xp_view::ExchangeView;
 
-/// A watch, and the writer of a trace, if there is one: with each look of the watch it writes what waits. Where it fails, that is
-/// told once, nothing is traced any more, and serving goes on.
+/// A watch, and the thread that writes a trace, if there is one. The thread begins with the first look of the watch, when the lines
+/// are served, and ends with the last one.
 #[derive(Drop)]
-pub struct TracedWatch<T: Watch, W: Write, L: Log> {
+pub struct TracedWatch<T: Watch, R: Wait> {
     watch: T,
-    writer: Option<TraceWriter<W>>,
-    clock: WallClock,
-    log: OperatorLog<L>,
+    trace: Option<TraceThread<R>>,
 }
 
-impl<T: Watch, W: Write + Drop, L: Log> TracedWatch<T, W, L> {
-    pub fn new(
-        watch: T,
-        writer: Option<TraceWriter<W>>,
-        clock: WallClock,
-        log: OperatorLog<L>,
-    ) -> TracedWatch<T, W, L> {
-        TracedWatch {
-            watch,
-            writer,
-            clock,
-            log,
-        }
-    }
-
-    /// Writes what waits.
-    fn write_waiting(&mut self) {
-        let Some(writer) = &mut self.writer else {
-            return;
-        };
-        let now = self.clock.now();
-        if let Err(fault) = writer.write_waiting(now) {
-            self.log.error(
-                now,
-                format_args!("trace: {fault}: no line is traced any more"),
-            );
-        }
-    }
-
-    /// Tells how many octets were left out, if any were.
-    fn tell_left_out(&mut self) {
-        let Some(writer) = &self.writer else {
-            return;
-        };
-        let left_out = writer.left_out();
-        if left_out > 0 {
-            let now = self.clock.now();
-            self.log.warn(
-                now,
-                format_args!("trace: {left_out} octets of lines were left out"),
-            );
-        }
+impl<T: Watch, R: Wait> TracedWatch<T, R> {
+    pub fn new(watch: T, trace: Option<TraceThread<R>>) -> TracedWatch<T, R> {
+        TracedWatch { watch, trace }
     }
 }
 
-impl<T: Watch, W: Write + Drop, L: Log + Drop> Watch for TracedWatch<T, W, L> {
+impl<T: Watch, R: Wait + Drop> Watch for TracedWatch<T, R> {
     fn look(&mut self) -> Received {
-        self.write_waiting();
+        if let Some(trace) = &self.trace {
+            trace.begin();
+        }
         self.watch.look()
     }
 
@@ -84,8 +42,10 @@ impl<T: Watch, W: Write + Drop, L: Log + Drop> Watch for TracedWatch<T, W, L> {
     }
 
     fn end(&mut self) {
-        self.write_waiting();
-        self.tell_left_out();
+        if let Some(trace) = &self.trace {
+            // One that was given up leaves a front of the trace.
+            let _is_written = trace.end();
+        }
         self.watch.end();
     }
 }

@@ -2,14 +2,12 @@
 
 ghost use Rattle.std.specs.Prelude.{◌≡◌, [], flat_map};
 ghost use Rattle.xp_capture.specs.FileHeader.{file_header};
-ghost use Rattle.xp_serve.specs.Printing.{Prints};
+ghost use Rattle.xp_keeping.specs.Printing.{Prints};
 ghost use Rattle.xp_serve.specs.declared.tracing.TraceFault.TheVariants.{Memory as OutOfMemory};
 ghost use Rattle.xp_trace.specs.Pieces.{piece_octets};
 
 use std::alloc::{AllocError, Global};
-use std::fs::{File, Files};
-use std::io;
-use std::io::{BufWriter, Write};
+use std::io::Write;
 use std::sync::Arc;
 use thiserror::Error;
 use xp_capture::write_file_header;
@@ -20,8 +18,6 @@ use xp_trace::{Piece, WaitingPieces, write_piece};
 /// Why nothing more is written to a capture file.
 #[derive(Debug, Drop, Error)]
 pub enum TraceFault {
-    #[error("cannot be made: {0}")]
-    Create(io::Error),
     #[error("cannot be written")]
     Write,
     #[error("out of memory")]
@@ -34,25 +30,6 @@ impl From<AllocError> for TraceFault {
     fn from(_refused: AllocError) -> TraceFault {
         TraceFault::Memory
     }
-}
-
-/// Makes a capture file at this path, in the place of one that is there, and begins it. What the lines of the trace receive and send
-/// goes there.
-///
-/// # Errors
-///
-/// `Create` where the file can't be made, `Write`, `Memory`.
-pub fn create_trace_file<R: Files<File = File>>(
-    rt: &R,
-    alloc: Global,
-    path: &str,
-    trace: Arc<Trace>,
-) -> Result<TraceWriter<BufWriter<File>>, TraceFault> {
-    let file = File::create(rt, path).map_err(TraceFault::Create)?;
-    let output = BufWriter::new(alloc, file).map_err(|_| TraceFault::Memory)?;
-    let mut writer = TraceWriter::new(alloc, trace, output)?;
-    writer.begin()?;
-    Ok(writer)
 }
 
 /// Writes what the lines of a trace receive and send to a capture file.
@@ -111,6 +88,11 @@ impl<W: Write + Drop> TraceWriter<W> {
             self.trace.stop();
         }
         written
+    }
+
+    /// Traces nothing any more.
+    pub fn stop(&self) {
+        self.trace.stop();
     }
 
     /// How many octets of traced lines were left out so far.

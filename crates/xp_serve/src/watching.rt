@@ -2,17 +2,18 @@
 
 use crate::attending::Watch;
 use crate::console_feed::ConsoleFeed;
-use crate::operator_log::OperatorLog;
 use crate::stop_input::StopInput;
 use log::Log;
 use std::alloc::{AllocError, Global};
 use std::fmt::Display;
 use std::sync::Arc;
 use xp_charge::Record;
+use xp_clock::WallClock;
 use xp_file::Name;
+use xp_keeping::OperatorLog;
 use xp_lines::Received;
 use xp_subs::{LineNo, Subs};
-use xp_tcp::{Notice, Notices, WallClock};
+use xp_tcp::{Notice, Notices};
 use xp_view::ExchangeView;
 
 /// How many notices are told at most in one look.

@@ -8,8 +8,8 @@ use crate::paper::Paper;
 use std::alloc::Global;
 use std::test::Fail;
 use xp_charge::Record;
+use xp_keeping::{KeepFault, RecordPrinter};
 use xp_packets::{Digits, End};
-use xp_serve::{KeepFault, RecordPrinter};
 use xp_subs::Subs;
 use xp_testing::THREE_STATIONS;
 

@@ -3,9 +3,9 @@
 ghost use Rattle.std.specs.Prelude.{◌≡◌, ◌≤◌, ◌/◌};
 ghost use Rattle.std.specs.Duration.{as_nanos};
 
-use crate::start::Start;
 use std::marker::Model;
 use std::sync::Arc;
+use xp_clock::Start;
 use xp_door::{LineWaker, wake_if_asleep};
 use xp_lines::Clock;
 use xp_subs::LineNo;

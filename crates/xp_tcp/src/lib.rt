@@ -16,10 +16,8 @@ mod router_connection;
 mod router_link;
 mod router_port;
 mod sockets;
-mod start;
 mod thread_sockets;
 mod tokens;
-mod wall_clock;
 
 pub use access::Access;
 pub use admission::{Admission, AdmissionFault, MOST_ADDRESSES};
@@ -32,7 +30,6 @@ pub use port::TcpPort;
 pub use router_link::RouterLink;
 pub use router_port::RouterPort;
 pub use sockets::{Ends, ListenFault, Sockets};
-pub use wall_clock::WallClock;
 pub use xp_door::{
     Candidate, ConnectFault, Door, DoorBell, Notice, Notices, Trace, is_router, line_for,
 };

@@ -1,10 +1,10 @@
 //! What a thread does between the turns of its lines.
 
-use crate::start::uptime;
 use crate::tokens::line_of;
 use mio::{Events, Poll};
 use std::sync::Arc;
 use std::time::Duration;
+use xp_clock::uptime;
 use xp_door::{LineWaker, ThreadWaker};
 use xp_lines::{Patience, Poller};
 

@@ -6,13 +6,13 @@ ghost use Rattle.xp_lines.specs.Counts.{pulled_count, pushed_count};
 use crate::link::{count_pulled, count_pushed, wait_for};
 use crate::options::Patience;
 use crate::router_connection::RouterConnection;
-use crate::start::uptime;
 use mio::Registry;
 use mio::net::TcpStream;
 use std::mem;
 use std::sync::Arc;
 use std::time::Duration;
 use xp_clearing::begins_with_call;
+use xp_clock::uptime;
 use xp_door::{Arrival, Attempt, ConnectFault, LineShare, Notice, RouterLine};
 use xp_lines::{Link, Pulled, Pushed};
 

@@ -15,7 +15,6 @@ use crate::line_sockets::{LineSockets, LineSource, listen_at, open_port};
 use crate::poller::TcpPoller;
 use crate::port::TcpPort;
 use crate::router_port::RouterPort;
-use crate::start::Start;
 use crate::thread_sockets::ThreadSockets;
 use crate::tokens::{WAKER, listener_of};
 use mio::{Events, Poll, Registry, Waker};
@@ -26,6 +25,7 @@ use std::net::{IpAddr, Net, SocketAddr};
 use std::num::NonZeroUsize;
 use std::sync::Arc;
 use thiserror::Error;
+use xp_clock::Start;
 use xp_door::{Door, DoorBell, DoorSockets, LineShare, LineWaker, Notices, RouterLine};
 use xp_subs::LineNo;
 

@@ -1,5 +1,5 @@
 use Rattle.std.proofs.Common.{take}
-use Rattle.xp_serve.proofs.Fronts.{front_of}
+use Rattle.xp_keeping.proofs.Fronts.{front_of}
 use Rattle.xp_serve.proofs.tracing.write_all.Goals as goal
 
 pub returns-in-Err : goal.returns-in-Err

@@ -3,9 +3,9 @@ use Rattle.std.proofs.lemmas.List.{take_all}
 use Rattle.std.proofs.lemmas.Result.{err_from_is_err_and}
 use Rattle.std.specs.Io.KnownBytes.{Appends}
 use Rattle.xp_exchange.proofs.Bytes.{appends_both}
-use Rattle.xp_serve.proofs.Flushed.{flushed}
-use Rattle.xp_serve.proofs.Fronts.{around, front_behind, one_more}
-use Rattle.xp_serve.specs.Printing.{IsFront, Prints}
+use Rattle.xp_keeping.proofs.Flushed.{flushed}
+use Rattle.xp_keeping.proofs.Fronts.{around, front_behind, one_more}
+use Rattle.xp_keeping.specs.Printing.{IsFront, Prints}
 use Rattle.xp_trace.specs.Pieces.{piece_octets}
 use Rattle.xp_serve.proofs.tracing.write_pieces.Goals as goal
 

@@ -1,10 +1,9 @@
-use Rattle.std.proofs.Common.{length, subst}
-use Rattle.xp_cdr.specs.Files.{HoldAllBut}
-use Rattle.xp_cdr.specs.Ledger.{Ledger, sizes}
-use Rattle.xp_cdr.proofs.WriterLemmas.{unfinished_of_all}
+use Rattle.std.proofs.Common.{subst, ◌∙◌}
+use Rattle.xp_cdr.specs.Ledger.{LacksLast, Ledger}
 use Rattle.xp_cdr.proofs.writer.DetailWriter.waiting_records.Goals as goal
 
 pub returns : goal.returns
 returns g c =
-    subst (λ (ledger : Ledger). HoldAllBut (length ledger.taken) (sizes ledger ledger.given) c.count_unfinished.result) c.self.view_is
-    (unfinished_of_all _ _ _ _ _ _ c.self.invariant.0 c.count_unfinished.ensures)
+    let is = c.self.invariant.0 in
+    subst (λ (ledger : Ledger). LacksLast ledger c.count.result) c.self.view_is
+    (record { whole = is.before; rest = is.last; given_are = is.given_are; count_is = c.count.ensures ∙ is.count_is; synced_is = is.synced_is })

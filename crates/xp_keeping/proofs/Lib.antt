@@ -1,0 +1,6 @@
+pub mod Flushed
+pub mod Fronts
+mod Kept
+mod Printed
+mod QueueLemmas
+mod Sends

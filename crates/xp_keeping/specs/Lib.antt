@@ -1,0 +1,4 @@
+pub mod Details
+pub mod Printing
+pub mod Queued
+pub mod steps

@@ -1,0 +1,91 @@
+//! Writing the charging records that nobody is known to have kept.
+
+ghost use Rattle.std.specs.Prelude.{◌≡◌, flat_map};
+ghost use Rattle.xp_cdr.specs.Details.{detail_text};
+ghost use Rattle.xp_charge.specs.Lines.{HasLines};
+ghost use Rattle.xp_keeping.specs.Printing.{Prints};
+ghost use Rattle.xp_keeping.specs.steps.Printing.{PrintsOn};
+ghost use Rattle.xp_subs.specs.Tables.{line_count};
+
+use crate::keep_fault::KeepFault;
+use crate::record_thread::has_lines;
+use std::alloc::Global;
+use std::collections::VecDeque;
+use std::io::Write;
+use xp_cdr::write_detail;
+use xp_charge::Record;
+use xp_exchange::write_out;
+use xp_subs::Subs;
+
+/// Writes the call detail records of these records, in order, of a run that began at `started`, in seconds since 1970.
+///
+/// # Errors
+///
+/// `Memory`, `Output`, or `Details` where a record names a line that there is not. Then a front of them is written.
+pub fn write_left<W: Write>(
+    alloc: Global,
+    subs: &Subs,
+    started: u64,
+    left: &VecDeque<Record>,
+    output: &mut W,
+) -> Result<(), KeepFault>
+    ensures { Prints (W.contents output.old) (W.contents output.new) (flat_map (detail_text subs.now started) left.now.items) result }
+{
+    let (first, second) = left.as_slices();
+    let so_far = write_slice(alloc, subs, started, first, output);
+    write_on(so_far, alloc, subs, started, second, output)
+}
+
+/// Writes the call detail records of these records, unless there was a fault before.
+fn write_on<W: Write>(
+    before: Result<(), KeepFault>,
+    alloc: Global,
+    subs: &Subs,
+    started: u64,
+    left: &[Record],
+    output: &mut W,
+) -> Result<(), KeepFault>
+    ensures { PrintsOn before (W.contents output.old) (W.contents output.new) (flat_map (detail_text subs.now started) left.now) result }
+{
+    match before {
+        Ok(()) => write_slice(alloc, subs, started, left, output),
+        Err(fault) => Err(fault),
+    }
+}
+
+/// Writes the call detail records of these records.
+fn write_slice<W: Write>(
+    alloc: Global,
+    subs: &Subs,
+    started: u64,
+    left: &[Record],
+    output: &mut W,
+) -> Result<(), KeepFault>
+    ensures { Prints (W.contents output.old) (W.contents output.new) (flat_map (detail_text subs.now started) left.now) result }
+{
+    for ended in left {
+        write_one(alloc, subs, started, ended, output)?;
+    }
+    Ok(())
+}
+
+/// Writes the call detail record of this record.
+fn write_one<W: Write>(
+    alloc: Global,
+    subs: &Subs,
+    started: u64,
+    ended: &Record,
+    output: &mut W,
+) -> Result<(), KeepFault>
+    ensures { Prints (W.contents output.old) (W.contents output.new) (detail_text subs.now started ended.now) result }
+{
+    if !has_lines(subs.counts().lines, ended) {
+        return Err(KeepFault::Details);
+    }
+    let mut text = Vec::new(alloc);
+    write_detail(alloc, subs, started, ended, &mut text)?;
+    match write_out(output, &text) {
+        Ok(()) => Ok(()),
+        Err(_) => Err(KeepFault::Output),
+    }
+}

@@ -1,0 +1,25 @@
+//! Keeping the charging records of a run: in a file of call detail records, or printed, on a thread of its own.
+#![tactic(auto)]
+
+mod details;
+mod keep_fault;
+mod keeping;
+mod left;
+mod operator_log;
+mod output;
+mod printing;
+mod queued;
+mod record_queue;
+mod record_thread;
+mod signal;
+mod starting;
+
+pub use details::DetailKeeper;
+pub use keep_fault::KeepFault;
+pub use keeping::RecordKeeper;
+pub use left::write_left;
+pub use operator_log::OperatorLog;
+pub use output::{PatientOutput, StandardOutput};
+pub use printing::RecordPrinter;
+pub use queued::QueuedKeeper;
+pub use starting::{start_details, start_printer};

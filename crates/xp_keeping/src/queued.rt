@@ -1,0 +1,302 @@
+//! Keeping charging records on a thread of its own.
+
+ghost use Rattle.std.specs.Prelude.{◌≡◌, ◌↔◌, ◌++◌, ◌∷◌, [], All, IfOk, None, false, true};
+ghost use Rattle.xp_keeping.specs.Queued.{AreKeptBeside, IsLastOf};
+ghost use Rattle.xp_keeping.specs.steps.Queued.{Adds, GoesOnBeside};
+ghost use Rattle.xp_keeping.specs.steps.Thread.{IsGivenBack};
+ghost use Rattle.xp_subs.specs.Tables.{line_count};
+
+use crate::keep_fault::KeepFault;
+use crate::keeping::RecordKeeper;
+use crate::record_queue::RecordQueue;
+use crate::record_thread::{GivesBack, ThreadEnd, keep_records};
+use crate::signal::KeepingSignal;
+use std::alloc::{AllocError, Global};
+use std::collections::VecDeque;
+use std::marker::Model;
+use std::snapshot::Snapshot;
+use std::sync::{Arc, Wait};
+use std::thread;
+use std::thread::{PromisedHandle, Threads};
+use xp_charge::Record;
+use xp_lines::{Received, RecordSink};
+use xp_past::Past;
+use xp_subs::Subs;
+use xp_view::ExchangeView;
+
+/// While so many records are not kept, serving stops.
+const MOST_LEFT: usize = 100_000;
+
+/// How often the thread that keeps records is looked at as serving ends, while it keeps none: a hundred times a second, for ten
+/// seconds. Then it is given up.
+const MOST_LOOKS: usize = 1_000;
+
+/// Hands charging records to a keeper on a thread of its own, so that nothing waits for it: neither for a file that takes nothing,
+/// nor for an output that nobody reads. A copy of each record stays here until the keeper has kept it.
+#[derive(Drop)]
+pub struct QueuedKeeper<K: RecordKeeper, R: Threads + Wait> {
+    rt: R,
+    /// The subscriptions, by which the records name lines.
+    subs: Snapshot<Subs>,
+    queue: RecordQueue,
+    signal: Arc<KeepingSignal>,
+    /// The thread, until it has ended.
+    thread: Option<PromisedHandle<ThreadEnd<K>, GivesBack<K>>>,
+    /// The keeper, once the thread has given it back.
+    last: Option<K>,
+    /// What is told where the thread gives nothing back.
+    fault: KeepFault,
+    /// Whether memory was wanting for a record.
+    is_short: bool,
+    first: Snapshot<K>,
+    given: Past<Record>,
+}
+
+impl<K: RecordKeeper, R: Threads + Wait> Model for QueuedKeeper<K, R> {
+    ghost use Rattle.std.specs.Prelude.{◌≡◌, IfSome};
+    ghost use Rattle.xp_keeping.specs.Queued.{Queued};
+    ghost use Rattle.xp_keeping.specs.steps.Queued.{IsHandedOn};
+
+    ghost Value = { Queued K };
+
+    ghost view = { λ k. record { subs = k.subs.value; given = k.given.items; is_short = k.is_short; first = k.first.value; last = k.last; left = k.queue.left; fault = k.fault } };
+
+    ghost invariant = { λ k. IsHandedOn k.queue.all k.given.items k.is_short × IfSome k.thread (λ handle. (handle.promise.first.value ≡ k.first.value) × (handle.promise.records.value.queue ≡ k.queue.queue)) };
+}
+
+impl<K: RecordKeeper + Send + 'static, R: Threads + Wait + Copy + Send + 'static> QueuedKeeper<
+    K,
+    R,
+> {
+    /// Starts the thread of a keeper that was given no record yet. Where it does not end in time, `fault` is told.
+    ///
+    /// # Errors
+    ///
+    /// `AllocError` if an allocation fails, or the thread cannot be started.
+    pub fn start(
+        rt: R,
+        alloc: Global,
+        subs: &Subs,
+        keeper: K,
+        fault: KeepFault,
+    ) -> Result<QueuedKeeper<K, R>, AllocError>
+        requires lines { K.lines keeper ≡ line_count subs.now }
+        requires received { K.received keeper ≡ [] }
+        ensures { IfOk result (λ queued. queued ≡ record { subs = subs.now; given = []; is_short = false; first = keeper; last = None; left = []; fault = fault }) }
+    {
+        let (queue, records) = RecordQueue::new(alloc)?;
+        let signal = Arc::new(alloc, KeepingSignal::new())?;
+        let theirs = Arc::try_clone(&signal)?;
+        let lines = subs.counts().lines;
+        let first = Snapshot::of(&keeper);
+        let promise = GivesBack {
+            first: Snapshot::of(&keeper),
+            records: Snapshot::of(&records),
+        };
+        let run = move || -> ThreadEnd<K>
+            requires lines { K.lines keeper ≡ lines }
+            requires received { K.received keeper ≡ [] }
+            requires taken { records.taken ≡ [] }
+            ensures { IsGivenBack K.kept K.keeps keeper records.queue result.keeper result.records result.outcome }
+        { keep_records(&rt, alloc, lines, keeper, records, &theirs) };
+        let thread = thread::spawn_with(&rt, promise, run)?;
+        Ok(QueuedKeeper {
+            rt,
+            subs: Snapshot::of(subs),
+            queue,
+            signal,
+            thread: Some(thread),
+            last: None,
+            fault,
+            is_short: false,
+            first,
+            given: Past::new(),
+        })
+    }
+}
+
+impl<K: RecordKeeper, R: Threads + Wait + Copy> QueuedKeeper<K, R> {
+    /// The records that the thread has not told as kept, the last of all. Where it was given up, nobody knows whether they are kept.
+    pub fn left(&self) -> &VecDeque<Record>
+        ensures { result.now.items ≡ self.now.left }
+    {
+        self.queue.left()
+    }
+
+    /// Whether the thread has given nothing back.
+    pub fn is_given_up(&self) -> bool
+        ensures { result ≡ true ↔ self.now.last ≡ None }
+    {
+        self.last.is_none()
+    }
+
+    /// Hands over these records, unless memory was wanting before.
+    fn hand_over(&mut self, records: &[Record])
+        ensures given { self.new.given ≡ self.old.given ++ records.now }
+        ensures goes_on { GoesOnBeside self.old self.new }
+    {
+        for ended in records {
+            self.hand_over_one(ended);
+        }
+    }
+
+    /// Hands over this record, unless memory was wanting before.
+    fn hand_over_one(&mut self, ended: &Record)
+        ensures given { self.new.given ≡ self.old.given ++ ended.now ∷ [] }
+        ensures goes_on { GoesOnBeside self.old self.new }
+    {
+        self.is_short = add(self.is_short, &mut self.queue, ended.copy());
+        self.given.push(ended);
+    }
+
+    /// Puts into the queue what it has room for, lets go what is kept, and tells whether serving is to go on.
+    fn pass_on(&mut self) -> Received
+        ensures given { self.new.given ≡ self.old.given }
+        ensures goes_on { GoesOnBeside self.old self.new }
+    {
+        self.queue.let_go(self.signal.kept());
+        self.queue.send(&self.rt);
+        self.signal.handed_over();
+        let is_full = self.queue.count() >= MOST_LEFT;
+        if self.is_short || is_full || self.signal.wants_stop() {
+            Received::Stops
+        } else {
+            Received::GoesOn
+        }
+    }
+
+    /// Waits until the thread has ended, as no further record is handed over. Returns whether it has: it is given up where it has kept
+    /// none for ten seconds.
+    fn has_ended(&mut self) -> bool
+        ensures given { self.new.given ≡ self.old.given }
+        ensures goes_on { GoesOnBeside self.old self.new }
+    {
+        let rt = self.rt;
+        let mut kept = self.signal.kept();
+        let mut looks = 0_usize;
+        for _ in rt.forever() {
+            let _received = self.pass_on();
+            if self.queue.is_sent() {
+                self.signal.end();
+            }
+            if self.signal.has_ended() {
+                return true;
+            }
+            let now = self.signal.kept();
+            looks = if now == kept {
+                looks.saturating_add(1)
+            } else {
+                0
+            };
+            kept = now;
+            if looks > MOST_LOOKS {
+                return false;
+            }
+            self.signal.wait_for_end(&rt);
+        }
+        unreachable!()
+    }
+
+    /// Takes the keeper back from the thread, which has ended, and tells what came of keeping the records.
+    fn end(&mut self) -> Result<(), KeepFault>
+        requires { self.old.last ≡ None }
+        ensures kept { AreKeptBeside K.kept K.keeps self.new self.old.given result }
+        ensures goes_on { (self.new.subs ≡ self.old.subs) × (self.new.first ≡ self.old.first) × (self.new.fault ≡ self.old.fault) }
+    {
+        let Some(handle) = self.thread.take() else {
+            return self.give_up();
+        };
+        let ThreadEnd {
+            keeper,
+            records,
+            outcome,
+        } = handle.join(&self.rt);
+        let has_all = self.queue.has_all(&self.rt, records);
+        match outcome {
+            Some(outcome) if has_all => {
+                self.last = Some(keeper);
+                if self.is_short {
+                    Err(KeepFault::Memory)
+                } else {
+                    outcome
+                }
+            }
+            _ => self.give_up(),
+        }
+    }
+
+    /// Tells that the thread was given up.
+    fn give_up(&self) -> Result<(), KeepFault>
+        requires { self.now.last ≡ None }
+        ensures { AreKeptBeside K.kept K.keeps self.now self.now.given result }
+    {
+        let _left = self.queue.left();
+        Err(self.fault)
+    }
+}
+
+/// Adds a record to the queue, unless memory was wanting before. Returns whether memory is wanting.
+fn add(is_short: bool, queue: &mut RecordQueue, ended: Record) -> bool
+    ensures { Adds is_short queue.old ended result queue.new }
+{
+    is_short || queue.add(ended).is_err()
+}
+
+impl<K: RecordKeeper, R: Threads + Wait + Copy + Drop> RecordSink for QueuedKeeper<K, R> {
+    ghost use Rattle.std.specs.Prelude.{◌≡◌};
+    ghost use Rattle.std.proofs.Common.{refl, ◌∙◌};
+    ghost use Rattle.xp_keeping.specs.steps.Queued.{GoesOnBeside};
+    ghost use Rattle.xp_subs.specs.Tables.{line_count};
+
+    ghost received = { λ k. k.given };
+
+    ghost lines = { λ k. line_count k.subs };
+
+    ghost keeps = { λ k l. (l.subs ≡ k.subs) × (l.first ≡ k.first) × (l.fault ≡ k.fault) };
+
+    fn receive(&mut self, records: Vec<Record>) -> Received {
+        self.hand_over(&records);
+        self.pass_on()
+    }
+
+    fn tick(&mut self) -> Received {
+        self.pass_on()
+    }
+
+    fn wants_look(&self) -> bool {
+        false
+    }
+
+    fn see(&mut self, _view: ExchangeView) {}
+
+    ghost keeps_itself = { λ k. (refl, refl, refl) };
+
+    ghost keeps_on = { λ k l m first second. (second.0 ∙ first.0, second.1 ∙ first.1, second.2 ∙ first.2) };
+}
+
+impl<K: RecordKeeper, R: Threads + Wait + Copy + Drop> RecordKeeper for QueuedKeeper<K, R> {
+    ghost use Rattle.std.proofs.Common.{refl};
+    ghost use Rattle.xp_keeping.specs.Queued.{AreKeptBeside};
+
+    ghost named_by = { λ k. k.subs };
+
+    ghost kept = { λ k records result. AreKeptBeside K.kept K.keeps k records result };
+
+    ghost has_lines = { λ k. refl };
+
+    ghost keeps_names = { λ k l same. same.0 };
+
+    fn waiting(&self) -> usize {
+        self.queue.count()
+    }
+
+    fn finish(&mut self, rest: &[Record]) -> Result<(), KeepFault> {
+        self.last = None;
+        self.hand_over(rest);
+        if self.has_ended() {
+            self.end()
+        } else {
+            self.give_up()
+        }
+    }
+}

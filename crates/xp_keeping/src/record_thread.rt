@@ -1,0 +1,202 @@
+//! The thread that keeps charging records.
+
+ghost use Rattle.std.specs.Prelude.{◌≡◌, ◌≤◌, ◌++◌, [], All, IfOk, OnOk, true, vec_capacity};
+ghost use Rattle.xp_charge.specs.Lines.{HasLines};
+ghost use Rattle.xp_keeping.specs.steps.Thread.{IsGivenBack};
+
+use crate::keep_fault::KeepFault;
+use crate::keeping::RecordKeeper;
+use crate::signal::KeepingSignal;
+use std::alloc::Global;
+use std::snapshot::Snapshot;
+use std::sync::Wait;
+use std::thread::Promise;
+use xp_charge::Record;
+use xp_lines::Received;
+use xp_outbox::TakeEnd;
+
+/// How many records are given to the keeper at a time, at most.
+const MOST_AT_ONCE: usize = 256;
+
+/// What the thread gives back as it ends.
+#[derive(Drop)]
+pub(crate) struct ThreadEnd<K: RecordKeeper> {
+    pub(crate) keeper: K,
+    /// The end of the queue from which it took the records.
+    pub(crate) records: TakeEnd<Record, Global>,
+    /// What came of keeping them. `None` where one of them named a line that there is not.
+    pub(crate) outcome: Option<Result<(), KeepFault>>,
+}
+
+/// The promise of a thread that it gives the keeper back, which has kept all that the thread took from the queue.
+#[derive(Drop)]
+pub(crate) struct GivesBack<K: RecordKeeper> {
+    /// The keeper that the thread began with.
+    pub(crate) first: Snapshot<K>,
+    /// The end of the queue, before anything was taken.
+    pub(crate) records: Snapshot<TakeEnd<Record, Global>>,
+}
+
+impl<K: RecordKeeper> Promise<ThreadEnd<K>> for GivesBack<K> {
+    ghost use Rattle.xp_keeping.specs.steps.Thread.{IsGivenBack};
+
+    ghost kept_by = { λ promise end. IsGivenBack K.kept K.keeps promise.first.value promise.records.value.queue end.keeper end.records end.outcome };
+}
+
+/// A record names a line that there is not.
+#[derive(Drop)]
+struct NoSuchLine;
+
+/// What one look at the queue came to.
+#[derive(Drop)]
+struct Look {
+    /// How many records were given to the keeper.
+    count: usize,
+    received: Received,
+}
+
+/// Gives the records that come through the queue to the keeper, until no further one is handed over, and lets it finish.
+pub(crate) fn keep_records<K: RecordKeeper, R: Wait>(
+    rt: &R,
+    alloc: Global,
+    lines: usize,
+    keeper: K,
+    records: TakeEnd<Record, Global>,
+    signal: &KeepingSignal,
+) -> ThreadEnd<K>
+    requires lines { K.lines keeper ≡ lines }
+    requires received { K.received keeper ≡ [] }
+    requires taken { records.taken ≡ [] }
+    ensures { IsGivenBack K.kept K.keeps keeper records.queue result.keeper result.records result.outcome }
+{
+    let mut keeper = keeper;
+    let mut records = records;
+    let mut given = 0_usize;
+    for _ in rt.forever() {
+        let is_over = signal.is_over();
+        let Ok(look) = keep_some(rt, alloc, lines, &mut keeper, &mut records) else {
+            signal.tell_end();
+            return ThreadEnd {
+                keeper,
+                records,
+                outcome: None,
+            };
+        };
+        given = given.saturating_add(look.count);
+        tell(
+            signal,
+            given.saturating_sub(keeper.waiting()),
+            look.received,
+        );
+        if look.count == 0 {
+            if is_over {
+                return finish(keeper, records, signal);
+            }
+            signal.wait_for_records(rt);
+        }
+    }
+    unreachable!()
+}
+
+/// Lets the keeper finish.
+fn finish<K: RecordKeeper>(
+    keeper: K,
+    records: TakeEnd<Record, Global>,
+    signal: &KeepingSignal,
+) -> ThreadEnd<K>
+    requires { K.received keeper ≡ records.taken }
+    ensures queue { result.records ≡ records }
+    ensures kept { IsGivenBack K.kept K.keeps keeper records.queue result.keeper result.records result.outcome }
+{
+    let mut keeper = keeper;
+    let outcome = Some(keeper.finish(&[]));
+    signal.tell_end();
+    ThreadEnd {
+        keeper,
+        records,
+        outcome,
+    }
+}
+
+/// Tells how many records are kept, and whether the keeper asks for a stop.
+fn tell(signal: &KeepingSignal, kept: usize, received: Received) {
+    signal.tell_kept(kept);
+    match received {
+        Received::GoesOn => {}
+        Received::Stops => signal.ask_to_stop(),
+    }
+}
+
+/// Gives the keeper some of the records that wait in the queue, if there are any and memory for them, and else lets it do what it
+/// does from time to time.
+///
+/// # Errors
+///
+/// A record names a line that there is not. It and those taken with it are then lost.
+fn keep_some<K: RecordKeeper, R: Wait>(
+    rt: &R,
+    alloc: Global,
+    lines: usize,
+    keeper: &mut K,
+    records: &mut TakeEnd<Record, Global>,
+) -> Result<Look, NoSuchLine>
+    requires lines { K.lines keeper.old ≡ lines }
+    ensures lines { K.lines keeper.new ≡ lines }
+    ensures keeps { K.keeps keeper.old keeper.new }
+    ensures queue { records.new.queue ≡ records.old.queue }
+    ensures received { OnOk result (K.received keeper.old ≡ records.old.taken → K.received keeper.new ≡ records.new.taken) }
+{
+    let Ok(room) = Vec::with_capacity(alloc, MOST_AT_ONCE) else {
+        let received = keeper.tick();
+        return Ok(Look { count: 0, received });
+    };
+    let batch = take_batch(rt, lines, records, room)?;
+    let count = batch.len();
+    let received = if count == 0 {
+        keeper.tick()
+    } else {
+        keeper.receive(batch)
+    };
+    Ok(Look { count, received })
+}
+
+/// Takes some of the records that wait in the queue.
+///
+/// # Errors
+///
+/// One of them names a line that there is not.
+fn take_batch<R: Wait>(
+    rt: &R,
+    lines: usize,
+    records: &mut TakeEnd<Record, Global>,
+    room: Vec<Record>,
+) -> Result<Vec<Record>, NoSuchLine>
+    requires none { room.items ≡ [] }
+    requires room { 256 ≤ vec_capacity room }
+    ensures queue { records.new.queue ≡ records.old.queue }
+    ensures taken { IfOk result (λ batch. records.new.taken ≡ records.old.taken ++ batch.items) }
+    ensures lines { IfOk result (λ batch. All (HasLines lines) batch.items) }
+{
+    let mut batch = room;
+    for _place in 0..MOST_AT_ONCE {
+        let Some(ended) = records.take(rt) else {
+            break;
+        };
+        if !has_lines(lines, &ended) {
+            return Err(NoSuchLine);
+        }
+        batch.push_reserved(ended);
+    }
+    Ok(batch)
+}
+
+/// Whether a record names only lines with numbers below `lines`.
+pub(crate) fn has_lines(lines: usize, ended: &Record) -> bool
+    ensures { result ≡ true → HasLines lines ended.now }
+{
+    let has_called = match ended.called {
+        Some(line) => usize::from(line) < lines,
+        None => true,
+    };
+    has_called && usize::from(ended.caller) < lines
+}
