@@ -34,6 +34,8 @@ def measure(xp, pairs, seconds, folder):
     with server.Exchange(xp, folder, pairs, pairs) as exchange:
         del os.environ["LD_PRELOAD"]
         exchange.connect(exchange.base).close()
+        # The line takes the next connection once the exchange has seen the end of that one.
+        time.sleep(1)
         before = counted(counts)
         command = [str(part) for part in (load, exchange.base, pairs, WINDOW, seconds, min(os.cpu_count(), pairs))]
         told = json.loads(subprocess.run(command, stdout=subprocess.PIPE, check=True, text=True).stdout)

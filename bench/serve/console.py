@@ -16,8 +16,8 @@ import metrics_format
 import server
 from console_forms import wanted_metrics, wanted_table
 from routers import ACCEPTED, CALL, PATIENCE, Wrong
-from server import call_request
-from served import OUT_OF_ORDER, Served, data, require, run_checks, station, until
+from server import call_request, frame
+from served import OUT_OF_ORDER, Served, data, require, rest_of, run_checks, station, until
 
 GET = b"GET %s HTTP/1.1\r\nHost: localhost\r\n\r\n"
 STOP = b"POST /stop HTTP/1.1\r\nHost: localhost\r\nx-gonukire: stop\r\nContent-Length: 0\r\n\r\n"
@@ -78,14 +78,6 @@ def ask(exchange, octets, ends=False):
         if ends:
             connection.shutdown(socket.SHUT_WR)
         return rest_of(connection)
-
-
-def rest_of(connection):
-    """All that comes until the connection ends."""
-    taken = b""
-    while more := connection.recv(65_536):
-        taken += more
-    return taken
 
 
 def shown(exchange, path):
@@ -314,9 +306,11 @@ def stop(program, folder):
     with Shown(program, folder) as exchange:
         a1, h1 = bring_to_a_known_state(exchange)
         require(exchange.asked("stop") == (0, "", ""), "`xp stop` failed")
+        # The line that goes down first is told nothing, and the other one that its far end is gone.
+        last = sorted(rest_of(line.connection) for line in (a1, h1))
+        require(last == [b"", frame(OUT_OF_ORDER)], f"{last} came as the exchange stopped")
         for line in (a1, h1):
-            packet = line.receive()
-            require(packet in (OUT_OF_ORDER, b""), f"{packet.hex()} came as the exchange stopped")
+            line.close()
         require(exchange.end(is_asked=False) == 0, f"it ended badly; {exchange.said()}")
         require(exchange.told().count("stopping: the console was asked to") == 1, exchange.said())
         records = [line.split(" ")[:10] for line in exchange.printed().splitlines()]

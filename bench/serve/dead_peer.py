@@ -1,8 +1,9 @@
 #!/usr/bin/env python3
-"""Two peers of `xp serve` that are gone without a word: their lines must go down, and take their next connections.
+"""Three peers of `xp serve` that are gone without a word: their lines must go down, and take their next connections.
 
-The peers are in a network namespace, whose one link to this machine is cut. One of them is silent before, and the other is
-sent a call as it is gone. It takes root, and the programs of iproute2. README.md says what is checked.
+The peers are in a network namespace, whose one link to this machine is cut. One of them is silent before, one is sent a call
+as it is gone, and one has a line that names the addresses of its host. It takes root, and the programs of iproute2. README.md
+says what is checked.
 """
 
 import argparse
@@ -21,8 +22,9 @@ from server import call_request, frame
 # The ends of the link: addresses of a network for examples (RFC 5737), which no other link should have.
 HERE, THERE = "198.51.100.1", "198.51.100.2"
 
-# The seconds within which a line whose peer is gone has to take its next connection, and those that have to pass before.
-MOST, LEAST = 95, 30
+# The seconds within which a line whose peer is gone has to take its next connection, and those that have to pass before. A line
+# that names the addresses of its host takes it at once.
+MOST, LEAST, SOON = 95, 30, 5
 
 OUT_OF_ORDER = frame(bytes.fromhex("1001130900"))
 
@@ -88,45 +90,55 @@ def be_peer(port):
 
 
 def subscriptions(base):
-    return f'host = "0.0.0.0"\n{server.subscriptions(2, base)}'
+    """Two pairs of lines, of which the caller of the second names the addresses of its host."""
+    named = server.subscriptions(2, base).replace(f"port = {base + 2} ", f'port = {base + 2}, from = ["{THERE}", "127.0.0.1"] ')
+    return f'host = "0.0.0.0"\n{named}'
 
 
-def next_connection(exchange, port):
-    """A connection to a line, which asks whether the line is up."""
-    connection = exchange.connect(port)
-    connection.settimeout(2 * MOST)
-    connection.sendall(frame(server.CLEAR_REQUEST))
-    return connection
+def is_taken(exchange, port):
+    """Whether a line takes a connection: it answers whether it is up. While it has another one, it may refuse it."""
+    confirmation = frame(server.CLEAR_CONFIRMATION)
+    with exchange.connect(port) as connection:
+        connection.settimeout(SOON)
+        try:
+            connection.sendall(frame(server.CLEAR_REQUEST))
+            return connection.recv(len(confirmation), socket.MSG_WAITALL) == confirmation
+        except (ConnectionError, TimeoutError):
+            return False
+
+
+def is_cleared(caller):
+    """Whether the caller has been told that its call is over."""
+    ready, _, _ = select.select([caller], [], [], 0)
+    if ready and caller.recv(len(OUT_OF_ORDER), socket.MSG_WAITALL) != OUT_OF_ORDER:
+        sys.exit("other octets have come to the caller")
+    return bool(ready)
 
 
 def check_times(awaited, since):
-    """To each connection its octets come in time."""
+    """Each thing that is awaited has come in its time, and not before: `awaited` has what tells that it has come, and its times."""
     while awaited:
-        ready, _, _ = select.select(awaited, [], [], 2 * MOST)
-        if not ready:
-            sys.exit(f"has not come: {', '.join(what for what, _ in awaited.values())}")
-        for connection in ready:
-            what, octets = awaited.pop(connection)
-            passed = time.monotonic() - since
-            if connection.recv(len(octets), socket.MSG_WAITALL) != octets:
-                sys.exit(f"{what}: other octets have come after {passed:.1f} seconds")
-            print(f"{what}: after {passed:.1f} seconds", flush=True)
-            if not LEAST <= passed <= MOST:
-                sys.exit(f"{what}: not between {LEAST} and {MOST} seconds")
+        for what, (has_come, least, most) in list(awaited.items()):
+            came, passed = has_come(), time.monotonic() - since
+            if came:
+                del awaited[what]
+                print(f"{what}: after {passed:.1f} seconds", flush=True)
+            if came and passed < least or passed > most:
+                sys.exit(f"{what}: not between {least} and {most} seconds")
+        time.sleep(1)
 
 
-def lose_peers(exchange, network, caller, called, silent):
-    """Cuts the link, calls one of the peers, and waits until the lines of both take their next connections."""
+def lose_peers(exchange, network, caller, called, silent, named):
+    """Cuts the link, calls one of the peers, and waits until the lines of all take their next connections."""
     network.cut()
     since = time.monotonic()
     caller.sendall(frame(call_request(server.address(0))))
-    confirmation = frame(server.CLEAR_CONFIRMATION)
-    awaited = {
-        caller: ("the call to a peer that is gone is cleared", OUT_OF_ORDER),
-        next_connection(exchange, called): ("the line that was called takes its next connection", confirmation),
-        next_connection(exchange, silent): ("the silent line takes its next connection", confirmation),
-    }
-    check_times(awaited, since)
+    check_times({
+        "the line that names its host takes its next connection": (lambda: is_taken(exchange, named), 0, SOON),
+        "the call to a peer that is gone is cleared": (lambda: is_cleared(caller), LEAST, MOST),
+        "the line that was called takes its next connection": (lambda: is_taken(exchange, called), LEAST, MOST),
+        "the silent line takes its next connection": (lambda: is_taken(exchange, silent), LEAST, MOST),
+    }, since)
 
 
 def main():
@@ -138,12 +150,12 @@ def main():
         return be_peer(arguments.as_peer_of)
 
     with tempfile.TemporaryDirectory() as folder, server.Serving(arguments.xp, folder, 4, subscriptions, 2) as exchange, Network() as network:
-        calling, called, silent = exchange.base, exchange.base + 1, exchange.base + 3
+        calling, called, named, silent = range(exchange.base, exchange.base + 4)
         caller = exchange.connect(calling)
         caller.settimeout(2 * MOST)
         run.rise(caller)
-        with Peer(network, called), Peer(network, silent):
-            lose_peers(exchange, network, caller, called, silent)
+        with Peer(network, called), Peer(network, silent), Peer(network, named):
+            lose_peers(exchange, network, caller, called, silent, named)
 
 
 if __name__ == "__main__":

@@ -63,8 +63,8 @@ class Interrupted(soak.Soak):
 
     def closed(self, line):
         if not self.is_ending:
-            self.fail(f"the exchange closed the connection of {line.name}")
-        if line.state != soak.DOWN:
+            super().closed(line)
+        elif line.state != soak.DOWN:
             self.disconnect(line)
 
     def run_for(self, seconds):

@@ -1,6 +1,7 @@
 #!/usr/bin/env python3
 """The connections of lines behind routers, one situation after the other: which line a connection is given to, when it ends, what is dropped
-behind a call, and a router that connects as it is called. `routers.py` has the same at random and in number.
+behind a call, and a router that connects as it is called. `routers.py` has the same at random and in number, and `waiting.py` what
+becomes of a connection before its first frame is whole.
 
 README.md says what is checked.
 """
@@ -17,9 +18,12 @@ import time
 
 import server
 import traces
-from routers import ACCEPTED, BREATH, CALL, CLEAR, CONFIRMATION, FIRST, PATIENCE, STRANGER, THIRD, Router, XotCall
+from routers import (
+    ACCEPTED, BEHIND_FIRST, BREATH, CALL, CLEAR, CONFIRMATION, FIRST, PATIENCE, STRANGER, THIRD, Router, XotCall
+)
 from server import CLEAR_CONFIRMATION, CLEAR_REQUEST, call_request, frame
-from served import Served, require, run_checks, station, until
+from served import ACCEPTED as CALL_ACCEPTED
+from served import Served, require, run_checks, station
 
 # The addresses of c, of z, behind the third router, and of d.
 CALLER, ROUTED, CALLED = "200001", "300003", "200002"
@@ -27,8 +31,8 @@ CALLER, ROUTED, CALLED = "200001", "300003", "200002"
 # Behind the first router.
 SIBLINGS = ("x0", "x1", "x2")
 
-# Why a call to z is refused: the router has called.
-COLLISION = 0x01, 72
+# An address that nobody has, and what a call to it is told.
+UNKNOWN, NOT_OBTAINABLE = "99", (0x0D, 67)
 
 
 class Routed(Served):
@@ -41,7 +45,7 @@ class Routed(Served):
         text = (
             f"xot_port = {self.base + 2}\n" + station(CALLER, ("c", self.base, ""))
             + f'[[station]]\naddress = "{ROUTED}"\nline = [{behind("z", self.third)}]\n' + station(CALLED, ("d", self.base + 1, ""))
-            + f'[[station]]\naddress = "300001"\nline = [{", ".join(behind(name, self.first) for name in SIBLINGS)}]\n'
+            + f'[[station]]\naddress = "{BEHIND_FIRST}"\nline = [{", ".join(behind(name, self.first) for name in SIBLINGS)}]\n'
         )
         super().__init__(program, folder, text, *words)
         self.c, self.d = self.rise(self.base), self.rise(self.base + 1)
@@ -54,7 +58,9 @@ class Routed(Served):
     def call_router(self, line):
         """Calls z. Returns the router's end of the call, which it has yet to accept."""
         line.send(call_request(ROUTED))
-        return self.third.called()[0]
+        call, _ = self.third.called()
+        self.lines.append(call)
+        return call
 
     def connect_calls(self, line):
         """Calls z, and the router accepts."""
@@ -86,31 +92,37 @@ def peer_of(call):
 # ---- which line
 
 
+def take_line(exchange, router, name):
+    """A call of a router, which has to be given to this line. It is refused, and holds the line until the router confirms that."""
+    call = router.place(UNKNOWN, b"")
+    exchange.lines.append(call)
+    exchange.wait_until_told(f"line {name}: up from {peer_of(call)}\n")
+    packet = call.expect(CLEAR)
+    require((packet[3], packet[4]) == NOT_OBTAINABLE, f"the call is told {packet.hex()}")
+    return call
+
+
 def lowest_free_line(program, folder):
-    """A router's connection is given to its lowest line that is free; one more, and one of a stranger, is closed and told."""
+    """A router's call is given to its lowest line that is free; one more, and a connection of a stranger, is closed and told."""
     with Routed(program, folder) as exchange:
-        first = []
-        for name in SIBLINGS:
-            first.append(exchange.first.connect())
-            exchange.wait_until_told(f"line {name}: up from {peer_of(first[-1])}\n")
-        z = exchange.third.connect()
-        exchange.wait_until_told(f"line z: up from {peer_of(z)}\n")
-        one_more = exchange.first.connect()
+        first = [take_line(exchange, exchange.first, name) for name in SIBLINGS]
+        take_line(exchange, exchange.third, "z")
+        one_more = exchange.first.place(UNKNOWN, b"")
         peer = peer_of(one_more)
         one_more.ends()
         exchange.wait_until_told(f"routers: connection from {peer} refused: no line is free\n")
         for place in (1, 0):
-            first[place].close()
+            first[place].send(CLEAR_CONFIRMATION)
+            first[place].ends()
             exchange.wait_until_told(f"line {SIBLINGS[place]}: connection closed\n")
-            first[place] = exchange.first.connect()
-            exchange.wait_until_told(f"line {SIBLINGS[place]}: up from {peer_of(first[place])}\n")
+            first[place] = take_line(exchange, exchange.first, SIBLINGS[place])
         stranger = socket.socket()
         stranger.bind((STRANGER, 0))
         stranger.connect(("127.0.0.1", exchange.base + 2))
         peer = peer_of(XotCall(stranger))
         XotCall(stranger).ends()
         exchange.wait_until_told(f"routers: connection from {peer} refused: no line is behind this router\n")
-        exchange.finish(0)
+        exchange.finish(6)
 
 
 # ---- calls of the router, and to it
@@ -131,10 +143,10 @@ def calls_of_the_router(program, folder):
             exchange.d.clear()
         exchange.c.clear()  # and no call has come to c
         unused = exchange.third.connect()
-        exchange.wait_until_told(f"line z: up from {peer_of(unused)}\n")
-        before = exchange.told().count("line z: connection closed\n")
+        peer = peer_of(unused)
         unused.close()
-        exchange.wait_until_told("line z: connection closed\n", before + 1)
+        exchange.wait_until_told(f"routers: connection from {peer} ended before its first frame was whole\n")
+        require(f"up from {peer}" not in exchange.told(), f"it has had a line; {exchange.said()}")
         exchange.finish(2)
 
 
@@ -212,21 +224,36 @@ def nobody_listens(program, folder):
 
 
 def connected_and_called(program, folder):
-    """A router has connected and sent nothing yet, as it is called: the call has a connection of its own, and the router's is closed."""
+    """A router has connected and sent nothing yet, as it is called: the call has a connection of its own, and the router's waits for its call."""
     with Routed(program, folder) as exchange:
         exchange.third.listen()
-        theirs = exchange.third.connect()
-        exchange.wait_until_told(f"line z: up from {peer_of(theirs)}\n")
+        theirs, too_early = exchange.third.connect(), exchange.third.connect()
         call = exchange.connect_calls(exchange.c)
-        theirs.ends()
+        peer = peer_of(too_early)
+        too_early.send(call_request(CALLED))
+        too_early.ends()
+        exchange.wait_until_told(f"routers: connection from {peer} refused: no line is free\n")
         exchange.c.clear()
         call.cleared()
         call.ends()
-        exchange.finish(1)
+        theirs.send(call_request(CALLED))
+        serve(exchange, theirs)
+        exchange.finish(2)
+
+
+def serve(exchange, theirs):
+    """The router's call, which is to come to d: answered, and cleared by the router. Returns the call connected packet."""
+    exchange.d.expect(CALL)
+    exchange.d.accept()
+    connected = theirs.expect(ACCEPTED)
+    theirs.clear()
+    theirs.ends()
+    exchange.d.cleared()
+    return connected
 
 
 def connecting_and_called(program, folder):
-    """A router connects while the exchange waits for its own connection to it: the router's is closed, and the call comes."""
+    """A router calls while the exchange waits for its own connection to it: the router's is closed, and the call to it comes."""
     with Routed(program, folder) as exchange:
         third = exchange.third
         # A listener whose queue is full: connections to it are neither made nor refused, until some are taken.
@@ -239,12 +266,13 @@ def connecting_and_called(program, folder):
             time.sleep(BREATH)
             exchange.c.send(call_request(ROUTED))
             time.sleep(BREATH)
-            theirs = third.connect()
+            theirs = third.place(CALLED, b"")
             peer = peer_of(theirs)
             theirs.ends()
             exchange.wait_until_told(f"routers: connection from {peer} refused: no line is free\n")
             full.settimeout(PATIENCE)
             call = take_call(full)
+        exchange.lines.append(call)
         call.accept()
         exchange.c.expect(ACCEPTED)
         exchange.finish(1)
@@ -261,32 +289,36 @@ def take_call(listener):
 
 
 def calls_that_meet(program, folder):
-    """A part of the router's call was read as it is called: the call to it is cleared (72), and the router gets the answer to its own alone."""
+    """The front of the router's call has come as it is called: each call has a connection of its own, and gets what is for it alone."""
     path = pathlib.Path(folder) / "z.pcap"
     with Routed(program, folder, "--trace", path, "--trace-lines", "z") as exchange:
         exchange.third.listen()
         theirs, request = exchange.third.connect(), frame(call_request(CALLED))
         theirs.connection.sendall(request[:6])
-        until(lambda: path.read_bytes().endswith(request[:6]), "the front of the router's call is not traced")
+        time.sleep(BREATH)
         exchange.c.send(call_request(ROUTED))
-        exchange.d.clear()  # its thread, which all lines have, has served c before
+        call, incoming = exchange.third.called()
+        call.accept()
+        exchange.c.expect(ACCEPTED)
+        exchange.c.clear()
+        indication = call.expect(CLEAR)
+        call.send(CLEAR_CONFIRMATION)
+        call.ends()
         theirs.connection.sendall(request[6:])
-        require(exchange.c.cleared() == COLLISION, "c is told something else")
-        exchange.d.expect(CALL)
-        exchange.d.accept()
-        connected = theirs.expect(ACCEPTED)
-        theirs.clear()
-        theirs.ends()
-        exchange.d.cleared()
+        connected = serve(exchange, theirs)
         exchange.finish(2)
     pieces, _ = traces.pieces_in(path.read_bytes())
     traces.check_sequences(pieces)
-    passed = [
+    to_router = [
+        (traces.TO_LINE, frame(incoming)), (traces.FROM_LINE, frame(CALL_ACCEPTED)), (traces.TO_LINE, frame(indication)),
+        (traces.FROM_LINE, frame(CLEAR_CONFIRMATION)),
+    ]
+    from_router = [
         (traces.FROM_LINE, request), (traces.TO_LINE, frame(connected)), (traces.FROM_LINE, frame(CLEAR_REQUEST)),
         (traces.TO_LINE, frame(CLEAR_CONFIRMATION)),
     ]
-    streams = traces.streams_of(pieces)
-    require(streams == [(1, 0, passed)], f"{streams} is traced in place of {passed}")
+    wanted, streams = [(1, 0, to_router), (1, 1, from_router)], traces.streams_of(pieces)
+    require(streams == wanted, f"{streams} is traced in place of {wanted}")
 
 
 CHECKS = (

@@ -187,7 +187,7 @@ class Play:
         return records
 
     def end(self, wanted):
-        came = self.process.stop()
+        came = self.process.stop(self.connections.values())
         without_seconds = [[text.rsplit(" ", 1)[0] for text in records] for records in (came[:len(wanted)], wanted)]
         if without_seconds[0] != without_seconds[1]:
             raise Wrong(f"the records are {came} in place of {wanted}")
@@ -201,8 +201,11 @@ class Served(server.Process):
         with self.errors.open("w") as errors, self.output.open("w") as output:
             self.process = subprocess.Popen([program, "serve", str(file), "--until-eof"], stdin=subprocess.PIPE, stdout=output, stderr=errors)
 
-    def stop(self):
+    def stop(self, connections):
+        """Stops it. Its peers close their connections as it ends them. Returns the text of its records."""
         self.process.stdin.close()
+        for connection in connections:
+            connection.drain()
         if self.process.wait(PATIENCE) != 0:
             raise Wrong(f"it ended badly; {self.said()}")
         return self.output.read_text().splitlines()

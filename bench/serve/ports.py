@@ -14,7 +14,7 @@ import sys
 import tempfile
 
 import server
-from routers import PATIENCE, XotCall
+from routers import CONFIRMATION, PATIENCE, XotCall
 from server import CLEAR_CONFIRMATION, CLEAR_REQUEST, call_request
 from served import ACCEPTED, OUT_OF_ORDER, Served, refused, require, run_checks, station
 
@@ -149,9 +149,8 @@ def strangers(program, folder):
     """A connection from an address that a line does not name is closed at once and told; one from a named address makes the line up."""
     base = server.free_ports(FEW)
     with Served(program, folder, pair(base, more=f', from = ["{NAMED}", "::1"]')) as exchange:
-        exchange.connect(base).close()
         for place, name in enumerate(("a1", "b1")):
-            stranger = connection_from(UNNAMED, base + place)
+            stranger = exchange.connect(base + place, UNNAMED)
             peer = "%s:%d" % stranger.getsockname()
             XotCall(stranger).ends()
             exchange.wait_until_told(f"line {name}: connection from {peer} refused\n")
@@ -190,15 +189,20 @@ def no_descriptors(program, folder):
         exchange.wait_until_told("line a1: down\n")
         pid, most = exchange.process.pid, resource.prlimit(exchange.process.pid, resource.RLIMIT_NOFILE)
         resource.prlimit(pid, resource.RLIMIT_NOFILE, (next_descriptor(pid), most[1]))
-        line, router = connection_from("127.0.0.1", base), connection_from("127.0.0.3", base + FEW)
+        line, router = (XotCall(connection_from(source, port)) for source, port in (("127.0.0.1", base), ("127.0.0.3", base + FEW)))
+        # A connection of a router has a line with its first frame.
+        router.send(CLEAR_REQUEST)
         exchange.wait_until_told("line a1: port fails: no connection can be accepted\n")
         exchange.wait_until_told("routers: port fails: no connection can be accepted\n")
         resource.prlimit(pid, resource.RLIMIT_NOFILE, most)
         exchange.wait_until_told("line a1: port works again\n")
         exchange.wait_until_told("routers: port works again\n")
-        exchange.wait_until_told("line a1: up from 127.0.0.1:%d\n" % line.getsockname()[1])
-        exchange.wait_until_told("line z: up from 127.0.0.3:%d\n" % router.getsockname()[1])
-        XotCall(line).clear()
+        exchange.wait_until_told("line a1: up from 127.0.0.1:%d\n" % line.connection.getsockname()[1])
+        exchange.wait_until_told("line z: up from 127.0.0.3:%d\n" % router.connection.getsockname()[1])
+        line.clear()
+        line.close()
+        router.expect(CONFIRMATION)
+        router.ends()
         require(exchange.told().count("port fails") == 2, f"it is not told once; {exchange.said()}")
         require(exchange.end() == 0, f"it ended badly; {exchange.said()}")
 

@@ -109,6 +109,16 @@ class XotCall:
     def close(self):
         self.connection.close()
 
+    def drain(self):
+        """Reads what comes until the connection ends, and closes it, as a host does. One that is closed already is left."""
+        if self.connection.fileno() < 0:
+            return
+        self.connection.settimeout(PATIENCE)
+        with contextlib.suppress(ConnectionError):
+            while self.connection.recv(65_536):
+                pass
+        self.connection.close()
+
     def cut(self):
         """Ends the connection with a reset."""
         self.connection.setsockopt(socket.SOL_SOCKET, socket.SO_LINGER, b"\1\0\0\0\0\0\0\0")
@@ -188,8 +198,19 @@ class Exchange(server.Process):
             self.process = subprocess.Popen(command, stdin=subprocess.PIPE, stdout=output, stderr=errors)
 
     def line(self, place):
-        """The line with this port of its own, once it is up."""
-        return XotCall(self.connect(self.base + place))
+        """The line with this port of its own, once it is up: a clear request without a call is confirmed, and counts for nothing. A
+        connection that comes before the exchange has seen the end of the last one is refused, and is tried again."""
+        for _ in range(100):
+            line = XotCall(self.connect(self.base + place))
+            with contextlib.suppress(ConnectionError):
+                line.send(CLEAR_REQUEST)
+            if packet := line.receive():
+                if packet[2] != CONFIRMATION:
+                    raise Wrong(f"{packet.hex()} came as a line was to be up")
+                return line
+            line.close()
+            time.sleep(BREATH)
+        raise Wrong("a line takes no connection")
 
     def stop(self):
         """Stops it. Returns its records."""
@@ -373,7 +394,7 @@ def cut_in_each_state(exchange):
         records += 1
 
     for cut in (XotCall.close, XotCall.cut):
-        # p1: before any octet, and within a header.
+        # The line is in p1, and the connection has brought no octet, or a part of a header.
         cut(third.connect())
         next_call()
         call = third.connect()

@@ -50,7 +50,7 @@ class Served(server.Process):
         )
         if limit is not None:
             self.limit_files(limit)
-        self.lines_told, self.lines_printed = [], []
+        self.lines, self.lines_told, self.lines_printed = [], [], []
         self.readers = [self.reading(self.process.stderr, self.lines_told)]
         if self.process.stdout:
             self.readers.append(self.reading(self.process.stdout, self.lines_printed))
@@ -84,18 +84,22 @@ class Served(server.Process):
         """Waits until it has told this text so often."""
         until(lambda: self.told().count(text) >= count, f"it has not told: {text}")
 
-    def rise(self, port):
+    def rise(self, port, source=None):
         """A connection to the port of a line, once the line is up: a clear request without a call is confirmed, and counts for
         nothing."""
-        line = XotCall(self.connect(port))
+        line = XotCall(self.connect(port, source))
         line.send(server.CLEAR_REQUEST)
         line.expect(CONFIRMATION)
+        self.lines.append(line)
         return line
 
     def end(self, is_asked=True):
-        """Waits until it has ended, as it is asked to by the end of its standard input. Returns its status."""
+        """Waits until it has ended, as it is asked to by the end of its standard input. Returns its status. Its lines are closed as it
+        ends them, as hosts do: for one that stays open it would wait two seconds."""
         if is_asked:
             self.process.stdin.close()
+            for line in self.lines:
+                line.drain()
         try:
             status = self.process.wait(PATIENCE)
         except subprocess.TimeoutExpired:
@@ -106,12 +110,20 @@ class Served(server.Process):
 
 
 def until(holds, what, seconds=PATIENCE):
-    """Waits until it holds."""
+    """Waits until it holds. Else it is told what is so, by a text or by a function that says it then."""
     end = time.monotonic() + seconds
     while not holds():
         if time.monotonic() > end:
-            raise Wrong(what)
+            raise Wrong(what() if callable(what) else what)
         time.sleep(0.01)
+
+
+def rest_of(connection):
+    """All that comes until the connection ends. A reset is an error."""
+    taken = b""
+    while more := connection.recv(65_536):
+        taken += more
+    return taken
 
 
 def refused(program, folder, text, *words):

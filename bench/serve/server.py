@@ -106,11 +106,11 @@ class Process:
             self.process.kill()
         self.process.wait()
 
-    def connect(self, port):
-        """A connection to one of its ports, which may not be open yet."""
+    def connect(self, port, source=None):
+        """A connection to one of its ports, which may not be open yet, from an address of this machine."""
         for _ in range(3_000):
             try:
-                return socket.create_connection(("127.0.0.1", port))
+                return socket.create_connection(("127.0.0.1", port), source_address=(source, 0) if source else None)
             except ConnectionRefusedError:
                 if self.process.poll() is not None:
                     break

@@ -26,6 +26,9 @@ CALL, ACCEPTED, CLEAR, CONFIRMATION, READY = 0x0B, 0x0F, 0x13, 0x17, 0x01
 # Calls begun in a second for each pair of lines, at most; seconds between two packets of an end, on average.
 RATE, GAP = 0.8, 0.04
 
+# Seconds after which a line connects again whose connection was refused, since the exchange had yet to see the end of the last one.
+AGAIN = 0.05
+
 # The most memory for an event: a call's record is kept until serving ends, one for some fifty events.
 OCTETS = 20
 
@@ -37,7 +40,7 @@ class Line:
 
     def __init__(self, name, number, port):
         self.name, self.number, self.port = name, number, port
-        self.state, self.socket, self.buffer = DOWN, None, b""
+        self.state, self.socket, self.buffer, self.was_up = DOWN, None, b"", False
         self.leave()
 
     def enter(self, call, side, state):
@@ -105,8 +108,11 @@ class Soak:
         self.leave(line)
 
     def closed(self, line):
-        """The exchange closes connections of itself only when its last record is made."""
-        if not self.all_begun():
+        """The exchange closes connections of itself only when its last record is made, or where it has yet to see the end of the line's
+        last one."""
+        if line.state == RISING and line.was_up:
+            self.after(AGAIN, self.connect, line)
+        elif not self.all_begun():
             self.fail(f"the exchange closed the connection of {line.name}")
         if line.state != DOWN:
             self.disconnect(line)
@@ -234,7 +240,7 @@ class Soak:
         elif kind == CLEAR:
             self.receive_clear(line, packet)
         elif kind == CONFIRMATION and line.state in (RISING, CLEARING):
-            line.state = IDLE
+            line.state, line.was_up = IDLE, True
             self.leave(line)
         else:
             self.fail(f"{line.name} got {packet.hex()}, which is not due")
