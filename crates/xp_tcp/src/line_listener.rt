@@ -95,8 +95,17 @@ impl LineListener {
         }
     }
 
-    /// Looks at the connections that have come while the line has one. Returns whether one of them takes its place.
+    /// Looks at the connections that have come while the line has one, if any may have. Returns whether one of them takes its place.
     pub(crate) fn is_replaced(&self) -> bool {
+        self.tell_left_out();
+        match self.share.waker() {
+            Some(waker) if waker.take_knock() => self.meet_all(),
+            _ => false,
+        }
+    }
+
+    /// Takes the connections that have come while the line has one. Returns whether one of them takes its place.
+    fn meet_all(&self) -> bool {
         for _taken in 0..MOST_TAKEN {
             match self.accept() {
                 Ok(arrival) => self.meet(arrival),

@@ -60,12 +60,6 @@ impl TcpLink {
             tap,
         })
     }
-
-    /// Whether another connection has taken its place.
-    fn is_replaced(&self, waker: &LineWaker) -> bool {
-        self.listener.tell_left_out();
-        waker.take_knock() && self.listener.is_replaced()
-    }
 }
 
 /// Lets a line's thread wait for a connection from now on.
@@ -181,12 +175,12 @@ impl Link for TcpLink {
         if into.is_empty() {
             return Pulled::Nothing;
         }
+        if self.listener.is_replaced() {
+            return Pulled::Ended;
+        }
         let Some(waker) = self.listener.share.waker() else {
             return Pulled::Fault;
         };
-        if self.is_replaced(waker) {
-            return Pulled::Ended;
-        }
         let pulled = read_from(&mut self.stream, waker, into);
         trace_pulled(&mut self.tap, into, pulled);
         count_pulled(&self.listener.share, pulled)

@@ -24,12 +24,12 @@ impl Model for TcpPort {
 
     ghost Value = { List IpAddr };
 
-    ghost view = { λ port. port.listener };
+    ghost view = { λ port. port.listener.value };
 }
 
 impl TcpPort {
     pub(crate) fn new(listener: Arc<LineListener>, links: Arc<ThreadLinks>) -> TcpPort
-        ensures { result ≡ listener }
+        ensures { result ≡ listener.value }
     {
         TcpPort { listener, links }
     }
