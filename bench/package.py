@@ -39,14 +39,17 @@ LIMIT, LIMIT_OF_DEBIAN = 60, 600
 DOCUMENTS, UNIT = "usr/share/doc/gonukire", "usr/lib/systemd/system/xp.service"
 EXECUTABLES = {"usr/bin/xp", "usr/lib/gonukire/xp"}
 FILES = EXECUTABLES | {
-    "usr/lib/gonukire/run_program.sh", "usr/lib/gonukire/version", UNIT, "usr/share/man/man1/xp.1.gz",
+    "usr/lib/gonukire/run_program.sh", "usr/lib/gonukire/version", UNIT,
+    "usr/share/man/man1/xp.1.gz", "usr/share/lintian/overrides/gonukire",
     *(f"{DOCUMENTS}/{name}" for name in ("README.md", "CHANGELOG.md", "changelog.gz", "copyright")),
     *(f"{DOCUMENTS}/docs/{it.name}" for it in (TOP / "docs").iterdir() if it.suffix in (".md", ".png")),
     *(f"{DOCUMENTS}/examples/{it.name}" for it in (TOP / "examples").iterdir() if it.name != "xp.service"),
 }
 
-# The libraries of glibc, and what the system itself gives a program.
+# The libraries of glibc, and what the system itself gives a program. A sanitizer asks for one more, which libc6 brings with it.
 GLIBC = re.compile(r"lib(c|m|dl|pthread|resolv|rt)\.so\.\d|ld-linux-x86-64\.so\.2|linux-vdso\.so\.1")
+
+SANITIZER, OF_SANITIZER = b"__asan_init", {"libgcc_s.so.1"}
 
 NONE_PROVED = "package: no program is proved here: ./xp prove proves and builds it, in about an hour\n"
 OLDER = "package: the proved program is older than the sources: ./xp prove proves what changed\n"
@@ -102,7 +105,9 @@ class Package:
     def made(self, name):
         """The package, made once more."""
         file = self.folder / name
-        told_by(TOP / "tools/package.sh", "--program", self.program, file)
+        # To compress it well takes long.
+        environment = {**os.environ, "DPKG_DEB_COMPRESSOR_LEVEL": "0"}
+        told_by(TOP / "tools/package.sh", "--program", self.program, file, env=environment)
         return file
 
     def field(self, name):
@@ -118,8 +123,9 @@ def fields(package):
     require(package.field("Version") == version, f"its version is {package.field('Version')}")
     require(package.field("Architecture") == "amd64", "it is for another processor")
     require(re.fullmatch(r"libc6 \(>= 2\.\d+\)", package.field("Depends")), f"it asks for {package.field('Depends')}")
-    needed = re.findall(r"^\s*(?:\S*/)?(\S+\.so\.\d+)", told_by("ldd", package.program), re.M)
-    require(needed and all(map(GLIBC.fullmatch, needed)), f"the program asks for {needed}")
+    needed = set(re.findall(r"^\s*(?:\S*/)?(\S+\.so\.\d+)", told_by("ldd", package.program), re.M))
+    known = OF_SANITIZER if SANITIZER in package.program.read_bytes() else set()
+    require("libc.so.6" in needed and all(map(GLIBC.fullmatch, needed - known)), f"the program asks for {sorted(needed)}")
 
 
 def files(package):
@@ -206,8 +212,16 @@ def commands(package):
         require(run(package.launcher, *words)[0] == 2, f"{words} are taken")
 
 
+def terminate(launcher_id):
+    """Sends a SIGTERM to the launcher and to its program, as systemd does to each process of a service."""
+    children = pathlib.Path(f"/proc/{launcher_id}/task/{launcher_id}/children").read_text(encoding="ascii").split()
+    require(len(children) == 1, f"the launcher has {len(children)} processes")
+    for it in (*children, launcher_id):
+        os.kill(int(it), signal.SIGTERM)
+
+
 def serve_a_call(words, file, details, base, folder):
-    """Has a launcher serve a pair of lines, and sends it a SIGTERM in the middle of a call. It has to end well."""
+    """Has a launcher serve a pair of lines, and stops it in the middle of a call. It has to end well."""
     with server.Process([*words, "serve", file, "--cdr", details], folder) as exchange:
         caller, called = XotCall(exchange.connect(base)), XotCall(exchange.connect(base + 1))
         for line in (caller, called):
@@ -216,7 +230,7 @@ def serve_a_call(words, file, details, base, folder):
         called.expect(CALL)
         called.accept()
         caller.expect(ACCEPTED)
-        exchange.process.send_signal(signal.SIGTERM)
+        terminate(exchange.process.pid)
         status = exchange.process.wait(PATIENCE)
         require(status == 0, f"it ended with status {status}; {exchange.said()}")
 
@@ -267,6 +281,10 @@ def proved_alone(package):
         require(told == "xp 2026-11-27\ncommit: unknown\nproved: yes\nkit: kit 1\n", f"its xp --version tells {told}")
         told = told_by(tree.top / "unpacked/usr/bin/xp", "check", "a file")
         require(told == launcher.output_of("proved", "check", "a file"), f"another program is packed: {told}")
+        told_by(tool, "--program", tree.top / "crates/xp/out/xp", env=environment)
+        told_by("dpkg-deb", "-x", tree.top / "out/gonukire_2026.11.27~unproved_amd64.deb", tree.top / "of a test")
+        told = told_by(tree.top / "of a test/usr/bin/xp", "--version")
+        require("\nproved: no\n" in told, f"the package of a test tells {told}")
         tree.write("crates/low/src/code.rt", "changed")
         require(run(tool, env=environment) == (1, OLDER), "a package is made where sources are younger")
 

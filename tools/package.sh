@@ -50,6 +50,7 @@ put_program() {
   install -D -m 644 "$top/tools/run_program.sh" "$root/usr/lib/gonukire/run_program.sh"
   printf '%s\n' "${identity[@]}" > "$root/usr/lib/gonukire/version"
   install -D -m 755 "$parts/launcher" "$root/usr/bin/xp"
+  install -D -m 644 "$parts/lintian-overrides" "$root/usr/share/lintian/overrides/gonukire"
 }
 
 # The unit runs the launcher of the package. Everything else of it is that of examples/xp.service.
