@@ -289,6 +289,20 @@ def proved_alone(package):
         require(run(tool, env=environment) == (1, OLDER), "a package is made where sources are younger")
 
 
+def proved(package):
+    """the package of the proved program says so, in its version too"""
+    identity = told_by(TOP / "xp", "--version")
+    if "\nproved: yes\n" not in identity:
+        raise LeftOut("./xp --version tells of no proved program")
+    file, root = package.folder / "proved.deb", package.folder / "proved"
+    told_by(TOP / "tools/package.sh", file)
+    found = told_by("dpkg-deb", "-f", file, "Version").rstrip("\n")
+    require(f"{found}~unproved" == package.field("Version"), f"its version is {found}")
+    told_by("dpkg-deb", "-x", file, root)
+    require(told_by(root / "usr/bin/xp", "--version") == identity, "xp --version of the package tells something else")
+    require((root / "usr/lib/gonukire/xp").read_bytes() == (TOP / "crates/xp/out/xp").read_bytes(), "another program is packed")
+
+
 # ---- how it comes and goes
 
 
@@ -364,7 +378,7 @@ def serve_in(root, inside, folder):
     has_the_record(root / details[1:])
 
 
-CHECKS = (fields, files, documents, same_octets, unit, systemd, lintian, version, commands, serving, proved_alone, removal)
+CHECKS = (fields, files, documents, same_octets, unit, systemd, lintian, version, commands, serving, proved_alone, proved, removal)
 
 
 def try_all(checks, package):

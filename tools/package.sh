@@ -5,7 +5,7 @@
 #
 # FILE is out/gonukire_VERSION_amd64.deb where it is absent. What is packed is the program that `./xp prove` made; where there is none,
 # or where it is older than the sources, no package is made. With --program it is another program, for tests: the version of the package
-# ends in ~unproved then, and its `xp --version` says that it is not proved. The same program, commit and kit make the same octets.
+# ends in ~unproved then, and its `xp --version` says that it is not proved. Made again by the same tools, a package has the same octets.
 set -euo pipefail
 umask 022
 
