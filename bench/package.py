@@ -20,21 +20,20 @@ import pathlib
 import re
 import shutil
 import signal
-import subprocess
 import sys
 import tempfile
 
-HERE = pathlib.Path(__file__).resolve().parent
-sys.path.append(str(HERE / "serve"))
+import launcher
+from checks import LeftOut, need, need_root, run, told_by, try_all
+from program import DEFAULT, PROGRAM, TOP
 
-import launcher  # noqa: E402
-import server  # noqa: E402
-from program import DEFAULT, PROGRAM, TOP  # noqa: E402
-from routers import ACCEPTED, CALL, PATIENCE, Wrong, XotCall  # noqa: E402
-from served import require  # noqa: E402
+# Those of bench/serve.
+import server
+from routers import ACCEPTED, CALL, PATIENCE, Wrong, XotCall
+from served import require
 
-# Seconds that a command may take, and the making of a Debian.
-LIMIT, LIMIT_OF_DEBIAN = 60, 600
+# Seconds that the making of a Debian may take.
+LIMIT_OF_DEBIAN = 600
 
 DOCUMENTS, UNIT = "usr/share/doc/gonukire", "usr/lib/systemd/system/xp.service"
 EXECUTABLES = {"usr/bin/xp", "usr/lib/gonukire/xp"}
@@ -43,7 +42,7 @@ FILES = EXECUTABLES | {
     "usr/share/man/man1/xp.1.gz", "usr/share/lintian/overrides/gonukire",
     *(f"{DOCUMENTS}/{name}" for name in ("README.md", "CHANGELOG.md", "changelog.gz", "copyright")),
     *(f"{DOCUMENTS}/docs/{it.name}" for it in (TOP / "docs").iterdir() if it.suffix in (".md", ".png")),
-    *(f"{DOCUMENTS}/examples/{it.name}" for it in (TOP / "examples").iterdir() if it.name != "xp.service"),
+    *(f"{DOCUMENTS}/examples/{it.name}" for it in (TOP / "examples").iterdir() if it.is_file() and it.name != "xp.service"),
 }
 
 # The libraries of glibc, and what the system itself gives a program. A sanitizer asks for one more, which libc6 brings with it.
@@ -53,39 +52,6 @@ SANITIZER, OF_SANITIZER = b"__asan_init", {"libgcc_s.so.1"}
 
 NONE_PROVED = "package: no program is proved here: ./xp prove proves and builds it, in about an hour\n"
 OLDER = "package: the proved program is older than the sources: ./xp prove proves what changed\n"
-
-
-def run(*words, **how):
-    """Runs a command, and returns its status and what it said on both streams."""
-    command = [str(it) for it in words]
-    how = {"stdin": subprocess.DEVNULL, "stdout": subprocess.PIPE, "stderr": subprocess.STDOUT, "timeout": LIMIT, **how}
-    try:
-        done = subprocess.run(command, text=True, errors="replace", **how)
-    except subprocess.TimeoutExpired:
-        raise Wrong(f"{' '.join(command)} has not ended in {how['timeout']} seconds") from None
-    return done.returncode, done.stdout
-
-
-def told_by(*words, **how):
-    """What a command says, which has to end well."""
-    status, said = run(*words, **how)
-    require(status == 0, f"{' '.join(map(str, words))}: status {status}: {said}")
-    return said
-
-
-class LeftOut(Exception):
-    """A check needs something that is not here."""
-
-
-def need(*commands):
-    for it in commands:
-        if not shutil.which(it):
-            raise LeftOut(f"there is no command {it}")
-
-
-def need_root():
-    if os.geteuid() != 0:
-        raise LeftOut("it takes root")
 
 
 def heading():
@@ -381,18 +347,6 @@ def serve_in(root, inside, folder):
 CHECKS = (fields, files, documents, same_octets, unit, systemd, lintian, version, commands, serving, proved_alone, proved, removal)
 
 
-def try_all(checks, package):
-    """Tells of each check what it has looked at, or why it is left out. The first that fails ends the script."""
-    for check in checks:
-        try:
-            check(package)
-            print(f"{check.__name__}: {check.__doc__}", flush=True)
-        except LeftOut as why:
-            print(f"{check.__name__}: left out: {why}", flush=True)
-        except (Wrong, OSError) as wrong:
-            sys.exit(f"{check.__name__}: {wrong}")
-
-
 def main():
     parser = argparse.ArgumentParser(description=__doc__, formatter_class=argparse.RawDescriptionHelpFormatter)
     parser.add_argument("--program", default=str(PROGRAM), help=f"the program to pack ({DEFAULT})")
@@ -404,7 +358,11 @@ def main():
         # Others than root have to read the unpacked files.
         with contextlib.suppress(PermissionError):
             os.chmod(folder, 0o755)
-        try_all(CHECKS if arguments.offline else (*CHECKS, debian), Package(arguments.program, folder))
+        try:
+            package = Package(arguments.program, folder)
+        except Wrong as wrong:
+            sys.exit(f"no package is made: {wrong}")
+        try_all(CHECKS if arguments.offline else (*CHECKS, debian), package)
 
 
 if __name__ == "__main__":

@@ -63,7 +63,7 @@ put_documents() {
   local documents=$root/usr/share/doc/gonukire manual=$root/usr/share/man/man1
   install -D -m 644 -t "$documents" "$top/README.md" "$top/CHANGELOG.md"
   install -D -m 644 -t "$documents/docs" "$top"/docs/*.md "$top"/docs/*.png
-  install -D -m 644 -t "$documents/examples" "$top"/examples/*
+  install -D -m 644 -t "$documents/examples" "$top"/examples/*.*
   rm "$documents/examples/xp.service"
   changelog | gzip -9n > "$documents/changelog.gz"
   { cat "$parts/copyright" && "$top/tools/licences.py"; } > "$documents/copyright"

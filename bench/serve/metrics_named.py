@@ -13,15 +13,14 @@ import argparse
 import json
 import pathlib
 import re
-import shutil
-import subprocess
 import sys
 import tempfile
 
 import metrics_format
 import server
+from checks import need, told_by, try_all
 from routers import Wrong
-from served import require, run_checks
+from served import require
 
 TOP = server.HERE.parent.parent
 ALERTS, DASHBOARD, PAGE = TOP / "examples/prometheus-alerts.yml", TOP / "examples/grafana.json", TOP / "docs/OPERATING.md"
@@ -34,7 +33,7 @@ METRIC = re.compile(r"\bgonukire_[a-z][a-z_]*")
 SELECTOR = re.compile(r"(?P<name>[a-zA-Z_:][\w:]*)\s*\{(?P<labels>[^}]*)\}")
 LABEL = re.compile(r'(\w+)\s*(=~|!~|!=|=)\s*"([^"]*)"')
 GROUPED = re.compile(r"\b(?:by|without|on|ignoring)\s*\(([^)]*)\)")
-# A name in an expression, whose labels, times and numbers are gone, is no function's, behind which an argument stands.
+# A metric's name, where labels, times and numbers are gone. Behind a function's name stands its argument.
 NAME = re.compile(r"[a-zA-Z_:][\w:]*\b(?!\s*\()")
 KEYWORDS = {"and", "or", "unless", "by", "without", "on", "ignoring", "group_left", "group_right", "bool", "offset"}
 
@@ -64,16 +63,16 @@ def alert_expressions():
     return found
 
 
-def panels():
-    """The panels of the dashboard, each its title and the expressions of its targets."""
-    dashboard = json.loads(DASHBOARD.read_text(encoding="utf-8"))
-    return [(it["title"], [target["expr"] for target in it["targets"]]) for it in dashboard["panels"]]
+def dashboard_expressions():
+    """The expressions of the dashboard's panels."""
+    read = json.loads(DASHBOARD.read_text(encoding="utf-8"))
+    return [target["expr"] for panel in read["panels"] for target in panel["targets"]]
 
 
 def queries():
-    """What the variables of the dashboard are asked of Prometheus by."""
-    dashboard = json.loads(DASHBOARD.read_text(encoding="utf-8"))
-    return [it["query"]["query"] for it in dashboard["templating"]["list"] if it["type"] == "query"]
+    """By what the variables of the dashboard get their values from Prometheus."""
+    read = json.loads(DASHBOARD.read_text(encoding="utf-8"))
+    return [it["query"]["query"] for it in read["templating"]["list"] if it["type"] == "query"]
 
 
 def names_in(expression):
@@ -104,7 +103,7 @@ def alerts(exchange):
 
 def dashboard(exchange):
     """each panel of the dashboard is of such metrics, and each metric of an exchange has its panel"""
-    expressions = [it for _, of_panel in panels() for it in of_panel]
+    expressions = dashboard_expressions()
     for it in expressions:
         check_expression(exchange, it)
     named = set(METRIC.findall(" ".join(queries())))
@@ -124,16 +123,15 @@ def page(exchange):
 
 def promtool(_):
     """promtool takes the alerts, Prometheus' own file and all expressions of the dashboard, and the alerts fire when they should"""
-    expressions = [it.replace("$__rate_interval", "1m") for _, of_panel in panels() for it in of_panel]
+    need("promtool")
+    expressions = [it.replace("$__rate_interval", "1m") for it in dashboard_expressions()]
     with tempfile.TemporaryDirectory() as folder:
         rules = pathlib.Path(folder) / "dashboard.yml"
         records = "".join(f"      - {{record: panel_{number}, expr: {json.dumps(it)}}}\n" for number, it in enumerate(expressions))
         rules.write_text(f"groups:\n  - name: dashboard\n    rules:\n{records}")
-        for words in (["check", "rules", ALERTS, rules], ["check", "config", TOP / "examples/prometheus.yml"],
-                      ["test", "rules", server.HERE / "alerts_test.yml"]):
-            done = subprocess.run(["promtool", *map(str, words)], capture_output=True, text=True, timeout=60)
-            if done.returncode != 0:
-                raise Wrong(f"promtool {words[0]} {words[1]}: {done.stdout}{done.stderr}")
+        told_by("promtool", "check", "rules", ALERTS, rules)
+        told_by("promtool", "check", "config", TOP / "examples/prometheus.yml")
+        told_by("promtool", "test", "rules", server.HERE / "alerts_test.yml")
 
 
 def main():
@@ -143,11 +141,7 @@ def main():
         exchange = Exchange(parser.parse_args().xp)
     except Wrong as wrong:
         sys.exit(f"the metrics of the exchange: {wrong}")
-    run_checks((alerts, dashboard, page), exchange)
-    if shutil.which("promtool"):
-        run_checks((promtool,), exchange)
-    else:
-        print("promtool: left out: it is not here")
+    try_all((alerts, dashboard, page, promtool), exchange)
 
 
 if __name__ == "__main__":
