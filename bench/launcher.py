@@ -3,7 +3,7 @@
 
     python3 bench/launcher.py [--launcher PATH]
 
-A copy of the launcher stands in a small tree of its own, with tools that build nothing: each writes a program that prints its name,
+A copy of the launcher, with what it reads of tools/ beside it, stands in a small tree of its own, with tools that build nothing: each writes a program that prints its name,
 its words and its standard input. PATH has a command rt that only tells its version. It takes some seconds, and prints a line for
 each case. Exit status 0: every case is as it should be.
 """
@@ -73,6 +73,7 @@ class Tree:
         self.write_tool("prove.py", "proved", 'top / "crates/xp/out/xp"')
         self.write_tool("build_unproved.py", "unproved", "pathlib.Path(sys.argv[1])")
         shutil.copy(launcher, self.top / "xp")
+        shutil.copy(pathlib.Path(launcher).parent / "tools/run_program.sh", self.top / "tools")
         self.commands = pathlib.Path(folder) / "commands"
         self.commands.mkdir()
         for name in COMMANDS:
@@ -293,6 +294,20 @@ def proved_by_another_command(tree):
     yield tree.runs_of("proved"), 2
 
 
+def kit_that_proved_is_told(tree):
+    yield tree.run("--version")[1].splitlines()[3], "kit: kit 1"
+    tree.run("prove")
+    tree.set_kit("kit 2")
+    yield tree.run("--version")[1].splitlines()[2:], ["proved: yes", "kit: kit 1"]
+    (tree.commands / "rt").unlink()
+    yield tree.run("--version")[1].splitlines()[2:], ["proved: yes", "kit: kit 1"]
+    # Of a program that another command left, it is not known.
+    tree.set_kit("kit 2")
+    time.sleep(PAUSE)
+    (tree.top / "crates/xp/out/xp").touch()
+    yield tree.run("--version")[1].splitlines()[3], "kit: kit 2"
+
+
 def prove_takes_no_words(tree):
     yield tree.run("prove", "it"), (2, "", "xp: prove takes no further words\n")
     yield tree.runs_of("proved"), 0
@@ -330,6 +345,7 @@ CASES = (
     proved_that_is_older_is_run,
     younger_source_is_named,
     proved_by_another_command,
+    kit_that_proved_is_told,
     prove_takes_no_words,
     no_kit,
     commit_is_told,

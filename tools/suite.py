@@ -36,6 +36,7 @@ SCRIPTS = [
     Script("words_tables.py", "", "causes and diagnostics have the names of PROTOCOL.md", 1),
     Script("commands.py", "--jobs 2", "the rows over the program: words, files, texts, exit status", 60),
     Script("launcher.py", "", "which program ./xp runs, and what it says", 15),
+    Script("package.py", "--offline", "the Debian package: what it has, what it installs, how it comes and goes", 20),
     Script("exchange.py", "--packets 10000", "10,000 packets of random calls in a replay, beside the model", 10, "--packets 50000"),
     Script("windows.py", "--rounds 2 --step 32", "each window of a call between lines of either modulus", 30, ""),
     Script("interrupted.py", "", "a replay whose every read is interrupted", 20, proved_only=True),
@@ -60,6 +61,7 @@ SCRIPTS = [
            "--events 1000000 --calls 100000 --most 3"),
     Script("serve/soak.py", "20 --pairs 32 --growth 20000", "calls that come and go at random: octets and records", 40, "20"),
     Script("serve/metrics_format.py", "--serve", "the metrics of an exchange are in Prometheus' text format", 5),
+    Script("serve/metrics_named.py", "", "alerts, dashboard and OPERATING.md name the metrics of an exchange", 5),
     Script("serve/dead_peer.py", "", "peers that are gone without a word (takes root)", 95),
 ]
 # Seconds that a script may take, and a build or a part of the rows, on a machine that does other things too.

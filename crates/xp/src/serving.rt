@@ -197,7 +197,8 @@ fn attend<
     requires new { K.received keeper ≡ [] }
 {
     let alloc = rt.alloc();
-    let notices = Arc::new(alloc, tracing.notices(alloc)?).map_err(|_| TaskFailure::Memory)?;
+    let notices = tracing.notices(alloc, clock.start)?;
+    let notices = Arc::new(alloc, notices).map_err(|_| TaskFailure::Memory)?;
     let watching = Watching {
         order,
         clock,

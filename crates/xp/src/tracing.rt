@@ -8,7 +8,7 @@ use std::io::BufWriter;
 use std::sync::{Arc, Wait};
 use std::thread::Threads;
 use xp_arguments::{ServeOrder, TraceOrder};
-use xp_clock::WallClock;
+use xp_clock::{Start, WallClock};
 use xp_keeping::OperatorLog;
 use xp_serve::{TraceFault, TraceFile, TraceFileFault, TraceThread, TraceWriter};
 use xp_subs::Subs;
@@ -64,13 +64,13 @@ impl<R: AllocGlobal + Copy + Drop + Log + Send + Threads + Wait + 'static> Traci
         })
     }
 
-    /// The notices of the lines, with the trace that they have.
-    pub(crate) fn notices(&self, alloc: Global) -> Result<Notices, Failure> {
+    /// The notices of the lines, of a run that began then, with the trace that they have.
+    pub(crate) fn notices(&self, alloc: Global, start: Start) -> Result<Notices, Failure> {
         let trace = match &self.trace {
             Some(trace) => Some(Arc::try_clone(trace)?),
             None => None,
         };
-        Ok(Notices::with_trace(alloc, trace)?)
+        Ok(Notices::with_trace(alloc, start, trace)?)
     }
 }
 

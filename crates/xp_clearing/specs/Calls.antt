@@ -25,8 +25,9 @@ pub record Passes (step : Clearing → PassedFrame → Clearing) (is_enough : Cl
   pub clears : after ≡ after_all step before frames
   pub early : (front : List (List ℕ)) (last : List ℕ) → frames ≡ front ++ last ∷ [] → is_enough (after_all step before front) ≡ false
 
--- So many of the octets pass: all, or those to the end of the frame by which the clearing is far enough.
+-- So many of the octets pass: all, or those to the end of the frame by which the clearing is far enough, and none behind it.
 pub record PassesOf (step : Clearing → PassedFrame → Clearing) (is_enough : Clearing → Bool) (before : Clearing) (part octets : List ℕ) (count : ℕ) (after : Clearing) (left : List ℕ) : Type 0 where
   pub within : count ≤ length octets
   pub passes : Passes step is_enough before part (take count octets) after left
   pub all : count < length octets → is_enough after ≡ true
+  pub ended : is_enough after ≡ true → left ≡ []

@@ -7,7 +7,8 @@ use crate::start::Start;
 /// Tells the seconds since 1970, and never goes back.
 #[derive(Clone, Copy)]
 pub struct WallClock {
-    start: Start,
+    /// When the run began.
+    pub start: Start,
     /// What it told last.
     told: u64,
 }

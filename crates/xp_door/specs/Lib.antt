@@ -1,5 +1,6 @@
 pub mod Choices
 pub mod Hosts
 pub mod Notices
+pub mod Openings
 pub mod Wants
 pub mod steps

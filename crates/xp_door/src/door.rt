@@ -1,5 +1,6 @@
 //! The TCP port that routers connect to.
 
+use crate::callers::{Callers, Heard};
 use crate::choosing::{Candidate, is_router, line_for};
 use crate::connect_fault::ConnectFault;
 use crate::door_bell::DoorBell;
@@ -11,9 +12,10 @@ use mio::net::{TcpListener, TcpStream};
 use mio::{Events, Poll};
 use std::alloc::{AllocError, Global};
 use std::io::ErrorKind;
-use std::net::{Net, SocketAddr};
+use std::net::Net;
 use std::sync::{Arc, Wait};
 use std::time::Duration;
+use xp_clock::uptime;
 
 /// How many connections are taken at most before the lines are looked at again.
 const MOST_TAKEN: usize = 16;
@@ -24,8 +26,9 @@ const MOST_CHOICES: usize = 16;
 /// How long the thread sleeps at most, in milliseconds.
 const LONGEST_SLEEP: u64 = 500;
 
-/// The door of the lines behind routers: it listens at one TCP port for all routers, and gives each connection to a line behind
-/// the router that it comes from. It begins the connections to routers that lines wait for. It waits for no line and no router.
+/// The door of the lines behind routers: it listens at one TCP port for all routers. A connection waits with it until its first frame
+/// is whole, and is then given to a line behind the router that it comes from. It begins the connections to routers that lines wait
+/// for. It waits for no line and no router.
 #[derive(Drop)]
 pub struct Door {
     listener: TcpListener,
@@ -36,6 +39,7 @@ pub struct Door {
     lines: Vec<Arc<RouterLine>>,
     /// The same lines as they were last looked at.
     candidates: Vec<Candidate>,
+    callers: Callers,
     wakers: Arc<Vec<LineWaker>>,
     notices: Arc<Notices>,
     bell: Arc<DoorBell>,
@@ -75,6 +79,7 @@ impl Door {
             events,
             lines,
             candidates,
+            callers: Callers::new(alloc),
             wakers,
             notices,
             bell,
@@ -95,7 +100,9 @@ impl Door {
                 return;
             }
             door.begin_wanted(rt);
-            if !door.accept_some() {
+            let may_be_more = door.accept_some();
+            door.hear_callers();
+            if !may_be_more {
                 door.sleep();
             }
         }
@@ -146,7 +153,7 @@ impl Door {
             match self.listener.accept() {
                 Ok((stream, peer)) => {
                     self.note(false);
-                    self.give(Arrival { stream, peer });
+                    self.receive(Arrival { stream, peer });
                 }
                 Err(error) => {
                     if let Some(fails) = is_in_want(&error) {
@@ -163,7 +170,36 @@ impl Door {
         true
     }
 
-    /// Gives a connection to a line behind its router. Where none is free, or it comes from no router, it is closed.
+    /// Lets a connection that came wait for its first frame. Where it comes from no router, or too many wait, it is closed.
+    fn receive(&mut self, arrival: Arrival) {
+        let peer = arrival.peer;
+        if !is_router(peer.ip(), self.candidates.as_slice()) {
+            self.notices.tell(Notice::NoRouter { peer });
+            return;
+        }
+        let now = uptime().unwrap_or(Duration::MAX);
+        if let Err(notice) = self.callers.admit(self.poll.registry(), arrival, now) {
+            self.notices.tell(notice);
+        }
+    }
+
+    /// Looks at each connection that waits for its first frame.
+    fn hear_callers(&mut self) {
+        let count = self.callers.count();
+        if count == 0 {
+            return;
+        }
+        let now = uptime().unwrap_or(Duration::MAX);
+        for _caller in 0..count {
+            match self.callers.hear(self.poll.registry(), now) {
+                Heard::Nothing => {}
+                Heard::Call(arrival) => self.give(arrival),
+                Heard::Closed(notice) => self.notices.tell(notice),
+            }
+        }
+    }
+
+    /// Gives a connection to a line behind its router. Where none is free it is closed.
     fn give(&mut self, arrival: Arrival) {
         let peer = arrival.peer;
         let mut left = Some(arrival);
@@ -177,7 +213,7 @@ impl Door {
                 return;
             }
         }
-        self.refuse(peer);
+        self.notices.tell(Notice::NoFreeLine { peer });
     }
 
     /// Hands a connection to a line. It comes back where the line can't take it.
@@ -190,16 +226,6 @@ impl Door {
             }
             Err(back) => Some(back),
         }
-    }
-
-    /// Tells that a connection was closed.
-    fn refuse(&self, peer: SocketAddr) {
-        let notice = if is_router(peer.ip(), self.candidates.as_slice()) {
-            Notice::NoFreeLine { peer }
-        } else {
-            Notice::NoRouter { peer }
-        };
-        self.notices.tell(notice);
     }
 
     /// Looks which lines are free.

@@ -2,6 +2,7 @@
 //! an operator, and where each line behind a router is with its connection.
 #![tactic(auto)]
 
+mod callers;
 mod choosing;
 mod connect_fault;
 mod door;
@@ -9,6 +10,7 @@ mod door_bell;
 mod hosts;
 mod locks;
 mod notices;
+mod opening;
 mod router_line;
 mod share;
 mod tap;
@@ -22,7 +24,9 @@ pub use connect_fault::ConnectFault;
 pub use door::{Door, DoorSockets};
 pub use door_bell::DoorBell;
 pub use hosts::is_same_host;
+pub use locks::hold;
 pub use notices::{Notice, Notices};
+pub use opening::{Opening, opening_of};
 pub use router_line::{Arrival, Attempt, RouterLine};
 pub use share::LineShare;
 pub use tap::Tap;

@@ -1,6 +1,6 @@
 //! What an operator is to know of the lines' connections.
 
-ghost use Rattle.std.specs.Prelude.{◌≡◌, ◌<◌, ◌↔◌, ◌∷◌, [], ◌++◌, IsTrue, length};
+ghost use Rattle.std.specs.Prelude.{◌≡◌, ◌<◌, ◌↔◌, ◌∷◌, [], ◌++◌, IfOk, IsTrue, length};
 ghost use Rattle.std.specs.Bool.{OnFalse, OnTrue};
 ghost use Rattle.xp_door.specs.Notices.{line_of};
 
@@ -16,6 +16,7 @@ use std::net::SocketAddr;
 use std::sync::atomic::AtomicU64;
 use std::sync::atomic::Ordering::SeqCst;
 use std::sync::{Arc, Mutex};
+use xp_clock::Start;
 use xp_subs::LineNo;
 
 /// How many notices wait at most.
@@ -26,6 +27,12 @@ const MOST_WAITING: usize = 1_024;
 pub enum Notice {
     /// A connection from an address that is not admitted was closed.
     Refused { line: LineNo, peer: SocketAddr },
+    /// A connection to the line's port was closed, since the line has one, and none of its connections is named.
+    HasOne { line: LineNo, peer: SocketAddr },
+    /// So many more connections to the line's port were closed, since one was last told.
+    MoreRefused { line: LineNo, count: u64 },
+    /// A connection took the place of the one that the line had.
+    Replaced { line: LineNo, peer: SocketAddr },
     /// The line has a connection.
     Up { line: LineNo, peer: SocketAddr },
     /// The line has lost its connection, or has closed it.
@@ -44,6 +51,14 @@ pub enum Notice {
     NoRouter { peer: SocketAddr },
     /// A connection to the routers' port was closed: each line behind its router has one.
     NoFreeLine { peer: SocketAddr },
+    /// A connection to the routers' port was closed: too many wait for their first frame.
+    NoRoom { peer: SocketAddr },
+    /// A connection to the routers' port was closed: its first frame was not whole in 10 seconds.
+    NoFrame { peer: SocketAddr },
+    /// A connection to the routers' port was closed: it began with a header that no frame has.
+    NoFraming { peer: SocketAddr },
+    /// A connection to the routers' port ended before its first frame was whole.
+    EndedEarly { peer: SocketAddr },
     /// The routers' port can take no connections, for want of descriptors or of memory.
     DoorFailing,
     /// The routers' port takes connections again.
@@ -57,6 +72,9 @@ impl Notice {
     {
         match self {
             Notice::Refused { line, .. }
+            | Notice::HasOne { line, .. }
+            | Notice::MoreRefused { line, .. }
+            | Notice::Replaced { line, .. }
             | Notice::Up { line, .. }
             | Notice::Down { line }
             | Notice::Connected { line, .. }
@@ -66,6 +84,10 @@ impl Notice {
             | Notice::PortWorks { line } => Some(*line),
             Notice::NoRouter { .. }
             | Notice::NoFreeLine { .. }
+            | Notice::NoRoom { .. }
+            | Notice::NoFrame { .. }
+            | Notice::NoFraming { .. }
+            | Notice::EndedEarly { .. }
             | Notice::DoorFailing
             | Notice::DoorWorks => None,
         }
@@ -82,6 +104,11 @@ impl fmt::Display for Notice {
     fn fmt<W: fmt::Write>(&self, f: &mut fmt::Formatter<W>) -> fmt::Result {
         match self {
             Notice::Refused { peer, .. } => write!(f, "connection from {peer} refused"),
+            Notice::HasOne { peer, .. } => {
+                write!(f, "connection from {peer} refused: the line has one")
+            }
+            Notice::MoreRefused { count, .. } => write!(f, "{count} more connections refused"),
+            Notice::Replaced { peer, .. } => write!(f, "replaced by a connection from {peer}"),
             Notice::Up { peer, .. } => write!(f, "up from {peer}"),
             Notice::Down { .. } => f.write_str("down"),
             Notice::Connected { peer, .. } => write!(f, "connected to {peer}"),
@@ -100,6 +127,21 @@ impl fmt::Display for Notice {
             Notice::NoFreeLine { peer } => {
                 write!(f, "connection from {peer} refused: no line is free")
             }
+            Notice::NoRoom { peer } => write!(
+                f,
+                "connection from {peer} refused: too many wait for their first frame"
+            ),
+            Notice::NoFrame { peer } => write!(
+                f,
+                "connection from {peer} closed: no whole frame came in 10 seconds"
+            ),
+            Notice::NoFraming { peer } => {
+                write!(f, "connection from {peer} closed: no frame of RFC 1613")
+            }
+            Notice::EndedEarly { peer } => write!(
+                f,
+                "connection from {peer} ended before its first frame was whole"
+            ),
         }
     }
 }
@@ -109,6 +151,8 @@ impl fmt::Display for Notice {
 #[derive(Drop)]
 pub struct Notices {
     alloc: Global,
+    /// When the run began: the clocks of all lines count from then.
+    pub start: Start,
     waiting: Mutex<HeapCircularBuffer<Notice>>,
     /// How many were lost since that was last asked for.
     lost: AtomicU64,
@@ -117,15 +161,24 @@ pub struct Notices {
 }
 
 impl Notices {
-    /// No notices yet. No line is traced.
-    pub fn new(alloc: Global) -> Result<Notices, AllocError> {
-        Notices::with_trace(alloc, None)
+    /// No notices yet, of a run that began then. No line is traced.
+    pub fn new(alloc: Global, start: Start) -> Result<Notices, AllocError>
+        ensures { IfOk result (λ notices. notices.start ≡ start) }
+    {
+        Notices::with_trace(alloc, start, None)
     }
 
-    /// No notices yet. What the lines of a trace receive and send goes there.
-    pub fn with_trace(alloc: Global, trace: Option<Arc<Trace>>) -> Result<Notices, AllocError> {
+    /// No notices yet, of a run that began then. What the lines of a trace receive and send goes there.
+    pub fn with_trace(
+        alloc: Global,
+        start: Start,
+        trace: Option<Arc<Trace>>,
+    ) -> Result<Notices, AllocError>
+        ensures { IfOk result (λ notices. notices.start ≡ start) }
+    {
         Ok(Notices {
             alloc,
+            start,
             waiting: Mutex::new(HeapCircularBuffer::with_capacity(alloc, MOST_WAITING)?),
             lost: AtomicU64::new(0),
             traffic: Traffic::new(alloc)?,

@@ -52,6 +52,8 @@ pub struct LineWaker {
     busy: AtomicBool,
     /// All octets that were there are read.
     emptied: AtomicBool,
+    /// Connections may have come to the line's own port.
+    knocked: AtomicBool,
 }
 
 impl LineWaker {
@@ -62,6 +64,7 @@ impl LineWaker {
             has_work: AtomicBool::new(false),
             busy: AtomicBool::new(true),
             emptied: AtomicBool::new(false),
+            knocked: AtomicBool::new(false),
         }
     }
 
@@ -115,6 +118,17 @@ impl LineWaker {
         if self.emptied.load(SeqCst) {
             self.emptied.store(false, SeqCst);
         }
+    }
+
+    /// Connections may have come to the line's own port.
+    pub fn knock(&self) {
+        self.knocked.store(true, SeqCst);
+    }
+
+    /// Whether connections may have come to the line's own port. From now on none have: the line's thread looks at those that came
+    /// before this.
+    pub fn take_knock(&self) -> bool {
+        self.knocked.load(SeqCst) && self.knocked.swap(false, SeqCst)
     }
 }
 

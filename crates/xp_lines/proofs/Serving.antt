@@ -1,17 +1,23 @@
 -- What a line has gained by its state, as it has turns, ends and drops outputs.
-use Rattle.std.proofs.Common.{◌≡◌, ℕ, List, [], ◌∷◌, refl, sym, ◌∙◌, subst, Option, None, Some}
+use Rattle.std.proofs.Common.{◌≡◌, ℕ, List, [], ◌∷◌, ◌++◌, refl, sym, ap, ◌∙◌, subst, Option, None, Some}
+use Rattle.std.specs.List.{AllByRecursion}
 use Rattle.std.specs.declared.alloc.Global.{Global as Alloc}
-use Rattle.xp_subs.specs.Tables.{Tables}
+use Rattle.xp_step.specs.declared.event.What.TheVariants.{Down}
+use Rattle.xp_subs.specs.Tables.{Tables, modulus_of}
 use Rattle.xp_lock.specs.Passes.{Pass}
-use Rattle.xp_lines.specs.Sessions.{AreMoved, AreSessions, Drops, IsLineDown, IsLineServed, PastSession}
-use Rattle.xp_lines.specs.steps.Serving.{EndsFor, GoesOnTo, IsLineSo}
-use Rattle.xp_lines.specs.steps.Sessions.{Closes, GoesBy, GoesOn, IsOn, IsThere, Steps, here}
+use Rattle.xp_lines.specs.Offers.{Gains}
+use Rattle.xp_lines.specs.Sessions.{AreMoved, AreSessions, Drops, IsGone, IsLineServed, PastSession, left_at_last}
+use Rattle.xp_lines.specs.Wire.{Writes, WritesRest}
+use Rattle.xp_lines.specs.steps.Serving.{EndsFor, GoesOnTo, IsLineSo, StaysSo, StopsWith, WritesOn}
+use Rattle.xp_lines.specs.steps.Sessions.{Closes, GoesBy, GoesOn, IsOn, IsThere, Steps, here, seen_on}
 use Rattle.xp_lines.specs.declared.line.EndReason.{EndReason}
 use Rattle.xp_lines.specs.declared.line.EndReason.TheVariants.{Stopped}
 use Rattle.xp_lines.specs.declared.line_state.LineState.{LineState}
 use Rattle.xp_lines.specs.declared.line_state.LineState.TheVariants as states
+use Rattle.xp_lines.specs.declared.line_state.Unwritten.{Unwritten}
 use Rattle.xp_lines.specs.declared.session.Session.{Session}
-use Rattle.xp_lines.proofs.Sessions.{drops_both, ends_with, goes_not, is_down, on_nothing, on_there}
+use Rattle.xp_lines.proofs.Sessions.{drops_both, ends_with, gone_with, goes_not, is_down, on_nothing, on_there, written_last}
+use Rattle.xp_lines.proofs.Written.{rest_again, rest_more, rest_nothing}
 
 module _ {A : Type 0} (subs : Tables) (of_link : Option (List ℕ) → Option (List ℕ) → Type 0) where
   -- outputs are dropped at the end
@@ -20,12 +26,6 @@ module _ {A : Type 0} (subs : Tables) (of_link : Option (List ℕ) → Option (L
   sessions_drop first (session ∷ sessions) pass new are drops = (are.0, are.1, sessions_drop session.gone sessions pass new are.2 drops)
 
 module _ (subs : Tables) (of_link : Option (List ℕ) → Option (List ℕ) → Type 0) where
-  pub ends_drop : (first : Pass Alloc) (why : EndReason) (pass new : Pass Alloc) → EndsFor subs of_link first why pass → Drops pass new → EndsFor subs of_link first why new
-  ends_drop first why pass new ends drops = (
-    (drops.1.line ∙ ends.0.0, ends.0.1, sessions_drop subs of_link first ends.0.1 pass new ends.0.2 drops),
-    λ stopped. let down = ends.1 stopped in (down.0, sessions_drop subs of_link first down.0 pass new down.1 drops, down.2),
-  )
-
   -- it is told for another reason
   pub ends_otherwise : (first : Pass Alloc) (why other : EndReason) (pass : Pass Alloc) → EndsFor subs of_link first why pass → (other ≡ Stopped → ⊥) → EndsFor subs of_link first other pass
   ends_otherwise first why other pass ends not_stopped = (ends.0, λ stopped. absurd (not_stopped stopped))
@@ -50,10 +50,78 @@ module _ {L : Type 0} (subs : Tables) (pushed pulled : L → Option (List ℕ)) 
       so_ended first session pass why new so.0 (on_there subs (AreMoved pushed pulled) first (here pushed pulled session) pass so.1) closes same
 
   -- an open line was stopped, and has still to write
-  pub so_stops : (session : Option (Session L Alloc)) (pass : Pass Alloc) (rest : _) (new : Pass Alloc)
-      → Closes (here pushed pulled session) Stopped pass new → new.line ≡ pass.line → GoesOnTo subs pushed pulled session pass (states.Stopped rest) new
-  so_stops session pass rest new closes same first so =
-      so_ended first session pass Stopped new so.0 (on_there subs (AreMoved pushed pulled) first (here pushed pulled session) pass so.1) closes same
+  pub so_stops : (linked : Session L Alloc) (pass : Pass Alloc) (rest : Unwritten L) (new : Pass Alloc)
+      → Gains pass (Down ∷ []) new → new.line ≡ pass.line → rest ≡ record { link = linked.link; connection = linked.connection; octets = linked.unwritten }
+      → GoesOnTo subs pushed pulled (Some linked) pass (states.Stopped rest) new
+  so_stops linked pass rest new gains same is first so =
+      let here = seen_on pushed pulled linked in
+      let gone = gone_with subs (AreMoved pushed pulled) first here.0 here.1 pass new (on_there subs (AreMoved pushed pulled) first (Some here) pass so.1) gains in
+      let last = (left_at_last gone.session).seen in
+      record {
+        sessions = gone.sessions;
+        session = gone.session;
+        are = gone.are;
+        gone = gone.all_gone;
+        line = ap (λ (p : Pass Alloc). p.line) gone.gone_is ∙ same ∙ so.0;
+        connection = ap (λ (r : Unwritten L). r.connection) is ∙ sym gone.connection_is;
+        writes =
+            subst (λ (p : Pass Alloc). WritesRest (modulus_of subs gone.session.gone.line) gone.session.connection gone.session.gone last.unwritten last.pushed p rest.octets.items (pushed rest.link) []) gone.gone_is
+            (subst (λ octets. WritesRest (modulus_of subs gone.session.gone.line) gone.session.connection gone.session.gone last.unwritten last.pushed gone.session.gone octets (pushed rest.link) [])
+            (ap (λ s. s.unwritten) gone.seen_is ∙ sym (ap (λ (r : Unwritten L). r.octets.items) is))
+            (subst (λ into. WritesRest (modulus_of subs gone.session.gone.line) gone.session.connection gone.session.gone last.unwritten last.pushed gone.session.gone last.unwritten into [])
+            (ap (λ s. s.pushed) gone.seen_is ∙ sym (ap (λ (r : Unwritten L). pushed r.link) is))
+            (rest_nothing (modulus_of subs gone.session.gone.line) gone.session.connection gone.session.gone last.unwritten last.pushed)));
+      }
+
+  -- a stopped line, once this link has got so much of what was owed to it
+  ends_written : (first : Pass Alloc) (rest : Unwritten L) (pass : Pass Alloc) → (so : StopsWith subs pushed pulled first rest pass) → (new : Pass Alloc) (link : L) (left lost : List ℕ)
+      → WritesRest (modulus_of subs so.session.gone.line) so.session.connection so.session.gone (left_at_last so.session).seen.unwritten (left_at_last so.session).seen.pushed new left (pushed link) lost
+      → EndsFor subs (AreMoved pushed pulled) first Stopped new
+  ends_written first rest pass so new link left lost writes =
+      let sessions = so.sessions ++ so.session ∷ [] in
+      let are = sessions_drop subs (AreMoved pushed pulled) first sessions so.session.gone new so.are (writes.items, writes.took) in (
+        (writes.took.line ∙ so.line, sessions, are),
+        λ _. (
+          sessions,
+          are,
+          so.gone,
+          written_last subs (AreMoved pushed pulled) so.sessions so.session new
+              (record { left = left; lost = lost; pushed = pushed link; pulled = pulled link; moved = (link, refl, refl); writes = writes }),
+        ),
+      )
+
+  -- a stopped line, if no more is written
+  pub ends_stopped : (first : Pass Alloc) (rest : Unwritten L) (pass : Pass Alloc) → StopsWith subs pushed pulled first rest pass → EndsFor subs (AreMoved pushed pulled) first Stopped pass
+  ends_stopped first rest pass so = ends_written first rest pass so pass rest.link rest.octets.items [] so.writes
+
+  -- more is written, and something is left
+  pub writes_more : (rest : Unwritten L) (pass : Pass Alloc) (more : Unwritten L) (new : Pass Alloc) → WritesOn (modulus_of subs pass.line) pushed rest pass (Some more) new
+      → StaysSo subs pushed pulled (states.Stopped rest) pass (states.Stopped more) new
+  writes_more rest pass more new on first so = record {
+    sessions = so.sessions;
+    session = so.session;
+    are = so.are;
+    gone = so.gone;
+    line = so.line;
+    connection = on.is_left.0 ∙ so.connection;
+    writes =
+        let last = (left_at_last so.session).seen in
+        let all = rest_again (modulus_of subs so.session.gone.line) (modulus_of subs pass.line) so.session.connection so.session.gone last.unwritten last.pushed pass rest.octets.items (pushed rest.link)
+        new on.left (pushed on.link) on.lost so.writes (ap (modulus_of subs) so.writes.took.line)
+        (subst (λ connection. Writes (modulus_of subs pass.line) connection pass rest.octets.items (pushed rest.link) new on.left (pushed on.link) on.lost) so.connection on.writes) on.is_left.3 in
+        subst (λ octets. WritesRest (modulus_of subs so.session.gone.line) so.session.connection so.session.gone last.unwritten last.pushed new octets (pushed more.link) []) (sym on.is_left.1)
+        (subst (λ into. WritesRest (modulus_of subs so.session.gone.line) so.session.connection so.session.gone last.unwritten last.pushed new on.left into []) (sym on.is_left.2) all);
+  }
+
+  -- the last of it is written, or no more can be
+  pub writes_all : (rest : Unwritten L) (pass new : Pass Alloc) → WritesOn (modulus_of subs pass.line) pushed rest pass None new
+      → StaysSo subs pushed pulled (states.Stopped rest) pass (states.Ended Stopped) new
+  writes_all rest pass new on first so =
+      let last = (left_at_last so.session).seen in
+      ends_written first rest pass so new on.link on.left on.lost
+      (rest_more (modulus_of subs so.session.gone.line) (modulus_of subs pass.line) so.session.connection so.session.gone last.unwritten last.pushed pass rest.octets.items (pushed rest.link)
+      new on.left (pushed on.link) on.lost so.writes (ap (modulus_of subs) so.writes.took.line)
+      (subst (λ connection. Writes (modulus_of subs pass.line) connection pass rest.octets.items (pushed rest.link) new on.left (pushed on.link) on.lost) so.connection on.writes))
 
   -- it is as it was
   pub so_stays : (session : Option (Session L Alloc)) (pass new : Pass Alloc) → new ≡ pass → GoesOnTo subs pushed pulled session pass (states.Open session) new
@@ -67,5 +135,6 @@ module _ {L : Type 0} (subs : Tables) (pushed pulled : L → Option (List ℕ)) 
   so_otherwise first (states.Open (Some session)) pass why not_stopped so =
       so_ended first (Some session) pass why pass so.0 (on_there subs (AreMoved pushed pulled) first (here pushed pulled (Some session)) pass so.1)
       (goes_not pass why pass refl not_stopped) refl
-  so_otherwise first (states.Stopped rest) pass why not_stopped so = ends_otherwise subs (AreMoved pushed pulled) first Stopped why pass so not_stopped
+  so_otherwise first (states.Stopped rest) pass why not_stopped so =
+      ends_otherwise subs (AreMoved pushed pulled) first Stopped why pass (ends_stopped first rest pass so) not_stopped
   so_otherwise first (states.Ended old) pass why not_stopped so = ends_otherwise subs (AreMoved pushed pulled) first old why pass so not_stopped

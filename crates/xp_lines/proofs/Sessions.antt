@@ -9,11 +9,11 @@ use Rattle.xp_step.specs.declared.output.Outgoing.{Outgoing}
 use Rattle.xp_lock.specs.Passes.{GainsEvent, Pass}
 use Rattle.xp_lock.specs.declared.receipt.Receipt.{Receipt}
 use Rattle.xp_lines.specs.Offers.{Gains}
-use Rattle.xp_lines.specs.Sessions.{AreSessions, ComesUp, Drops, Goes, IsGone, IsLineDown, IsLineServed, IsSession, PastSession, left_at_last}
+use Rattle.xp_lines.specs.Sessions.{AreSessions, ComesUp, Drops, EndsWritten, Goes, IsGone, IsLineDown, IsLineServed, IsSession, PastSession, WritesLast, left_at_last}
 use Rattle.xp_lines.specs.Together.{AreTurns, Left, MayFollow, last_of}
 use Rattle.xp_lines.specs.Turns.{IsTurn, Seen}
 use Rattle.xp_lines.specs.Wire.{Took}
-use Rattle.xp_lines.proofs.Written.{took_both}
+use Rattle.xp_lines.proofs.Written.{rest_lost, took_both}
 use Rattle.xp_lines.specs.steps.Offering.{Tells, event_on}
 use Rattle.xp_lines.specs.steps.Sessions.{AreOver, Closes, Connects, GoesBy, GoesOn, Here, IsHere, IsOn, IsThere, Leaves, Steps}
 use Rattle.xp_lines.specs.declared.offering.Stop.{Stop}
@@ -140,6 +140,22 @@ module _ {A : Type 0} (subs : Tables) (of_link : Option (List ℕ) → Option (L
   over_gone : (old : Pass A) (sessions : List (PastSession A)) (between : Pass A) → AreOver subs of_link old sessions between → AllByRecursion IsGone sessions
   over_gone old [] between over = tt
   over_gone old (session ∷ sessions) between over = (inl over.1, over_gone session.gone sessions between over.2)
+
+  over_written : (old : Pass A) (sessions : List (PastSession A)) (between new : Pass A) → AreOver subs of_link old sessions between → EndsWritten subs of_link sessions new
+  over_written old [] between new over = tt
+  over_written old (session ∷ []) between new over = inl over.1
+  over_written old (session ∷ next ∷ sessions) between new over = over_written session.gone (next ∷ sessions) between new over.2
+
+  -- it is said of the last link
+  pub written_last : (sessions : List (PastSession A)) (session : PastSession A) (new : Pass A) → WritesLast subs of_link session new → EndsWritten subs of_link (sessions ++ session ∷ []) new
+  written_last [] session new writes = inr writes
+  written_last (first ∷ []) session new writes = inr writes
+  written_last (first ∷ next ∷ sessions) session new writes = written_last (next ∷ sessions) session new writes
+
+  moved_last : (came : Left A) (turns : List (Left A)) → of_link came.seen.pushed came.seen.pulled → AllByRecursion (λ left. of_link left.seen.pushed left.seen.pulled) turns
+      → of_link (last_of came turns).seen.pushed (last_of came turns).seen.pulled
+  moved_last came [] moved all = moved
+  moved_last came (left ∷ turns) moved all = moved_last left turns all.0 all.1
 
   -- the line has had no turn
   pub on_nothing : (pass : Pass A) → IsOn subs of_link GoesOn pass None pass
@@ -288,7 +304,42 @@ module _ {A : Type 0} (subs : Tables) (of_link : Option (List ℕ) → Option (L
 
   -- the links of a line that has ended, all of them gone where it was stopped
   abbrev pub EndsWith : Pass A → EndReason → Pass A → Type 0
-  EndsWith first why new = (sessions : List (PastSession A)) × AreSessions subs of_link first sessions new × (why ≡ Stopped → AllByRecursion IsGone sessions)
+  EndsWith first why new =
+      (sessions : List (PastSession A)) × AreSessions subs of_link first sessions new × (why ≡ Stopped → AllByRecursion IsGone sessions × EndsWritten subs of_link sessions new)
+
+  -- The link that was there goes as the line is stopped.
+  pub record GoneWith (first : Pass A) (connection : ℕ) (seen : Seen A) (gone : Pass A) : Type 0 where
+    pub sessions : List (PastSession A)
+    pub session : PastSession A
+    pub are : AreSessions subs of_link first (sessions ++ session ∷ []) session.gone
+    pub all_gone : AllByRecursion IsGone (sessions ++ session ∷ [])
+    pub gone_is : session.gone ≡ gone
+    pub connection_is : session.connection ≡ connection
+    pub seen_is : (left_at_last session).seen ≡ seen
+
+  pub gone_with : (first : Pass A) (connection : ℕ) (seen : Seen A) (pass gone : Pass A) → IsOn subs of_link IsThere first (Some (connection, seen)) pass → Gains pass (Down ∷ []) gone
+      → GoneWith first connection seen gone
+  gone_with first connection seen pass gone on gains =
+      let there = on.rest in
+      let session : PastSession A = record { connection = connection; came = there.came; seen = there.first; turns = there.turns; gone = gone } in
+      let is : IsSession subs of_link on.between session = record {
+        comes = there.comes;
+        fresh = there.fresh;
+        turns = there.are_turns;
+        moved_at_first = there.moved_at_first;
+        moved = there.moved;
+        goes = subst (λ (l : Left A). Goes l.after l.pass gone) (sym there.last) (goes_by there.after pass gone there.may_be (inl gains));
+      } in
+      let goes : IsGone session = inr (subst (λ (l : Left A). Gains l.pass (Down ∷ []) gone) (sym there.last) gains) in
+      record {
+        sessions = on.sessions;
+        session = session;
+        are = over_then first on.sessions on.between (session ∷ []) gone on.over (is, inr refl, drops_nothing gone);
+        all_gone = all_more IsGone on.sessions session (over_gone first on.sessions on.between on.over) goes;
+        gone_is = refl;
+        connection_is = refl;
+        seen_is = ap (λ (l : Left A). l.seen) there.last;
+      }
 
   -- the line has ended
   pub ends_with : (first : Pass A) (link : Option (Here A)) (pass : Pass A) (why : EndReason) (new : Pass A) → IsOn subs of_link IsThere first link pass → Closes link why pass new → EndsWith first why new
@@ -296,7 +347,7 @@ module _ {A : Type 0} (subs : Tables) (of_link : Option (List ℕ) → Option (L
     on.sessions,
     subst (λ sessions. AreSessions subs of_link first sessions new) (append-nil on.sessions)
         (over_then first on.sessions on.between [] new on.over (subst (Drops on.between) (sym closes) on.rest)),
-    λ _. over_gone first on.sessions on.between on.over,
+    λ _. (over_gone first on.sessions on.between on.over, over_written first on.sessions on.between new on.over),
   )
   ends_with first (Some (connection, seen)) pass why new on closes =
       let there = on.rest in
@@ -309,14 +360,23 @@ module _ {A : Type 0} (subs : Tables) (of_link : Option (List ℕ) → Option (L
         moved = there.moved;
         goes = subst (λ (l : Left A). Goes l.after l.pass closes.gone) (sym there.last) (goes_by there.after pass closes.gone there.may_be closes.goes);
       } in
-      let gone : why ≡ Stopped → IsGone session = λ stopped. inr (subst (λ (l : Left A). Gains l.pass (Down ∷ []) closes.gone) (sym there.last) (closes.stopped stopped)) in (
+      let gone : why ≡ Stopped → IsGone session = λ stopped. inr (subst (λ (l : Left A). Gains l.pass (Down ∷ []) closes.gone) (sym there.last) (closes.stopped stopped)) in
+      let last = left_at_last session in
+      let lost : WritesLast subs of_link session new = record {
+        left = last.seen.unwritten;
+        lost = _;
+        pushed = last.seen.pushed;
+        pulled = last.seen.pulled;
+        moved = moved_last (record { after = Linked; pass = there.came; seen = there.first }) there.turns there.moved_at_first there.moved;
+        writes = rest_lost (modulus_of subs closes.gone.line) connection closes.gone last.seen.unwritten last.seen.pushed new closes.drops.0 closes.drops.1;
+      } in (
         on.sessions ++ session ∷ [],
         over_then first on.sessions on.between (session ∷ []) new on.over (is, inr refl, closes.drops),
-        λ stopped. all_more IsGone on.sessions session (over_gone first on.sessions on.between on.over) (gone stopped),
+        λ stopped. (all_more IsGone on.sessions session (over_gone first on.sessions on.between on.over) (gone stopped), written_last on.sessions session new lost),
       )
 
   pub is_down : (first : Pass A) (why : EndReason) (new : Pass A) → EndsWith first why new → why ≡ Stopped → IsLineDown subs of_link first new
-  is_down first why new (sessions, are, gone) stopped = (sessions, are, gone stopped)
+  is_down first why new ends stopped = (ends.0, ends.1, (ends.2 stopped).0, (ends.2 stopped).1)
 
   -- a link came, after outputs were dropped
   pub connects_later : (old before : Pass A) (left : Option (Here A)) (end : Option EndReason) (new : Pass A) → Drops old before → Connects subs of_link before left end new → Connects subs of_link old left end new
@@ -347,5 +407,12 @@ module _ {A : Type 0} (subs : Tables) (of_link other : Option (List ℕ) → Opt
   pub served_less : (first last : Pass A) → IsLineServed subs of_link first last → IsLineServed subs other first last
   served_less first last is = (is.0, is.1, sessions_less first is.1 last is.2)
 
+  written_less : (sessions : List (PastSession A)) (last : Pass A) → EndsWritten subs of_link sessions last → EndsWritten subs other sessions last
+  written_less [] last ends = tt
+  written_less (last_one ∷ []) last (inl dropped) = inl dropped
+  written_less (last_one ∷ []) last (inr writes) =
+      inr (record { left = writes.left; lost = writes.lost; pushed = writes.pushed; pulled = writes.pulled; moved = less writes.pushed writes.pulled writes.moved; writes = writes.writes })
+  written_less (first ∷ next ∷ sessions) last ends = written_less (next ∷ sessions) last ends
+
   pub down_less : (first last : Pass A) → IsLineDown subs of_link first last → IsLineDown subs other first last
-  down_less first last is = (is.0, sessions_less first is.0 last is.1, is.2)
+  down_less first last is = (is.0, sessions_less first is.0 last is.1, is.2, written_less is.0 last is.3)

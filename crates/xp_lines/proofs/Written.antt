@@ -7,8 +7,8 @@ use Rattle.xp_lock.specs.Passes.{Pass}
 use Rattle.xp_lines.specs.steps.Ended.{is_lost}
 use Rattle.xp_lines.specs.Flow.{Leaves}
 use Rattle.xp_lines.specs.AnswerTimer.{since_after_put, since_after_all}
-use Rattle.xp_lines.specs.Wire.{NoneCloses, Took, Writes, carried, closes, wire}
-use Rattle.xp_lines.specs.steps.Wire.{Fills, WritesRest}
+use Rattle.xp_lines.specs.Wire.{NoneCloses, Took, Writes, WritesRest, carried, closes, wire}
+use Rattle.xp_lines.specs.steps.Wire.{Fills}
 use Rattle.xp_lines.specs.declared.answer_timer.AnswerTimer.{AnswerTimer}
 use Rattle.xp_lines.specs.declared.writing.Ended.{Ended}
 use Rattle.xp_lines.specs.declared.writing.Ended.TheVariants as ends
@@ -222,6 +222,11 @@ module _ {A : Type 0} where
   -- nothing was written yet
   pub rest_nothing : (modulus : Modulus) (connection : ℕ) (old : Pass A) (unwritten : List ℕ) (before : Option (List ℕ)) → WritesRest modulus connection old unwritten before old unwritten before []
   rest_nothing modulus connection old unwritten before = record { items = []; took = took_nothing old; pushed = []; grows = appends_nothing before; whole = refl }
+
+  -- outputs were taken, and none of them was written
+  pub rest_lost : (modulus : Modulus) (connection : ℕ) (old : Pass A) (unwritten : List ℕ) (before : Option (List ℕ)) (new : Pass A) (items : List (Outgoing A)) → Took old items new
+      → WritesRest modulus connection old unwritten before new unwritten before (wire modulus connection items)
+  rest_lost modulus connection old unwritten before new items took = record { items = items; took = took; pushed = []; grows = appends_nothing before; whole = refl }
 
   -- one write more
   pub rest_more : (modulus other : Modulus) (connection : ℕ) (old : Pass A) (unwritten : List ℕ) (before : Option (List ℕ)) (now : Pass A) (left : List ℕ) (between : Option (List ℕ)) (next : Pass A) (rest : List ℕ) (after : Option (List ℕ)) (lost : List ℕ)

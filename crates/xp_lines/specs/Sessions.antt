@@ -10,7 +10,7 @@ use Rattle.xp_lock.specs.Passes.{GainsEvent, Pass}
 use Rattle.xp_lines.specs.Offers.{Gains}
 use Rattle.xp_lines.specs.Together.{AreTurns, IsFresh, Left, last_of}
 use Rattle.xp_lines.specs.Turns.{Seen}
-use Rattle.xp_lines.specs.Wire.{Took}
+use Rattle.xp_lines.specs.Wire.{Took, WritesRest}
 use Rattle.xp_lines.specs.declared.turning.TurnOutcome.{TurnOutcome}
 use Rattle.xp_lines.specs.declared.turning.TurnOutcome.TheVariants.{Linked, Dropped}
 
@@ -78,9 +78,26 @@ module _ {A : Type 0} where
   abbrev pub IsGone : PastSession A → Type 0
   IsGone session = ((left_at_last session).after ≡ Dropped) ⊎ Gains (left_at_last session).pass (Down ∷ []) session.gone
 
-  -- the line is down at the end: the exchange accepted of each of its links that it went
+  -- What a link got behind its Down. The octets that were unwritten then, and those of the outputs that the line still took, are
+  -- the octets that were pushed, and then those that the link did not take.
+  pub record WritesLast (subs : Tables) (of_link : Option (List ℕ) → Option (List ℕ) → Type 0) (session : PastSession A) (last : Pass A) : Type 0 where
+    pub left : List ℕ
+    pub lost : List ℕ
+    pub pushed : Option (List ℕ)
+    pub pulled : Option (List ℕ)
+    pub moved : of_link pushed pulled
+    pub writes : WritesRest (modulus_of subs session.gone.line) session.connection session.gone (left_at_last session).seen.unwritten (left_at_last session).seen.pushed last left pushed lost
+
+  -- the last of these links got what was owed to it, if it was there until the line was stopped
+  abbrev pub EndsWritten : Tables → (Option (List ℕ) → Option (List ℕ) → Type 0) → List (PastSession A) → Pass A → Type 0
+  EndsWritten subs of_link [] last = Unit {0}
+  EndsWritten subs of_link (session ∷ []) last = ((left_at_last session).after ≡ Dropped) ⊎ WritesLast subs of_link session last
+  EndsWritten subs of_link (session ∷ next ∷ sessions) last = EndsWritten subs of_link (next ∷ sessions) last
+
+  -- The line is down at the end: the exchange accepted of each of its links that it went, and the last one got what was owed to it.
   abbrev pub IsLineDown : Tables → (Option (List ℕ) → Option (List ℕ) → Type 0) → Pass A → Pass A → Type 0
-  IsLineDown subs of_link first last = (sessions : List (PastSession A)) × AreSessions subs of_link first sessions last × AllByRecursion IsGone sessions
+  IsLineDown subs of_link first last =
+      (sessions : List (PastSession A)) × AreSessions subs of_link first sessions last × AllByRecursion IsGone sessions × EndsWritten subs of_link sessions last
 
   -- the line's pass came back from its thread
   abbrev pub IsLineServed : Tables → (Option (List ℕ) → Option (List ℕ) → Type 0) → Pass A → Pass A → Type 0

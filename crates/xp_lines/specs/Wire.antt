@@ -53,3 +53,12 @@ module _ {A : Type 0} where
     pub whole : unwritten ++ wire modulus connection items ≡ (pushed ++ left) ++ lost
     -- nothing is taken before all octets that were unwritten are pushed
     pub in_turn : (items ≡ []) ⊎ ((sent : List ℕ) × (pushed ≡ unwritten ++ sent))
+
+  -- Outputs were taken and written, in one go or in several. The octets that were unwritten, and then those of the outputs, are
+  -- the octets that were pushed, then those that are still unwritten, and then those that were lost.
+  pub record WritesRest (modulus : Modulus) (connection : ℕ) (old : Pass A) (unwritten : List ℕ) (before : Option (List ℕ)) (new : Pass A) (left : List ℕ) (after : Option (List ℕ)) (lost : List ℕ) : Type 0 where
+    pub items : List (Outgoing A)
+    pub took : Took old items new
+    pub pushed : List ℕ
+    pub grows : Appends before after pushed
+    pub whole : unwritten ++ wire modulus connection items ≡ (pushed ++ left) ++ lost

@@ -1,9 +1,9 @@
 //! How the last link of a line goes.
 
 ghost use Rattle.std.specs.Prelude.{◌≡◌, ◌≢◌};
-ghost use Rattle.xp_lines.specs.Sessions.{Drops};
+ghost use Rattle.xp_subs.specs.Tables.{modulus_of};
 ghost use Rattle.xp_lines.specs.steps.Sessions.{Closes, here};
-ghost use Rattle.xp_lines.specs.steps.Serving.{GoesOnTo};
+ghost use Rattle.xp_lines.specs.steps.Serving.{GoesOnTo, WritesOn};
 
 use crate::answer_timer::AnswerTimer;
 use crate::line::EndReason;
@@ -85,7 +85,9 @@ pub(crate) fn stop<N: Name, L: Link, C: Clock, R: Wait>(
 }
 
 /// What still waits for the link of a line.
-fn unwritten_of<L: Link>(session: Session<L>) -> Unwritten<L> {
+fn unwritten_of<L: Link>(session: Session<L>) -> Unwritten<L>
+    ensures { result ≡ record { link = session.link; connection = session.connection; octets = session.unwritten } }
+{
     let Session {
         link,
         connection,
@@ -123,7 +125,7 @@ pub(crate) fn write_rest<N: Name, L: Link, C: Clock, R: Wait>(
     clock: &mut C,
     rest: Unwritten<L>,
 ) -> Option<Unwritten<L>>
-    ensures { Drops pass.old pass.new }
+    ensures { WritesOn (modulus_of N.subs pass.old.line) L.pushed rest pass.old result pass.new }
 {
     let mut rest = rest;
     // No incoming call waits for its answer any more.

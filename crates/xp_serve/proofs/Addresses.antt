@@ -3,7 +3,7 @@ use Rattle.std.proofs.Common.{◌≡◌, ℕ, zero, suc, ◌+◌, ◌<◌, List,
 use Rattle.std.proofs.lemmas.List.{take_more}
 use Rattle.std.specs.Net.Grammar.{IsIpText}
 use Rattle.std.specs.declared.net.ip_addr.IpAddr.{IpAddr}
-use Rattle.xp_serve.specs.steps.Addresses.{AreAddresses}
+use Rattle.xp_serve.specs.Accesses.{AreAddresses}
 
 -- as many addresses as texts
 pub are_count : (texts : List (List ℕ)) (addresses : List IpAddr) → AreAddresses texts addresses → length addresses ≡ length texts

@@ -1,3 +1,2 @@
 -- What only private steps tell one another: no public contract cites it.
-pub mod Addresses
 pub mod Serving

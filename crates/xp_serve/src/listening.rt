@@ -2,15 +2,14 @@
 
 ghost use Rattle.std.specs.Net.Grammar.{IsIpText};
 ghost use Rattle.std.specs.Net.Socket.{socket_ip, socket_port};
-ghost use Rattle.std.specs.Prelude.{◌≡◌, ◌<◌, ◌++◌, ◌∷◌, [], IfErr, IfNone, IfOk, IfSome, OnOk, true};
+ghost use Rattle.std.specs.Prelude.{◌≡◌, ◌<◌, ◌++◌, ◌∷◌, [], IfErr, IfNone, IfOk, IfSome, List, OnOk, true};
 ghost use Rattle.xp_serve.specs.Failures.{IsWanting};
-ghost use Rattle.xp_serve.specs.Accesses.{AreServedAt, IsServedAt};
-ghost use Rattle.xp_serve.specs.steps.Addresses.{AreAddresses};
+ghost use Rattle.xp_serve.specs.Accesses.{AreAddresses, AreServedAt, IsServedAt, IsServedBy};
 ghost use Rattle.xp_subs.specs.Sound.{IsSound};
 ghost use Rattle.xp_file.specs.declared.entry.Access.TheVariants as subscribed;
 ghost use Rattle.xp_subs.specs.Tables.{has_routers, line_at, line_count};
-ghost use Rattle.xp_tcp.specs.declared.access.Access.{Access as Served};
-ghost use Rattle.xp_tcp.specs.declared.access.Access.TheVariants as served;
+ghost use Rattle.std.specs.declared.net.ip_addr.IpAddr.{IpAddr as Address};
+ghost use Rattle.xp_tcp.specs.Accesses.{AtPort, Origin};
 
 use crate::failure::ServeFailure;
 use std::alloc::Global;
@@ -148,7 +147,7 @@ fn listen<R: Net>(
 ) -> Result<(), ServeFailure>
     requires line { line < line_count subs.now }
     requires sound { IsSound subs.now }
-    ensures one { OnOk result ((access : Served) × (sockets.new ≡ sockets.old ++ access ∷ []) × IsServedAt (line_at subs.now line).access access) }
+    ensures one { OnOk result ((origin : Origin) × (sockets.new ≡ sockets.old ++ origin ∷ []) × IsServedAt (line_at subs.now line) origin) }
     ensures wanting { IfErr result (IsWanting subs.now) }
 {
     match subs.access_of(line) {
@@ -168,7 +167,7 @@ fn listen_on<R: Net>(
 ) -> Result<(), ServeFailure>
     requires line { line < line_count subs.now }
     requires port { 0 < port }
-    ensures one { OnOk result (sockets.new ≡ sockets.old ++ served.Port port ∷ []) }
+    ensures one { OnOk result ((from : List Address) × (sockets.new ≡ sockets.old ++ AtPort port from ∷ []) × AreAddresses (line_at subs.now line).from from) }
     ensures wanting { IfErr result (IsWanting subs.now) }
 {
     let admission = admission_of(subs, line)?;
@@ -189,7 +188,7 @@ fn add_behind<R: Net>(
 ) -> Result<(), ServeFailure>
     requires line { line < line_count subs.now }
     requires router { (line_at subs.now line).access ≡ subscribed.Router router.now }
-    ensures one { OnOk result ((access : Served) × (sockets.new ≡ sockets.old ++ access ∷ []) × IsServedAt (subscribed.Router router.now) access) }
+    ensures one { OnOk result ((origin : Origin) × (sockets.new ≡ sockets.old ++ origin ∷ []) × IsServedBy (subscribed.Router router.now) (line_at subs.now line).from origin) }
     ensures wanting { IfErr result (IsWanting subs.now) }
 {
     let at = router_of(subs, line, router)?;

@@ -5,6 +5,7 @@ use std::net::{Ipv4Addr, Net, SocketAddr, SocketAddrV4};
 use std::num::NonZeroUsize;
 use std::sync::Arc;
 use std::test::Fail;
+use xp_clock::Start;
 use xp_lines::{Arrived, Link, Port, Pushed};
 use xp_tcp::{Ends, Notices, Sockets};
 
@@ -14,7 +15,7 @@ const CLEAR: &[u8] = b"\x00\x00\x00\x05\x10\x01\x13\x00\x00";
 /// The ends of a line behind a router.
 fn ends_of<R: Net>(rt: &R, alloc: Global) -> Result<Ends, Fail> {
     let router = SocketAddr::V4(SocketAddrV4::new(Ipv4Addr::LOCALHOST, 1998));
-    let notices = Arc::new(alloc, Notices::new(alloc)?)?;
+    let notices = Arc::new(alloc, Notices::new(alloc, Start::read())?)?;
     let mut sockets = Sockets::new(alloc, 1, NonZeroUsize::MIN, notices)?;
     sockets.add_router(rt, router)?;
     Ok(sockets.into_ends(alloc)?)

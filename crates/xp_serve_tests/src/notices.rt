@@ -2,6 +2,7 @@
 
 use std::net::{Ipv4Addr, SocketAddr, SocketAddrV4};
 use std::test::Fail;
+use xp_clock::Start;
 use xp_tcp::{Notice, Notices};
 
 /// How many notices wait at most.
@@ -10,7 +11,7 @@ const ROOM: u16 = 1_024;
 /// Those for which there is no room are counted, and those that wait come in the order in which they were told.
 #[test]
 fn more_notices_than_there_is_room_for(rt: HostRuntime) -> Result<(), Fail> {
-    let notices = Notices::new(rt.alloc())?;
+    let notices = Notices::new(rt.alloc(), Start::read())?;
     for line in 0..ROOM + 3 {
         notices.tell(Notice::Down { line });
     }

@@ -1,16 +1,29 @@
 -- Where the connections of lines come from.
 use Rattle.std.specs.Prelude.{◌≡◌, ℕ, ◌<◌, List, [], ◌∷◌, ◌++◌, Option, None, Some}
+use Rattle.std.specs.declared.net.ip_addr.IpAddr.{IpAddr}
+use Rattle.std.specs.declared.net.socket_addr.SocketAddr.{SocketAddr}
 use Rattle.xp_tcp.specs.declared.access.Access.{Access}
 use Rattle.xp_tcp.specs.declared.access.Access.TheVariants.{Port, Router}
 
--- The next line is listened for on this port: the one that was asked for, or where that is 0, one that the system picks.
-pub record Listens (old : List Access) (asked : ℕ) (new : List Access) : Type 0 where
+-- Where the connections of a line come from: to a port of its own, from these addresses, or from any where there are none; or between
+-- it and the router of this address.
+pub data Origin : Type 0 where
+  AtPort : ℕ → List IpAddr → Origin
+  Behind : SocketAddr → Origin
+
+abbrev pub access_of : Origin → Access
+access_of (AtPort port admitted) = Port port
+access_of (Behind router) = Router router
+
+-- The next line is listened for on this port, for connections from these addresses: the port that was asked for, or where that is 0,
+-- one that the system picks.
+pub record Listens (old : List Origin) (asked : ℕ) (admitted : List IpAddr) (new : List Origin) : Type 0 where
   pub port : ℕ
-  pub one_more : new ≡ old ++ Port port ∷ []
+  pub one_more : new ≡ old ++ AtPort port admitted ∷ []
   pub as_asked : 0 < asked → port ≡ asked
 
 -- the port of a line that has one of its own
-abbrev pub port_of : Option Access → Option ℕ
-port_of (Some (Port port)) = Some port
-port_of (Some (Router router)) = None
+abbrev pub port_of : Option Origin → Option ℕ
+port_of (Some (AtPort port admitted)) = Some port
+port_of (Some (Behind router)) = None
 port_of None = None

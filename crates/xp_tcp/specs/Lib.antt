@@ -1,3 +1,4 @@
 pub mod Accesses
 pub mod Admissions
+pub mod Links
 pub mod steps

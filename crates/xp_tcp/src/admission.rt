@@ -89,6 +89,13 @@ impl Admission {
         Ok(())
     }
 
+    /// Whether connections may come from any address.
+    pub fn is_any(&self) -> bool
+        ensures { IsTrue result ↔ (self.now ≡ []) }
+    {
+        self.places.is_empty()
+    }
+
     /// Whether a connection may come from a peer's address. An IPv4-mapped IPv6 address, such as `::ffff:10.0.0.9`, counts as the
     /// IPv4 address in it.
     pub fn admits(&self, peer: IpAddr) -> bool

@@ -2,7 +2,7 @@
 
 ghost use Rattle.std.specs.Prelude.{◌≡◌, ◌≢◌, ◌≤◌, length};
 ghost use Rattle.xp_lines.specs.Counts.{pulled_count, pushed_count};
-ghost use Rattle.xp_tcp.specs.declared.access.Access.TheVariants as access;
+ghost use Rattle.xp_tcp.specs.Accesses.{AtPort, Behind};
 
 use crate::access::Access;
 use crate::link::TcpLink;
@@ -13,7 +13,7 @@ use std::marker::Model;
 use std::net::SocketAddr;
 use xp_lines::{Arrived, Link, Port, Pulled, Pushed};
 
-/// Where a line's links come from. Contracts see where its connections come from.
+/// Where a line's links come from. Contracts see where its connections come from, and from which addresses they may.
 #[derive(Drop)]
 pub struct LinePort {
     access: Access,
@@ -28,17 +28,18 @@ enum LinkSource {
 }
 
 impl Model for LinePort {
-    ghost use Rattle.xp_tcp.specs.declared.access.Access.{Access};
+    ghost use Rattle.xp_tcp.specs.Accesses.{Origin};
+    ghost use Rattle.xp_tcp.specs.Links.{link_origin};
 
-    ghost Value = { Access };
+    ghost Value = { Origin };
 
-    ghost view = { λ port. port.access };
+    ghost view = { λ port. link_origin port.access port.source };
 }
 
 impl LinePort {
     /// The port of a line with a TCP port of its own.
     pub(crate) fn own(port: u16, source: TcpPort) -> LinePort
-        ensures { result ≡ access.Port port }
+        ensures { result ≡ AtPort port source }
     {
         LinePort {
             access: Access::Port(port),
@@ -48,7 +49,7 @@ impl LinePort {
 
     /// The port of a line behind the router of this address.
     pub(crate) fn behind(router: SocketAddr, source: RouterPort) -> LinePort
-        ensures { result ≡ access.Router router }
+        ensures { result ≡ Behind router }
     {
         LinePort {
             access: Access::Router(router),

@@ -2,13 +2,15 @@
 
 ghost use Rattle.std.specs.Prelude.{◌≡◌, ◌<◌, IfOk};
 ghost use Rattle.std.specs.Net.Socket.{socket_port};
-ghost use Rattle.xp_tcp.specs.steps.Sources.{IsListening, source_access};
+ghost use Rattle.xp_tcp.specs.Accesses.{access_of};
+ghost use Rattle.xp_tcp.specs.steps.Sources.{IsListening, source_origin};
 
 use crate::access::Access;
 use crate::admission::Admission;
+use crate::thread_links::ThreadLinks;
 use crate::tokens::listener_of;
 use mio::net::TcpListener;
-use mio::{Interest, Poll, Registry, Token};
+use mio::{Interest, Poll, Token};
 use std::io;
 use std::marker::Model;
 use std::net::{Net, SocketAddr};
@@ -29,23 +31,22 @@ pub(crate) enum LineSource {
 pub(crate) struct LineSockets {
     pub(crate) line: LineNo,
     pub(crate) source: LineSource,
-    /// What the line's thread waits for.
-    pub(crate) waits: Arc<Registry>,
+    pub(crate) links: Arc<ThreadLinks>,
 }
 
 impl Model for LineSockets {
-    ghost use Rattle.xp_tcp.specs.declared.access.Access.{Access};
-    ghost use Rattle.xp_tcp.specs.steps.Sources.{source_access};
+    ghost use Rattle.xp_tcp.specs.Accesses.{Origin};
+    ghost use Rattle.xp_tcp.specs.steps.Sources.{source_origin};
 
-    ghost Value = { Access };
+    ghost Value = { Origin };
 
-    ghost view = { λ line. source_access line.source };
+    ghost view = { λ line. source_origin line.source };
 }
 
 impl LineSockets {
     /// Where the line's connections come from.
     pub(crate) fn access(&self) -> Access
-        ensures { result ≡ self.now }
+        ensures { result ≡ access_of self.now }
     {
         match &self.source {
             LineSource::Own(port, _, _) => Access::Port(*port),
@@ -62,7 +63,7 @@ pub(crate) fn open_port<R: Net>(
     line: LineNo,
     admission: Admission,
 ) -> io::Result<LineSource>
-    ensures { IfOk result (λ source. IsListening (socket_port address) (source_access source)) }
+    ensures { IfOk result (λ source. IsListening (socket_port address) admission (source_origin source)) }
 {
     let (listener, port) = listen_at(rt, poll, address, listener_of(line))?;
     Ok(LineSource::Own(port, listener, admission))

@@ -4,21 +4,24 @@ ghost use Rattle.std.specs.Prelude.{◌≡◌, ◌≢◌, ◌<◌, ◌≤◌, �
 ghost use Rattle.std.specs.IoError.{error_kind};
 ghost use Rattle.xp_lines.specs.Counts.{pulled_count, pushed_count};
 
+use crate::line_listener::LineListener;
 use crate::options::{Patience, notice_dead_peer};
+use crate::thread_links::ThreadLinks;
 use crate::tokens::stream_of;
 use mio::net::TcpStream;
 use mio::{Interest, Registry};
 use std::io;
 use std::io::{ErrorKind, Read, Write};
-use std::net::SocketAddr;
-use xp_door::{LineShare, LineWaker, Notice, Tap};
+use std::sync::Arc;
+use xp_door::{Arrival, LineShare, LineWaker, Notice, Tap};
 use xp_lines::{Link, Pulled, Pushed};
 
-/// A TCP connection of a line. It leaves what the line's thread waits for when it is dropped. It tells the notice that the line is
-/// up as it is made, and that the line is down as it is dropped. A peer that is gone ends it within some 90 seconds.
+/// A TCP connection of a line. It tells the notice that the line is up as it is made, and that the line is down as it is dropped. A peer
+/// that is gone ends it within some 90 seconds. It ends where another connection takes its place.
 pub struct TcpLink {
     stream: TcpStream,
-    share: LineShare,
+    listener: Arc<LineListener>,
+    links: Arc<ThreadLinks>,
     /// Where the line is traced.
     tap: Option<Tap>,
 }
@@ -26,28 +29,36 @@ pub struct TcpLink {
 impl Drop for TcpLink {
     fn drop(self) {
         let TcpLink {
-            stream: _,
-            share,
+            stream,
+            listener,
+            links,
             tap: _,
         } = self;
-        share.tell(Notice::Down { line: share.line });
+        let line = listener.share.line;
+        listener.share.tell(Notice::Down { line });
+        links.let_go(stream);
     }
 }
 
 impl TcpLink {
     /// The link of a connection, for which the line's thread waits from now on.
     pub(crate) fn new(
-        stream: TcpStream,
-        peer: SocketAddr,
-        waits: &Registry,
-        share: LineShare,
+        arrival: Arrival,
+        listener: Arc<LineListener>,
+        links: Arc<ThreadLinks>,
     ) -> io::Result<TcpLink> {
+        let Arrival { stream, peer } = arrival;
         let mut stream = stream;
-        wait_for(&mut stream, waits, &share, Patience::Line)?;
-        let line = share.line;
-        share.tell(Notice::Up { line, peer });
-        let tap = share.tap();
-        Ok(TcpLink { stream, share, tap })
+        wait_for(&mut stream, &links.waits, &listener.share, Patience::Line)?;
+        let line = listener.share.line;
+        listener.share.tell(Notice::Up { line, peer });
+        let tap = listener.share.tap();
+        Ok(TcpLink {
+            stream,
+            listener,
+            links,
+            tap,
+        })
     }
 }
 
@@ -70,7 +81,7 @@ pub(crate) fn wait_for(
 }
 
 /// Whether a call failed only because it would have had to wait.
-fn is_early(error: &io::Error) -> bool
+pub(crate) fn is_early(error: &io::Error) -> bool
     ensures { IsTrue result ↔ (error_kind error.now ≡ ErrorKind.WouldBlock) ⊎ (error_kind error.now ≡ ErrorKind.Interrupted) }
 {
     matches!(error.kind(), ErrorKind::WouldBlock | ErrorKind::Interrupted)
@@ -164,19 +175,20 @@ impl Link for TcpLink {
         if into.is_empty() {
             return Pulled::Nothing;
         }
-        match self.share.waker() {
-            Some(waker) => {
-                let pulled = read_from(&mut self.stream, waker, into);
-                trace_pulled(&mut self.tap, into, pulled);
-                count_pulled(&self.share, pulled)
-            }
-            None => Pulled::Fault,
+        if self.listener.is_replaced() {
+            return Pulled::Ended;
         }
+        let Some(waker) = self.listener.share.waker() else {
+            return Pulled::Fault;
+        };
+        let pulled = read_from(&mut self.stream, waker, into);
+        trace_pulled(&mut self.tap, into, pulled);
+        count_pulled(&self.listener.share, pulled)
     }
 
     fn push(&mut self, from: &[u8]) -> Pushed {
         let pushed = write_to(&mut self.stream, from);
         trace_pushed(&mut self.tap, from, pushed);
-        count_pushed(&self.share, pushed)
+        count_pushed(&self.listener.share, pushed)
     }
 }

@@ -1,6 +1,7 @@
 //! What a thread does between the turns of its lines.
 
-use crate::tokens::line_of;
+use crate::thread_links::ThreadLinks;
+use crate::tokens::{is_listener, line_of};
 use mio::{Events, Poll};
 use std::sync::Arc;
 use std::time::Duration;
@@ -17,21 +18,64 @@ const SHORT_SLEEP: u64 = 10;
 /// How many rounds of turns a thread may have without a look at its sockets, while its lines have work of each other.
 const MOST_ROUNDS: u32 = 1;
 
-/// Lets a thread wait for the sockets of its lines, and for other threads.
+/// How often a thread looks at its sockets at most in a pause, which is so long as a short sleep.
+const MOST_LOOKS: u32 = 10_000;
+
+/// How often a thread looks at most at the connections that its lines have let go, once they have ended.
+const MOST_LAST_LOOKS: u32 = 2_000;
+
+/// The lines of a thread: they stand together among all wakers, from the first, and so many there are.
 #[derive(Drop)]
+pub(crate) struct OwnLines {
+    pub(crate) wakers: Arc<Vec<LineWaker>>,
+    pub(crate) first: usize,
+    pub(crate) count: usize,
+}
+
+/// Lets a thread wait for the sockets of its lines, and for other threads. As it is dropped it waits for the connections that were let
+/// go, for two seconds at most.
 pub struct TcpPoller {
     poll: Poll,
     /// Room for what the thread was woken by.
     events: Events,
     thread: Arc<ThreadWaker>,
-    wakers: Arc<Vec<LineWaker>>,
-    /// The lines of the thread stand together among the wakers: this is the first, and so many there are.
-    first: usize,
-    count: usize,
+    links: Arc<ThreadLinks>,
+    lines: OwnLines,
     /// Rounds since the last look at the sockets.
     rounds: u32,
     /// When each line was last told to have a turn.
     ticked: Duration,
+}
+
+impl Drop for TcpPoller {
+    fn drop(self) {
+        let TcpPoller {
+            poll,
+            events,
+            thread: _,
+            links,
+            lines: _,
+            rounds: _,
+            ticked: _,
+        } = self;
+        let mut poll = poll;
+        let mut events = events;
+        for _look in 0..MOST_LAST_LOOKS {
+            if !links.look_at_leaving() {
+                return;
+            }
+            // Where the wait fails, the next look comes at once.
+            let _ = poll.poll(&mut events, Some(Duration::from_millis(SHORT_SLEEP)));
+        }
+    }
+}
+
+impl OwnLines {
+    /// Their wakers.
+    fn own(&self) -> &[LineWaker] {
+        let own = self.wakers.as_slice().get(self.first..).unwrap_or(&[]);
+        own.get(..self.count).unwrap_or(own)
+    }
 }
 
 impl TcpPoller {
@@ -39,31 +83,23 @@ impl TcpPoller {
         poll: Poll,
         events: Events,
         thread: Arc<ThreadWaker>,
-        wakers: Arc<Vec<LineWaker>>,
-        first: usize,
-        count: usize,
+        links: Arc<ThreadLinks>,
+        lines: OwnLines,
     ) -> TcpPoller {
         TcpPoller {
             poll,
             events,
             thread,
-            wakers,
-            first,
-            count,
+            links,
+            lines,
             rounds: 0,
             ticked: Duration::ZERO,
         }
     }
 
-    /// The wakers of the thread's own lines.
-    fn own(&self) -> &[LineWaker] {
-        let own = self.wakers.as_slice().get(self.first..).unwrap_or(&[]);
-        own.get(..self.count).unwrap_or(own)
-    }
-
     /// Whether a line of the thread may have something to do.
     fn is_any_due(&self) -> bool {
-        self.own().iter().any(|waker| waker.is_due())
+        self.lines.own().iter().any(|waker| waker.is_due())
     }
 
     /// Looks at the sockets, and waits for so many milliseconds at most. Each line of which something was heard is due.
@@ -79,11 +115,15 @@ impl TcpPoller {
         }
         for event in self.events.iter() {
             let line = line_of(event.token());
-            if let Some(waker) = line.and_then(|line| self.wakers.get(line as usize)) {
+            if let Some(waker) = line.and_then(|line| self.lines.wakers.get(line as usize)) {
+                if is_listener(event.token()) {
+                    waker.knock();
+                }
                 waker.refill();
                 waker.mark_work();
             }
         }
+        self.links.look_at_leaving();
     }
 
     /// Sleeps until something comes to the sockets or another thread wakes this one, for so many milliseconds at most.
@@ -96,12 +136,12 @@ impl TcpPoller {
 
     /// Makes each line due where the time for it has come.
     fn tick(&mut self) {
-        let now = uptime().unwrap_or(Duration::MAX);
+        let now = time();
         if now.saturating_sub(self.ticked) < Duration::from_millis(LONGEST_SLEEP) {
             return;
         }
         self.ticked = now;
-        for waker in self.own() {
+        for waker in self.lines.own() {
             waker.refill();
             waker.mark_work();
         }
@@ -110,7 +150,7 @@ impl TcpPoller {
 
 impl Poller for TcpPoller {
     fn lines(&self) -> usize {
-        self.count
+        self.lines.count
     }
 
     fn poll(&mut self, patience: Patience) {
@@ -125,8 +165,20 @@ impl Poller for TcpPoller {
     }
 
     fn pause(&mut self) {
-        self.look(SHORT_SLEEP);
+        let end = time().saturating_add(Duration::from_millis(SHORT_SLEEP));
+        for _look in 0..MOST_LOOKS {
+            self.look(SHORT_SLEEP);
+            // What came has cut the wait short.
+            if time() >= end {
+                return;
+            }
+        }
     }
+}
+
+/// The time since the system began.
+fn time() -> Duration {
+    uptime().unwrap_or(Duration::MAX)
 }
 
 /// How long a thread sleeps at most, in milliseconds.

@@ -6,14 +6,10 @@ ghost use Rattle.xp_lines.specs.Counts.{pulled_count, pushed_count};
 
 use crate::link::{read_from, trace_pulled, trace_pushed, write_to};
 use mio::net::TcpStream;
-use std::io::Read;
-use std::net::{Shutdown, SocketAddr};
+use std::net::SocketAddr;
 use xp_clearing::{CallWatch, Clearing, begins_with_call, front_length};
 use xp_door::{LineWaker, Tap};
 use xp_lines::{Pulled, Pushed};
-
-/// How many reads drop what a router sent that belongs to no call, before its connection is closed.
-const MOST_DROPPED: usize = 16;
 
 /// A connection between a line and its router, for one call.
 #[derive(Drop)]
@@ -124,27 +120,8 @@ impl RouterConnection {
         }
     }
 
-    /// Closes the connection, after what was written has gone. What the router has sent since is dropped.
-    pub(crate) fn close(self) {
-        close_after_writing(self.stream);
-    }
-
     /// The connection itself.
     pub(crate) fn into_stream(self) -> TcpStream {
         self.stream
-    }
-}
-
-/// Closes a connection, after what was written has gone.
-fn close_after_writing(stream: TcpStream) {
-    let mut stream = stream;
-    let _ = stream.shutdown(Shutdown::Write);
-    // A connection with octets to be read would be closed with a reset, by which what was written may be lost.
-    let mut dropped = [0; 1024];
-    for _read in 0..MOST_DROPPED {
-        match stream.read(&mut dropped) {
-            Ok(0) | Err(_) => return,
-            Ok(_) => {}
-        }
     }
 }

@@ -6,7 +6,7 @@ ghost use Rattle.xp_lines.specs.Counts.{pulled_count, pushed_count};
 use crate::link::{count_pulled, count_pushed, wait_for};
 use crate::options::Patience;
 use crate::router_connection::RouterConnection;
-use mio::Registry;
+use crate::thread_links::ThreadLinks;
 use mio::net::TcpStream;
 use std::mem;
 use std::sync::Arc;
@@ -40,7 +40,7 @@ enum Circuit {
 pub struct RouterLink {
     circuit: Circuit,
     line: Arc<RouterLine>,
-    waits: Arc<Registry>,
+    links: Arc<ThreadLinks>,
     share: LineShare,
     /// Whether it was pulled from or pushed into.
     was_used: bool,
@@ -51,13 +51,13 @@ impl Drop for RouterLink {
         let RouterLink {
             circuit,
             line,
-            waits: _,
+            links,
             share,
             was_used,
         } = self;
         match circuit {
             Circuit::Connected(connection) => {
-                connection.close();
+                links.let_go(connection.into_stream());
                 share.tell(Notice::Down { line: share.line });
             }
             Circuit::Free | Circuit::Asked(_) | Circuit::Connecting(_, _) | Circuit::Failed => {}
@@ -69,11 +69,15 @@ impl Drop for RouterLink {
 
 impl RouterLink {
     /// The link of a line, without a connection.
-    pub(crate) fn new(line: Arc<RouterLine>, waits: Arc<Registry>, share: LineShare) -> RouterLink {
+    pub(crate) fn new(
+        line: Arc<RouterLine>,
+        links: Arc<ThreadLinks>,
+        share: LineShare,
+    ) -> RouterLink {
         RouterLink {
             circuit: Circuit::Free,
             line,
-            waits,
+            links,
             share,
             was_used: false,
         }
@@ -85,7 +89,7 @@ impl RouterLink {
             return;
         };
         let mut stream = stream;
-        if wait_for(&mut stream, &self.waits, &self.share, Patience::Router).is_err() {
+        if wait_for(&mut stream, &self.links.waits, &self.share, Patience::Router).is_err() {
             self.line.release();
             return;
         }
@@ -124,7 +128,7 @@ impl RouterLink {
             Attempt::Failed(fault) => self.fail(fault),
             Attempt::Begun(stream) => {
                 let mut stream = stream;
-                match wait_for(&mut stream, &self.waits, &self.share, Patience::Router) {
+                match wait_for(&mut stream, &self.links.waits, &self.share, Patience::Router) {
                     Ok(()) => self.connect(stream, since),
                     Err(error) => self.fail(ConnectFault::of(&error)),
                 }
@@ -169,7 +173,7 @@ impl RouterLink {
             return;
         }
         let mut stream = connection.into_stream();
-        let _ = self.waits.deregister(&mut stream);
+        let _ = self.links.waits.deregister(&mut stream);
         self.ask(Some(Arrival { stream, peer }));
     }
 
@@ -190,7 +194,7 @@ impl RouterLink {
         // A router that sees the end may connect again at once.
         self.line.release();
         if let Circuit::Connected(connection) = circuit {
-            connection.close();
+            self.links.let_go(connection.into_stream());
         }
     }
 }

@@ -1,7 +1,7 @@
 //! Where the links of a line behind a router come from.
 
 use crate::router_link::RouterLink;
-use mio::Registry;
+use crate::thread_links::ThreadLinks;
 use std::sync::Arc;
 use xp_door::{LineShare, RouterLine};
 use xp_lines::Arrived;
@@ -9,8 +9,7 @@ use xp_lines::Arrived;
 /// Gives a line behind a router its links, the next one as soon as the last went: so the line is in service.
 pub struct RouterPort {
     line: Arc<RouterLine>,
-    /// What the line's thread waits for.
-    waits: Arc<Registry>,
+    links: Arc<ThreadLinks>,
     share: LineShare,
 }
 
@@ -18,7 +17,7 @@ impl Drop for RouterPort {
     fn drop(self) {
         let RouterPort {
             line,
-            waits: _,
+            links: _,
             share: _,
         } = self;
         line.close();
@@ -26,8 +25,16 @@ impl Drop for RouterPort {
 }
 
 impl RouterPort {
-    pub(crate) fn new(line: Arc<RouterLine>, waits: Arc<Registry>, share: LineShare) -> RouterPort {
-        RouterPort { line, waits, share }
+    pub(crate) fn new(
+        line: Arc<RouterLine>,
+        links: Arc<ThreadLinks>,
+        share: LineShare,
+    ) -> RouterPort {
+        RouterPort {
+            line,
+            links,
+            share,
+        }
     }
 
     /// The next link. None for once after one that was not used: the line could not come into service, and its thread is to let
@@ -44,8 +51,8 @@ impl RouterPort {
 
     fn make_link(&self) -> Option<RouterLink> {
         let line = Arc::try_clone(&self.line).ok()?;
-        let waits = Arc::try_clone(&self.waits).ok()?;
+        let links = Arc::try_clone(&self.links).ok()?;
         let share = self.share.try_clone().ok()?;
-        Some(RouterLink::new(line, waits, share))
+        Some(RouterLink::new(line, links, share))
     }
 }

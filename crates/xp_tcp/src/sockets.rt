@@ -1,23 +1,24 @@
 //! The sockets of an exchange's lines.
 
-ghost use Rattle.std.specs.Prelude.{◌≡◌, ◌<◌, ◌∷◌, ◌++◌, [], IfOk, IfSome, OnErr, OnOk, map, slice_get};
+ghost use Rattle.std.specs.Prelude.{◌≡◌, ◌<◌, ◌∷◌, ◌++◌, [], IfOk, IfSome, OnErr, OnOk, map, option_map, slice_get};
 ghost use Rattle.std.specs.Net.Socket.{socket_port};
-ghost use Rattle.xp_tcp.specs.Accesses.{Listens, port_of};
-ghost use Rattle.xp_tcp.specs.steps.Sources.{source_access};
-ghost use Rattle.xp_tcp.specs.declared.access.Access.TheVariants as access;
+ghost use Rattle.xp_tcp.specs.Accesses.{Behind, Listens, access_of, port_of};
+ghost use Rattle.xp_tcp.specs.steps.Sources.{source_origin};
 ghost use Rattle.xp_tcp.specs.declared.sockets.ListenFault.TheVariants.{Memory as OutOfMemory, Port as NoPort};
 
 use crate::access::Access;
 use crate::admission::Admission;
 use crate::clock::TcpClock;
+use crate::line_listener::LineListener;
 use crate::line_port::LinePort;
 use crate::line_sockets::{LineSockets, LineSource, listen_at, open_port};
 use crate::poller::TcpPoller;
 use crate::port::TcpPort;
 use crate::router_port::RouterPort;
+use crate::thread_links::ThreadLinks;
 use crate::thread_sockets::ThreadSockets;
 use crate::tokens::{WAKER, listener_of};
-use mio::{Events, Poll, Registry, Waker};
+use mio::{Events, Poll, Waker};
 use std::alloc::{AllocError, Global};
 use std::io;
 use std::marker::Model;
@@ -81,9 +82,9 @@ pub struct Ends {
 
 impl Model for Sockets {
     ghost use Rattle.std.specs.Prelude.{List};
-    ghost use Rattle.xp_tcp.specs.declared.access.Access.{Access};
+    ghost use Rattle.xp_tcp.specs.Accesses.{Origin};
 
-    ghost Value = { List Access };
+    ghost Value = { List Origin };
 
     ghost view = { λ sockets. sockets.lines.items };
 }
@@ -122,7 +123,7 @@ impl Sockets {
         port: u16,
         admission: Admission,
     ) -> Result<(), ListenFault>
-        ensures ok { OnOk result (Listens self.old port self.new) }
+        ensures ok { OnOk result (Listens self.old port admission self.new) }
         ensures err { OnErr result (self.new ≡ self.old) }
     {
         let number = self.reserve(rt)?;
@@ -140,7 +141,7 @@ impl Sockets {
     ///
     /// `Port` where the system has no descriptors left, or where there are 65,536 lines already, `Memory`. No line is added then.
     pub fn add_router<R: Net>(&mut self, rt: &R, router: SocketAddr) -> Result<(), ListenFault>
-        ensures ok { OnOk result (self.new ≡ self.old ++ access.Router router ∷ []) }
+        ensures ok { OnOk result (self.new ≡ self.old ++ Behind router ∷ []) }
         ensures err { OnErr result (self.new ≡ self.old) }
     {
         let number = self.reserve(rt)?;
@@ -180,7 +181,7 @@ impl Sockets {
 
     /// Where the connections of a line come from. `None` where there is no such line.
     pub fn access(&self, line: LineNo) -> Option<Access>
-        ensures { result ≡ slice_get self.now line }
+        ensures { result ≡ option_map access_of (slice_get self.now line) }
     {
         self.lines.get(line as usize).map(|line| line.access())
     }
@@ -203,8 +204,8 @@ impl Sockets {
         }
     }
 
-    /// What the threads of the lines are given, in line order: each has the access of its line. The time of day is read once, for
-    /// all clocks.
+    /// What the threads of the lines are given, in line order: each has the access of its line. All clocks count from when the run
+    /// began.
     pub fn into_ends(self, alloc: Global) -> Result<Ends, AllocError>
         ensures { IfOk result (λ ends. map (λ end. end.0) ends.lines.items ≡ self) }
     {
@@ -218,9 +219,9 @@ impl Sockets {
         } = self;
         let shared = Shared {
             wakers: Arc::new(alloc, wakers)?,
+            start: notices.start,
             notices,
             bell: bell_of(&door)?,
-            start: Start::read(),
         };
         let mut behind = Vec::with_capacity(alloc, lines.len())?;
         let lines = ends_of(alloc, lines, &shared, &mut behind)?;
@@ -259,7 +260,7 @@ impl Sockets {
 
     /// Adds a line to the last thread.
     fn push(&mut self, line: LineNo, source: LineSource) -> Result<(), ListenFault>
-        ensures ok { OnOk result (self.new ≡ self.old ++ source_access source ∷ []) }
+        ensures ok { OnOk result (self.new ≡ self.old ++ source_origin source ∷ []) }
         ensures err { OnErr result (self.new ≡ self.old) }
     {
         self.lines.reserve(1)?;
@@ -268,13 +269,13 @@ impl Sockets {
             return Err(ListenFault::Memory);
         };
         let waker = LineWaker::new(Arc::try_clone(&thread.waker)?);
-        let waits = Arc::try_clone(&thread.waits)?;
+        let links = Arc::try_clone(&thread.links)?;
         thread.count = thread.count.saturating_add(1);
         self.wakers.push_reserved(waker);
         self.lines.push_reserved(LineSockets {
             line,
             source,
-            waits,
+            links,
         });
         Ok(())
     }
@@ -302,11 +303,11 @@ impl Shared {
         let LineSockets {
             line,
             source,
-            waits,
+            links,
         } = line;
         let wakers = Arc::try_clone(&self.wakers)?;
         let clock = TcpClock::new(wakers, usize::from(line), self.start);
-        let port = self.port_of(alloc, line, source, waits, behind)?;
+        let port = self.port_of(alloc, line, source, links, behind)?;
         Ok((port, clock))
     }
 
@@ -316,21 +317,21 @@ impl Shared {
         alloc: Global,
         line: LineNo,
         source: LineSource,
-        waits: Arc<Registry>,
+        links: Arc<ThreadLinks>,
         behind: &mut Vec<Arc<RouterLine>>,
     ) -> Result<LinePort, AllocError>
-        ensures { IfOk result (λ port. port ≡ source_access source) }
+        ensures { IfOk result (λ port. port ≡ source_origin source) }
     {
         let share = LineShare::new(line, &self.wakers, &self.notices)?;
         match source {
             LineSource::Own(port, listener, admission) => {
-                let source = TcpPort::new(port, listener, admission, waits, share);
-                Ok(LinePort::own(port, source))
+                let listener = Arc::new(alloc, LineListener::new(listener, admission, share))?;
+                Ok(LinePort::own(port, TcpPort::new(listener, links)))
             }
             LineSource::Router(router) => {
                 let router_line = self.behind(alloc, line, router)?;
                 behind.push(Arc::try_clone(&router_line)?)?;
-                Ok(LinePort::behind(router, RouterPort::new(router_line, waits, share)))
+                Ok(LinePort::behind(router, RouterPort::new(router_line, links, share)))
             }
         }
     }

@@ -1,9 +1,10 @@
 //! What a thread waits on, as lines are added to it.
 
-use crate::poller::TcpPoller;
+use crate::poller::{OwnLines, TcpPoller};
 use crate::sockets::ListenFault;
+use crate::thread_links::ThreadLinks;
 use crate::tokens::{MOST_SOCKETS, WAKER};
-use mio::{Events, Poll, Registry, Waker};
+use mio::{Events, Poll, Waker};
 use std::alloc::Global;
 use std::net::Net;
 use std::sync::Arc;
@@ -16,7 +17,7 @@ pub(crate) struct ThreadSockets {
     /// Room for what the thread is woken by.
     pub(crate) events: Events,
     pub(crate) waker: Arc<ThreadWaker>,
-    pub(crate) waits: Arc<Registry>,
+    pub(crate) links: Arc<ThreadLinks>,
     /// How many lines it serves.
     pub(crate) count: usize,
 }
@@ -36,12 +37,13 @@ impl ThreadSockets {
         let waker = Waker::new(poll.registry(), WAKER)?;
         let waits = poll.registry().try_clone()?;
         let waker = Arc::new(alloc, ThreadWaker::new(waker)).map_err(|_| ListenFault::Memory)?;
-        let waits = Arc::new(alloc, waits).map_err(|_| ListenFault::Memory)?;
+        let links = ThreadLinks::new(alloc, waits);
+        let links = Arc::new(alloc, links).map_err(|_| ListenFault::Memory)?;
         Ok(ThreadSockets {
             poll,
             events,
             waker,
-            waits,
+            links,
             count: 0,
         })
     }
@@ -52,9 +54,14 @@ impl ThreadSockets {
             poll,
             events,
             waker,
-            waits: _,
+            links,
             count,
         } = self;
-        TcpPoller::new(poll, events, waker, wakers, first, count)
+        let own = OwnLines {
+            wakers,
+            first,
+            count,
+        };
+        TcpPoller::new(poll, events, waker, links, own)
     }
 }

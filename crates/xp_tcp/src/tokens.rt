@@ -26,3 +26,8 @@ pub(crate) fn stream_of(line: LineNo) -> Token {
 pub(crate) fn line_of(token: Token) -> Option<LineNo> {
     LineNo::try_from(token.0 / SOCKETS_OF_LINE).ok()
 }
+
+/// Whether a socket listens.
+pub(crate) fn is_listener(token: Token) -> bool {
+    token.0 % SOCKETS_OF_LINE == 0
+}

@@ -3,6 +3,7 @@
 use std::alloc::Global;
 use std::sync::Arc;
 use std::test::Fail;
+use xp_clock::Start;
 use xp_door::{LineShare, Notices, Tap, Trace};
 use xp_trace::{TracedLines, WaitingPieces};
 
@@ -20,7 +21,7 @@ fn new_trace(alloc: Global) -> Result<Arc<Trace>, Fail> {
 
 /// The tap of the line's next connection.
 fn next_tap(alloc: Global, trace: &Arc<Trace>) -> Result<Option<Tap>, Fail> {
-    let notices = Notices::with_trace(alloc, Some(Arc::try_clone(trace)?))?;
+    let notices = Notices::with_trace(alloc, Start::read(), Some(Arc::try_clone(trace)?))?;
     let notices = Arc::new(alloc, notices)?;
     let share = LineShare::new(0, &Arc::new(alloc, Vec::new(alloc))?, &notices)?;
     Ok(share.tap())

@@ -12,6 +12,7 @@ returns-then-takes_no_more-clause-passes c =
       within = omega (arith, c.loop-place-test.true);
       passes = whole_passes after_received takes_no_more _ _ c.args.octets.now c.loop-place.place _ _ c.loop-place.received _ c.in-Some.frame before.0 before.1 c.loop-place-test.true c.in-Some.ensures.whole c.after_received.ensures;
       all = λ _. sym c.takes_no_more.ensures ∙ c.if-takes_no_more.true;
+      ended = λ _. c.in-Some.ensures.whole.0;
     }
 
 pub loop-place-preserved : goal.loop-place-preserved

@@ -12,6 +12,7 @@ returns-then-is_settled-clause-passes c =
       within = omega (arith, c.loop-place-test.true);
       passes = whole_passes after_sent is_settled _ _ c.args.octets.now c.loop-place.place _ _ c.loop-place.sent _ c.in-Some.frame before.0 before.1 c.loop-place-test.true c.in-Some.ensures.whole c.after_sent.ensures;
       all = λ _. sym c.is_settled.ensures ∙ c.if-is_settled.true;
+      ended = λ _. c.in-Some.ensures.whole.0;
     }
 
 pub loop-place-preserved : goal.loop-place-preserved

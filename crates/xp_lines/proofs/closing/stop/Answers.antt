@@ -5,7 +5,7 @@ use Rattle.xp_lines.specs.declared.line_state.LineState.TheVariants as states
 use Rattle.xp_lines.specs.steps.Offering.{Tells}
 use Rattle.xp_lines.specs.steps.Serving.{GoesOnTo}
 use Rattle.xp_lines.proofs.Serving.{so_closes, so_stops}
-use Rattle.xp_lines.proofs.Sessions.{drops_nothing, goes_down, goes_not}
+use Rattle.xp_lines.proofs.Sessions.{goes_not}
 use Rattle.xp_lines.proofs.closing.stop.Goals as goal
 
 pub returns-in_default : goal.returns-in_default
@@ -18,8 +18,7 @@ returns-in-Ok g c =
     let tells = subst (λ what. Tells c.args.pass.now what c.offer.result c.offer.new.pass) c.down.ensures c.offer.ensures.tells in
     let gains = subst (λ result. Tells c.args.pass.now Down result c.offer.new.pass) c.in-Ok.is tells in
     subst (λ session. GoesOnTo g.N.Name.subs g.L.Link.pushed g.L.Link.pulled session c.args.pass.now (states.Stopped c.unwritten_of.result) c.offer.new.pass) (sym c.in-Some.is)
-    (so_stops g.N.Name.subs g.L.Link.pushed g.L.Link.pulled (Some c.in-Some.linked) c.args.pass.now c.unwritten_of.result c.offer.new.pass
-    (goes_down c.args.pass.now c.offer.new.pass reasons.Stopped c.offer.new.pass gains (drops_nothing c.offer.new.pass)) gains.line)
+    (so_stops g.N.Name.subs g.L.Link.pushed g.L.Link.pulled c.in-Some.linked c.args.pass.now c.unwritten_of.result c.offer.new.pass gains gains.line c.unwritten_of.ensures)
 
 pub returns-in-Err-Halted : goal.returns-in-Err-Halted
 returns-in-Err-Halted g c =

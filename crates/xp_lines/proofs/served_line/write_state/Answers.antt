@@ -1,16 +1,19 @@
 use Rattle.std.proofs.Common.{subst, sym}
-use Rattle.xp_lines.specs.Sessions.{AreMoved}
+use Rattle.xp_subs.specs.Tables.{modulus_of}
+use Rattle.xp_lines.specs.declared.line_state.LineState.TheVariants as states
 use Rattle.xp_lines.specs.declared.line.EndReason.TheVariants.{Stopped}
-use Rattle.xp_lines.specs.steps.Serving.{IsLineSo}
-use Rattle.xp_lines.proofs.Serving.{ends_drop}
+use Rattle.xp_lines.specs.steps.Serving.{StaysSo, WritesOn}
+use Rattle.xp_lines.proofs.Serving.{writes_all, writes_more}
 use Rattle.xp_lines.proofs.served_line.write_state.Goals as goal
 
 pub returns-in-Some : goal.returns-in-Some
-returns-in-Some g c = λ first so.
-    ends_drop g.N.Name.subs (AreMoved g.L.Link.pushed g.L.Link.pulled) first Stopped c.args.pass.now c.write_rest.new.pass
-    (subst (λ state. IsLineSo g.N.Name.subs g.L.Link.pushed g.L.Link.pulled first state c.args.pass.now) c.in-Stopped.is so) c.write_rest.ensures
+returns-in-Some g c =
+    subst (λ state. StaysSo g.N.Name.subs g.L.Link.pushed g.L.Link.pulled state c.args.pass.now (states.Stopped c.in-Some.rest) c.write_rest.new.pass) (sym c.in-Stopped.is)
+    (writes_more g.N.Name.subs g.L.Link.pushed g.L.Link.pulled c.in-Stopped.rest c.args.pass.now c.in-Some.rest c.write_rest.new.pass
+    (subst (λ result. WritesOn (modulus_of g.N.Name.subs c.args.pass.now.line) g.L.Link.pushed c.in-Stopped.rest c.args.pass.now result c.write_rest.new.pass) c.in-Some.is c.write_rest.ensures))
 
 pub returns-in-None : goal.returns-in-None
-returns-in-None g c = λ first so.
-    ends_drop g.N.Name.subs (AreMoved g.L.Link.pushed g.L.Link.pulled) first Stopped c.args.pass.now c.write_rest.new.pass
-    (subst (λ state. IsLineSo g.N.Name.subs g.L.Link.pushed g.L.Link.pulled first state c.args.pass.now) c.in-Stopped.is so) c.write_rest.ensures
+returns-in-None g c =
+    subst (λ state. StaysSo g.N.Name.subs g.L.Link.pushed g.L.Link.pulled state c.args.pass.now (states.Ended Stopped) c.write_rest.new.pass) (sym c.in-Stopped.is)
+    (writes_all g.N.Name.subs g.L.Link.pushed g.L.Link.pulled c.in-Stopped.rest c.args.pass.now c.write_rest.new.pass
+    (subst (λ result. WritesOn (modulus_of g.N.Name.subs c.args.pass.now.line) g.L.Link.pushed c.in-Stopped.rest c.args.pass.now result c.write_rest.new.pass) c.in-None.is c.write_rest.ensures))

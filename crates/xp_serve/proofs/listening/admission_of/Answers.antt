@@ -1,7 +1,7 @@
 use Rattle.std.proofs.Common.{◌+◌, arith, subst, sym, take}
 use Rattle.std.proofs.lemmas.List.{length-take-le}
 use Rattle.xp_tcp.specs.Admissions.{IsRefused}
-use Rattle.xp_serve.specs.steps.Addresses.{AreAddresses}
+use Rattle.xp_serve.specs.Accesses.{AreAddresses}
 use Rattle.xp_serve.proofs.Addresses.{are_count, are_next}
 use Rattle.xp_serve.proofs.listening.admission_of.Goals as goal
 

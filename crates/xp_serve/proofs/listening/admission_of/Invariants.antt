@@ -1,5 +1,5 @@
 use Rattle.std.proofs.Common.{take}
-use Rattle.xp_serve.specs.steps.Addresses.{AreAddresses}
+use Rattle.xp_serve.specs.Accesses.{AreAddresses}
 use Rattle.xp_serve.proofs.listening.admission_of.Given as goal
 
 abbrev pub invariant-loop-place : goal.invariant-loop-place

@@ -1,4 +1,4 @@
-use Rattle.std.proofs.Common.{◌+◌, ◌<◌, arith, map, subst, sym, take}
+use Rattle.std.proofs.Common.{◌+◌, ◌<◌, arith, subst, sym, take}
 use Rattle.xp_lines.specs.Pairs.{AreEach}
 use Rattle.xp_serve.specs.Accesses.{IsServedAt}
 use Rattle.xp_subs.specs.Tables.{line_count}
@@ -13,5 +13,5 @@ loop-line-preserved g c =
     let count = c.counts-lines.ensures.lines in
     let within : line < line_count subs = omega (arith, below, count) in
     let one = c.in_ok-listen.ensures.one in
-    subst (AreEach IsServedAt (take (line + 1) (map (λ line. line.access) subs.lines))) (sym one.1)
+    subst (AreEach IsServedAt (take (line + 1) subs.lines)) (sym one.1)
     (served_more subs.lines line c.loop-line.sockets one.0 within c.loop-line.invariant one.2)
