@@ -55,11 +55,7 @@ impl Model for LineListener {
 }
 
 impl LineListener {
-    pub(crate) fn new(
-        listener: TcpListener,
-        admission: Admission,
-        share: LineShare,
-    ) -> LineListener
+    pub(crate) fn new(listener: TcpListener, admission: Admission, share: LineShare) -> LineListener
         ensures { result ≡ admission }
     {
         LineListener {

@@ -89,7 +89,14 @@ impl RouterLink {
             return;
         };
         let mut stream = stream;
-        if wait_for(&mut stream, &self.links.waits, &self.share, Patience::Router).is_err() {
+        if wait_for(
+            &mut stream,
+            &self.links.waits,
+            &self.share,
+            Patience::Router,
+        )
+        .is_err()
+        {
             self.line.release();
             return;
         }
@@ -128,7 +135,12 @@ impl RouterLink {
             Attempt::Failed(fault) => self.fail(fault),
             Attempt::Begun(stream) => {
                 let mut stream = stream;
-                match wait_for(&mut stream, &self.links.waits, &self.share, Patience::Router) {
+                match wait_for(
+                    &mut stream,
+                    &self.links.waits,
+                    &self.share,
+                    Patience::Router,
+                ) {
                     Ok(()) => self.connect(stream, since),
                     Err(error) => self.fail(ConnectFault::of(&error)),
                 }

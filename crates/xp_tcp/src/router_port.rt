@@ -30,11 +30,7 @@ impl RouterPort {
         links: Arc<ThreadLinks>,
         share: LineShare,
     ) -> RouterPort {
-        RouterPort {
-            line,
-            links,
-            share,
-        }
+        RouterPort { line, links, share }
     }
 
     /// The next link. None for once after one that was not used: the line could not come into service, and its thread is to let
