@@ -2,6 +2,7 @@ pub mod FieldLemmas
 pub mod LineLemmas
 pub mod Reaching
 pub mod RedirectionLemmas
+pub mod SelectionLemmas
 pub mod Selections
 pub mod Unchanged
 pub mod Unredirected

@@ -7,11 +7,14 @@ mod redirections;
 mod station_warnings;
 mod stations;
 mod summary_text;
+mod warning_text;
 
 pub use matrix::fields;
 pub use reach::{
     Reach, calls_without_redirection_are_decided_alike, reach_between, reach_is_determined,
 };
-pub use redirections::{alternate_of_nobody, is_in_circle};
-pub use station_warnings::{StationWarnings, barred_preferential, warnings};
+pub use redirections::{alternate_of_nobody, is_in_circle, redirects_never};
+pub use station_warnings::{
+    StationWarnings, barred_preferential, is_alone, needs_selection, warnings,
+};
 pub use summary_text::summary;

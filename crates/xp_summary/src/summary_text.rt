@@ -1,7 +1,8 @@
 //! The summary as text.
 
 use crate::matrix::push_matrix;
-use crate::stations::{push_station, push_warnings};
+use crate::stations::push_station;
+use crate::warning_text::push_warnings;
 use std::alloc::{AllocError, Global};
 use std::fmt::Write;
 use xp_subs::{StationNo, Subs};
