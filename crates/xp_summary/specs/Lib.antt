@@ -1,4 +1,5 @@
 pub mod Matrix
+pub mod Reach
 pub mod Redirections
 pub mod Warnings
 pub mod steps

@@ -1,7 +1,8 @@
 //! The summary as text.
 
 use crate::matrix::push_matrix;
-use crate::stations::{push_station, push_warnings};
+use crate::stations::push_station;
+use crate::warning_text::push_warnings;
 use std::alloc::{AllocError, Global};
 use std::fmt::Write;
 use xp_subs::{StationNo, Subs};
@@ -22,7 +23,11 @@ pub fn summary(alloc: Global, subs: &Subs) -> Result<String, AllocError> {
     push_stations(&mut text, subs)?;
     writeln!(
         text,
-        "who may call whom: a row for each caller, with x where it may call the station"
+        "who may call whom, where lines are idle and no call is redirected: a row for each caller"
+    )?;
+    writeln!(
+        text,
+        "x: put through, s: only with a closed user group selection, .: never"
     )?;
     push_matrix(alloc, &mut text, subs)?;
     push_all_warnings(&mut text, subs)?;
