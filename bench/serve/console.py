@@ -4,20 +4,17 @@
 README.md says what is checked.
 """
 
-import argparse
 import contextlib
 import json
 import socket
 import subprocess
-import sys
-import tempfile
 
 import metrics_format
 import server
 from console_forms import wanted_metrics, wanted_table
-from routers import ACCEPTED, CALL, PATIENCE, Wrong
+from routers import ACCEPTED, CALL, PATIENCE
 from server import call_request, frame
-from served import OUT_OF_ORDER, Served, data, require, rest_of, run_checks, station, until
+from served import OUT_OF_ORDER, Served, data, require, rest_of, run_script, station, until
 
 GET = b"GET %s HTTP/1.1\r\nHost: localhost\r\n\r\n"
 STOP = b"POST /stop HTTP/1.1\r\nHost: localhost\r\nx-gonukire: stop\r\nContent-Length: 0\r\n\r\n"
@@ -324,13 +321,5 @@ def stop(program, folder):
 CHECKS = (answers, own_address, crowd, one_stop, address_in_use, status, stop)
 
 
-def main():
-    parser = argparse.ArgumentParser(description=__doc__.splitlines()[0])
-    parser.add_argument("--xp", default=str(server.PROGRAM), help=f"the program ({server.DEFAULT})")
-    arguments = parser.parse_args()
-    with tempfile.TemporaryDirectory() as folder:
-        run_checks(CHECKS, arguments.xp, folder)
-
-
 if __name__ == "__main__":
-    sys.exit(main())
+    run_script(__doc__, CHECKS)

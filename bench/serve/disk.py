@@ -5,19 +5,16 @@ A small library (disk.c, built by `cc`) stands before the C library: it has some
 one had not brought to the disk; or it has a write of the file never end.
 """
 
-import argparse
 import os
 import pathlib
 import re
 import subprocess
-import sys
-import tempfile
 import time
 
 import server
 from records_file import refused_call, rows_of, seconds_of, waiting
 from routers import Wrong
-from served import Served, require, run_checks, station, until
+from served import Served, require, run_script, station, until
 
 # Calls of a check, of which each is refused, and so ends at once.
 CALLS = 200
@@ -164,14 +161,5 @@ def two_runs_of_one_second(program, folder):
 CHECKS = (syncs_that_fail, syncs_that_go_on_to_fail, write_that_hangs, output_that_nobody_reads, two_runs_of_one_second)
 
 
-def main():
-    parser = argparse.ArgumentParser(description=__doc__.splitlines()[0])
-    parser.add_argument("--program", default=server.PROGRAM, help="the built program (default: XP_PROGRAM, else the one that ./xp built)")
-    arguments = parser.parse_args()
-    with tempfile.TemporaryDirectory() as folder:
-        run_checks(CHECKS, arguments.program, folder)
-    return 0
-
-
 if __name__ == "__main__":
-    sys.exit(main())
+    run_script(__doc__, CHECKS)

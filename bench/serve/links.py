@@ -6,14 +6,11 @@ becomes of a connection before its first frame is whole.
 README.md says what is checked.
 """
 
-import argparse
 import contextlib
 import os
 import pathlib
 import signal
 import socket
-import sys
-import tempfile
 import time
 
 import server
@@ -23,7 +20,7 @@ from routers import (
 )
 from server import CLEAR_CONFIRMATION, CLEAR_REQUEST, call_request, frame
 from served import ACCEPTED as CALL_ACCEPTED
-from served import Served, require, run_checks, station
+from served import Served, require, run_script, station
 
 # The addresses of c, of z, behind the third router, and of d.
 CALLER, ROUTED, CALLED = "200001", "300003", "200002"
@@ -327,13 +324,5 @@ CHECKS = (
 )
 
 
-def main():
-    parser = argparse.ArgumentParser(description=__doc__.splitlines()[0])
-    parser.add_argument("--xp", default=str(server.PROGRAM), help=f"the program ({server.DEFAULT})")
-    arguments = parser.parse_args()
-    with tempfile.TemporaryDirectory() as folder:
-        run_checks(CHECKS, arguments.xp, folder)
-
-
 if __name__ == "__main__":
-    sys.exit(main())
+    run_script(__doc__, CHECKS)

@@ -4,11 +4,8 @@
 README.md says what is checked.
 """
 
-import argparse
 import os
 import re
-import sys
-import tempfile
 import time
 
 import server
@@ -16,7 +13,7 @@ import transfer
 from ports import connection_from
 from routers import ACCEPTED, CALL, PATIENCE, XotCall
 from server import call_request
-from served import Served, data, require, rest_of, run_checks, station, until
+from served import Served, data, require, rest_of, run_script, station, until
 
 # Addresses from which a line may be connected that names them, and one from which it may not.
 NAMED, ALSO_NAMED, UNNAMED = "127.0.0.9", "127.0.0.10", "127.0.0.8"
@@ -214,13 +211,5 @@ def refused_in_number(program, folder):
 CHECKS = (replaced, host_that_restarts, newest_of_many, refused_meanwhile, refused_in_number)
 
 
-def main():
-    parser = argparse.ArgumentParser(description=__doc__.splitlines()[0])
-    parser.add_argument("--xp", default=str(server.PROGRAM), help=f"the program ({server.DEFAULT})")
-    arguments = parser.parse_args()
-    with tempfile.TemporaryDirectory() as folder:
-        run_checks(CHECKS, arguments.xp, folder)
-
-
 if __name__ == "__main__":
-    sys.exit(main())
+    run_script(__doc__, CHECKS)

@@ -5,18 +5,15 @@ served, and output that fails.
 README.md says what is checked.
 """
 
-import argparse
 import itertools
 import os
 import resource
 import socket
-import sys
-import tempfile
 
 import server
 from routers import CONFIRMATION, PATIENCE, XotCall
 from server import CLEAR_CONFIRMATION, CLEAR_REQUEST, call_request
-from served import ACCEPTED, OUT_OF_ORDER, Served, refused, require, run_checks, station
+from served import ACCEPTED, OUT_OF_ORDER, Served, refused, require, run_script, station
 
 # What b1 gets as a1 calls it, and a1 as b1 accepts (X.25 clauses 5.2.1 and 5.2.2): addresses, packet sizes of 128, windows of 2, user data.
 USER = b"\1\0\0\0"
@@ -210,13 +207,5 @@ def no_descriptors(program, folder):
 CHECKS = (calls, output_that_fails, at_localhost, refusals, strangers, quiet, no_descriptors)
 
 
-def main():
-    parser = argparse.ArgumentParser(description=__doc__.splitlines()[0])
-    parser.add_argument("--xp", default=str(server.PROGRAM), help=f"the program ({server.DEFAULT})")
-    arguments = parser.parse_args()
-    with tempfile.TemporaryDirectory() as folder:
-        run_checks(CHECKS, arguments.xp, folder)
-
-
 if __name__ == "__main__":
-    sys.exit(main())
+    run_script(__doc__, CHECKS)

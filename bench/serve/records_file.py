@@ -4,20 +4,17 @@
 README.md says what is checked.
 """
 
-import argparse
 import csv
 import datetime
 import pathlib
 import re
-import sys
-import tempfile
 import time
 
 import server
 from endings import HEADER
 from routers import ACCEPTED, CALL
 from server import call_request
-from served import Served, data, refused, require, run_checks, station, until
+from served import Served, data, refused, require, run_script, station, until
 
 NAMES = ",".join(HEADER) + "\n"
 
@@ -279,13 +276,5 @@ def full_disk_at_the_end(program, folder):
 CHECKS = (columns, new_and_old_file, torn_line, files_that_are_refused, full_disk, full_disk_at_the_end)
 
 
-def main():
-    parser = argparse.ArgumentParser(description=__doc__.splitlines()[0])
-    parser.add_argument("--xp", default=str(server.PROGRAM), help=f"the program ({server.DEFAULT})")
-    arguments = parser.parse_args()
-    with tempfile.TemporaryDirectory() as folder:
-        run_checks(CHECKS, arguments.xp, folder)
-
-
 if __name__ == "__main__":
-    sys.exit(main())
+    run_script(__doc__, CHECKS)

@@ -1,11 +1,13 @@
 """An exchange that the scripts of this folder look at from outside, until its standard input ends: what it tells, what it prints, and how
 it ends; and the lines that are connected to it."""
 
+import argparse
 import os
 import pathlib
 import resource
 import subprocess
 import sys
+import tempfile
 import threading
 import time
 
@@ -143,3 +145,12 @@ def run_checks(checks, *given):
         except (Wrong, OSError) as wrong:
             sys.exit(f"{check.__name__}: {wrong}")
         print(f"{check.__name__}: {check.__doc__.splitlines()[0]}", flush=True)
+
+
+def run_script(document, checks):
+    """Runs the checks of a script, which says what it looks at, over the program that its words name."""
+    parser = argparse.ArgumentParser(description=document.splitlines()[0])
+    parser.add_argument("--xp", default=str(server.PROGRAM), help=f"the program ({server.DEFAULT})")
+    arguments = parser.parse_args()
+    with tempfile.TemporaryDirectory() as folder:
+        run_checks(checks, arguments.xp, folder)

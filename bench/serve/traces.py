@@ -4,14 +4,11 @@
 README.md says what is checked.
 """
 
-import argparse
 import collections
 import ipaddress
 import os
 import pathlib
 import struct
-import sys
-import tempfile
 import threading
 import time
 
@@ -19,7 +16,7 @@ import server
 from records_file import NAMES
 from routers import ACCEPTED, CALL, CLEAR, CONFIRMATION, Router, XotCall
 from server import CLEAR_CONFIRMATION, CLEAR_REQUEST, call_request, frame
-from served import Served, data, refused, require, run_checks, station
+from served import Served, data, refused, require, run_script, station
 
 # The header of a capture file: version 2.4, big-endian, octets of IPv4.
 FILE_HEADER = bytes.fromhex("a1b2c3d4 0002 0004 00000000 00000000 0000ffff 000000e4")
@@ -353,13 +350,5 @@ def named_pipe(program, folder):
 CHECKS = (lines_of_their_own, names, lines_behind_a_router, full_disk, files_that_are_kept, named_pipe)
 
 
-def main():
-    parser = argparse.ArgumentParser(description=__doc__.splitlines()[0])
-    parser.add_argument("--xp", default=str(server.PROGRAM), help=f"the program ({server.DEFAULT})")
-    arguments = parser.parse_args()
-    with tempfile.TemporaryDirectory() as folder:
-        run_checks(CHECKS, arguments.xp, folder)
-
-
 if __name__ == "__main__":
-    sys.exit(main())
+    run_script(__doc__, CHECKS)

@@ -4,13 +4,10 @@
 README.md says what is checked.
 """
 
-import argparse
 import contextlib
 import json
 import select
 import socket
-import sys
-import tempfile
 import time
 import urllib.request
 
@@ -18,7 +15,7 @@ import server
 from links import CALLED, SIBLINGS, Routed, peer_of, serve
 from routers import ACCEPTED, BEHIND_FIRST, BREATH, CALL, CONFIRMATION, FIRST, STRANGER, THIRD, XotCall, token_in
 from server import CLEAR_REQUEST, call_request, frame
-from served import require, run_checks, until
+from served import require, run_script, until
 
 # The user data of a call, and a router's call request with it.
 TOKEN = bytes.fromhex("c000000042")
@@ -303,13 +300,5 @@ def too_many(program, folder):
 CHECKS = (half_a_frame, silent_router, no_line_free, pieces, bad_header, ten_seconds, ended_before, too_many)
 
 
-def main():
-    parser = argparse.ArgumentParser(description=__doc__.splitlines()[0])
-    parser.add_argument("--xp", default=str(server.PROGRAM), help=f"the program ({server.DEFAULT})")
-    arguments = parser.parse_args()
-    with tempfile.TemporaryDirectory() as folder:
-        run_checks(CHECKS, arguments.xp, folder)
-
-
 if __name__ == "__main__":
-    sys.exit(main())
+    run_script(__doc__, CHECKS)
