@@ -6,7 +6,7 @@ use Rattle.clap.specs.declared.error.kind.ErrorKind.TheVariants.{OutOfMemory}
 use Rattle.xp_serve.specs.Failures.{status_of as status_of_serving}
 use Rattle.xp_tasks.specs.Failures.{status_of as status_of_task}
 use Rattle.xp.specs.declared.failure.Failure.{Failure}
-use Rattle.xp.specs.declared.failure.Failure.TheVariants.{Arguments, Ask, Cdr, Console, Question, Refused, Serve, Task, Trace, TraceLines, Unread}
+use Rattle.xp.specs.declared.failure.Failure.TheVariants.{Address, Arguments, Ask, Cdr, Console, Question, Refused, Serve, Task, Trace, TraceLines, Unread}
 
 -- 2 for what was asked
 abbrev pub status_of : Failure → ℕ
@@ -18,6 +18,7 @@ status_of Unread = 5
 status_of (Cdr fault) = 5
 status_of (Trace fault) = 5
 status_of (TraceLines name) = 5
+status_of (Address text) = 5
 status_of (Console fault) = 5
 status_of (Ask fault) = 5
 status_of (Serve failure) = status_of_serving failure

@@ -43,6 +43,9 @@ pub enum Failure {
     /// No line has this name, of those that were to be traced.
     #[error("xp: trace-lines {0}")]
     TraceLines(String),
+    /// This text is no address of a console.
+    #[error("xp: console: {0:?} is no ADDRESS:PORT")]
+    Address(String),
     /// The console can't be served.
     #[error("xp: console: {0}")]
     Console(ConsoleFault),
@@ -67,6 +70,7 @@ impl Failure {
             | Failure::Cdr(_)
             | Failure::Trace(_)
             | Failure::TraceLines(_)
+            | Failure::Address(_)
             | Failure::Console(_)
             | Failure::Ask(_) => 5,
             Failure::Serve(failure) => failure.status(),
@@ -85,6 +89,7 @@ impl Failure {
             | Failure::Cdr(_)
             | Failure::Trace(_)
             | Failure::TraceLines(_)
+            | Failure::Address(_)
             | Failure::Console(_)
             | Failure::Ask(_) => rt.eprintln(self),
             Failure::Serve(failure) => rt.eprintln(failure),

@@ -1,10 +1,12 @@
 //! The command line of the program: its subcommands, and what they are given.
 #![tactic(auto)]
 
+mod addresses;
 mod arguments;
 mod laws;
 mod subcommand;
 
+pub use addresses::console_address;
 pub use arguments::{Arguments, refused};
 pub use laws::errands_can_be_asked_for;
 pub use subcommand::{
