@@ -61,15 +61,15 @@ check = with_rule (command_of Check) (flag (codes "words"))
 abbrev pub replay : App
 replay = with_rule (with_rule (with_rule (command_of Replay) (flag (codes "words"))) (flag (codes "ladder"))) (valued (codes "pcap"))
 
--- the command that explains a decision, with the calling line and the address
+-- the command that explains a decision, with the call request
 abbrev pub call : App
-call = with_rule (with_rule (command_of Explain) (positional (codes "CALLER"))) (positional (codes "DIALLED"))
+call =
+    with_rule (with_rule (with_rule (with_rule (command_of Explain) (positional (codes "CALLER"))) (positional (codes "DIALLED"))) (valued (codes "facilities")))
+    (valued (codes "user"))
 
--- with the rest of the call request, and the states of the lines
+-- with the states of the lines, and whether the exit status tells of a refusal
 abbrev pub explain : App
-explain =
-    with_rule (with_rule (with_rule (with_rule call (valued (codes "facilities"))) (valued (codes "user"))) (valued (codes "up")))
-    (valued (codes "busy"))
+explain = with_rule (with_rule (with_rule call (valued (codes "up"))) (valued (codes "busy"))) (flag (codes "status"))
 
 -- the command that serves, with the arguments that tell of records
 abbrev pub recording : App
@@ -137,6 +137,7 @@ pub record IsQuestion (rows : List Row) (question : QuestionOrder) : Type 0 wher
   pub user : option_map (λ text. text.now) question.user ≡ first_of (codes "user") rows
   pub up : option_map (λ text. text.now) question.up ≡ first_of (codes "up") rows
   pub busy : option_map (λ text. text.now) question.busy ≡ first_of (codes "busy") rows
+  pub status : question.status ≡ has_flag (codes "status") rows
 
 -- the arguments say when serving ends
 abbrev pub HasLimits : List Row → Limits → Type 0

@@ -7,8 +7,8 @@ ghost use Rattle.clap.specs.declared.builder.command.Command.TheViews.{out-Comma
 ghost use Rattle.xp_arguments.specs.Commands.{AreRight, Ask, AsksFor, call as call_app, check as check_app, command_of, explain as explain_app, flag as flag_rule, over_files as over_files_app, positional as positional_rule, program, recording, replay as replay_app, replaying as replaying_app, serve, serving, tracing, valued as valued_rule, verb_of};
 
 use crate::subcommand::{
-    BUSY, CALLER, CDR, CONSOLE, DIALLED, FACILITIES, LADDER, PCAP, QUIET, RECORDS, Subcommand,
-    TRACE, TRACE_LINES, TURNS, UNTIL_EOF, UP, USER, Verb, WORDS,
+    BUSY, CALLER, CDR, CONSOLE, DIALLED, FACILITIES, LADDER, PCAP, QUIET, RECORDS, STATUS,
+    Subcommand, TRACE, TRACE_LINES, TURNS, UNTIL_EOF, UP, USER, Verb, WORDS,
 };
 use clap::error::ErrorKind;
 use clap::{Arg, ArgAction, ArgMatches, Command, Error};
@@ -42,7 +42,8 @@ const EXPLAIN_ABOUT: &str = "Explains how a call request is decided, rule by rul
 
 const EXPLAIN_DETAILS: &str = "\
 CALLER is the name of the calling line, DIALLED the address that it calls. All
-lines are in service and idle where --up and --busy do not say otherwise.
+lines are in service and idle where --up and --busy do not say otherwise. With
+--status the exit status is 1 where the call is refused, and else 0.
 
 Example:
   xp explain examples/three-stations.toml a1 2080030 --busy h1,h2";
@@ -97,9 +98,11 @@ const FACILITIES_HELP: &str = "The facility field of the call request, in hexade
 
 const USER_HELP: &str = "Its user data, in hexadecimal digits";
 
-const UP_HELP: &str = "The lines in service, as a1,b1";
+const UP_HELP: &str = "The lines in service, as a1,b1; '' for none";
 
 const BUSY_HELP: &str = "The lines that are in a call, as h1,h2";
+
+const STATUS_HELP: &str = "Ends with status 1 where the call is refused";
 
 const CDR_HELP: &str = "Writes call detail records at the end of this file (CSV)";
 
@@ -280,13 +283,12 @@ fn explain_command<'a>(alloc: Global) -> Result<Command<'a>, AllocError>
     ensures local { IfOk result (λ command. (fields_of command).has_globals ≡ false) }
 {
     call_command(alloc)?
-        .arg(valued(alloc, FACILITIES, "HEX", FACILITIES_HELP))?
-        .arg(valued(alloc, USER, "HEX", USER_HELP))?
         .arg(valued(alloc, UP, "LINES", UP_HELP))?
-        .arg(valued(alloc, BUSY, "LINES", BUSY_HELP))
+        .arg(valued(alloc, BUSY, "LINES", BUSY_HELP))?
+        .arg(flag(alloc, STATUS, STATUS_HELP))
 }
 
-/// The same with the calling line and the address alone.
+/// The same with the arguments that tell of the call request alone.
 fn call_command<'a>(alloc: Global) -> Result<Command<'a>, AllocError>
     ensures shape { IfOk result (λ command. app_of command ≡ call_app) }
     ensures local { IfOk result (λ command. (fields_of command).has_globals ≡ false) }
@@ -299,7 +301,9 @@ fn call_command<'a>(alloc: Global) -> Result<Command<'a>, AllocError>
         FILE_HELP,
     )?
     .arg(positional(alloc, CALLER, CALLER_HELP))?
-    .arg(positional(alloc, DIALLED, DIALLED_HELP))
+    .arg(positional(alloc, DIALLED, DIALLED_HELP))?
+    .arg(valued(alloc, FACILITIES, "HEX", FACILITIES_HELP))?
+    .arg(valued(alloc, USER, "HEX", USER_HELP))
 }
 
 /// The subcommand that serves the lines.
