@@ -5,6 +5,7 @@ mod addresses;
 mod arguments;
 mod laws;
 mod subcommand;
+mod texts;
 
 pub use addresses::console_address;
 pub use arguments::{Arguments, refused};
