@@ -1,7 +1,9 @@
 -- The command lines that the program takes, as `clap` reads them.
-use Rattle.std.specs.Prelude.{◌≡◌, ℕ, List, [], Bool, Option, Some, None, true, false, codes, option_map}
-use Rattle.clap.specs.Words.{App, Row, Rule, Text, fault_of, first_of, new_app, new_rule, subcommand_of, with_rule, with_subcommand}
+use Rattle.std.specs.Prelude.{◌≡◌, ℕ, List, [], ◌∷◌, Bool, Option, Some, None, true, false, codes, option_map}
+use Rattle.clap.specs.Kinds.{or_else}
+use Rattle.clap.specs.Words.{App, Kinds, Row, Rule, Text, fault_of, first_of, new_app, new_rule, subcommand_of, with_rule, with_subcommand}
 use Rattle.clap.specs.declared.builder.action.ArgAction.TheVariants.{SetTrue}
+use Rattle.clap.specs.declared.error.kind.ErrorKind.TheVariants.{InvalidValue}
 use Rattle.xp_arguments.specs.declared.subcommand.CheckForm.{CheckForm}
 use Rattle.xp_arguments.specs.declared.subcommand.CheckForm.TheVariants as check_forms
 use Rattle.xp_arguments.specs.declared.subcommand.ConsoleRequest.{ConsoleRequest}
@@ -85,9 +87,9 @@ serve =
     with_rule (with_rule (with_rule (with_rule tracing (valued (codes "turns"))) (valued (codes "console"))) (flag (codes "quiet")))
     (flag (codes "until-eof"))
 
--- a command of which something has to be asked
+-- a command of which something has to be asked, and which has a version
 abbrev pub asked : App → App
-asked app = record app { top = record app.top { subcommand_required = true; arg_required_else_help = true } }
+asked app = record app { top = record app.top { subcommand_required = true; arg_required_else_help = true; has_version = true } }
 
 -- the program with the commands that check a file and replay a script
 abbrev pub replaying : App
@@ -202,3 +204,7 @@ pub record Ask (words : List Text) (subcommand : Subcommand) (name : List ℕ) :
 -- words that ask for something
 abbrev pub AreRight : List Text → Type 0
 AreRight words = (subcommand : Subcommand) × (name : List ℕ) × Ask words subcommand name
+
+-- the kinds of the error that words may have: those of their first fault, or that they ask for nothing
+abbrev pub kinds_of : List Text → Kinds
+kinds_of words = or_else (fault_of program words) (InvalidValue ∷ [])

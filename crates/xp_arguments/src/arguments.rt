@@ -1,11 +1,12 @@
 //! The words of the command line.
 
 ghost use Rattle.std.specs.Prelude.{◌≡◌, ℕ, List, IfSome, IfNone, IfOk, IfErr, false, map, string_bytes};
-ghost use Rattle.clap.specs.Words.{app_of, kind_of, rule_of, subcommand_rows_of};
-ghost use Rattle.clap.specs.declared.error.kind.ErrorKind.TheVariants.{OutOfMemory};
+ghost use Rattle.clap.specs.Words.{HasKind, app_of, kind_of, rule_of, subcommand_rows_of};
+ghost use Rattle.clap.specs.declared.error.kind.ErrorKind.TheVariants.{InvalidValue, OutOfMemory};
 ghost use Rattle.clap.specs.declared.builder.command.Command.TheViews.{out-Command as fields_of};
-ghost use Rattle.xp_arguments.specs.Commands.{AreRight, Ask, AsksFor, call as call_app, check as check_app, command_of, explain as explain_app, flag as flag_rule, over_files as over_files_app, positional as positional_rule, program, recording, replay as replay_app, replaying as replaying_app, serve, serving, tracing, valued as valued_rule, verb_of};
+ghost use Rattle.xp_arguments.specs.Commands.{AreRight, Ask, AsksFor, call as call_app, check as check_app, command_of, explain as explain_app, flag as flag_rule, kinds_of, over_files as over_files_app, positional as positional_rule, program, recording, replay as replay_app, replaying as replaying_app, serve, serving, tracing, valued as valued_rule, verb_of};
 
+use crate::misfits::misfit;
 use crate::subcommand::{
     BUSY, CALLER, CDR, CONSOLE, DIALLED, FACILITIES, LADDER, PCAP, QUIET, RECORDS, STATUS,
     Subcommand, TRACE, TRACE_LINES, TURNS, UNTIL_EOF, UP, USER, Verb, WORDS,
@@ -25,15 +26,16 @@ pub struct Arguments<'a> {
 
 impl<'a> Arguments<'a> {
     /// Reads the words of a command line; the first is the program's own name. Correct words fail only if an allocation
-    /// fails.
+    /// fails. The error's kind tells whether the words ask for help or for the version, or what is wrong with them.
     pub fn read(alloc: Global, words: &'a [String]) -> Result<Arguments<'a>, Error>
         ensures asked { IfOk result (λ arguments. Ask (map string_bytes words.now) arguments.subcommand arguments.operand.now) }
         ensures taken { IfErr result (λ error. AreRight (map string_bytes words.now) → kind_of error ≡ OutOfMemory) }
+        ensures kind { IfErr result (HasKind (kinds_of (map string_bytes words.now))) }
     {
         let matches = command(alloc)?.try_get_matches_from(words)?;
         match Arguments::named(&matches) {
             Some(arguments) => Ok(arguments),
-            None => Err(refused(alloc, "the arguments do not go together")?),
+            None => Err(unfit(alloc, &matches)?),
         }
     }
 
@@ -52,8 +54,25 @@ impl<'a> Arguments<'a> {
     }
 }
 
+/// The error for arguments that were found, and ask for nothing.
+fn unfit(alloc: Global, matches: &ArgMatches<'_>) -> Result<Error, Error>
+    ensures refused { IfOk result (λ error. kind_of error ≡ InvalidValue) }
+    ensures memory { IfErr result (λ error. kind_of error ≡ OutOfMemory) }
+{
+    match matches.subcommand() {
+        Some((_, found)) => {
+            let reason = misfit(alloc, found)?;
+            refused(alloc, &reason)
+        }
+        None => refused(alloc, "no subcommand was found"),
+    }
+}
+
 /// The error for words that are refused for this reason.
-pub fn refused(alloc: Global, reason: &str) -> Result<Error, Error> {
+pub fn refused(alloc: Global, reason: &str) -> Result<Error, Error>
+    ensures refused { IfOk result (λ error. kind_of error ≡ InvalidValue) }
+    ensures memory { IfErr result (λ error. kind_of error ≡ OutOfMemory) }
+{
     Ok(command(alloc)?.error(ErrorKind::InvalidValue, reason)?)
 }
 
@@ -108,6 +127,7 @@ fn replaying<'a>(alloc: Global) -> Result<Command<'a>, AllocError>
     let replay = replay_command(alloc)?;
     Command::new(alloc, "xp")
         .about(texts::ABOUT)
+        .version(texts::VERSION)
         .after_help(texts::PROGRAM_DETAILS)
         .subcommand_required(true)
         .arg_required_else_help(true)
@@ -143,7 +163,7 @@ fn check_command<'a>(alloc: Global) -> Result<Command<'a>, AllocError>
         Verb::Check,
         texts::CHECK_ABOUT,
         texts::CHECK_DETAILS,
-        texts::FILE_HELP,
+        texts::FILE_OR_INPUT_HELP,
     )?
     .arg(flag(alloc, WORDS, texts::CHECK_WORDS_HELP))
 }
@@ -186,7 +206,7 @@ fn call_command<'a>(alloc: Global) -> Result<Command<'a>, AllocError>
         Verb::Explain,
         texts::EXPLAIN_ABOUT,
         texts::EXPLAIN_DETAILS,
-        texts::FILE_HELP,
+        texts::FILE_OR_INPUT_HELP,
     )?
     .arg(positional(alloc, CALLER, texts::CALLER_HELP))?
     .arg(positional(alloc, DIALLED, texts::DIALLED_HELP))?

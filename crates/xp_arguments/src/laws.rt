@@ -1,7 +1,8 @@
 //! A law of command lines: the contract is the law, and the body is empty.
 
 ghost use Rattle.std.specs.Prelude.{◌≡◌, [], ◌∷◌, Some, None, codes, option_map, true, false};
-ghost use Rattle.xp_arguments.specs.Commands.{Ask};
+ghost use Rattle.clap.specs.declared.error.kind.ErrorKind.TheVariants.{DisplayVersion};
+ghost use Rattle.xp_arguments.specs.Commands.{Ask, kinds_of};
 ghost use Rattle.xp_arguments.specs.declared.subcommand.CheckForm.TheVariants as check_forms;
 ghost use Rattle.xp_arguments.specs.declared.subcommand.ConsoleRequest.TheVariants as requests;
 ghost use Rattle.xp_arguments.specs.declared.subcommand.QuestionOrder.{QuestionOrder};
@@ -10,7 +11,7 @@ ghost use Rattle.xp_arguments.specs.declared.subcommand.ServeOrder.{ServeOrder};
 ghost use Rattle.xp_arguments.specs.declared.subcommand.Subcommand.TheVariants as subcommands;
 ghost use Rattle.xp_arguments.specs.declared.subcommand.TraceOrder.{TraceOrder};
 
-/// Each subcommand can be asked for.
+/// Each subcommand can be asked for, and so can the version.
 pub fn errands_can_be_asked_for()
     ensures check { Ask (codes "xp" ∷ codes "check" ∷ codes "a" ∷ []) (subcommands.Check check_forms.Counts) (codes "a") }
     ensures replay { Ask (codes "xp" ∷ codes "replay" ∷ codes "a" ∷ []) (subcommands.Replay replay_forms.Digits) (codes "a") }
@@ -24,4 +25,6 @@ pub fn errands_can_be_asked_for()
     ensures trace { (order : ServeOrder) → (trace : TraceOrder) → order.trace ≡ Some trace → trace.path.now ≡ codes "b" → option_map (λ names. names.now) trace.lines ≡ Some (codes "c") → order.limits ≡ record { records = 18446744073709551615; turns = 18446744073709551615 } → order.details ≡ None → order.console ≡ None → order.quiet ≡ false → order.until_eof ≡ false → Ask (codes "xp" ∷ codes "serve" ∷ codes "a" ∷ codes "--trace" ∷ codes "b" ∷ codes "--trace-lines" ∷ codes "c" ∷ []) (subcommands.Serve order) (codes "a") }
     ensures status { Ask (codes "xp" ∷ codes "status" ∷ codes "a" ∷ []) (subcommands.Ask requests.Status) (codes "a") }
     ensures stop { Ask (codes "xp" ∷ codes "stop" ∷ codes "a" ∷ []) (subcommands.Ask requests.Stop) (codes "a") }
+    ensures version { kinds_of (codes "xp" ∷ codes "--version" ∷ []) ≡ DisplayVersion ∷ [] }
+    ensures short_version { kinds_of (codes "xp" ∷ codes "-V" ∷ []) ≡ DisplayVersion ∷ [] }
 {}

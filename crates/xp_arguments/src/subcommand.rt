@@ -372,7 +372,7 @@ fn limits_of(matches: &ArgMatches) -> Option<Limits>
 }
 
 /// Whether an argument that is there or not is there.
-fn is_true(matches: &ArgMatches, name: &str) -> bool
+pub(crate) fn is_true(matches: &ArgMatches, name: &str) -> bool
     ensures { result ≡ says_true (first_of name.now (rows_of (found_of matches.now))) }
 {
     match matches.get_str(name) {

@@ -1,4 +1,7 @@
-//! What the help of the program says.
+//! What the help of the program says, and its version.
+
+/// The version, which is the newest heading of CHANGELOG.md.
+pub(crate) const VERSION: &str = "2026-11-28";
 
 pub(crate) const ABOUT: &str = "The call-control exchange of an X.25 packet network.";
 
@@ -10,9 +13,10 @@ Examples:
   xp serve examples/three-stations.toml --cdr calls.csv --console 127.0.0.1:9980
   xp status 127.0.0.1:9980
 
-The exit status is 0 when all was done, 2 for wrong arguments or a faulty line
-of a script, 3 for a subscription file that cannot be read or is refused, 4 for
-a full journal or want of memory, and 5 for input, output or a port that fails.";
+The exit status is 0 when all was done, 1 for a call that is refused where
+explain --status asks, 2 for wrong arguments or a faulty line of a script, 3 for
+a subscription file that cannot be read or is refused, 4 for a full journal or
+want of memory, and 5 for input, output or a port that fails.";
 
 pub(crate) const CHECK_ABOUT: &str = "Checks a subscription file, and counts what it sets up";
 
@@ -131,5 +135,7 @@ Example:
   xp stop 127.0.0.1:9980";
 
 pub(crate) const FILE_HELP: &str = "The subscription file (TOML): the stations and their lines";
+
+pub(crate) const FILE_OR_INPUT_HELP: &str = "The subscription file (TOML), or - for standard input";
 
 pub(crate) const ADDRESS_HELP: &str = "The address of the console, as 127.0.0.1:9980";

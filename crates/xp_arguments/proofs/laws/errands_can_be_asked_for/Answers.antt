@@ -127,3 +127,11 @@ returns-clause-explain c =
         named = refl;
       };
     }
+
+pub returns-clause-version : goal.returns-clause-version
+unfolding clap_on_literals
+returns-clause-version c = refl
+
+pub returns-clause-short_version : goal.returns-clause-short_version
+unfolding clap_on_literals
+returns-clause-short_version c = refl
