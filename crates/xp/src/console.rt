@@ -5,7 +5,7 @@ use crate::output::print_text;
 use std::alloc::{AllocGlobal, Global};
 use std::net::{Net, SocketAddr, TcpStream};
 use std::time::Clock;
-use xp_arguments::{ConsoleRequest, console_address};
+use xp_arguments::{ConsoleRequest, console_address, no_console_address};
 use xp_console::{ask_status, ask_stop};
 
 /// Asks the console at this address, and prints what it shows.
@@ -35,6 +35,6 @@ pub(crate) fn ask_console<R: AllocGlobal + Clock + Net<Stream = TcpStream> + Pri
 pub(crate) fn address_of(alloc: Global, text: &str) -> Result<SocketAddr, Failure> {
     match console_address(alloc, text)? {
         Some(address) => Ok(address),
-        None => Err(Failure::Address(String::from_str(alloc, text)?)),
+        None => Err(Failure::Address(no_console_address(alloc, text)?)),
     }
 }

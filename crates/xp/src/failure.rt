@@ -46,8 +46,8 @@ pub enum Failure {
     /// No line has this name, of those that were to be traced.
     #[error("xp: trace-lines {0}")]
     TraceLines(String),
-    /// This text is no address of a console.
-    #[error("xp: console: {0:?} is no ADDRESS:PORT")]
+    /// A text is no address of a console, which this says in words.
+    #[error("xp: console: {0}")]
     Address(String),
     /// The console can't be served.
     #[error("xp: console: {0}")]

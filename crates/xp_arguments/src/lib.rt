@@ -9,7 +9,7 @@ mod source;
 mod subcommand;
 mod texts;
 
-pub use addresses::console_address;
+pub use addresses::{console_address, no_console_address};
 pub use arguments::{Arguments, refused};
 pub use laws::errands_can_be_asked_for;
 pub use source::FileSource;
