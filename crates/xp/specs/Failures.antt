@@ -6,18 +6,20 @@ use Rattle.clap.specs.declared.error.kind.ErrorKind.TheVariants.{OutOfMemory}
 use Rattle.xp_serve.specs.Failures.{status_of as status_of_serving}
 use Rattle.xp_tasks.specs.Failures.{status_of as status_of_task}
 use Rattle.xp.specs.declared.failure.Failure.{Failure}
-use Rattle.xp.specs.declared.failure.Failure.TheVariants.{Arguments, Ask, Cdr, Console, Question, Refused, Serve, Task, Trace, TraceLines, Unread}
+use Rattle.xp.specs.declared.failure.Failure.TheVariants.{Address, Arguments, Ask, CallRefused, Cdr, Console, Question, Refused, Serve, Task, Trace, TraceLines, Unread}
 
--- 2 for what was asked
+-- 1 for a call that is refused, 2 for what was asked
 abbrev pub status_of : Failure → ℕ
 status_of (Arguments told) = 2
-status_of (Question fault) = 2
+status_of (Question fault told) = 2
+status_of CallRefused = 1
 status_of (Task failure) = status_of_task failure
 status_of (Refused failure place) = status_of_task failure
 status_of Unread = 5
 status_of (Cdr fault) = 5
 status_of (Trace fault) = 5
 status_of (TraceLines name) = 5
+status_of (Address text) = 5
 status_of (Console fault) = 5
 status_of (Ask fault) = 5
 status_of (Serve failure) = status_of_serving failure

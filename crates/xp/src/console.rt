@@ -2,11 +2,11 @@
 
 use crate::failure::Failure;
 use crate::output::print_text;
-use std::alloc::AllocGlobal;
+use std::alloc::{AllocGlobal, Global};
 use std::net::{Net, SocketAddr, TcpStream};
 use std::time::Clock;
-use xp_arguments::ConsoleRequest;
-use xp_console::{AskFault, ask_status, ask_stop};
+use xp_arguments::{ConsoleRequest, console_address, no_console_address};
+use xp_console::{ask_status, ask_stop};
 
 /// Asks the console at this address, and prints what it shows.
 pub(crate) fn ask_console<R: AllocGlobal + Clock + Net<Stream = TcpStream> + Print>(
@@ -14,7 +14,7 @@ pub(crate) fn ask_console<R: AllocGlobal + Clock + Net<Stream = TcpStream> + Pri
     request: ConsoleRequest,
     address: &str,
 ) -> Result<(), Failure> {
-    let address = address_of(address)?;
+    let address = address_of(rt.alloc(), address)?;
     match request {
         ConsoleRequest::Status => {
             let status = ask_status(rt, rt.alloc(), address)?;
@@ -27,10 +27,14 @@ pub(crate) fn ask_console<R: AllocGlobal + Clock + Net<Stream = TcpStream> + Pri
     }
 }
 
-/// The address that a text is.
-pub(crate) fn address_of(text: &str) -> Result<SocketAddr, Failure> {
-    match text.parse::<SocketAddr>() {
-        Ok(address) => Ok(address),
-        Err(_) => Err(Failure::Ask(AskFault::Unreachable)),
+/// The address of a console that a text writes.
+///
+/// # Errors
+///
+/// `Address` where it writes none, and want of memory.
+pub(crate) fn address_of(alloc: Global, text: &str) -> Result<SocketAddr, Failure> {
+    match console_address(alloc, text)? {
+        Some(address) => Ok(address),
+        None => Err(Failure::Address(no_console_address(alloc, text)?)),
     }
 }

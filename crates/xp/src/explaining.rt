@@ -5,11 +5,13 @@ ghost use Rattle.xp_subs.specs.Tables.{line_count};
 
 use crate::failure::Failure;
 use crate::output::print_text;
-use hex::FromHexError;
-use std::alloc::{AllocGlobal, Global};
+use std::alloc::{AllocError, AllocGlobal, Global};
 use thiserror::Error;
 use xp_arguments::QuestionOrder;
-use xp_explain::{StatedLines, explain};
+use xp_explain::{
+    Explanation, NamesFault, OctetsFault, StatedLines, explain, lines_named, no_address,
+    no_line_named, octets_in,
+};
 use xp_packets::{Block, Digits, Octets};
 use xp_subs::{LineNo, Subs};
 use xp_tasks::TaskFailure;
@@ -43,57 +45,37 @@ pub(crate) fn explain_call<R: AllocGlobal + Print>(
     subs: &Subs,
     question: &QuestionOrder<'_>,
 ) -> Result<(), Failure> {
-    let alloc = rt.alloc();
-    let from = line_in(subs, question.caller)?;
-    let block = block_of(alloc, question)?;
-    let busy = lines_in(alloc, subs, question.busy)?;
-    let up = lines_in(alloc, subs, question.up)?;
-    let states = StatedLines {
-        up: question.up.is_some().then_some(up.as_slice()),
-        busy: &busy,
-    };
-    let explanation = explain(alloc, subs, &states, from, &block)?;
-    print_text(rt, &explanation.text)
+    let from = line_in(rt.alloc(), subs, question.caller)?;
+    let block = block_of(rt.alloc(), subs, question)?;
+    explain_block(rt, subs, question, from, &block)
 }
 
 /// The line of this name.
-fn line_in(subs: &Subs, name: &str) -> Result<LineNo, Failure>
+fn line_in(alloc: Global, subs: &Subs, name: &str) -> Result<LineNo, Failure>
     ensures { IfOk result (λ line. line < line_count subs.now) }
 {
     match subs.line_named(name) {
         Some(line) => Ok(line),
-        None => Err(Failure::Question(QuestionFault::Line)),
+        None => Err(unknown_line(alloc, subs, name)?),
     }
 }
 
-/// The lines of these names, with commas between them.
-fn lines_in(alloc: Global, subs: &Subs, names: Option<&str>) -> Result<Vec<LineNo>, Failure> {
-    let mut lines = Vec::new(alloc);
-    let Some(names) = names else {
-        return Ok(lines);
-    };
-    for name in names.split(',') {
-        let line = line_in(subs, name)?;
-        lines.push(line).map_err(|_| TaskFailure::Memory)?;
-    }
-    Ok(lines)
+/// The failure of a name that no line has.
+fn unknown_line(alloc: Global, subs: &Subs, name: &str) -> Result<Failure, AllocError> {
+    let told = no_line_named(alloc, subs, name)?;
+    Ok(Failure::Question(QuestionFault::Line, told))
 }
 
 /// The block of the call request.
-fn block_of(alloc: Global, question: &QuestionOrder<'_>) -> Result<Block, Failure> {
-    let Some(called) = Digits::from_text(question.dialled) else {
-        return Err(Failure::Question(QuestionFault::Dialled));
-    };
-    if called.is_empty() {
-        return Err(Failure::Question(QuestionFault::Dialled));
-    }
-    let facilities = octets_in(
+fn block_of(alloc: Global, subs: &Subs, question: &QuestionOrder<'_>) -> Result<Block, Failure> {
+    let called = address_in(alloc, subs, question.dialled)?;
+    let facilities = field_in(
         alloc,
         question.facilities,
         MOST_FACILITIES,
         QuestionFault::Facilities,
     )?;
-    let user = octets_in(
+    let user = field_in(
         alloc,
         question.user,
         MOST_USER_DATA,
@@ -107,8 +89,19 @@ fn block_of(alloc: Global, question: &QuestionOrder<'_>) -> Result<Block, Failur
     })
 }
 
+/// The address that a text is: 1 to 15 digits.
+fn address_in(alloc: Global, subs: &Subs, text: &str) -> Result<Digits, Failure> {
+    match Digits::from_text(text) {
+        Some(address) if !address.is_empty() => Ok(address),
+        _ => {
+            let told = no_address(alloc, subs, text)?;
+            Err(Failure::Question(QuestionFault::Dialled, told))
+        }
+    }
+}
+
 /// The octets of a text in hexadecimal digits; none where it is absent. This fault is told where it is none, or of more octets.
-fn octets_in(
+fn field_in(
     alloc: Global,
     text: Option<&str>,
     most: usize,
@@ -117,9 +110,56 @@ fn octets_in(
     let Some(text) = text else {
         return Ok(Octets::new(alloc));
     };
-    match hex::decode(alloc, text) {
-        Ok(octets) if octets.len() <= most => Ok(Octets::from_vec(octets)?),
-        Err(FromHexError::OutOfMemory) => Err(Failure::Task(TaskFailure::Memory)),
-        _ => Err(Failure::Question(fault)),
+    match octets_in(alloc, text, most) {
+        Ok(octets) => Ok(octets),
+        Err(OctetsFault::Memory) => Err(Failure::Task(TaskFailure::Memory)),
+        Err(told) => Err(Failure::Question(fault, told.to_string(alloc)?)),
+    }
+}
+
+/// Prints how the call request with this block, which the line `from` makes, is decided.
+fn explain_block<R: AllocGlobal + Print>(
+    rt: &R,
+    subs: &Subs,
+    question: &QuestionOrder<'_>,
+    from: LineNo,
+    block: &Block,
+) -> Result<(), Failure>
+    requires { from < line_count subs.now }
+{
+    let alloc = rt.alloc();
+    let busy = lines_in(alloc, subs, question.busy)?;
+    let up = lines_in(alloc, subs, question.up)?;
+    let states = StatedLines {
+        up: question.up.is_some().then_some(up.as_slice()),
+        busy: &busy,
+    };
+    let explanation = explain(alloc, subs, &states, from, block)?;
+    print_explanation(rt, &explanation, question.status)
+}
+
+/// The lines of these names, with commas between them; none where they are absent.
+fn lines_in(alloc: Global, subs: &Subs, names: Option<&str>) -> Result<Vec<LineNo>, Failure> {
+    let Some(names) = names else {
+        return Ok(Vec::new(alloc));
+    };
+    match lines_named(alloc, subs, names) {
+        Ok(lines) => Ok(lines),
+        Err(NamesFault::Unknown(name)) => Err(unknown_line(alloc, subs, name)?),
+        Err(NamesFault::Memory) => Err(Failure::Task(TaskFailure::Memory)),
+    }
+}
+
+/// Prints an explanation. Where `tells_status`, a refusal fails.
+fn print_explanation<R: Print>(
+    rt: &R,
+    explanation: &Explanation<'_>,
+    tells_status: bool,
+) -> Result<(), Failure> {
+    print_text(rt, &explanation.text)?;
+    if tells_status && explanation.is_refused() {
+        Err(Failure::CallRefused)
+    } else {
+        Ok(())
     }
 }

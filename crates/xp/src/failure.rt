@@ -22,9 +22,12 @@ pub enum Failure {
     /// The arguments are faulty, or ask for help.
     #[error("{0}")]
     Arguments(clap::Error),
-    /// A call request that is asked about is faulty.
-    #[error("xp: explain: {0}")]
-    Question(QuestionFault),
+    /// A call request that is asked about is faulty, and what was wanted.
+    #[error("xp: explain: {0}\n{1}")]
+    Question(QuestionFault, String),
+    /// The call request that was explained is refused, and the exit status is to say so. Nothing is told of it.
+    #[error("xp: refused")]
+    CallRefused,
     /// The task failed.
     #[error("{0}")]
     Task(TaskFailure),
@@ -43,6 +46,9 @@ pub enum Failure {
     /// No line has this name, of those that were to be traced.
     #[error("xp: trace-lines {0}")]
     TraceLines(String),
+    /// A text is no address of a console, which this says in words.
+    #[error("xp: console: {0}")]
+    Address(String),
     /// The console can't be served.
     #[error("xp: console: {0}")]
     Console(ConsoleFault),
@@ -55,36 +61,39 @@ pub enum Failure {
 }
 
 impl Failure {
-    /// The exit status: 2 for arguments, 5 for output that nobody reads, for the file of call detail records, for a trace and for a
-    /// console, else that of the task or of serving.
+    /// The exit status: 1 for a call request that is refused, 2 for arguments, 5 for output that nobody reads, for the file of call
+    /// detail records, for a trace and for a console, else that of the task or of serving.
     pub fn status(&self) -> u8
         ensures { result ≡ status_of self.now }
     {
         match self {
-            Failure::Arguments(_) | Failure::Question(_) => 2,
+            Failure::CallRefused => 1,
+            Failure::Arguments(_) | Failure::Question(_, _) => 2,
             Failure::Task(failure) | Failure::Refused(failure, _) => failure.status(),
             Failure::Unread
             | Failure::Cdr(_)
             | Failure::Trace(_)
             | Failure::TraceLines(_)
+            | Failure::Address(_)
             | Failure::Console(_)
             | Failure::Ask(_) => 5,
             Failure::Serve(failure) => failure.status(),
         }
     }
 
-    /// Prints it on standard error, except that nobody reads standard output.
+    /// Prints it on standard error, except that nobody reads standard output, and that a call request is refused.
     pub fn tell(&self, rt: &impl Eprint) -> io::Result<()> {
         match self {
             // clap ends the last line itself.
             Failure::Arguments(told) => rt.eprint(told),
-            Failure::Unread => Ok(()),
+            Failure::Unread | Failure::CallRefused => Ok(()),
             Failure::Task(failure) => rt.eprintln(failure),
-            Failure::Question(_)
+            Failure::Question(_, _)
             | Failure::Refused(_, _)
             | Failure::Cdr(_)
             | Failure::Trace(_)
             | Failure::TraceLines(_)
+            | Failure::Address(_)
             | Failure::Console(_)
             | Failure::Ask(_) => rt.eprintln(self),
             Failure::Serve(failure) => rt.eprintln(failure),

@@ -19,9 +19,10 @@ use crate::checking::check_file;
 use crate::console::ask_console;
 use crate::explaining::explain_call;
 use crate::failure::Failure;
+use crate::output::print_text;
 use crate::replaying::replay_script;
 use crate::serving::{ThreeSubs, serve_lines};
-use crate::subscribing::read_subscriptions;
+use crate::subscribing::{file_text, named_file, read_subscriptions};
 use log::Log;
 use std::fs::{File, Files};
 use std::io::ErrorKind;
@@ -68,18 +69,40 @@ fn run<
         + 'static,
 >(rt: &R, host: HostRuntime) -> Result<(), Failure> {
     let words = words(rt)?;
-    let arguments = Arguments::read(rt.alloc(), &words)?;
+    let arguments = match Arguments::read(rt.alloc(), &words) {
+        Ok(arguments) => arguments,
+        Err(told) => return tell_version(rt, told),
+    };
     let operand = arguments.operand;
     match arguments.subcommand {
         Subcommand::Check(form) => check_file(rt, form, subscriptions_in(rt, operand)?),
-        Subcommand::Replay(form) => replay_script(rt, form, operand),
+        Subcommand::Replay(form) => {
+            let file = named_file(rt.alloc(), operand, "standard input is the script")?;
+            replay_script(rt, form, file)
+        }
         Subcommand::Explain(question) => {
             let subs = subscriptions_in(rt, operand)?;
             explain_call(rt, &subs, &question)
         }
-        Subcommand::Serve(order) => serve_file(rt, host, &order, operand),
+        Subcommand::Serve(order) => {
+            let file = named_file(rt.alloc(), operand, "standard input stops the exchange")?;
+            serve_file(rt, host, &order, file)
+        }
         Subcommand::Ask(request) => ask_console(rt, request, operand),
     }
+}
+
+/// Prints the version where these words asked for it. All else that is told of words is a failure.
+fn tell_version<R: AllocGlobal + Print>(rt: &R, told: clap::Error) -> Result<(), Failure> {
+    match told.kind() {
+        clap::error::ErrorKind::DisplayVersion => print_told(rt, &told),
+        _ => Err(Failure::from(told)),
+    }
+}
+
+/// Prints what is told of words on standard output.
+fn print_told<R: AllocGlobal + Print>(rt: &R, told: &clap::Error) -> Result<(), Failure> {
+    print_text(rt, &told.to_string(rt.alloc())?)
 }
 
 /// Serves the lines of a subscription file.
@@ -107,12 +130,12 @@ fn serve_file<
     serve_lines(rt, host, order, ThreeSubs { own, names, spare })
 }
 
-/// The subscriptions of the file of this name.
-fn subscriptions_in<R: AllocGlobal + Files<File = File>>(
+/// The subscriptions of the file that a word names, which may be standard input.
+fn subscriptions_in<R: AllocGlobal + Files<File = File> + Input>(
     rt: &R,
     file: &str,
 ) -> Result<Subs, Failure> {
-    read_subscriptions(rt.alloc(), &fs::read_to_string(rt, file))
+    read_subscriptions(rt.alloc(), &file_text(rt, file))
 }
 
 /// The words of the command line.

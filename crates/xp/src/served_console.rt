@@ -43,7 +43,7 @@ impl ServedConsole {
         address: &str,
     ) -> Result<ServedConsole, Failure> {
         let alloc = rt.alloc();
-        let console = Console::listen(rt, alloc, address_of(address)?)?;
+        let console = Console::listen(rt, alloc, address_of(alloc, address)?)?;
         let board = Arc::new(alloc, StatusBoard::new()).map_err(|_| TaskFailure::Memory)?;
         Ok(ServedConsole {
             own: console.address().ip(),

@@ -6,11 +6,43 @@ ghost use Rattle.std.specs.Result.{result_map_both};
 ghost use Rattle.xp_tasks.specs.SetUp.{SetsUp};
 
 use crate::failure::Failure;
-use std::alloc::Global;
-use std::io;
+use std::alloc::{AllocGlobal, Global};
+use std::fs::{File, Files};
+use std::{fs, io};
+use xp_arguments::{FileSource, refused as refused_word};
 use xp_places::place_of;
 use xp_subs::Subs;
 use xp_tasks::{TaskFailure, subscriptions};
+
+/// The text of the subscription file that a word names, which may be standard input.
+pub(crate) fn file_text<R: AllocGlobal + Files<File = File> + Input>(
+    rt: &R,
+    word: &str,
+) -> io::Result<String> {
+    match FileSource::of(word) {
+        FileSource::StandardInput => io::read_to_string(rt.alloc(), rt.reader()),
+        FileSource::Named(name) => fs::read_to_string(rt, name),
+    }
+}
+
+/// The name of the subscription file that a word names, where standard input is taken for this.
+///
+/// # Errors
+///
+/// `Arguments` where the word names standard input, and want of memory.
+pub(crate) fn named_file<'a>(
+    alloc: Global,
+    word: &'a str,
+    input: &str,
+) -> Result<&'a str, Failure> {
+    match FileSource::of(word) {
+        FileSource::Named(name) => Ok(name),
+        FileSource::StandardInput => {
+            let reason = format!(in alloc; "the name of a FILE is wanted, found -: {input}")?;
+            Err(Failure::from(refused_word(alloc, &reason)?))
+        }
+    }
+}
 
 /// The subscriptions that the text of a file sets up.
 ///
