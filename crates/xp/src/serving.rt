@@ -318,7 +318,7 @@ fn serve_beside<
             requires new { K.received attending ≡ [] }
         {
             let Some(running) = begin_console(rt, scope, console, ends) else {
-                return Err(Failure::Task(TaskFailure::Memory));
+                return Err(Failure::from(TaskFailure::Memory));
             };
             let end = serve(rt, rt.alloc(), subs, limits, notices, attending);
             is_over.store(true, SeqCst);

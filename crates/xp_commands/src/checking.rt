@@ -1,6 +1,6 @@
 //! Checking a subscription file.
 
-use crate::failure::Failure;
+use crate::failure::CommandFailure;
 use crate::output::{WatchedWriter, print_text};
 use std::alloc::AllocGlobal;
 use std::io;
@@ -10,11 +10,11 @@ use xp_summary::summary;
 use xp_tasks::{Task, perform};
 
 /// Prints what a subscription file sets up.
-pub(crate) fn check_file<R: AllocGlobal + Print>(
+pub fn check_file<R: AllocGlobal + Print>(
     rt: &R,
     form: CheckForm,
     subs: Subs,
-) -> Result<(), Failure> {
+) -> Result<(), CommandFailure> {
     match form {
         CheckForm::Counts => count_set_up(rt, subs),
         CheckForm::Words => print_text(rt, &summary(rt.alloc(), &subs)?),
@@ -22,12 +22,12 @@ pub(crate) fn check_file<R: AllocGlobal + Print>(
 }
 
 /// Prints the counts of what a subscription file sets up.
-fn count_set_up<R: AllocGlobal + Print>(rt: &R, subs: Subs) -> Result<(), Failure> {
+fn count_set_up<R: AllocGlobal + Print>(rt: &R, subs: Subs) -> Result<(), CommandFailure> {
     let alloc = rt.alloc();
     let mut writer = WatchedWriter::buffered(alloc, io::writer(rt))?;
     match perform(alloc, Task::Check, subs, io::empty(), &mut writer) {
         Ok(()) => Ok(()),
-        Err(failure) if writer.get_ref().explains(failure) => Err(Failure::Unread),
-        Err(failure) => Err(Failure::Task(failure)),
+        Err(failure) if writer.get_ref().explains(failure) => Err(CommandFailure::Unread),
+        Err(failure) => Err(CommandFailure::Task(failure)),
     }
 }

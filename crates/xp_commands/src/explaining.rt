@@ -3,7 +3,7 @@
 ghost use Rattle.std.specs.Prelude.{◌<◌, IfOk};
 ghost use Rattle.xp_subs.specs.Tables.{line_count};
 
-use crate::failure::Failure;
+use crate::failure::CommandFailure;
 use crate::output::print_text;
 use std::alloc::{AllocError, AllocGlobal, Global};
 use thiserror::Error;
@@ -40,18 +40,18 @@ pub enum QuestionFault {
 }
 
 /// Prints how a call request over these subscriptions is decided.
-pub(crate) fn explain_call<R: AllocGlobal + Print>(
+pub fn explain_call<R: AllocGlobal + Print>(
     rt: &R,
     subs: &Subs,
     question: &QuestionOrder<'_>,
-) -> Result<(), Failure> {
+) -> Result<(), CommandFailure> {
     let from = line_in(rt.alloc(), subs, question.caller)?;
     let block = block_of(rt.alloc(), subs, question)?;
     explain_block(rt, subs, question, from, &block)
 }
 
 /// The line of this name.
-fn line_in(alloc: Global, subs: &Subs, name: &str) -> Result<LineNo, Failure>
+fn line_in(alloc: Global, subs: &Subs, name: &str) -> Result<LineNo, CommandFailure>
     ensures { IfOk result (λ line. line < line_count subs.now) }
 {
     match subs.line_named(name) {
@@ -61,13 +61,13 @@ fn line_in(alloc: Global, subs: &Subs, name: &str) -> Result<LineNo, Failure>
 }
 
 /// The failure of a name that no line has.
-fn unknown_line(alloc: Global, subs: &Subs, name: &str) -> Result<Failure, AllocError> {
+fn unknown_line(alloc: Global, subs: &Subs, name: &str) -> Result<CommandFailure, AllocError> {
     let told = no_line_named(alloc, subs, name)?;
-    Ok(Failure::Question(QuestionFault::Line, told))
+    Ok(CommandFailure::Question(QuestionFault::Line, told))
 }
 
 /// The block of the call request.
-fn block_of(alloc: Global, subs: &Subs, question: &QuestionOrder<'_>) -> Result<Block, Failure> {
+fn block_of(alloc: Global, subs: &Subs, question: &QuestionOrder<'_>) -> Result<Block, CommandFailure> {
     let called = address_in(alloc, subs, question.dialled)?;
     let facilities = field_in(
         alloc,
@@ -90,12 +90,12 @@ fn block_of(alloc: Global, subs: &Subs, question: &QuestionOrder<'_>) -> Result<
 }
 
 /// The address that a text is: 1 to 15 digits.
-fn address_in(alloc: Global, subs: &Subs, text: &str) -> Result<Digits, Failure> {
+fn address_in(alloc: Global, subs: &Subs, text: &str) -> Result<Digits, CommandFailure> {
     match Digits::from_text(text) {
         Some(address) if !address.is_empty() => Ok(address),
         _ => {
             let told = no_address(alloc, subs, text)?;
-            Err(Failure::Question(QuestionFault::Dialled, told))
+            Err(CommandFailure::Question(QuestionFault::Dialled, told))
         }
     }
 }
@@ -106,14 +106,14 @@ fn field_in(
     text: Option<&str>,
     most: usize,
     fault: QuestionFault,
-) -> Result<Octets, Failure> {
+) -> Result<Octets, CommandFailure> {
     let Some(text) = text else {
         return Ok(Octets::new(alloc));
     };
     match octets_in(alloc, text, most) {
         Ok(octets) => Ok(octets),
-        Err(OctetsFault::Memory) => Err(Failure::Task(TaskFailure::Memory)),
-        Err(told) => Err(Failure::Question(fault, told.to_string(alloc)?)),
+        Err(OctetsFault::Memory) => Err(CommandFailure::Task(TaskFailure::Memory)),
+        Err(told) => Err(CommandFailure::Question(fault, told.to_string(alloc)?)),
     }
 }
 
@@ -124,7 +124,7 @@ fn explain_block<R: AllocGlobal + Print>(
     question: &QuestionOrder<'_>,
     from: LineNo,
     block: &Block,
-) -> Result<(), Failure>
+) -> Result<(), CommandFailure>
     requires { from < line_count subs.now }
 {
     let alloc = rt.alloc();
@@ -139,14 +139,14 @@ fn explain_block<R: AllocGlobal + Print>(
 }
 
 /// The lines of these names, with commas between them; none where they are absent.
-fn lines_in(alloc: Global, subs: &Subs, names: Option<&str>) -> Result<Vec<LineNo>, Failure> {
+fn lines_in(alloc: Global, subs: &Subs, names: Option<&str>) -> Result<Vec<LineNo>, CommandFailure> {
     let Some(names) = names else {
         return Ok(Vec::new(alloc));
     };
     match lines_named(alloc, subs, names) {
         Ok(lines) => Ok(lines),
         Err(NamesFault::Unknown(name)) => Err(unknown_line(alloc, subs, name)?),
-        Err(NamesFault::Memory) => Err(Failure::Task(TaskFailure::Memory)),
+        Err(NamesFault::Memory) => Err(CommandFailure::Task(TaskFailure::Memory)),
     }
 }
 
@@ -155,10 +155,10 @@ fn print_explanation<R: Print>(
     rt: &R,
     explanation: &Explanation<'_>,
     tells_status: bool,
-) -> Result<(), Failure> {
+) -> Result<(), CommandFailure> {
     print_text(rt, &explanation.text)?;
     if tells_status && explanation.is_refused() {
-        Err(Failure::CallRefused)
+        Err(CommandFailure::CallRefused)
     } else {
         Ok(())
     }

@@ -1,6 +1,6 @@
 //! Standard output, and whether somebody still reads it.
 
-use crate::failure::Failure;
+use crate::failure::CommandFailure;
 use std::alloc::{AllocError, Global};
 use std::io;
 use std::io::{BufWriter, ErrorKind, Write};
@@ -56,10 +56,10 @@ impl<W: Write> Write for WatchedWriter<W> {
 }
 
 /// Prints a text on standard output.
-pub(crate) fn print_text<R: Print>(rt: &R, text: &str) -> Result<(), Failure> {
+pub fn print_text<R: Print>(rt: &R, text: &str) -> Result<(), CommandFailure> {
     match rt.print(text) {
         Ok(()) => Ok(()),
-        Err(error) if error.kind() == ErrorKind::BrokenPipe => Err(Failure::Unread),
-        Err(_) => Err(Failure::Task(TaskFailure::Output)),
+        Err(error) if error.kind() == ErrorKind::BrokenPipe => Err(CommandFailure::Unread),
+        Err(_) => Err(CommandFailure::Task(TaskFailure::Output)),
     }
 }

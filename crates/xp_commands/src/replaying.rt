@@ -1,6 +1,6 @@
 //! Replaying a script.
 
-use crate::failure::Failure;
+use crate::failure::CommandFailure;
 use crate::output::WatchedWriter;
 use crate::subscribing::read_subscriptions;
 use std::alloc::{AllocGlobal, Global};
@@ -15,11 +15,11 @@ use xp_tasks::{Task, TaskFailure, perform, subscriptions};
 use xp_transcript::{Form, tell};
 
 /// Replays a script from standard input over the subscription file of this name, and tells what comes of it.
-pub(crate) fn replay_script<R: AllocGlobal + Files<File = File> + Input + Print>(
+pub fn replay_script<R: AllocGlobal + Files<File = File> + Input + Print>(
     rt: &R,
     form: ReplayForm<'_>,
     file: &str,
-) -> Result<(), Failure> {
+) -> Result<(), CommandFailure> {
     let file = fs::read_to_string(rt, file);
     let subs = read_subscriptions(rt.alloc(), &file)?;
     match form {
@@ -28,7 +28,7 @@ pub(crate) fn replay_script<R: AllocGlobal + Files<File = File> + Input + Print>
         ReplayForm::Ladder => tell_script(rt, Form::Ladder, &file, subs, io::writer(rt)),
         ReplayForm::Capture(path) => match File::create(rt, path) {
             Ok(capture) => tell_script(rt, Form::Capture, &file, subs, capture),
-            Err(_) => Err(Failure::Task(TaskFailure::Output)),
+            Err(_) => Err(CommandFailure::Task(TaskFailure::Output)),
         },
     }
 }
@@ -39,14 +39,14 @@ fn play_script<R: AllocGlobal + Input + Print>(
     rt: &R,
     file: &io::Result<String>,
     subs: Subs,
-) -> Result<(), Failure> {
+) -> Result<(), CommandFailure> {
     let alloc = rt.alloc();
     let reader = BufReader::new(alloc, rt.reader()).map_err(|_| TaskFailure::Memory)?;
     let mut lines = KeptLines::new(alloc, reader);
     let mut writer = WatchedWriter::buffered(alloc, io::writer(rt))?;
     match perform(alloc, Task::Replay, subs, &mut lines, &mut writer) {
         Ok(()) => Ok(()),
-        Err(failure) if writer.get_ref().explains(failure) => Err(Failure::Unread),
+        Err(failure) if writer.get_ref().explains(failure) => Err(CommandFailure::Unread),
         Err(failure) => Err(with_wanted(alloc, failure, file, lines.octets())),
     }
 }
@@ -58,7 +58,7 @@ fn tell_script<R: AllocGlobal + Input, W: Write + Drop>(
     file: &io::Result<String>,
     subs: Subs,
     writer: W,
-) -> Result<(), Failure> {
+) -> Result<(), CommandFailure> {
     let alloc = rt.alloc();
     let script = whole_script(rt)?;
     let mut writer = WatchedWriter::buffered(alloc, writer)?;
@@ -67,7 +67,7 @@ fn tell_script<R: AllocGlobal + Input, W: Write + Drop>(
         Err(fault) => {
             let failure = TaskFailure::Replay(fault);
             if writer.get_ref().explains(failure) {
-                return Err(Failure::Unread);
+                return Err(CommandFailure::Unread);
             }
             Err(with_wanted(alloc, failure, file, &script))
         }
@@ -91,13 +91,13 @@ fn with_wanted(
     failure: TaskFailure,
     file: &io::Result<String>,
     lines: &[u8],
-) -> Failure {
+) -> CommandFailure {
     let TaskFailure::Replay(ReplayFault::Script(_)) = failure else {
-        return Failure::Task(failure);
+        return CommandFailure::Task(failure);
     };
     match wanted_among(alloc, file, lines) {
-        Ok(wanted) if !wanted.is_empty() => Failure::Refused(failure, wanted),
-        _ => Failure::Task(failure),
+        Ok(wanted) if !wanted.is_empty() => CommandFailure::Refused(failure, wanted),
+        _ => CommandFailure::Task(failure),
     }
 }
 

@@ -1,6 +1,6 @@
 //! Asking the console of a serving exchange.
 
-use crate::failure::Failure;
+use crate::failure::CommandFailure;
 use crate::output::print_text;
 use std::alloc::{AllocGlobal, Global};
 use std::net::{Net, SocketAddr, TcpStream};
@@ -9,11 +9,11 @@ use xp_arguments::{ConsoleRequest, console_address, no_console_address};
 use xp_console::{ask_status, ask_stop};
 
 /// Asks the console at this address, and prints what it shows.
-pub(crate) fn ask_console<R: AllocGlobal + Clock + Net<Stream = TcpStream> + Print>(
+pub fn ask_console<R: AllocGlobal + Clock + Net<Stream = TcpStream> + Print>(
     rt: &R,
     request: ConsoleRequest,
     address: &str,
-) -> Result<(), Failure> {
+) -> Result<(), CommandFailure> {
     let address = address_of(rt.alloc(), address)?;
     match request {
         ConsoleRequest::Status => {
@@ -32,9 +32,9 @@ pub(crate) fn ask_console<R: AllocGlobal + Clock + Net<Stream = TcpStream> + Pri
 /// # Errors
 ///
 /// `Address` where it writes none, and want of memory.
-pub(crate) fn address_of(alloc: Global, text: &str) -> Result<SocketAddr, Failure> {
+pub fn address_of(alloc: Global, text: &str) -> Result<SocketAddr, CommandFailure> {
     match console_address(alloc, text)? {
         Some(address) => Ok(address),
-        None => Err(Failure::Address(no_console_address(alloc, text)?)),
+        None => Err(CommandFailure::Address(no_console_address(alloc, text)?)),
     }
 }

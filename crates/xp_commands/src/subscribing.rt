@@ -5,7 +5,7 @@ ghost use Rattle.std.specs.IoError.{error_kind};
 ghost use Rattle.std.specs.Result.{result_map_both};
 ghost use Rattle.xp_tasks.specs.SetUp.{SetsUp};
 
-use crate::failure::Failure;
+use crate::failure::CommandFailure;
 use std::alloc::{AllocGlobal, Global};
 use std::fs::{File, Files};
 use std::{fs, io};
@@ -15,7 +15,7 @@ use xp_subs::Subs;
 use xp_tasks::{TaskFailure, subscriptions};
 
 /// The text of the subscription file that a word names, which may be standard input.
-pub(crate) fn file_text<R: AllocGlobal + Files<File = File> + Input>(
+pub fn file_text<R: AllocGlobal + Files<File = File> + Input>(
     rt: &R,
     word: &str,
 ) -> io::Result<String> {
@@ -30,16 +30,16 @@ pub(crate) fn file_text<R: AllocGlobal + Files<File = File> + Input>(
 /// # Errors
 ///
 /// `Arguments` where the word names standard input, and want of memory.
-pub(crate) fn named_file<'a>(
+pub fn named_file<'a>(
     alloc: Global,
     word: &'a str,
     input: &str,
-) -> Result<&'a str, Failure> {
+) -> Result<&'a str, CommandFailure> {
     match FileSource::of(word) {
         FileSource::Named(name) => Ok(name),
         FileSource::StandardInput => {
             let reason = format!(in alloc; "the name of a FILE is wanted, found -: {input}")?;
-            Err(Failure::from(refused_word(alloc, &reason)?))
+            Err(CommandFailure::from(refused_word(alloc, &reason)?))
         }
     }
 }
@@ -49,7 +49,7 @@ pub(crate) fn named_file<'a>(
 /// # Errors
 ///
 /// Those of [`subscriptions`]; `Refused` where the text has a fault whose place is found.
-pub(crate) fn read_subscriptions(alloc: Global, text: &io::Result<String>) -> Result<Subs, Failure>
+pub fn read_subscriptions(alloc: Global, text: &io::Result<String>) -> Result<Subs, CommandFailure>
     ensures { IfOk result (λ subs. SetsUp (result_map_both string_bytes error_kind text.now) (Ok subs)) }
 {
     match subscriptions(alloc, text) {
@@ -59,12 +59,12 @@ pub(crate) fn read_subscriptions(alloc: Global, text: &io::Result<String>) -> Re
 }
 
 /// This failure, with the place of the fault where it is found.
-fn refused(alloc: Global, text: &io::Result<String>, failure: TaskFailure) -> Failure {
+fn refused(alloc: Global, text: &io::Result<String>, failure: TaskFailure) -> CommandFailure {
     let (Ok(text), TaskFailure::Subscriptions(fault)) = (text, failure) else {
-        return Failure::Task(failure);
+        return CommandFailure::Task(failure);
     };
     match place_of(alloc, text, fault) {
-        Ok(place) if !place.is_empty() => Failure::Refused(failure, place),
-        _ => Failure::Task(failure),
+        Ok(place) if !place.is_empty() => CommandFailure::Refused(failure, place),
+        _ => CommandFailure::Task(failure),
     }
 }
