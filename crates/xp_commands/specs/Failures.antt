@@ -1,8 +1,5 @@
 -- The exit status of a command that fails.
-use Rattle.std.specs.Prelude.{◌≡◌, ◌≢◌, ℕ}
-use Rattle.clap.specs.declared.error.Error.{Error}
-use Rattle.clap.specs.Words.{kind_of}
-use Rattle.clap.specs.declared.error.kind.ErrorKind.TheVariants.{OutOfMemory}
+use Rattle.std.specs.Prelude.{ℕ}
 use Rattle.xp_tasks.specs.Failures.{status_of as status_of_task}
 use Rattle.xp_commands.specs.declared.failure.CommandFailure.{CommandFailure}
 use Rattle.xp_commands.specs.declared.failure.CommandFailure.TheVariants.{Address, Arguments, Ask, CallRefused, Question, Refused, Task, Unread}
