@@ -67,29 +67,49 @@ def found_edits(names):
 # The libraries below ---------------------------------------------------------------------------------------------
 
 
+def copy_crates(root):
+    """Copies the crates, without what was made of them, and what says how they belong together."""
+    shutil.copytree(TOP / "crates", f"{root}/crates", ignore=lambda at, _: ["out"] if pathlib.Path(at).parent == TOP / "crates" else [])
+    for name in ("crates.txt", "HANDLES"):
+        shutil.copy(TOP / name, root)
+
+
+def link_or_copy(file, to):
+    """Links a file, or copies it where it is on another disk."""
+    try:
+        os.link(file, to)
+    except OSError:
+        shutil.copy2(file, to)
+
+
 class Libraries:
     """A copy of the crates, with the libraries that are needed, as they were proved from the same sources."""
 
     def __init__(self, gate, room, names):
         self.gate, self.root = gate, f"{room}/repo"
-        gate.copy_crates(str(TOP), self.root)
+        copy_crates(self.root)
         # The copy is the top of a repository.
         os.mkdir(f"{self.root}/.git")
         os.chdir(self.root)
         gate.Crate.allowed = gate.handles_of(self.root)
-        self.crates = {it.name: it for it in gate.crates_of(self.root)}
+        gate.rtlib.Crate = gate.Crate
+        self.crates = {it.name: it for it in gate.rtlib.crates_below(self.root)}
         self.needed = {below.name for name in names for below in self.crates[name].below()}
 
     def bring(self):
         """Brings the libraries, all from one source. Returns those that no source has whole, as the best source told."""
-        lacking = [self.from_store()]
-        for source in (self.is_built_in_tree, self.is_left_by_gate):
-            if lacking[-1]:
-                lacking.append(self.from_tree(source))
-        return [] if not lacking[-1] else min(lacking, key=len)
+        sources = [lambda: self.from_tree(self.is_built_in_tree), lambda: self.from_tree(self.is_left_by_gate)]
+        if hasattr(self.gate, "Kept"):
+            sources.insert(0, self.from_store)
+        lacking = []
+        for source in sources:
+            lacking.append(source())
+            if not lacking[-1]:
+                return []
+        return min(lacking, key=len)
 
     def from_store(self):
-        """What `rt ci` keeps on this machine, by the sum of all that it was made from."""
+        """What `rt ci` keeps on this machine, by the sum of all that it was made from, where the kit has a store."""
         kept, lacking = self.gate.Kept([*self.crates.values()]), []
         for crate in self.crates.values():
             if crate.name in self.needed:
@@ -106,12 +126,13 @@ class Libraries:
         for name in self.needed if not lacking else ():
             to = f"{self.crates[name].folder}/out/rlib"
             shutil.rmtree(to, ignore_errors=True)
-            shutil.copytree(f"{own[name].folder}/out/rlib", to, copy_function=self.gate.link_or_copy)
+            shutil.copytree(f"{own[name].folder}/out/rlib", to, copy_function=link_or_copy)
         return lacking
 
     @staticmethod
     def is_built_in_tree(crate):
-        return crate.is_built()
+        # What a crate was made from is summed up anew for each that stands on it, so only where there is a sum to compare.
+        return os.path.isfile(f"{crate.folder}/out/rlib/stamp") and crate.is_built()
 
     def is_left_by_gate(self, crate):
         """A library that `rt ci` built in this tree has no stamp, and is younger than all that it was made from."""
@@ -123,6 +144,11 @@ class Libraries:
 
 
 # A try -----------------------------------------------------------------------------------------------------------
+
+
+def refusals(gate):
+    """What the gate's own try of an edit tells where the prover refuses it: some kits have words for that."""
+    return {True, *(getattr(gate, name) for name in ("REFUSED", "AT_LIMIT") if hasattr(gate, name))}
 
 
 class Try:
@@ -148,7 +174,7 @@ class Try:
         # The judgement of the whole crate is the gate's own.
         kind, said = self.gate.must_fail(self.crate, str(self.edit), ONE_JOB)
         said = said.partition(": ")[2]
-        return kind in (self.gate.REFUSED, self.gate.AT_LIMIT), f"the whole crate{notes}: {said}"
+        return kind in refusals(self.gate), f"the whole crate{notes}: {said}"
 
     def run_unedited(self):
         """Returns whether the functions that the edit changes are proved as they stand."""

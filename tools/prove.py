@@ -26,7 +26,7 @@ EXAMPLE = f"{TOP}/examples/three-stations.toml"
 # Bytes, the most that the proof of a crate was seen to take: xp_console 3.9 GB, xp_lock 3.3, xp_lines 2.8, most others below 2.
 # So four proofs at once fit into 16 GB. rt plans two to three times as much.
 MEMORY_OF_A_PROOF = 4_000_000_000
-# Lines from which a crate is proved sooner by two jobs. By four jobs xp_lines took as long as by one, and more than twice the processor time.
+# Lines from which a crate is proved sooner by several jobs. A crate of 800 lines took longer by four jobs than by one.
 LARGE = 1000
 # Seconds after which a line says what is still running.
 SILENCE = 60
@@ -113,10 +113,9 @@ class Proof:
                 threading.Thread(target=self.build, args=[crate, self.jobs_for(crate)], daemon=True).start()
 
     def jobs_for(self, crate):
-        """Returns in how many processes the crate is proved: two for the one with the longest chain, where a processor is free."""
+        """Returns in how many processes the crate is proved: the one with the longest chain gets every processor."""
         leads = all(self.chains[crate] >= self.chains[it] for it in self.running)
-        has_free = len(self.running) < self.at_once
-        return 2 if leads and has_free and self.lines[crate] >= LARGE else 1
+        return self.at_once if leads and self.lines[crate] >= LARGE else 1
 
     def build(self, crate, jobs):
         status = 1
@@ -134,7 +133,7 @@ class Proof:
         # rt itself keeps other runs out, and nothing else runs by now.
         for it in self.held:
             os.close(it)
-        words = [*self.kit.guarded(), "rt", "run", "--jobs", "2", "--", "check", EXAMPLE]
+        words = [*self.kit.guarded(), "rt", "run", "--jobs", str(self.at_once), "--", "check", EXAMPLE]
         return subprocess.run(words, cwd=PROGRAM, stdin=subprocess.DEVNULL, stdout=log, stderr=log).returncode
 
     def next_finished(self):
