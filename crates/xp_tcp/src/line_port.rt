@@ -49,7 +49,7 @@ impl LinePort {
 
     /// The port of a line behind the router of this address.
     pub(crate) fn behind(router: SocketAddr, source: RouterPort) -> LinePort
-        ensures { result ≡ Behind router }
+        ensures { result ≡ Behind source.0 source.1 }
     {
         LinePort {
             access: Access::Router(router),
