@@ -202,7 +202,6 @@ fn add_behind<R: Net>(
 /// What the calls of a line's router are matched with.
 fn caller_of(subs: &Subs, line: LineNo) -> Caller
     requires line { line < line_count subs.now }
-    requires sound { IsSound subs.now }
     ensures { result ≡ caller_of subs.now (line_at subs.now line) }
 {
     let entry = subs.line(line);
