@@ -32,10 +32,20 @@ impl Caller {
         Caller {
             modulus: self.modulus,
             station: self.station,
-            own_address: self.own_address.as_ref().map(|address| address.copy()),
+            own_address: copied(&self.own_address),
             address: self.address.copy(),
             is_default: self.is_default,
         }
+    }
+}
+
+/// An equal copy of an address, if there is one.
+fn copied(address: &Option<Digits>) -> Option<Digits>
+    ensures { result ≡ address.now }
+{
+    match address {
+        Some(address) => Some(address.copy()),
+        None => None,
     }
 }
 

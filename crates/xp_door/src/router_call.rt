@@ -1,13 +1,16 @@
 //! The call that a router's connection opens with.
 
-ghost use Rattle.std.specs.Prelude.{IfOk, IfSome};
+ghost use Rattle.std.specs.Prelude.{◌≡◌, IfOk, IfSome};
 ghost use Rattle.xp_door.specs.RouterCalls.{IsCallBy, IsCallOf, IsRefusal};
+ghost use Rattle.xp_door.specs.steps.RouterCalls.{call_in};
 
 use std::alloc::{AllocError, Global};
 use std::net::IpAddr;
 use xp_causes::Refusal;
 use xp_frames::write_frame;
-use xp_packets::{Digits, Modulus, Packet, PacketFault, decode, encode};
+use xp_packets::{
+    Digits, Modulus, Packet, PacketFault, decode, either_spelled_or_malformed, encode,
+};
 
 /// A call request that a router brings (X.25 clause 5.2.2).
 #[derive(Drop)]
@@ -50,6 +53,8 @@ impl RouterCall {
     ) -> Result<Option<RouterCall>, AllocError>
         ensures { IfOk result (IsCallBy modulus peer packet.now) }
     {
+        // Octets spell one packet at most.
+        either_spelled_or_malformed::<Global>();
         match decode(alloc, modulus, packet) {
             Ok((identifier, packet)) => Ok(RouterCall::in_packet(modulus, identifier, peer, &packet)),
             Err(PacketFault::Malformed(_)) => Ok(None),
@@ -63,7 +68,9 @@ impl RouterCall {
         identifier: u16,
         peer: IpAddr,
         packet: &Packet,
-    ) -> Option<RouterCall> {
+    ) -> Option<RouterCall>
+        ensures { result ≡ call_in modulus identifier peer packet.now }
+    {
         match packet {
             Packet::Call { d: _, block } => Some(RouterCall {
                 peer,

@@ -206,10 +206,14 @@ fn caller_of(subs: &Subs, line: LineNo) -> Caller
 {
     let entry = subs.line(line);
     let station = subs.station(subs.station_of(line));
+    let own_address = match &entry.address {
+        Some(address) => Some(address.copy()),
+        None => None,
+    };
     Caller {
         modulus: entry.modulus,
         station: entry.station,
-        own_address: entry.address.as_ref().map(|address| address.copy()),
+        own_address,
         address: station.address.copy(),
         is_default: station.default_caller,
     }
