@@ -23,11 +23,6 @@ pub record IsCall (peer : IpAddr) (octets : List ℕ) (call : RouterCall) : Type
   pub calling : call.calling ≡ block.calling
   pub peer_is : call.peer ≡ peer
 
--- of a packet of one modulus; none where it is no call request
-abbrev pub IsCallBy : Modulus → IpAddr → List ℕ → Option RouterCall → Type 0
-IsCallBy modulus peer octets (Some call) = (call.modulus ≡ modulus) × IsCall peer octets call
-IsCallBy modulus peer octets None = (identifier : ℕ) (block : Block Alloc) → SpellsCall modulus octets identifier block → ⊥
-
 -- of a packet of either modulus
 abbrev pub IsCallOf : IpAddr → List ℕ → Option RouterCall → Type 0
 IsCallOf peer octets (Some call) = IsCall peer octets call

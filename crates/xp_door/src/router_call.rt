@@ -1,8 +1,8 @@
 //! The call that a router's connection opens with.
 
 ghost use Rattle.std.specs.Prelude.{◌≡◌, IfOk, IfSome};
-ghost use Rattle.xp_door.specs.RouterCalls.{IsCallBy, IsCallOf, IsRefusal};
-ghost use Rattle.xp_door.specs.steps.RouterCalls.{call_in};
+ghost use Rattle.xp_door.specs.RouterCalls.{IsCallOf, IsRefusal};
+ghost use Rattle.xp_door.specs.steps.RouterCalls.{IsCallBy, call_in};
 
 use std::alloc::{AllocError, Global};
 use std::net::IpAddr;
