@@ -32,7 +32,6 @@ const LONGEST_SLEEP: u64 = 500;
 /// The door of the lines behind routers: it listens at one TCP port for all routers. A connection waits with it until its first frame
 /// is whole, and is then given to a line behind the router that it comes from. It begins the connections to routers that lines wait
 /// for. It waits for no line and no router.
-#[derive(Drop)]
 pub struct Door {
     alloc: Global,
     listener: TcpListener,
@@ -50,6 +49,25 @@ pub struct Door {
     bell: Arc<DoorBell>,
     /// No connection could be accepted, for want of descriptors or of memory, and none was since.
     is_failing: bool,
+}
+
+impl Drop for Door {
+    fn drop(self) {
+        let Door {
+            alloc: _,
+            listener: _,
+            poll: _,
+            events: _,
+            lines: _,
+            candidates: _,
+            callers: _,
+            refused: _,
+            wakers: _,
+            notices: _,
+            bell: _,
+            is_failing: _,
+        } = self;
+    }
 }
 
 /// What a door is made of, before its lines are known.
