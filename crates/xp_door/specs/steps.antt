@@ -1,3 +1,4 @@
 -- The definitions that no public contract cites.
 pub mod Notices
 pub mod Openings
+pub mod RouterCalls
