@@ -253,19 +253,16 @@ def calls_to_the_router(program, folder):
     with Behind(program, folder) as exchange:
         exchange.routers[FIRST].listen()
         wanted = []
-        for number, name in (("300012", "a1"), ("300010", "a0")):
-            wanted.append(("d", name, (0, 0)))
+        for number, name, other in (("300012", "a1", "a0"), ("300010", "a0", "a1")):
             ours = called_at(exchange, FIRST, INSIDE, number)
-            # The line has a call, so the router's is another line's of that station, or else it is refused.
-            if number == "300012":
-                exchange.refuses(exchange.place(FIRST, "300012"), NO_FREE_LINE)
-                exchange.holds(exchange.place(FIRST, "300010"), "a0").confirm()
-            else:
-                exchange.holds(exchange.place(FIRST, "300010"), "a1").confirm()
-            wanted.append(("a0" if number == "300012" else "a1", "-", NOT_OBTAINABLE))
+            # The line has a call, so a call of its station has another line, and one of its own address has none.
+            exchange.holds(exchange.place(FIRST, "300010"), other).confirm()
+            if name == "a1":
+                exchange.refuses(exchange.place(FIRST, number), NO_FREE_LINE)
             exchange.hosts[INSIDE].clear()
             ours.cleared()
             ours.ends()
+            wanted += [("d", name, (0, 0)), (other, "-", NOT_OBTAINABLE)]
         exchange.finish(wanted)
 
 
