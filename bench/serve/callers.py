@@ -20,7 +20,7 @@ import time
 import server
 from packets import Block, read
 from router_calls import (
-    ADDRESSES, AT_ONCE, BARRED, INSIDE, NO_CALLER, NO_FREE_LINE, NOBODY, NOT_OBTAINABLE, OUTSIDE, STATIONS, Behind, Line, RouterCall, Station
+    ADDRESSES, AT_ONCE, BARRED, INSIDE, MANY, NO_CALLER, NO_FREE_LINE, NOBODY, NOT_OBTAINABLE, OUTSIDE, Behind, RouterCall, lines_for
 )
 from routers import ACCEPTED, BREATH, CALL, FIRST, PATIENCE, SECOND, THIRD, Wrong
 from served import require, run_checks
@@ -294,32 +294,8 @@ def no_call_request(program, folder):
 
 # ---- many at once
 
-# The stations of many calls, with more lines, so that a call of a caller mostly finds one.
-MANY = tuple(
-    Station(station.address, [
-        Line(f"{line.name}x{number}" if line.router else line.name, line.router, line.own if number == 0 else "", line.modulus)
-        for line in station.lines for number in range(4 if line.router else 1)
-    ], station.more, station.is_default)
-    for station in STATIONS
-)
-
 # Calling addresses that the calls have.
 CALLING = ("", "300010", "300012", "300020", "300030", "300040", "300041", "300060", "300061", "999", INSIDE)
-
-
-def lines_for(router, calling, modulus):
-    """The lines that may take a call: those of its modulus, of the first rule that finds any. None where no rule does."""
-    there = [(station, line) for station in MANY for line in station.lines if line.router == router]
-    rules = (
-        lambda station, line: calling and line.own == calling,
-        lambda station, line: station.address == calling,
-        lambda station, line: len({id(it) for it, _ in there}) == 1,
-        lambda station, line: station.is_default,
-    )
-    for rule in rules:
-        if found := [line for station, line in there if rule(station, line)]:
-            return {line.name for line in found if line.modulus == modulus}
-    return None
 
 
 class Caller(threading.Thread):

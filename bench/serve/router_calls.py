@@ -62,8 +62,8 @@ NO_FREE_LINE = Refusal(0x01, 71, "number busy", "connection from {} refused: no 
 INSIDE, OUTSIDE = "200001", "200002"
 BANK = 'group = [{ name = "Bank", index = 1 }]\npreferential = 1\n'
 
-# Behind the first router are three stations, one of them the default caller; behind the second one two, and behind the third one alone. No
-# line of the lowest station there is the lowest one of another.
+# Behind the first router are three stations, one of them the default caller; behind the second one two, and behind the third one alone. The
+# lowest line of all is that of a station that makes no calls: a call that gets it by mistake is barred.
 STATIONS = (
     Station("300020", [Line("b0", FIRST)], "outgoing_barred = true\n"),
     Station(
@@ -77,8 +77,32 @@ STATIONS = (
     Station(OUTSIDE, [Line("e")]),
 )
 
+# The stations of many calls, with more lines, so that a call of a caller mostly finds one.
+MANY = tuple(
+    Station(station.address, [
+        Line(f"{line.name}x{number}" if line.router else line.name, line.router, line.own if number == 0 else "", line.modulus)
+        for line in station.lines for number in range(4 if line.router else 1)
+    ], station.more, station.is_default)
+    for station in STATIONS
+)
+
 # The address of each line: its own, or else its station's.
 ADDRESSES = {line.name: line.own or station.address for station in STATIONS for line in station.lines}
+
+
+def lines_for(router, calling, modulus):
+    """The lines that may take a call: those of its modulus, of the first rule that finds any. None where no rule does."""
+    there = [(station, line) for station in MANY for line in station.lines if line.router == router]
+    rules = (
+        lambda station, line: calling and line.own == calling,
+        lambda station, line: station.address == calling,
+        lambda station, line: len({id(it) for it, _ in there}) == 1,
+        lambda station, line: station.is_default,
+    )
+    for rule in rules:
+        if found := [line for station, line in there if rule(station, line)]:
+            return {line.name for line in found if line.modulus == modulus}
+    return None
 
 
 def text_of(stations, routers, ports):
