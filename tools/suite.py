@@ -51,6 +51,7 @@ SCRIPTS = [
     Script("serve/ports.py", "", "hosts, ports, strangers, and output that fails", 40),
     Script("serve/links.py", "", "the connections of lines behind routers", 40),
     Script("serve/waiting.py", "", "connections of routers before their first frame is whole", 20),
+    Script("serve/callers.py", "--calls 1000", "calls of routers behind which several stations have lines", 30, ""),
     Script("serve/newcomers.py", "", "connections to the port of a line that has one", 20),
     Script("serve/last_octets.py", "", "fifty calls in the middle of transfers as the exchange stops: the last octets", 30),
     Script("serve/endings.py", "--rounds 3 --launcher={launcher}", "three kills and three stops under calls: the records", 60),
