@@ -1,5 +1,5 @@
 -- The content of the subscription file, table by table.
-use Rattle.std.specs.Prelude.{ℕ, ◌<◌, ◌≤◌, List, Option, All, IsTrue, length}
+use Rattle.std.specs.Prelude.{ℕ, ◌<◌, ◌≤◌, List, Bool, Option, All, IsTrue, length}
 use Rattle.xp_file.specs.declared.entry.Access.{Access}
 use Rattle.xp_file.specs.declared.entry.Access.TheVariants.{Port, Router}
 use Rattle.xp_file.specs.declared.entry.Facilities.{Facilities}
@@ -15,6 +15,7 @@ pub record StationData : Type 0 where
   pub address : List ℕ
   pub facilities : Facilities
   pub preferential : Option ℕ
+  pub default_caller : Bool
   pub lines : List LineEntry
   pub groups : List GroupEntry
   pub redirect : Option Redirection

@@ -106,6 +106,9 @@ pub struct StationEntry {
     pub facilities: Facilities,
     /// The index of the preferential group, 0 to 9,999.
     pub preferential: Option<u16>,
+    /// Whether the station takes the calls of its routers whose calling address is missing, or is that of no station behind
+    /// the router.
+    pub default_caller: bool,
     /// The lines in the order of the file, at least one.
     pub lines: Vec<LineEntry>,
     /// The closed user groups in the order of the file.
@@ -122,6 +125,7 @@ impl Model for StationEntry {
       address = station.address;
       facilities = station.facilities;
       preferential = station.preferential;
+      default_caller = station.default_caller;
       lines = station.lines.items;
       groups = station.groups.items;
       redirect = station.redirect;
