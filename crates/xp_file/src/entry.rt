@@ -1,5 +1,6 @@
 //! The content of the subscription file, table by table.
 ghost use Rattle.std.specs.Prelude.{◌≡◌};
+ghost use Rattle.xp_file.specs.Entries.{is_behind};
 
 use crate::name::Name;
 use crate::router::RouterAddress;
@@ -68,6 +69,16 @@ impl Access {
         match self {
             Access::Port(port) => Access::Port(*port),
             Access::Router(router) => Access::Router(router.copy()),
+        }
+    }
+
+    /// Whether it is a router with this address, at whatever port.
+    pub fn is_behind(&self, router: &str) -> bool
+        ensures { result ≡ is_behind router.now self.now }
+    {
+        match self {
+            Access::Port(_) => false,
+            Access::Router(own) => own.address() == router,
         }
     }
 }
