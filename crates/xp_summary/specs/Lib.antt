@@ -1,4 +1,6 @@
+pub mod DefaultCallers
 pub mod Matrix
+pub mod OpenPorts
 pub mod Redirections
 pub mod Warnings
 pub mod steps

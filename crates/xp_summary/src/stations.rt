@@ -3,6 +3,7 @@
 ghost use Rattle.std.specs.Prelude.{◌<◌};
 ghost use Rattle.xp_subs.specs.Tables.{line_count, station_count};
 
+use crate::default_callers::is_default_caller;
 use crate::station_warnings::warnings;
 use std::alloc::AllocError;
 use std::fmt::Write;
@@ -19,7 +20,12 @@ pub(crate) fn push_station(
 {
     let station = subs.station(number);
     let shown = usize::from(number) + 1;
-    writeln!(text, "{shown} station {}", station.address)?;
+    let caller = if is_default_caller(subs, number) {
+        ", default caller of its router"
+    } else {
+        ""
+    };
+    writeln!(text, "{shown} station {}{caller}", station.address)?;
     push_lines(text, subs, number)?;
     push_rights(text, &station.facilities)?;
     push_groups(text, subs, station)?;
