@@ -5,5 +5,5 @@ use Rattle.xp_summary.proofs.default_callers.has_no_default_caller.Given as goal
 
 -- of the lines before, those behind the router are of no default caller
 abbrev pub invariant-loop-number : goal.invariant-loop-number
-invariant-loop-number l = 
+invariant-loop-number l =
     (k : ℕ) → k < l.number → is_behind l.router (line_at l.subs k).access ≡ true → (station_at l.subs (station_of l.subs k)).default_caller ≡ false
