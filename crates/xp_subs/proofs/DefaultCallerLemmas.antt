@@ -1,7 +1,7 @@
 -- Two default callers of one router, and the pass that looks for them.
-use Rattle.std.proofs.Common.{◌≡◌, ℕ, List, [], ◌∷◌, ◌++◌, Bool, true, false, not, ◌&&◌, ◌||◌, inl, inr, Contains, refl, sym, ap, ◌∙◌}
+use Rattle.std.proofs.Common.{◌≡◌, ℕ, List, [], ◌∷◌, ◌++◌, Bool, true, false, not, ◌&&◌, ◌||◌, inl, inr, Contains, refl, sym, ap, ◌∙◌, true≢false}
 use Rattle.std.specs.List.{list_any}
-use Rattle.std.proofs.lemmas.Bool.{cases_Bool, and_parts, or_left, or_right}
+use Rattle.std.proofs.lemmas.Bool.{cases_Bool, and_parts, and_from, or_left, or_right}
 use Rattle.xp_file.specs.declared.entry.Access.{Access}
 use Rattle.xp_file.specs.declared.entry.Access.TheVariants.{Port, Router}
 use Rattle.xp_file.specs.declared.entry.LineEntry.{LineEntry}
@@ -12,23 +12,16 @@ use Rattle.xp_subs.specs.steps.DefaultCallers.{are_rivals, has_line_behind, has_
 use Rattle.xp_subs.proofs.OnceLemmas.{in_none, in_front, in_rest, in_cases}
 use Rattle.xp_subs.proofs.TableLemmas.{same_is, same-itself}
 
-true_is_false : true ≡ false → ⊥
-true_is_false e = cc
-
 not_true : (b : Bool) → not b ≡ true → b ≡ false
-not_true true e = absurd (true_is_false (sym e))
+not_true true e = absurd (true≢false (sym e))
 not_true false e = refl
 
-both_true : (a b : Bool) → a ≡ true → b ≡ true → (a && b) ≡ true
-both_true true b one other = other
-both_true false b one other = absurd (true_is_false (sym one))
-
 or_rest : (a b : Bool) → (a || b) ≡ true → a ≡ false → b ≡ true
-or_rest true b e none = absurd (true_is_false none)
+or_rest true b e none = absurd (true≢false none)
 or_rest false b e none = e
 
 and_rest : (a b : Bool) → (not a && b) ≡ false → a ≡ false → b ≡ false
-and_rest true b e none = absurd (true_is_false none)
+and_rest true b e none = absurd (true≢false none)
 and_rest false b e none = e
 
 -- a test that passes for one of a list
@@ -41,7 +34,7 @@ module _ {A : Type 0} (p : A → Bool) where
   ]
 
   any_held : (xs : List A) → list_any p xs ≡ true → (x : A) × Contains xs x × (p x ≡ true)
-  any_held [] e = absurd (true_is_false (sym e))
+  any_held [] e = absurd (true≢false (sym e))
   any_held (y ∷ ys) e = elim (cases_Bool (p y)) [
     | inl here ↦ (y, in_front y ys, here)
     | inr apart ↦
@@ -50,7 +43,7 @@ module _ {A : Type 0} (p : A → Bool) where
   ]
 
   any_split : (xs : List A) → list_any p xs ≡ true → (before : List A) × (x : A) × (after : List A) × (xs ≡ before ++ x ∷ after) × (p x ≡ true)
-  any_split [] e = absurd (true_is_false (sym e))
+  any_split [] e = absurd (true≢false (sym e))
   any_split (y ∷ ys) e = elim (cases_Bool (p y)) [
     | inl here ↦ ([], y, ys, refl, here)
     | inr apart ↦
@@ -65,12 +58,12 @@ module _ {A : Type 0} (p : A → Bool) where
 -- a line that stands beside others is behind the router of one of them
 beside : (lines : List LineEntry) (access : Access) → has_line_beside lines access ≡ true
     → (router : List ℕ) × (is_behind router access ≡ true) × (has_line_behind lines router ≡ true)
-beside lines (Port port) e = absurd (true_is_false (sym e))
+beside lines (Port port) e = absurd (true≢false (sym e))
 beside lines (Router router) e = (router.address, same-itself router.address, e)
 
 behind_one : (router : List ℕ) (lines : List LineEntry) (access : Access) → is_behind router access ≡ true → has_line_behind lines router ≡ true
     → has_line_beside lines access ≡ true
-behind_one router lines (Port port) behind held = absurd (true_is_false (sym behind))
+behind_one router lines (Port port) behind held = absurd (true≢false (sym behind))
 behind_one router lines (Router own) behind held = ap (has_line_behind lines) (same_is own.address router behind) ∙ held
 
 rivals : (one other : StationData) → are_rivals other one ≡ true → (router : List ℕ) × IsDefaultCaller router one × IsDefaultCaller router other
@@ -91,8 +84,8 @@ unfolding are_rivals
 rivals_of router one other first second =
     let ours : has_line_behind one.lines router ≡ true = held_any (λ (line : LineEntry). is_behind router line.access) one.lines first.line first.own first.behind in
     let met : has_line_beside one.lines second.line.access ≡ true = behind_one router one.lines second.line.access second.behind ours in
-    both_true (other.default_caller && one.default_caller) (share_router other.lines one.lines)
-    (both_true other.default_caller one.default_caller second.told first.told)
+    and_from (other.default_caller && one.default_caller) (share_router other.lines one.lines)
+    (and_from other.default_caller one.default_caller second.told first.told)
     (held_any (λ (line : LineEntry). has_line_beside one.lines line.access) other.lines second.line second.own met)
 
 no_rivals : (before between after : List StationData) (one other : StationData)
@@ -100,7 +93,7 @@ no_rivals : (before between after : List StationData) (one other : StationData)
 no_rivals [] between after one other apart rival =
     let rest = between ++ other ∷ after in
     let both = and_parts (not (list_any (λ (y : StationData). are_rivals y one) rest)) (all_differ are_rivals rest) apart in
-    true_is_false (sym (any_in (λ (y : StationData). are_rivals y one) between other after rival) ∙ not_true (list_any (λ (y : StationData). are_rivals y one) rest) both.0)
+    true≢false (sym (any_in (λ (y : StationData). are_rivals y one) between other after rival) ∙ not_true (list_any (λ (y : StationData). are_rivals y one) rest) both.0)
 no_rivals (station ∷ before) between after one other apart rival =
     let rest = before ++ one ∷ between ++ other ∷ after in
     let both = and_parts (not (list_any (λ (y : StationData). are_rivals y station) rest)) (all_differ are_rivals rest) apart in
@@ -114,7 +107,7 @@ callers_once stations apart two =
 
 -- and else one has
 pub callers_twice : (stations : List StationData) → all_differ are_rivals stations ≡ false → HasTwoDefaultCallers stations
-callers_twice [] e = absurd (true_is_false e)
+callers_twice [] e = absurd (true≢false e)
 callers_twice (station ∷ stations) e = elim (cases_Bool (list_any (λ (y : StationData). are_rivals y station) stations)) [
   | inl here ↦
       let (between, other, after, is, rival) = any_split (λ (y : StationData). are_rivals y station) stations here in
