@@ -67,7 +67,7 @@ behind_one router lines (Port port) behind held = absurd (true≢false (sym behi
 behind_one router lines (Router own) behind held = ap (has_line_behind lines) (same_is own.address router behind) ∙ held
 
 rivals : (one other : StationData) → are_rivals other one ≡ true → (router : List ℕ) × IsDefaultCaller router one × IsDefaultCaller router other
-unfolding are_rivals
+unfolding are_rivals share_router has_line_behind
 rivals one other e =
     let (told, share) = and_parts (other.default_caller && one.default_caller) (share_router other.lines one.lines) e in
     let (second, first) = and_parts other.default_caller one.default_caller told in
@@ -80,7 +80,7 @@ rivals one other e =
     )
 
 rivals_of : (router : List ℕ) (one other : StationData) → IsDefaultCaller router one → IsDefaultCaller router other → are_rivals other one ≡ true
-unfolding are_rivals
+unfolding are_rivals share_router has_line_behind
 rivals_of router one other first second =
     let ours : has_line_behind one.lines router ≡ true = held_any (λ (line : LineEntry). is_behind router line.access) one.lines first.line first.own first.behind in
     let met : has_line_beside one.lines second.line.access ≡ true = behind_one router one.lines second.line.access second.behind ours in

@@ -32,6 +32,7 @@ fn are_rivals(one: &StationEntry, other: &StationEntry) -> bool
     one.default_caller && other.default_caller && share_router(&one.lines, &other.lines)
 }
 
+#[tactic(auto, unfolding(crate::specs::steps::DefaultCallers::share_router))]
 fn share_router(one: &[LineEntry], other: &[LineEntry]) -> bool
     ensures { result ≡ share_router one.now other.now }
 {
@@ -48,6 +49,7 @@ fn has_line_beside(lines: &[LineEntry], access: &Access) -> bool
     }
 }
 
+#[tactic(auto, unfolding(crate::specs::steps::DefaultCallers::has_line_behind))]
 fn has_line_behind(lines: &[LineEntry], router: &str) -> bool
     ensures { result ≡ has_line_behind lines.now router.now }
 {

@@ -7,7 +7,7 @@ use Rattle.xp_file.specs.declared.entry.LineEntry.{LineEntry}
 use Rattle.xp_file.specs.Entries.{StationData, is_behind}
 
 -- one of the lines is behind the router with this address
-abbrev pub has_line_behind : List LineEntry → List ℕ → Bool
+unfoldable pub has_line_behind : List LineEntry → List ℕ → Bool
 has_line_behind lines router = list_any (λ (line : LineEntry). is_behind router line.access) lines
 
 -- one of the lines is behind the router of this access
@@ -16,7 +16,7 @@ has_line_beside lines (Port port) = false
 has_line_beside lines (Router router) = has_line_behind lines router.address
 
 -- a line of the one list and a line of the other are behind one router
-abbrev pub share_router : List LineEntry → List LineEntry → Bool
+unfoldable pub share_router : List LineEntry → List LineEntry → Bool
 share_router one other = list_any (λ (line : LineEntry). has_line_beside other line.access) one
 
 -- the two stations are default callers of one router
