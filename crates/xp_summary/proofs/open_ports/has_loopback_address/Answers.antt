@@ -7,5 +7,5 @@ use Rattle.xp_summary.proofs.open_ports.has_loopback_address.Goals as goal
 pub returns-in-Ok : goal.returns-in-Ok
 returns-in-Ok c = (
   λ is. (c.in-Ok.address, c.in-Ok.ensures, c.is_loopback.ensures.0 is),
-  λ has. c.is_loopback.ensures.1 (subst IsLoopback (IsIpText_unique c.args.text.now has.0 c.in-Ok.address has.1 c.in-Ok.ensures) has.2),
+  λ has. c.is_loopback.ensures.1 (subst IsLoopback (IsIpText_unique c.args.host.now has.0 c.in-Ok.address has.1 c.in-Ok.ensures) has.2),
 )
