@@ -7,6 +7,7 @@ mod checking;
 mod console;
 mod explaining;
 mod failure;
+mod into_file;
 mod output;
 mod replaying;
 mod served_console;

@@ -1,3 +1,4 @@
+mod Doubted
 pub mod Flushed
 pub mod Fronts
 mod Kept
