@@ -92,7 +92,6 @@ fn serve_file<
         + Files<File = File>
         + Log
         + Net<Listener = TcpListener, Stream = TcpStream>
-        + Print
         + RandomSource
         + Send
         + Sync

@@ -31,7 +31,7 @@ pub printer_send : (W : RattleType) (write : _) → IsSend W → IsSend (RecordP
 printer_send W write may =
     let T = recorded.declared (printer.struct W write) (printer.the_propositions W.Denot) in
     let all : IsSend (declared.row T) = recorded_send (Struct (declared.shape T)) T.D T.to T.to_one
-    (struct_send (declared.shape T) (subs_send, (may, (search parts depth 20, (search parts depth 20, (snapshot_send W, (past.the_send _, tt))))))) in
+    (struct_send (declared.shape T) (subs_send, (may, (search parts depth 20, (search parts depth 20, (search parts depth 20, (snapshot_send W, (past.the_send _, tt)))))))) in
     record { owned = λ d vs x. (all.owned x.0 vs, tt); leaving = λ k d w. tt }
 
 pub details_send : (F L : RattleType) (file : _) (log : _) → IsSend F → IsSend L → IsSend (DetailKeeper.the_row F L file log)
@@ -46,7 +46,7 @@ details_send F L file log file_may log_may =
           search (sendable, clock.the_field_send) depth 9,
           (
             search (sendable, operator.the_field_send) depth 9,
-            (search parts depth 20, (search parts depth 20, (past.the_send _, tt))),
+            (search parts depth 20, (search parts depth 20, (search parts depth 20, (past.the_send _, tt)))),
           ),
         ),
       ),

@@ -1,6 +1,6 @@
 -- What is kept of charging records in a file of call detail records (`AreKept`).
-use Rattle.std.specs.Prelude.{◌≡◌, ℕ, ◌<◌, List, [], ◌++◌, Bool, false, Result, Ok, Err, length}
-use Rattle.xp_cdr.specs.Ledger.{HasAll, IsWhole, Ledger, opening}
+use Rattle.std.specs.Prelude.{◌≡◌, ℕ, ◌<◌, ◌≤◌, List, [], ◌++◌, Bool, false, Result, Ok, Err, length}
+use Rattle.xp_cdr.specs.Ledger.{HasAll, IsWhole, Ledger, details_text, opening}
 use Rattle.xp_charge.specs.declared.record.Record.{Record}
 use Rattle.xp_keeping.specs.declared.keep_fault.KeepFault.{KeepFault}
 use Rattle.xp_keeping.specs.declared.keep_fault.KeepFault.TheVariants.{Memory, Output, Details}
@@ -33,6 +33,14 @@ AreKept keeping records (Ok done) = (keeping.ledger.given ≡ records) × HasAll
 AreKept keeping records (Err Details) = (keeping.ledger.given ≡ records) × IsWhole keeping.ledger × (0 < length keeping.ledger.waiting)
 AreKept keeping records (Err Output) = ⊥
 AreKept keeping records (Err Memory) = IsFirstOf keeping.ledger.given records × IsWhole keeping.ledger
+
+-- The file has the call detail records of the first so many records on the disk, each once and in order, perhaps of more.
+pub record HasKept (keeping : Keeping) (count : ℕ) : Type 0 where
+  pub kept : List Record
+  pub rest : List Record
+  pub given_are : keeping.given ≡ kept ++ rest
+  pub within : count ≤ length kept
+  pub synced_is : keeping.ledger.synced ≡ details_text keeping.ledger kept
 
 -- what stays the same of a keeper
 abbrev pub GoesOnAs : Keeping → Keeping → Type 0

@@ -8,7 +8,7 @@ ghost use Rattle.xp_keeping.specs.steps.Details.{Gives, PutsOnDisk};
 ghost use Rattle.xp_subs.specs.Tables.{line_count};
 
 use crate::keep_fault::KeepFault;
-use crate::keeping::RecordKeeper;
+use crate::keeping::{CountedKeeper, RecordKeeper, count_on};
 use crate::operator_log::OperatorLog;
 use log::Log;
 use std::alloc::Global;
@@ -41,11 +41,14 @@ pub struct DetailKeeper<F: RecordFile, L: Log> {
     retry_at: Option<u64>,
     /// Whether memory was wanting.
     is_short: bool,
+    /// How many records were given to the writer of the file.
+    count: usize,
     /// All records that it was given.
     given: Past<Record>,
 }
 
 impl<F: RecordFile, L: Log> Model for DetailKeeper<F, L> {
+    ghost use Rattle.std.specs.Prelude.{◌≤◌, length};
     ghost use Rattle.xp_keeping.specs.Details.{Keeping};
     ghost use Rattle.xp_keeping.specs.steps.Details.{IsGivenAs};
 
@@ -53,7 +56,7 @@ impl<F: RecordFile, L: Log> Model for DetailKeeper<F, L> {
 
     ghost view = { λ k. record { subs = k.subs; given = k.given.items; ledger = k.writer; is_short = k.is_short } };
 
-    ghost invariant = { λ k. IsGivenAs (record { subs = k.subs; given = k.given.items; ledger = k.writer; is_short = k.is_short }) };
+    ghost invariant = { λ k. IsGivenAs (record { subs = k.subs; given = k.given.items; ledger = k.writer; is_short = k.is_short }) × (k.count ≤ length k.writer.given) };
 }
 
 impl<F: RecordFile, L: Log> DetailKeeper<F, L> {
@@ -78,6 +81,7 @@ impl<F: RecordFile, L: Log> DetailKeeper<F, L> {
             log,
             retry_at: None,
             is_short: false,
+            count: 0,
             given: Past::new(),
         }
     }
@@ -99,6 +103,7 @@ impl<F: RecordFile, L: Log> DetailKeeper<F, L> {
         let was_short = self.is_short;
         self.is_short = give_more(was_short, &mut self.writer, &self.subs, records);
         self.given.extend(records);
+        self.count = count_on(self.count, records, !self.is_short);
         if self.is_short && !was_short {
             let now = self.clock.now();
             self.log.error(
@@ -251,5 +256,15 @@ impl<F: RecordFile, L: Log + Drop> RecordKeeper for DetailKeeper<F, L> {
 
     fn finish(&mut self, rest: &[Record]) -> Result<(), KeepFault> {
         self.keep_rest(rest)
+    }
+}
+
+impl<F: RecordFile, L: Log + Drop> CountedKeeper for DetailKeeper<F, L> {
+    ghost use Rattle.xp_keeping.specs.Details.{HasKept};
+
+    ghost has_kept = { HasKept };
+
+    fn count_kept(&self) -> usize {
+        self.count.saturating_sub(self.writer.waiting_records())
     }
 }

@@ -18,7 +18,7 @@ mod starting;
 pub use details::DetailKeeper;
 pub use doubt::write_doubted;
 pub use keep_fault::KeepFault;
-pub use keeping::RecordKeeper;
+pub use keeping::{CountedKeeper, RecordKeeper};
 pub use operator_log::OperatorLog;
 pub use output::{PatientOutput, StandardOutput};
 pub use printing::RecordPrinter;

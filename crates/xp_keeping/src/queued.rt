@@ -7,7 +7,7 @@ ghost use Rattle.xp_keeping.specs.steps.Thread.{IsGivenBack};
 ghost use Rattle.xp_subs.specs.Tables.{line_count};
 
 use crate::keep_fault::KeepFault;
-use crate::keeping::RecordKeeper;
+use crate::keeping::{CountedKeeper, RecordKeeper};
 use crate::record_queue::RecordQueue;
 use crate::record_thread::{GivesBack, ThreadEnd, keep_records};
 use crate::signal::KeepingSignal;
@@ -64,7 +64,7 @@ impl<K: RecordKeeper, R: Threads + Wait> Model for QueuedKeeper<K, R> {
     ghost invariant = { λ k. IsHandedOn k.queue.all k.given.items k.is_short × IfSome k.thread (λ handle. (handle.promise.first.value ≡ k.first.value) × (handle.promise.records.value.queue ≡ k.queue.queue)) };
 }
 
-impl<K: RecordKeeper + Send + 'static, R: Threads + Wait + Copy + Send + 'static> QueuedKeeper<
+impl<K: CountedKeeper + Send + 'static, R: Threads + Wait + Copy + Send + 'static> QueuedKeeper<
     K,
     R,
 > {
