@@ -6,19 +6,19 @@ use Rattle.xp_serve.specs.Serving.{Serves}
 use Rattle.xp_serve.specs.declared.failure.ServeFailure.{ServeFailure}
 use Rattle.xp_subs.specs.Tables.{Tables}
 
-module _ {A K : Type 0} (keeper : A → K) (kept : K → List Record → Result (Unit {0}) KeepFault → Type 0) (keeps : K → K → Type 0) where
-  pub serves_keeper : (tables : Tables) (before after : A) (result : Result (Unit {0}) ServeFailure)
-      → Serves (λ a. kept (keeper a)) (λ a b. keeps (keeper a) (keeper b)) tables before after result
-      → Serves kept keeps tables (keeper before) (keeper after) result
-  serves_keeper tables before after result (inl unserved) = inl (ap keeper unserved.0, unserved.1)
-  serves_keeper tables before after result (inr served) = inr (
-    served.0,
-    served.1,
-    record {
-      one_each = served.2.one_each;
-      keeping = served.2.keeping;
-      kept_is = served.2.kept_is;
-      keeps_on = served.2.keeps_on;
-      told_is = served.2.told_is;
-    },
-  )
+pub serves_keeper : {A K : Type 0} (before after : A) (keeper : A → K) (kept : K → List Record → Result (Unit {0}) KeepFault → Type 0) (keeps : K → K → Type 0)
+    (tables : Tables) (result : Result (Unit {0}) ServeFailure)
+    → Serves (λ one. kept (keeper one)) (λ one other. keeps (keeper one) (keeper other)) tables before after result
+    → Serves kept keeps tables (keeper before) (keeper after) result
+serves_keeper before after keeper kept keeps tables result (inl unserved) = inl (ap keeper unserved.0, unserved.1)
+serves_keeper before after keeper kept keeps tables result (inr served) = inr (
+  served.0,
+  served.1,
+  record {
+    one_each = served.2.one_each;
+    keeping = served.2.keeping;
+    kept_is = served.2.kept_is;
+    keeps_on = served.2.keeps_on;
+    told_is = served.2.told_is;
+  },
+)
