@@ -42,14 +42,14 @@ one_first uses u v one other =
     ]
 
 key_once : (stations : List StationData) (k l : Key) → IsTwiceUsed stations k → IsTwiceUsed stations l → k ≡ l
-key_once stations k l (inl (again, first, is)) (inl (again', first', is')) =
-    is ∙ ap key_of (one_first (uses_of stations) again again' first first') ∙ sym is'
-key_once stations k l (inl (again, first, is)) (inr (once, two, is')) = absurd (once first.before again first.after first.split first.again)
-key_once stations k l (inr (once, two, is)) (inl (again, first, is')) = absurd (once first.before again first.after first.split first.again)
+key_once stations k l (inl (again, repeat, is)) (inl (again', repeat', is')) =
+    is ∙ ap key_of (one_first (uses_of stations) again again' repeat repeat') ∙ sym is'
+key_once stations k l (inl (again, repeat, is)) (inr (once, two, is')) = absurd (once repeat.before again repeat.after repeat.split repeat.again)
+key_once stations k l (inr (once, two, is)) (inl (again, repeat, is')) = absurd (once repeat.before again repeat.after repeat.split repeat.again)
 key_once stations k l (inr (once, two, is)) (inr (once', two', is')) = is ∙ sym is'
 
 nothing_twice : (stations : List StationData) (key : Key) → IsTwiceUsed stations key → Once (uses_of stations) → (HasTwoDefaultCallers stations → ⊥) → ⊥
-nothing_twice stations key (inl (again, first, is)) once none = once first.before again first.after first.split first.again
+nothing_twice stations key (inl (again, repeat, is)) once none = once repeat.before again repeat.after repeat.split repeat.again
 nothing_twice stations key (inr (other, two, is)) once none = none two
 
 refused_once : (stations : List StationData) (one other : SubscriptionFault) → Refuses stations one → Refuses stations other → one ≡ other
