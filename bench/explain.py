@@ -1,10 +1,14 @@
 #!/usr/bin/env python3
-"""Whether `xp explain` tells what the exchange does: random call requests, explained, and made by a replay.
+"""Whether `xp explain` tells what the exchange does, and the matrix of `xp check --words` what `xp explain` tells.
 
-Each request is made over a subscription file, or over a random one with groups, hunt groups, rights and redirections. `xp
-explain` says which line rings, or the cause and the diagnostic of the refusal. Then `xp replay` brings the same lines up,
-makes the same of them busy, and makes that request. Both have to say the same; where several idle lines of a station could
-ring, each may say another.
+Random call requests are explained, and made by a replay. Each is made over a subscription file, or over a random one with
+groups, hunt groups, rights and redirections. `xp explain` says which line rings, or the cause and the diagnostic of the refusal.
+Then `xp replay` brings the same lines up, makes the same of them busy, and makes that request. Both have to say the same; where
+several idle lines of a station could ring, each may say another.
+
+Of further random files, the matrix of who may call whom is compared with what `xp explain` says for each pair of stations, of
+the same file without its redirections: of a call request without facilities, of one with each selection of the caller's groups,
+and, where none of these rings, of one with random facilities and user data.
 """
 
 import argparse
@@ -55,9 +59,9 @@ class Request:
 # Subscriptions
 
 
-def random_file(chance):
-    """A subscription file of a dozen stations."""
-    addresses = [f"20801{number:02}" for number in range(12)]
+def random_file(chance, stations=12):
+    """A subscription file of so many stations."""
+    addresses = [f"20801{number:02}" for number in range(stations)]
     return "\n".join(random_station(chance, number, addresses) for number in range(len(addresses)))
 
 
@@ -104,13 +108,18 @@ def lines_and_addresses(text):
 def random_request(chance, lines, addresses):
     """A call request, and the states of the lines."""
     caller = chance.choice(lines)
-    facilities = "".join(chance.choice(choices) for choices in (SELECTIONS, OPTIONS, SIZES, ENDS))
-    user = chance.randbytes(chance.choice(USER_LENGTHS))
+    facilities, user = random_wishes(chance)
     share = chance.choice((0, 0, 0.3, 0.7))
     up = tuple(line for line in lines if line == caller or chance.random() >= share)
     most_busy = chance.choice((0, 0.2, 0.7))
     busy = tuple(line for line in up if line != caller and chance.random() < most_busy)
-    return Request(caller, chance.choice(addresses), bytes.fromhex(facilities), user, up, share > 0, busy)
+    return Request(caller, chance.choice(addresses), facilities, user, up, share > 0, busy)
+
+
+def random_wishes(chance):
+    """The facilities and the user data of a call request."""
+    facilities = "".join(chance.choice(choices) for choices in (SELECTIONS, OPTIONS, SIZES, ENDS))
+    return bytes.fromhex(facilities), chance.randbytes(chance.choice(USER_LENGTHS))
 
 
 def explained(program, path, request):
@@ -170,11 +179,99 @@ def is_same(told, done, request, stations):
     return stations[told] == stations[done] and {told, done} <= idle
 
 
+def compare_requests(arguments, chance, path, pool):
+    """Compares what is explained of random requests with what a replay does."""
+    verdicts, program = Counter(), arguments.explain or arguments.xp
+    for begun in range(0, arguments.requests, 100):
+        path.write_text(arguments.file.read_text() if arguments.file else random_file(chance))
+        lines, addresses = lines_and_addresses(path.read_text())
+        moduli, stations = {l.name: l.modulus for l in lines}, {l.name: l.station for l in lines}
+        requests = [random_request(chance, lines, addresses) for _ in range(min(100, arguments.requests - begun))]
+        told = pool.map(lambda request: explained(program, path, request), requests)
+        done = replayed(arguments.xp, path, requests, moduli)
+        for request, said, came in zip(requests, told, done, strict=True):
+            if not is_same(said, came, request, stations):
+                sys.exit(f"{path.read_text()}\n{request}\nexplained {said}, replayed {came}")
+            verdicts["a line rings" if isinstance(said, str) else "refused {:02x}/{}".format(*said)] += 1
+    for verdict, count in sorted(verdicts.items()):
+        print(f"{count:6} {verdict}")
+    print(f"{arguments.requests} requests: explained as they were decided", flush=True)
+
+
+# The matrix of who may call whom
+
+
+@dataclass(frozen=True)
+class Pair:
+    row: int  # the caller's number, and its table of the file
+    caller: dict
+    column: int  # those of the called station
+    called: dict
+    line: str  # a line of the caller
+    other: tuple  # facilities and user data of another request
+
+
+def matrix(program, path):
+    """The rows of the matrix that `xp check --words` prints, in letters."""
+    ran = subprocess.run([program, "check", str(path), "--words"], capture_output=True, text=True)
+    if ran.returncode != 0:
+        sys.exit(f"check: status {ran.returncode}: {ran.stderr}")
+    return re.findall(r"^ *\d+ ([xs.]+) \d+$", ran.stdout, flags=re.MULTILINE)
+
+
+def selections(station):
+    """The facility field for each selection of a group of the station."""
+    indexes = [group["index"] for group in station["group"]]
+    return [bytes.fromhex(f"{code}{index:04}") for index in indexes for code in ("47", "48")]
+
+
+def letter(program, path, pair):
+    """The letter that a pair of stations has by what is explained."""
+
+    def is_put_through(facilities, user=b""):
+        request = Request(Line(pair.line, 8, pair.row), pair.called["address"], facilities, user, (), False, ())
+        return explained(program, path, request) in {line["name"] for line in pair.called["line"]}
+
+    if is_put_through(b""):
+        return "x"
+    if any(is_put_through(selection) for selection in selections(pair.caller)):
+        return "s"
+    return "another request is put through" if is_put_through(*pair.other) else "."
+
+
+def pairs_of(chance, text):
+    """Each pair of stations of a subscription file."""
+    stations = tomllib.loads(text)["station"]
+    for row, caller in enumerate(stations):
+        for column, called in enumerate(stations):
+            line = chance.choice(caller["line"])["name"]
+            yield Pair(row, caller, column, called, line, random_wishes(chance))
+
+
+def compare_matrices(arguments, chance, path, pool):
+    """Compares the matrices of random files with what is explained."""
+    letters, program = Counter(), arguments.explain or arguments.xp
+    for _ in range(arguments.matrices):
+        text = random_file(chance, 8)
+        path.write_text(text)
+        rows = matrix(arguments.xp, path)
+        path.write_text(re.sub(r"^redirect = .*\n", "", text, flags=re.MULTILINE))
+        pairs = list(pairs_of(chance, text))
+        for pair, said in zip(pairs, pool.map(lambda pair: letter(program, path, pair), pairs), strict=True):
+            if rows[pair.row][pair.column] != said:
+                sys.exit(f"{text}\n{pair}\nexplained {said}, in the matrix {rows[pair.row][pair.column]}")
+            letters[said] += 1
+    for said, count in sorted(letters.items()):
+        print(f"{count:6} {said}")
+    print(f"{sum(letters.values())} pairs of stations in {arguments.matrices} matrices: as they are explained")
+
+
 def main():
     parser = argparse.ArgumentParser(description=__doc__.splitlines()[0])
     parser.add_argument("--requests", type=int, default=10_000, help="how many requests are made (default: 10,000)")
+    parser.add_argument("--matrices", type=int, default=200, help="of how many random files the matrix is compared (default: 200)")
     parser.add_argument("--seed", type=int, help="what the choices follow from (default: another each time)")
-    parser.add_argument("--file", type=pathlib.Path, help="a subscription file (default: a random one for each hundred requests)")
+    parser.add_argument("--file", type=pathlib.Path, help="a subscription file for the requests (default: a random one for each hundred)")
     parser.add_argument("--xp", default=str(PROGRAM), help=f"the built program ({DEFAULT})")
     parser.add_argument("--explain", help="a program that explains, where it is another one")
     parser.add_argument("--jobs", type=int, default=4, help="how many requests are made side by side (default: 4)")
@@ -182,23 +279,11 @@ def main():
 
     seed = random.SystemRandom().randrange(10**9) if arguments.seed is None else arguments.seed
     print(f"seed {seed}", flush=True)
-    chance, verdicts = random.Random(seed), Counter()
+    chance = random.Random(seed)
     with tempfile.TemporaryDirectory() as made, ThreadPoolExecutor(arguments.jobs) as pool:
         path = pathlib.Path(made) / "subs.toml"
-        for begun in range(0, arguments.requests, 100):
-            path.write_text(arguments.file.read_text() if arguments.file else random_file(chance))
-            lines, addresses = lines_and_addresses(path.read_text())
-            moduli, stations = {l.name: l.modulus for l in lines}, {l.name: l.station for l in lines}
-            requests = [random_request(chance, lines, addresses) for _ in range(min(100, arguments.requests - begun))]
-            told = pool.map(lambda request: explained(arguments.explain or arguments.xp, path, request), requests)
-            done = replayed(arguments.xp, path, requests, moduli)
-            for request, said, came in zip(requests, told, done, strict=True):
-                if not is_same(said, came, request, stations):
-                    sys.exit(f"{path.read_text()}\n{request}\nexplained {said}, replayed {came}")
-                verdicts["a line rings" if isinstance(said, str) else "refused {:02x}/{}".format(*said)] += 1
-    for verdict, count in sorted(verdicts.items()):
-        print(f"{count:6} {verdict}")
-    print(f"{arguments.requests} requests: explained as they were decided")
+        compare_requests(arguments, chance, path, pool)
+        compare_matrices(arguments, chance, path, pool)
 
 
 if __name__ == "__main__":

@@ -149,8 +149,16 @@ def serve_without_a_program(tree):
 
 
 def version_without_a_program(tree):
-    yield tree.run("--version"), (0, "xp 2026-11-27\ncommit: unknown\nproved: no\nkit: kit 1\n", "")
+    for word in ("--version", "-V"):
+        yield tree.run(word), (0, "xp 2026-11-27\ncommit: unknown\nproved: no\nkit: kit 1\n", "")
     yield tree.runs_of("unproved") + tree.runs_of("proved"), 0
+
+
+def version_of_the_program_is_the_newest(tree):
+    """The program tells the same version as the launcher, which is the newest heading of CHANGELOG.md."""
+    newest = next(line for line in (TOP / "CHANGELOG.md").read_text(encoding="utf-8").splitlines() if line.startswith("## "))
+    texts = (TOP / "crates/xp_arguments/src/texts.rt").read_text(encoding="utf-8")
+    yield f'VERSION: &str = "{newest.removeprefix("## ")}";' in texts, True
 
 
 def unproved_is_built_once(tree):
@@ -334,6 +342,7 @@ def commit_is_told(tree):
 CASES = (
     serve_without_a_program,
     version_without_a_program,
+    version_of_the_program_is_the_newest,
     unproved_is_built_once,
     unproved_follows_what_it_is_made_of,
     unproved_that_cannot_be_built,

@@ -158,15 +158,16 @@ def lintian(package):
 
 
 def version(package):
-    """xp --version tells the version, the commit, that the program is not proved, and the kit"""
+    """xp --version and xp -V tell the version, the commit, that the program is not proved, and the kit"""
     identity = told_by(TOP / "xp", "--version").splitlines()
     require(identity[0] == f"xp {heading()}", f"./xp --version tells {identity[0]}")
-    told = told_by(package.launcher, "--version").splitlines()
-    require(told == [*identity[:2], "proved: no", identity[3]], f"it tells {told}")
+    for word in ("--version", "-V"):
+        told = told_by(package.launcher, word).splitlines()
+        require(told == [*identity[:2], "proved: no", identity[3]], f"{word} tells {told}")
 
 
 def commands(package):
-    """check and replay say what the program says, and the launcher has no words of its own but --version"""
+    """check and replay say what the program says, and the launcher has no words of its own but --version and -V"""
     examples = package.root / DOCUMENTS / "examples"
     script = (examples / "call.script").read_text()
     for words in (["check", examples / "three-stations.toml"], ["check", examples / "every-key.toml", "--words"], ["check", "/"]):

@@ -1,10 +1,11 @@
 #!/usr/bin/env python3
-"""A small XOT router: router.py OWN EXCHANGE [ADDRESS ..], as router.py 127.0.0.2:1998 127.0.0.1:1998 2080020.
+"""A small XOT router: router.py OWN EXCHANGE [[CALLER:]ADDRESS ..], as router.py 127.0.0.2:1998 127.0.0.1:1998 2080010:2080020.
 
 Each call has a TCP connection of its own, which the side opens that places the call (RFC 1613). The router takes calls at its
 own address and port, accepts each, and acknowledges what it gets. It places a call to each ADDRESS at the exchange's
 `xot_port`, from its own address, by which the exchange knows it; sends some data, and clears. Then it goes on taking calls.
-Lines behind it have `router = "127.0.0.2:1998"` in the subscription file.
+Lines behind it have `router = "127.0.0.2:1998"` in the subscription file. Where these are lines of several stations, the
+calling address CALLER says whose the call is; without it the call is the `default_caller`'s.
 """
 import socket
 import sys
@@ -48,11 +49,14 @@ def take(call):
                 send(call, channel + b"\x1f")  # reset confirmation
 
 
-def place(own, exchange, address):
-    """A call of the router's own."""
+def place(own, exchange, addresses):
+    """A call of the router's own, to an address, with a calling address in front or without."""
+    caller, _, address = addresses.rpartition(":")
     with socket.create_connection(exchange, source_address=(own, 0)) as call:
-        digits = bytes.fromhex(address + "0" * (len(address) % 2))
-        answer = ask(call, "call request", bytes([0x10, 1, 0x0B, len(address)]) + digits + b"\0")
+        digits = address + caller
+        lengths = 16 * len(caller) + len(address)
+        octets = bytes.fromhex(digits + "0" * (len(digits) % 2))
+        answer = ask(call, "call request", bytes([0x10, 1, 0x0B, lengths]) + octets + b"\0")
         if answer[2:3] == b"\x0f":
             ask(call, "data", b"\x10\x01\x00" + b"Hello over X.25")  # answered once the far end has taken it
             ask(call, "clear request", b"\x10\x01\x13\0\0")
@@ -71,7 +75,7 @@ def host_and_port(text):
 own, exchange = host_and_port(sys.argv[1]), host_and_port(sys.argv[2])
 with socket.create_server(own, family=socket.AF_INET6 if ":" in own[0] else socket.AF_INET) as calls:
     print(f"takes calls at {sys.argv[1]}")
-    for number in sys.argv[3:]:
-        threading.Thread(target=place, args=(own[0], exchange, number)).start()
+    for addresses in sys.argv[3:]:
+        threading.Thread(target=place, args=(own[0], exchange, addresses)).start()
     while True:
         threading.Thread(target=take, args=(calls.accept()[0],), daemon=True).start()

@@ -2,11 +2,14 @@
 """Tries the edits of crates/*/edits, each of which the prover has to refuse.
 
 An edit is a file as in must-fail/ (CONTRIBUTING.md). Those of must-fail/ are tried by the gate, which proves their crates once more from nothing.
-Those of edits/ are tried here, in a copy of the crates, over the libraries that `rt ci` or `./xp prove` left on this machine. An edit is tried in
-the function that it changes alone, then, where that is still proved, in the functions of the crate that name it, and then in the whole crate. It is
-refused where one of these has an open goal. One that is still proved, that cannot be applied or read, or that was not tried, fails.
+Those of edits/ are tried here, in a copy of the crates, over the libraries that `rt ci` or `./xp prove` left on this machine. Edits of a crate that
+change functions of their own are made together, and only these functions are proved: an edit is refused where its own function has an open goal.
+What is not refused so is tried alone: in its function, then in the functions of the crate that name it, and then in the whole crate. One that is still proved, that cannot be applied or read, or that was not tried, fails.
 
-    tools/edits.py [--list] [--unedited] [--jobs N] [CRATE | CRATE/EDIT ..]
+That an edit was refused is kept on this machine, where the kit keeps what `rt ci` proved, until the edit, its crate, a library below or this tool
+changes.
+
+    tools/edits.py [--list] [--unedited] [--anew] [--jobs N] [CRATE | CRATE/EDIT ..]
 
 It prints a line for each edit, as it ends, and last `N passed, M failed`; the exit status is 1 where one failed.
 """
@@ -23,22 +26,15 @@ import subprocess
 import sys
 import tempfile
 import time
-from concurrent.futures import ThreadPoolExecutor, as_completed
+from concurrent.futures import FIRST_COMPLETED, ThreadPoolExecutor, wait
 
-from functions import Source
+from edit_tries import Earlier, Try, batches_of
 
 TOP = pathlib.Path(__file__).resolve().parent.parent
 NAME = re.compile(r"[A-Za-z0-9_-][A-Za-z0-9_.-]*\.edit")
 
 # The most that a try was seen to take, in octets.
 MEMORY_OF_A_TRY = 1_800_000_000
-# The functions that are tried at most because they name the one that is changed.
-MOST_CALLERS = 12
-# The status of a check of a function that the prover has not, or of which it has several.
-UNKNOWN_NAME = 2
-ONE_JOB = ["--jobs", "1"]
-# Names that tell nothing of who calls a function.
-METHODS_OF_TRAITS = {"clone", "default", "drop", "eq", "fmt", "from", "hash", "new", "next"}
 
 
 def load_gate():
@@ -95,6 +91,8 @@ class Libraries:
         gate.rtlib.Crate = gate.Crate
         self.crates = {it.name: it for it in gate.rtlib.crates_below(self.root)}
         self.needed = {below.name for name in names for below in self.crates[name].below()}
+        # What this machine keeps of earlier runs, once all libraries are from there.
+        self.kept = None
 
     def bring(self):
         """Brings the libraries, all from one source. Returns those that no source has whole, as the best source told."""
@@ -117,7 +115,12 @@ class Libraries:
                     lacking.append(crate.name)
                 else:
                     kept.is_built(crate)
+        self.kept = None if lacking else kept
         return lacking
+
+    def earlier(self, crate):
+        """What earlier runs came to with the edits of a crate, where it is kept."""
+        return self.kept and Earlier(self.kept, crate)
 
     def from_tree(self, is_current):
         known = {}
@@ -143,88 +146,6 @@ class Libraries:
         return made.stat().st_mtime > max(os.stat(it).st_mtime for it in sources)
 
 
-# A try -----------------------------------------------------------------------------------------------------------
-
-
-def refusals(gate):
-    """What the gate's own try of an edit tells where the prover refuses it: some kits have words for that."""
-    return {True, *(getattr(gate, name) for name in ("REFUSED", "AT_LIMIT") if hasattr(gate, name))}
-
-
-class Try:
-    """A try of one edit: what it came to, and how."""
-
-    def __init__(self, gate, crate, edit):
-        self.gate, self.crate, self.edit = gate, crate, edit
-        self.label = f"{crate.name}/{edit.name}"
-
-    def run(self):
-        """Returns whether the edit is refused, and what to say of it."""
-        texts, why = self.gate.read_edit(str(self.edit), self.crate.folder)
-        if why:
-            return False, f"BAD EDIT: {why}"
-        notes = ""
-        for how, functions in self.steps():
-            ran = self.only(texts, functions) if functions else None
-            refusal = ran and self.refusal(ran, texts)
-            if refusal:
-                return True, f"{how}: {refusal}"
-            if ran and ran.returncode == UNKNOWN_NAME:
-                notes += f" (the prover has no one function of each name: {' '.join(functions)})"
-        # The judgement of the whole crate is the gate's own.
-        kind, said = self.gate.must_fail(self.crate, str(self.edit), ONE_JOB)
-        said = said.partition(": ")[2]
-        return kind in refusals(self.gate), f"the whole crate{notes}: {said}"
-
-    def run_unedited(self):
-        """Returns whether the functions that the edit changes are proved as they stand."""
-        _, functions = next(self.steps())
-        ran = self.only({}, functions)
-        return ran.returncode == 0, ran.stdout.rstrip("\n").split("\n")[-1]
-
-    def steps(self):
-        """The functions that the edit changes, and then those that name one of them, or a constant that it changes."""
-        changed, names = self.changed()
-        yield "the function", changed
-        naming = {it for file in self.sources() for it in file.naming(names)} - set(changed)
-        if naming and len(naming) <= MOST_CALLERS:
-            yield "what names it", sorted(naming)
-
-    def sources(self):
-        folder = pathlib.Path(self.crate.folder) / "src"
-        return [Source(folder, it) for it in sorted(folder.rglob("*.rt"))]
-
-    def changed(self):
-        """The functions that the texts behind `old:` stand in, and the names of these and of constants that are changed."""
-        folder, found, names, source = pathlib.Path(self.crate.folder) / "src", [], set(), None
-        for line in self.edit.read_text(encoding="utf-8").split("\n"):
-            if line.startswith("file: "):
-                path = pathlib.Path(self.crate.folder) / line[len("file: ") :].strip()
-                source = Source(folder, path) if path.is_relative_to(folder) else None
-            elif line.startswith("old: ") and source:
-                function, constant = source.function_with(line[len("old: ") :]), source.constant_with(line[len("old: ") :])
-                found += [function] if function and function not in found else []
-                names |= {it for it in (constant, function and function.rpartition("::")[2]) if it}
-        return found, names - METHODS_OF_TRAITS
-
-    def only(self, texts, functions):
-        words = [word for it in functions for word in ("--only", it)]
-        return self.gate.checked(self.crate, texts, [*ONE_JOB, *words], None)
-
-    def refusal(self, ran, texts):
-        """Returns the first open goal or error of a check of some functions, if it is the contract that refuses them."""
-        lines = ran.stdout.rstrip("\n").split("\n")
-        proved = re.fullmatch(r"only=(\d+) proved=(\d+)", lines[-1])
-        if ran.returncode != 1 or not proved or int(proved[1]) <= int(proved[2]):
-            return None
-        if any(self.gate.unread(it, texts) for it in lines):
-            return None
-        told = [it for it in lines if re.match(r"note: \S+:\d+:\d+: |\S+:\d+:\d+: error|note: `\S+` of \S+ must prove", it)]
-        # A proof that only cites a name which the edit took away says nothing of the contract.
-        told = [it for it in told if not re.search(r"has no field|is not in scope|has no `|was not admitted", it)]
-        return told[0][:150] if told else None
-
-
 # All of them -----------------------------------------------------------------------------------------------------
 
 
@@ -235,21 +156,31 @@ def most_at_once(gate):
 
 def timed(call):
     began = time.monotonic()
-    try:
-        return *call(), time.monotonic() - began
-    except Exception as error:  # pylint: disable=broad-except
-        return False, f"NOT TRIED: {error}", time.monotonic() - began
+    return call(), time.monotonic() - began
 
 
-def try_all(tries, at_once, is_unedited):
-    """Tries them side by side, a line for each as it ends. Returns how many failed."""
+def try_all(batches, at_once):
+    """Tries the edits of these batches side by side, a line for each as it ends. Returns how many failed. What a batch does not settle is tried alone."""
     failed = 0
     with ThreadPoolExecutor(at_once) as pool:
-        running = {pool.submit(timed, it.run_unedited if is_unedited else it.run): it for it in tries}
-        for ended in as_completed(running):
-            holds, said, seconds = ended.result()
-            failed += not holds
-            print(f"{'ok  ' if holds else 'FAIL'} edit {running[ended].label} ({seconds:.0f} s): {said}", flush=True)
+        running = {pool.submit(timed, it.run): it for it in batches}
+        while running:
+            for ended in wait(running, return_when=FIRST_COMPLETED).done:
+                batch, (results, seconds) = running.pop(ended), ended.result()
+                for it, (holds, said) in results.items():
+                    failed += not holds
+                    print(f"{'ok  ' if holds else 'FAIL'} edit {it.label} ({seconds:.0f} s): {said}", flush=True)
+                running |= {pool.submit(timed, it.run): it for it in batch.left(results)}
+    return failed
+
+
+def try_unedited(tries):
+    """Proves the functions that each edit changes, as they stand. Returns how many edits have one that is not proved."""
+    failed = 0
+    for it in tries:
+        holds, said = it.run_unedited()
+        failed += not holds
+        print(f"{'ok  ' if holds else 'FAIL'} edit {it.label}: {said}", flush=True)
     return failed
 
 
@@ -258,6 +189,7 @@ def main():
     parser.add_argument("names", nargs="*", metavar="NAME", help="a crate, or CRATE/EDIT (default: all)")
     parser.add_argument("--list", action="store_true", help="list the edits, and try none")
     parser.add_argument("--unedited", action="store_true", help="try the functions as they stand: each has to be proved")
+    parser.add_argument("--anew", action="store_true", help="try those again that an earlier run saw refused")
     parser.add_argument("--jobs", type=int, help="tries at a time (default: one a processor, as the memory allows)")
     arguments = parser.parse_args()
 
@@ -278,10 +210,12 @@ def main():
             print(f"edits: the libraries below are not proved as they stand here: {' '.join(lacking)}; run rt ci, or ./xp prove, first")
             failed += len(edits)
         else:
-            tries = [Try(gate, libraries.crates[it.parent.parent.name], it) for it in edits]
+            crates = [libraries.crates[it.parent.parent.name] for it in edits]
+            earlier = {it.name: None if arguments.anew else libraries.earlier(it) for it in crates}
+            tries = [Try(gate, crate, it, earlier[crate.name]) for crate, it in zip(crates, edits)]
             # The dearest begin first.
             tries.sort(key=lambda it: -len(it.crate.below()))
-            failed += try_all(tries, arguments.jobs or most_at_once(gate), arguments.unedited)
+            failed += try_unedited(tries) if arguments.unedited else try_all(batches_of(tries), arguments.jobs or most_at_once(gate))
         os.chdir(TOP)
     print(f"{len(edits) + len(others) - min(failed, len(edits) + len(others))} passed, {failed} failed")
     return 1 if failed else 0

@@ -151,8 +151,8 @@ def crowd(program, folder):
 
 
 def one_stop(program, folder):
-    """Of two stops that are sent at once the first is answered, and the exchange ends well."""
-    with Shown(program, folder) as exchange:
+    """Of two stops that are sent at once the first is answered, and the exchange ends well. The console is at `localhost`."""
+    with Shown(program, folder, "localhost") as exchange:
         came = ask(exchange, 2 * STOP)
         require(came == STOPPING, f"two stops are answered {came}")
         require(exchange.end(is_asked=False) == 0, f"it ended badly; {exchange.said()}")
@@ -164,7 +164,7 @@ def address_in_use(program, folder):
     with socket.create_server(("127.0.0.1", 0)) as taken:
         for address, wanted in (
             (f"127.0.0.1:{taken.getsockname()[1]}", "xp: console: the console's address can't be listened on\n"),
-            ("localhost", "xp: console: no console answers there\n"),
+            ("localhost", 'xp: console: "localhost" is no ADDRESS:PORT\n'),
         ):
             with Served(program, folder, station("200001", ("a1", server.free_ports(1), "")), "--console", address) as exchange:
                 status = exchange.end(is_asked=False)
@@ -234,6 +234,7 @@ def wanted_status(came, a1, h1):
         "totals": {
             "calls": 3, "events": EVENTS, "octets_received": came["totals"]["octets_received"], "octets_sent": came["totals"]["octets_sent"],
             "records_waiting": 0, "refused": [{"cause": cause, "count": int(cause == 9), "words": words} for cause, words in REFUSALS],
+            "router_refusals": [{"cause": cause, "count": 0, "words": words} for cause, words in REFUSALS],
             "segments_from_called": 1, "segments_from_callers": 2, "stalls": 0,
         },
     }
@@ -286,7 +287,8 @@ def status(program, folder):
         faults = metrics_format.Metrics().read(metrics)
         require(not faults, f"the metrics have faults: {faults}")
         check_form(exchange, lambda: shown(exchange, b"/status.txt"), wanted_table)
-        check_form(exchange, lambda: exchange.asked("status"), lambda status: (0, wanted_table(status), ""))
+        for address in (None, f"http://localhost:{exchange.console}/"):
+            check_form(exchange, lambda: exchange.asked("status", address), lambda status: (0, wanted_table(status), ""))
 
 
 def octets_of_the_known_state():
@@ -313,9 +315,9 @@ def stop(program, folder):
         records = [line.split(" ")[:10] for line in exchange.printed().splitlines()]
         wanted = "record 3 a1 h1 200003 caller 2 1 09 0".split(" ")
         require(len(records) == 3 and records[2] == wanted, f"the records are {records}")
-        for address in (None, "nowhere"):
+        for address, wanted in ((None, "no console answers there"), ("nowhere", '"nowhere" is no ADDRESS:PORT')):
             run = exchange.asked("status", address)
-            require(run == (5, "", "xp: console: no console answers there\n"), f"`xp status` of nobody ends with {run}")
+            require(run == (5, "", f"xp: console: {wanted}\n"), f"`xp status` of nobody ends with {run}")
 
 
 CHECKS = (answers, own_address, crowd, one_stop, address_in_use, status, stop)

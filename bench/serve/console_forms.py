@@ -7,6 +7,7 @@ METRICS = (
     ("calls_live", "gauge", "Calls that have not ended."),
     ("calls_total", "counter", "Call requests, with those that were refused."),
     ("refused_total", "counter", "Call requests that were refused, by the clearing cause."),
+    ("router_refusals_total", "counter", "Calls of routers that no line took, by the clearing cause."),
     ("segments_total", "counter", "Segments of ended calls, by the end that sent them."),
     ("link_octets_total", "counter", "Octets of the connections of lines."),
     ("events_total", "counter", "Events of lines."),
@@ -23,6 +24,7 @@ def wanted_metrics(status):
         "calls_live": [("", len(status["calls"]))],
         "calls_total": [("", totals["calls"])],
         "refused_total": [('{cause="%s"}' % refused["words"], refused["count"]) for refused in totals["refused"]],
+        "router_refusals_total": [('{cause="%s"}' % refused["words"], refused["count"]) for refused in totals["router_refusals"]],
         "segments_total": [
             ('{direction="from_caller"}', totals["segments_from_callers"]), ('{direction="from_called"}', totals["segments_from_called"])
         ],

@@ -1,7 +1,7 @@
 #!/usr/bin/env python3
 """The connections of lines behind routers, one situation after the other: which line a connection is given to, when it ends, what is dropped
-behind a call, and a router that connects as it is called. `routers.py` has the same at random and in number, and `waiting.py` what
-becomes of a connection before its first frame is whole.
+behind a call, and a router that connects as it is called. `routers.py` has the same at random and in number, `waiting.py` what becomes of a
+connection before its first frame is whole, and `callers.py` routers behind which several stations have lines.
 
 README.md says what is checked.
 """
@@ -30,6 +30,9 @@ SIBLINGS = ("x0", "x1", "x2")
 
 # An address that nobody has, and what a call to it is told.
 UNKNOWN, NOT_OBTAINABLE = "99", (0x0D, 67)
+
+# What a call of a router is told for which no line is free.
+BUSY = (0x01, 71)
 
 
 class Routed(Served):
@@ -99,15 +102,20 @@ def take_line(exchange, router, name):
     return call
 
 
+def is_busy(exchange, call):
+    """No line is free for the call: it is refused by a clear indication, which is told, and its connection ends as that is confirmed."""
+    peer = peer_of(call)
+    require(call.cleared() == BUSY, "a call for which no line is free is told something else")
+    call.ends()
+    exchange.wait_until_told(f"routers: connection from {peer} refused: no line is free\n")
+
+
 def lowest_free_line(program, folder):
-    """A router's call is given to its lowest line that is free; one more, and a connection of a stranger, is closed and told."""
+    """A router's call is given to its lowest line that is free; one more is refused, and a connection of a stranger closed and told."""
     with Routed(program, folder) as exchange:
         first = [take_line(exchange, exchange.first, name) for name in SIBLINGS]
         take_line(exchange, exchange.third, "z")
-        one_more = exchange.first.place(UNKNOWN, b"")
-        peer = peer_of(one_more)
-        one_more.ends()
-        exchange.wait_until_told(f"routers: connection from {peer} refused: no line is free\n")
+        is_busy(exchange, exchange.first.place(UNKNOWN, b""))
         for place in (1, 0):
             first[place].send(CLEAR_CONFIRMATION)
             first[place].ends()
@@ -179,15 +187,16 @@ def cleared_by_the_router(program, folder):
 
 
 def cleared_by_both(program, folder):
-    """The caller and the router clear at once: neither confirms, the connection ends, and the next call has a new one."""
+    """The caller and the router clear at once: the one whose clear counts first has a confirmation, the other the clear, which it does not
+    confirm. The connection ends, and the next call has a new one."""
     with Routed(program, folder) as exchange:
         exchange.third.listen()
         call = exchange.connect_calls(exchange.c)
         with exchange.held():
             exchange.c.send(CLEAR_REQUEST)
             call.send(CLEAR_REQUEST)
-        exchange.c.expect(CONFIRMATION)
-        call.expect(CLEAR)
+        told = exchange.c.receive()[2], call.receive()[2]
+        require(told in ((CONFIRMATION, CLEAR), (CLEAR, CONFIRMATION)), f"they are told {told[0]:02x} and {told[1]:02x}")
         call.ends()
         call = exchange.connect_calls(exchange.c)
         exchange.finish(2)
@@ -226,10 +235,8 @@ def connected_and_called(program, folder):
         exchange.third.listen()
         theirs, too_early = exchange.third.connect(), exchange.third.connect()
         call = exchange.connect_calls(exchange.c)
-        peer = peer_of(too_early)
         too_early.send(call_request(CALLED))
-        too_early.ends()
-        exchange.wait_until_told(f"routers: connection from {peer} refused: no line is free\n")
+        is_busy(exchange, too_early)
         exchange.c.clear()
         call.cleared()
         call.ends()
@@ -250,7 +257,7 @@ def serve(exchange, theirs):
 
 
 def connecting_and_called(program, folder):
-    """A router calls while the exchange waits for its own connection to it: the router's is closed, and the call to it comes."""
+    """A router calls while the exchange waits for its own connection to it: the router's call is refused, and the call to it comes."""
     with Routed(program, folder) as exchange:
         third = exchange.third
         # A listener whose queue is full: connections to it are neither made nor refused, until some are taken.
@@ -263,10 +270,7 @@ def connecting_and_called(program, folder):
             time.sleep(BREATH)
             exchange.c.send(call_request(ROUTED))
             time.sleep(BREATH)
-            theirs = third.place(CALLED, b"")
-            peer = peer_of(theirs)
-            theirs.ends()
-            exchange.wait_until_told(f"routers: connection from {peer} refused: no line is free\n")
+            is_busy(exchange, third.place(CALLED, b""))
             full.settimeout(PATIENCE)
             call = take_call(full)
         exchange.lines.append(call)

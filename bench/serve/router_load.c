@@ -5,7 +5,7 @@
 //   CALLS threads at FROM_ADDRESS connect to ADDRESS, PORT, again and again for SECONDS. Each call is requested to the DIALLED
 //   address, of an even number of digits, accepted by the other router, which listens at AT_ADDRESS, AT_PORT, carries DATA data
 //   packets of 128 octets, 0 to 7, each acknowledged by RR before the next, and is cleared by its caller. Then its connections end.
-//   A call whose connection was closed before it was answered, since no line was free, is counted as turned away, and tried again.
+//   A call that is cleared before it was answered, since no line was free, is counted as turned away, and tried again.
 //
 // Prints one line of JSON: calls, turned away, seconds, and the mean and the 99th percentile of the time of a call (microseconds).
 #define _GNU_SOURCE
@@ -142,8 +142,12 @@ static void send_data(int call) {
 
 // Places one call. Returns whether it was answered.
 static bool place(void) {
-  int call = connect_to_exchange();
-  bool is_answered = put_call(call) && take(call) == ACCEPTED;
+  int call = connect_to_exchange(), answer = put_call(call) ? take(call) : END;
+  bool is_answered = answer == ACCEPTED;
+  if (answer == CLEAR) {
+    put_short(call, CONFIRMATION);
+    while (take(call) != END) {}
+  }
   if (is_answered) {
     send_data(call);
     put(call, (unsigned char[]){0x10, 1, CLEAR, 0, 0}, 5);

@@ -44,6 +44,9 @@ SPREAD = 0.002
 
 CALL, ACCEPTED, CLEAR, CONFIRMATION = 0x0B, 0x0F, 0x13, 0x17
 
+# What a call is told for which no line is free, and one to a line that calls itself.
+BUSY, COLLIDED = (0x01, 71), (0x01, 72)
+
 
 class Wrong(Exception):
     """What the exchange did is not what it has to do."""
@@ -290,10 +293,12 @@ def eight_at_once(exchange):
     for token in tokens:
         callers[token].expect(ACCEPTED)
     ninth = first.place(BEHIND_SECOND, next(TOKENS))
+    if ninth.cleared() != BUSY:
+        raise Wrong("a call of a router whose lines all have one was not refused as busy")
     ninth.ends()
     caller = exchange.line(0)
     caller.send(call_request(BEHIND_SECOND))
-    if caller.cleared() != (0x01, 71):
+    if caller.cleared() != BUSY:
         raise Wrong("a call to a router whose lines all have one was not refused as busy")
     for token in tokens:
         callers[token].send(bytes.fromhex("100100") + token)
@@ -469,19 +474,18 @@ def glare_round(exchange, caller, delay):
         try:
             time.sleep(max(0, delay))
             call = third.place(CALLED, theirs)
+            peer = "%s:%d" % call.connection.getsockname()
             answer = call.receive()
             if answer[2:3] == bytes([ACCEPTED]):
                 call.clear()
                 call.ends()
                 outcome["router"] = "connected"
-            elif answer[2:3] == bytes([CLEAR]) and (answer[3], answer[4]) == (0x01, 71):
+            elif answer[2:3] == bytes([CLEAR]) and (answer[3], answer[4]) == BUSY:
                 call.send(CLEAR_CONFIRMATION)
                 call.ends()
-                outcome["router"] = "refused 01/71"
-            elif answer:
-                raise Wrong(f"the router's call was answered by {answer.hex()}")
+                outcome["router"], outcome["refused"] = "refused 01/71", peer
             else:
-                outcome["router"] = "closed"
+                raise Wrong(f"the router's call was answered by {answer.hex() or 'the end of its connection'}")
         except Wrong as wrong:
             outcome["wrong"] = wrong
             outcome["router"] = "wrong"
@@ -507,7 +511,7 @@ def glare_round(exchange, caller, delay):
     if answer[2:3] == bytes([ACCEPTED]):
         caller.clear()
         outcome["caller"] = "connected"
-    elif answer[2:3] == bytes([CLEAR]) and (answer[3], answer[4]) in ((0x01, 71), (0x01, 72)):
+    elif answer[2:3] == bytes([CLEAR]) and (answer[3], answer[4]) in (BUSY, COLLIDED):
         caller.send(CLEAR_CONFIRMATION)
         outcome["caller"] = f"refused {answer[3]:02x}/{answer[4]}"
         third.calls.put(None)
@@ -527,11 +531,13 @@ def glare(exchange, rounds, choose):
     """The router calls while it is called, again and again: each call is served or refused, once, and by its own line."""
     caller, called, third = exchange.line(0), exchange.line(1), exchange.routers[2]
     third.listen()
-    taken, outcomes, expected, cleared = [], collections.Counter(), [], threading.Semaphore(0)
+    taken, outcomes, expected, refused, cleared = [], collections.Counter(), [], [], threading.Semaphore(0)
     threading.Thread(target=collect, args=(called, taken, cleared), daemon=True).start()
     for _ in range(rounds):
         outcome, theirs = glare_round(exchange, caller, choose.uniform(-SPREAD, SPREAD))
         outcomes[outcome["caller"], outcome["router"]] += 1
+        if outcome["router"] == "refused 01/71":
+            refused.append(outcome["refused"])
         if outcome["router"] == "connected":
             expected.append(theirs)
             if not cleared.acquire(timeout=PATIENCE):
@@ -544,7 +550,14 @@ def glare(exchange, rounds, choose):
     third.leave()
     caller.close()
     called.close()
-    return rounds + sum(count for (_, theirs), count in outcomes.items() if theirs != "closed")
+    return rounds + len(expected) + len(refused) - count_without_line(exchange, refused)
+
+
+def count_without_line(exchange, peers):
+    """How many of these connections were refused since no line was free, as is told. Their calls have no record."""
+    time.sleep(0.5)
+    told = exchange.errors.read_text()
+    return sum(f"routers: connection from {peer} refused: no line is free\n" in told for peer in peers)
 
 
 def play(program, stations, checks):

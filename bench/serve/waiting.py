@@ -12,7 +12,7 @@ import time
 import urllib.request
 
 import server
-from links import CALLED, SIBLINGS, Routed, peer_of, serve
+from links import CALLED, SIBLINGS, Routed, is_busy, peer_of, serve
 from routers import ACCEPTED, BEHIND_FIRST, BREATH, CALL, CONFIRMATION, FIRST, STRANGER, THIRD, XotCall, token_in
 from server import CLEAR_REQUEST, call_request, frame
 from served import require, run_script, until
@@ -147,14 +147,15 @@ def silent_router(program, folder):
 
 
 def no_line_free(program, folder):
-    """A frame that is whole while no line is free: the connection is closed and told, and the call goes on."""
+    """A frame that is whole while no line is free: its call is refused and told, a connection without a call is closed, and the call goes on."""
     with Waited(program, folder) as exchange:
         exchange.third.listen()
         theirs = begun(exchange.third, REQUEST[:-1])
         call = exchange.connect_calls(exchange.c)
         exchange.require_no_line_for(theirs)
         theirs.connection.sendall(REQUEST[-1:])
-        is_closed(exchange, theirs, NO_LINE)
+        is_busy(exchange, theirs)
+        is_closed(exchange, begun(exchange.third, frame(CLEAR_REQUEST)), NO_LINE)
         exchange.c.clear()
         call.cleared()
         call.ends()

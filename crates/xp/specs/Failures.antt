@@ -1,23 +1,15 @@
 -- The exit status of the program where it fails.
-use Rattle.std.specs.Prelude.{◌≡◌, ◌≢◌, ℕ}
-use Rattle.clap.specs.declared.error.Error.{Error}
-use Rattle.clap.specs.Words.{kind_of}
-use Rattle.clap.specs.declared.error.kind.ErrorKind.TheVariants.{OutOfMemory}
+use Rattle.std.specs.Prelude.{ℕ}
+use Rattle.xp_commands.specs.Failures.{status_of as status_of_command}
 use Rattle.xp_serve.specs.Failures.{status_of as status_of_serving}
-use Rattle.xp_tasks.specs.Failures.{status_of as status_of_task}
 use Rattle.xp.specs.declared.failure.Failure.{Failure}
-use Rattle.xp.specs.declared.failure.Failure.TheVariants.{Arguments, Ask, Cdr, Console, Question, Refused, Serve, Task, Trace, TraceLines, Unread}
+use Rattle.xp.specs.declared.failure.Failure.TheVariants.{Cdr, Command, Console, Serve, Trace, TraceLines}
 
--- 2 for what was asked
+-- 5 for files and the console of serving
 abbrev pub status_of : Failure → ℕ
-status_of (Arguments told) = 2
-status_of (Question fault) = 2
-status_of (Task failure) = status_of_task failure
-status_of (Refused failure place) = status_of_task failure
-status_of Unread = 5
+status_of (Command failure) = status_of_command failure
 status_of (Cdr fault) = 5
 status_of (Trace fault) = 5
 status_of (TraceLines name) = 5
 status_of (Console fault) = 5
-status_of (Ask fault) = 5
 status_of (Serve failure) = status_of_serving failure

@@ -3,25 +3,15 @@
 
 ghost use Rattle.std.specs.Prelude.{◌≡◌};
 
-mod checking;
-mod console;
-mod explaining;
 mod failure;
-mod output;
-mod replaying;
+mod into_file;
 mod served_console;
 mod serving;
 mod status_feed;
-mod subscribing;
 mod tracing;
 
-use crate::checking::check_file;
-use crate::console::ask_console;
-use crate::explaining::explain_call;
 use crate::failure::Failure;
-use crate::replaying::replay_script;
 use crate::serving::{ThreeSubs, serve_lines};
-use crate::subscribing::read_subscriptions;
 use log::Log;
 use std::fs::{File, Files};
 use std::io::ErrorKind;
@@ -34,6 +24,10 @@ use std::thread::Threads;
 use std::time::Clock;
 use std::{env, fs};
 use xp_arguments::{Arguments, ServeOrder, Subcommand, refused};
+use xp_commands::{
+    CommandFailure, ask_console, check_file, explain_call, file_text, named_file, print_text,
+    read_subscriptions, replay_script,
+};
 use xp_subs::Subs;
 use xp_tasks::TaskFailure;
 
@@ -68,18 +62,40 @@ fn run<
         + 'static,
 >(rt: &R, host: HostRuntime) -> Result<(), Failure> {
     let words = words(rt)?;
-    let arguments = Arguments::read(rt.alloc(), &words)?;
+    let arguments = match Arguments::read(rt.alloc(), &words) {
+        Ok(arguments) => arguments,
+        Err(told) => return Ok(tell_version(rt, told)?),
+    };
     let operand = arguments.operand;
     match arguments.subcommand {
-        Subcommand::Check(form) => check_file(rt, form, subscriptions_in(rt, operand)?),
-        Subcommand::Replay(form) => replay_script(rt, form, operand),
+        Subcommand::Check(form) => Ok(check_file(rt, form, subscriptions_in(rt, operand)?)?),
+        Subcommand::Replay(form) => {
+            let file = named_file(rt.alloc(), operand, "standard input is the script")?;
+            Ok(replay_script(rt, form, file)?)
+        }
         Subcommand::Explain(question) => {
             let subs = subscriptions_in(rt, operand)?;
-            explain_call(rt, &subs, &question)
+            Ok(explain_call(rt, &subs, &question)?)
         }
-        Subcommand::Serve(order) => serve_file(rt, host, &order, operand),
-        Subcommand::Ask(request) => ask_console(rt, request, operand),
+        Subcommand::Serve(order) => {
+            let file = named_file(rt.alloc(), operand, "standard input stops the exchange")?;
+            serve_file(rt, host, &order, file)
+        }
+        Subcommand::Ask(request) => Ok(ask_console(rt, request, operand)?),
     }
+}
+
+/// Prints the version where these words asked for it. All else that is told of words is a failure.
+fn tell_version<R: AllocGlobal + Print>(rt: &R, told: clap::Error) -> Result<(), CommandFailure> {
+    match told.kind() {
+        clap::error::ErrorKind::DisplayVersion => print_told(rt, &told),
+        _ => Err(CommandFailure::from(told)),
+    }
+}
+
+/// Prints what is told of words on standard output.
+fn print_told<R: AllocGlobal + Print>(rt: &R, told: &clap::Error) -> Result<(), CommandFailure> {
+    print_text(rt, &told.to_string(rt.alloc())?)
 }
 
 /// Serves the lines of a subscription file.
@@ -91,7 +107,6 @@ fn serve_file<
         + Files<File = File>
         + Log
         + Net<Listener = TcpListener, Stream = TcpStream>
-        + Print
         + RandomSource
         + Send
         + Sync
@@ -107,22 +122,22 @@ fn serve_file<
     serve_lines(rt, host, order, ThreeSubs { own, names, spare })
 }
 
-/// The subscriptions of the file of this name.
-fn subscriptions_in<R: AllocGlobal + Files<File = File>>(
+/// The subscriptions of the file that a word names, which may be standard input.
+fn subscriptions_in<R: AllocGlobal + Files<File = File> + Input>(
     rt: &R,
     file: &str,
-) -> Result<Subs, Failure> {
-    read_subscriptions(rt.alloc(), &fs::read_to_string(rt, file))
+) -> Result<Subs, CommandFailure> {
+    read_subscriptions(rt.alloc(), &file_text(rt, file))
 }
 
 /// The words of the command line.
-fn words<R: AllocGlobal + Env>(rt: &R) -> Result<Vec<String>, Failure> {
+fn words<R: AllocGlobal + Env>(rt: &R) -> Result<Vec<String>, CommandFailure> {
     let alloc = rt.alloc();
     match env::args(rt) {
         Ok(words) => Ok(words.collect(alloc)?),
         Err(error) if error.kind() == ErrorKind::OutOfMemory => {
-            Err(Failure::Task(TaskFailure::Memory))
+            Err(CommandFailure::Task(TaskFailure::Memory))
         }
-        Err(_) => Err(Failure::from(refused(alloc, "an argument is not UTF-8")?)),
+        Err(_) => Err(CommandFailure::from(refused(alloc, "an argument is not UTF-8")?)),
     }
 }

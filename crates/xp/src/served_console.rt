@@ -1,6 +1,5 @@
 //! The console of the exchange that is served.
 
-use crate::console::address_of;
 use crate::failure::Failure;
 use crate::status_feed::StatusFeed;
 use std::alloc::{AllocGlobal, Global};
@@ -10,6 +9,7 @@ use std::sync::atomic::AtomicBool;
 use std::sync::{Arc, Wait};
 use std::time::Clock;
 use xp_clock::WallClock;
+use xp_commands::address_of;
 use xp_console::{Console, ConsoleService};
 use xp_observer::{BoardSource, StatusBoard};
 use xp_subs::Subs;
@@ -43,7 +43,7 @@ impl ServedConsole {
         address: &str,
     ) -> Result<ServedConsole, Failure> {
         let alloc = rt.alloc();
-        let console = Console::listen(rt, alloc, address_of(address)?)?;
+        let console = Console::listen(rt, alloc, address_of(alloc, address)?)?;
         let board = Arc::new(alloc, StatusBoard::new()).map_err(|_| TaskFailure::Memory)?;
         Ok(ServedConsole {
             own: console.address().ip(),

@@ -1,8 +1,10 @@
 //! Serving the lines over TCP.
 
-ghost use Rattle.std.specs.Prelude.{◌≡◌, []};
+ghost use Rattle.std.specs.Prelude.{◌≡◌, [], IfOk};
+ghost use Rattle.xp_serve.specs.Serving.{Serves};
 
 use crate::failure::Failure;
+use crate::into_file::serve_into_file;
 use crate::served_console::ServedConsole;
 use crate::tracing::Tracing;
 use log::Log;
@@ -18,16 +20,12 @@ use std::thread;
 use std::thread::{JoinHandle, Scope, Threads};
 use std::time::Clock;
 use xp_arguments::ServeOrder;
-use xp_cdr::{DetailFile, Opened};
 use xp_clock::WallClock;
-use xp_keeping::{
-    DetailKeeper, OperatorLog, PatientOutput, RecordKeeper, RecordPrinter, StandardOutput,
-    start_details, start_printer, write_left,
-};
+use xp_keeping::{OperatorLog, RecordKeeper, RecordPrinter, StandardOutput, start_printer};
 use xp_limits::Limits;
 use xp_serve::{
-    Attending, ConsoleFeed, NoConsole, OperatorWatch, ServeEnd, ServeFailure, StopInput,
-    TraceThread, TracedWatch, Watch, serve,
+    Attending, ConsoleFeed, NoConsole, OperatorWatch, ServeEnd, StopInput, TraceThread,
+    TracedWatch, Watch, serve_attended,
 };
 use xp_subs::Subs;
 use xp_tasks::TaskFailure;
@@ -40,7 +38,7 @@ pub(crate) struct ThreeSubs {
     pub(crate) own: Subs,
     /// Those that the records are told by.
     pub(crate) names: Subs,
-    /// Those that the records are told by which nobody kept.
+    /// Those that the records in doubt are told by.
     pub(crate) spare: Subs,
 }
 
@@ -54,7 +52,6 @@ pub(crate) fn serve_lines<
         + Files<File = File>
         + Log
         + Net<Listener = TcpListener, Stream = TcpStream>
-        + Print
         + RandomSource
         + Send
         + Sync
@@ -62,58 +59,14 @@ pub(crate) fn serve_lines<
         + Wait
         + 'static,
 >(rt: &R, host: HostRuntime, order: &ServeOrder<'_>, subs: ThreeSubs) -> Result<(), Failure>
-    requires { subs.names ≡ subs.own }
+    requires names { subs.names ≡ subs.own }
+    requires spare { subs.spare ≡ subs.own }
 {
     let clock = WallClock::start();
     match order.details {
         Some(path) => serve_into_file(rt, host, order, path, clock, subs),
         None => serve_and_print(rt, host, order, clock, subs),
     }
-}
-
-/// Serves the lines, and keeps their charging records in this file of call detail records.
-fn serve_into_file<
-    R: AllocGlobal
-        + Clock
-        + Copy
-        + Drop
-        + Files<File = File>
-        + Log
-        + Net<Listener = TcpListener, Stream = TcpStream>
-        + Print
-        + RandomSource
-        + Send
-        + Sync
-        + Threads
-        + Wait
-        + 'static,
->(
-    rt: &R,
-    host: HostRuntime,
-    order: &ServeOrder<'_>,
-    path: &str,
-    clock: WallClock,
-    subs: ThreeSubs,
-) -> Result<(), Failure>
-    requires { subs.names ≡ subs.own }
-{
-    let ThreeSubs { own, names, spare } = subs;
-    let (file, opened) = DetailFile::open(rt.alloc(), host, path)?;
-    tell_torn(rt, clock, &opened);
-    let started = moment_of_start(clock, &opened);
-    let tracing = Tracing::begin(rt, order, clock, &own)?;
-    let log = OperatorLog::new(host, order.quiet);
-    let output = StandardOutput::new(host);
-    let keeper = DetailKeeper::new(rt.alloc(), file, names, started, clock, log, output);
-    let keeper = start_details(*rt, rt.alloc(), &own, keeper)?;
-    let end = attend(rt, order, clock, own, tracing, keeper)?;
-    if end.keeper.is_given_up() {
-        let mut output = PatientOutput::new(host);
-        let written = write_left(rt.alloc(), &spare, started, end.keeper.left(), &mut output);
-        written.map_err(ServeFailure::from)?;
-    }
-    end.outcome?;
-    Ok(())
 }
 
 /// Serves the lines, and prints their charging records.
@@ -125,7 +78,6 @@ fn serve_and_print<
         + Files<File = File>
         + Log
         + Net<Listener = TcpListener, Stream = TcpStream>
-        + Print
         + RandomSource
         + Send
         + Sync
@@ -160,18 +112,9 @@ fn serve_and_print<
     Ok(())
 }
 
-/// When the run began, in seconds since 1970: now, or a second behind the run whose record is the last of the file, if that began
-/// later. So no two runs of a file have the same moment.
-fn moment_of_start(clock: WallClock, opened: &Opened) -> u64 {
-    match opened.last_started {
-        Some(last) => clock.seconds().max(last.saturating_add(1)),
-        None => clock.seconds(),
-    }
-}
-
 /// Serves the lines with this keeper of their charging records, tells what the operator has to know, and looks whether to stop.
 /// Where a console is ordered it is served beside the lines.
-fn attend<
+pub(crate) fn attend<
     R: AllocGlobal
         + Clock
         + Copy
@@ -195,6 +138,7 @@ fn attend<
 ) -> Result<ServeEnd<K>, Failure>
     requires names { K.named_by keeper ≡ subs }
     requires new { K.received keeper ≡ [] }
+    ensures { IfOk result (λ end. Serves K.kept K.keeps subs keeper end.keeper end.outcome) }
 {
     let alloc = rt.alloc();
     let notices = tracing.notices(alloc, clock.start)?;
@@ -211,7 +155,7 @@ fn attend<
             let notices = Arc::try_clone(&watching.notices)?;
             let watch = watching.watch(rt, &subs, NoConsole)?;
             let attending = Attending { keeper, watch };
-            Ok(kept_by(serve(rt, alloc, subs, order.limits, notices, attending)))
+            Ok(serve_attended(rt, alloc, subs, order.limits, notices, attending))
         }
     }
 }
@@ -246,13 +190,6 @@ impl<R: AllocGlobal + Copy + Drop + Log + Send + Threads + Wait + 'static> Watch
     }
 }
 
-/// What serving came to, with the keeper of the records alone.
-fn kept_by<K: RecordKeeper, W: Watch>(end: ServeEnd<Attending<K, W>>) -> ServeEnd<K> {
-    let ServeEnd { keeper, outcome } = end;
-    let Attending { keeper, watch: _ } = keeper;
-    ServeEnd { keeper, outcome }
-}
-
 /// Serves the lines as `attend` does, with a console at this address.
 fn attend_with_console<
     R: AllocGlobal
@@ -277,6 +214,7 @@ fn attend_with_console<
 ) -> Result<ServeEnd<K>, Failure>
     requires names { K.named_by keeper ≡ subs }
     requires new { K.received keeper ≡ [] }
+    ensures { IfOk result (λ end. Serves K.kept K.keeps subs keeper end.keeper end.outcome) }
 {
     let served = ServedConsole::listen(rt, address)?;
     let notices = Arc::try_clone(&watching.notices)?;
@@ -284,7 +222,7 @@ fn attend_with_console<
     let feed = served.feed(rt.alloc(), &subs, watching.clock, &notices)?;
     let watch = watching.watch(rt, &subs, feed)?;
     let attending = Attending { keeper, watch };
-    Ok(kept_by(serve_beside(rt, served, subs, limits, notices, attending)?))
+    serve_beside(rt, served, subs, limits, notices, attending)
 }
 
 /// Serves the lines, and the console on a thread of its own beside them.
@@ -297,16 +235,18 @@ fn serve_beside<
         + Threads
         + Wait,
     K: RecordKeeper,
+    W: Watch,
 >(
     rt: &R,
     console: ServedConsole,
     subs: Subs,
     limits: Limits,
     notices: Arc<Notices>,
-    attending: K,
+    attending: Attending<K, W>,
 ) -> Result<ServeEnd<K>, Failure>
-    requires names { K.named_by attending ≡ subs }
-    requires new { K.received attending ≡ [] }
+    requires names { K.named_by attending.keeper ≡ subs }
+    requires new { K.received attending.keeper ≡ [] }
+    ensures { IfOk result (λ end. Serves K.kept K.keeps subs attending.keeper end.keeper end.outcome) }
 {
     let is_over = Arc::new(rt.alloc(), AtomicBool::new(false)).map_err(|_| TaskFailure::Memory)?;
     let ends = Arc::try_clone(&is_over)?;
@@ -314,13 +254,14 @@ fn serve_beside<
         thread::scope_env(),
         rt,
         |scope| -> Result<ServeEnd<K>, Failure>
-            requires names { K.named_by attending ≡ subs }
-            requires new { K.received attending ≡ [] }
+            requires names { K.named_by attending.keeper ≡ subs }
+            requires new { K.received attending.keeper ≡ [] }
+            ensures { IfOk result (λ end. Serves K.kept K.keeps subs attending.keeper end.keeper end.outcome) }
         {
             let Some(running) = begin_console(rt, scope, console, ends) else {
-                return Err(Failure::Task(TaskFailure::Memory));
+                return Err(Failure::from(TaskFailure::Memory));
             };
-            let end = serve(rt, rt.alloc(), subs, limits, notices, attending);
+            let end = serve_attended(rt, rt.alloc(), subs, limits, notices, attending);
             is_over.store(true, SeqCst);
             running.join(rt);
             Ok(end)
@@ -336,19 +277,6 @@ fn begin_console<'s, E, R: Clock + Sync + Wait + 's>(
     is_over: Arc<AtomicBool>,
 ) -> Option<JoinHandle<()>> {
     scope.spawn(move || console.run(rt, &is_over)).ok()
-}
-
-/// Tells that the torn last line of a file of call detail records was cut off.
-fn tell_torn<R: Log>(rt: &R, clock: WallClock, opened: &Opened) {
-    if opened.torn > 0 {
-        OperatorLog::new(rt, false).warn(
-            clock.seconds(),
-            format_args!(
-                "cdr: a torn last line of {} octets was cut off",
-                opened.torn
-            ),
-        );
-    }
 }
 
 /// Tells that standard output took nothing, and how many charging records were lost with it.

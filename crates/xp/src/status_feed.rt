@@ -2,6 +2,7 @@
 
 use std::alloc::{AllocError, Global};
 use std::sync::Arc;
+use xp_causes::Refusal;
 use xp_charge::Record;
 use xp_clock::WallClock;
 use xp_observer::{Observer, StatusBoard, Traffic};
@@ -56,6 +57,10 @@ impl ConsoleFeed for StatusFeed {
                 self.observer.came_up(*line, *peer);
             }
             Notice::Down { line } | Notice::Closed { line } => self.observer.went_down(*line),
+            Notice::NoCaller { .. } => self
+                .observer
+                .router_refused(Refusal::CALLER_NOT_KNOWN.cause),
+            Notice::NoFreeLine { .. } => self.observer.router_refused(Refusal::NUMBER_BUSY.cause),
             _ => {}
         }
     }

@@ -89,13 +89,13 @@ fn traced_lines(
 fn failure_of_names(fault: NamesFault) -> Failure {
     match fault {
         NamesFault::Unknown(name) => Failure::TraceLines(name),
-        NamesFault::Memory => Failure::Task(TaskFailure::Memory),
+        NamesFault::Memory => Failure::from(TaskFailure::Memory),
     }
 }
 
 fn failure_of_trace(fault: TraceFault) -> Failure {
     match fault {
-        TraceFault::Memory => Failure::Task(TaskFailure::Memory),
+        TraceFault::Memory => Failure::from(TaskFailure::Memory),
         TraceFault::Write => Failure::Trace(TraceFileFault::Write),
     }
 }

@@ -1,7 +1,9 @@
 -- The command lines that the program takes, as `clap` reads them.
-use Rattle.std.specs.Prelude.{◌≡◌, ℕ, List, [], Bool, Option, Some, None, true, false, codes, option_map}
-use Rattle.clap.specs.Words.{App, Row, Rule, Text, fault_of, first_of, new_app, new_rule, subcommand_of, with_rule, with_subcommand}
+use Rattle.std.specs.Prelude.{◌≡◌, ℕ, List, [], ◌∷◌, Bool, Option, Some, None, true, false, codes, option_map}
+use Rattle.clap.specs.Kinds.{or_else}
+use Rattle.clap.specs.Words.{App, Kinds, Row, Rule, Text, fault_of, first_of, new_app, new_rule, subcommand_of, with_rule, with_subcommand}
 use Rattle.clap.specs.declared.builder.action.ArgAction.TheVariants.{SetTrue}
+use Rattle.clap.specs.declared.error.kind.ErrorKind.TheVariants.{InvalidValue}
 use Rattle.xp_arguments.specs.declared.subcommand.CheckForm.{CheckForm}
 use Rattle.xp_arguments.specs.declared.subcommand.CheckForm.TheVariants as check_forms
 use Rattle.xp_arguments.specs.declared.subcommand.ConsoleRequest.{ConsoleRequest}
@@ -61,15 +63,15 @@ check = with_rule (command_of Check) (flag (codes "words"))
 abbrev pub replay : App
 replay = with_rule (with_rule (with_rule (command_of Replay) (flag (codes "words"))) (flag (codes "ladder"))) (valued (codes "pcap"))
 
--- the command that explains a decision, with the calling line and the address
+-- the command that explains a decision, with the call request
 abbrev pub call : App
-call = with_rule (with_rule (command_of Explain) (positional (codes "CALLER"))) (positional (codes "DIALLED"))
+call =
+    with_rule (with_rule (with_rule (with_rule (command_of Explain) (positional (codes "CALLER"))) (positional (codes "DIALLED"))) (valued (codes "facilities")))
+    (valued (codes "user"))
 
--- with the rest of the call request, and the states of the lines
+-- with the states of the lines, and whether the exit status tells of a refusal
 abbrev pub explain : App
-explain =
-    with_rule (with_rule (with_rule (with_rule call (valued (codes "facilities"))) (valued (codes "user"))) (valued (codes "up")))
-    (valued (codes "busy"))
+explain = with_rule (with_rule (with_rule call (valued (codes "up"))) (valued (codes "busy"))) (flag (codes "status"))
 
 -- the command that serves, with the arguments that tell of records
 abbrev pub recording : App
@@ -85,9 +87,9 @@ serve =
     with_rule (with_rule (with_rule (with_rule tracing (valued (codes "turns"))) (valued (codes "console"))) (flag (codes "quiet")))
     (flag (codes "until-eof"))
 
--- a command of which something has to be asked
+-- a command of which something has to be asked, and which has a version
 abbrev pub asked : App → App
-asked app = record app { top = record app.top { subcommand_required = true; arg_required_else_help = true } }
+asked app = record app { top = record app.top { subcommand_required = true; arg_required_else_help = true; has_version = true } }
 
 -- the program with the commands that check a file and replay a script
 abbrev pub replaying : App
@@ -137,6 +139,7 @@ pub record IsQuestion (rows : List Row) (question : QuestionOrder) : Type 0 wher
   pub user : option_map (λ text. text.now) question.user ≡ first_of (codes "user") rows
   pub up : option_map (λ text. text.now) question.up ≡ first_of (codes "up") rows
   pub busy : option_map (λ text. text.now) question.busy ≡ first_of (codes "busy") rows
+  pub status : question.status ≡ has_flag (codes "status") rows
 
 -- the arguments say when serving ends
 abbrev pub HasLimits : List Row → Limits → Type 0
@@ -201,3 +204,7 @@ pub record Ask (words : List Text) (subcommand : Subcommand) (name : List ℕ) :
 -- words that ask for something
 abbrev pub AreRight : List Text → Type 0
 AreRight words = (subcommand : Subcommand) × (name : List ℕ) × Ask words subcommand name
+
+-- the kinds of the error that words may have: those of their first fault, or that they ask for nothing
+abbrev pub kinds_of : List Text → Kinds
+kinds_of words = or_else (fault_of program words) (InvalidValue ∷ [])

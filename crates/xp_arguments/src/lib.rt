@@ -1,12 +1,18 @@
 //! The command line of the program: its subcommands, and what they are given.
 #![tactic(auto)]
 
+mod addresses;
 mod arguments;
 mod laws;
+mod misfits;
+mod source;
 mod subcommand;
+mod texts;
 
+pub use addresses::{console_address, no_console_address};
 pub use arguments::{Arguments, refused};
 pub use laws::errands_can_be_asked_for;
+pub use source::FileSource;
 pub use subcommand::{
     CheckForm, ConsoleRequest, QuestionOrder, ReplayForm, ServeOrder, Subcommand, TraceOrder, Verb,
 };

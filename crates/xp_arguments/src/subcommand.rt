@@ -40,6 +40,9 @@ pub const UP: &str = "up";
 /// The argument for the lines that are in a call.
 pub const BUSY: &str = "busy";
 
+/// The argument by which the exit status tells whether a call request is refused.
+pub const STATUS: &str = "status";
+
 /// The argument for the file of call detail records.
 pub const CDR: &str = "cdr";
 
@@ -156,6 +159,8 @@ pub struct QuestionOrder<'a> {
     pub up: Option<&'a str>,
     /// The names of the lines that are in a call, with commas between them; where absent none is.
     pub busy: Option<&'a str>,
+    /// Whether the exit status tells that the call request is refused.
+    pub status: bool,
 }
 
 /// What is to be traced as lines are served.
@@ -303,6 +308,7 @@ fn question_of<'a>(matches: &ArgMatches<'a>) -> Option<QuestionOrder<'a>>
     let user = matches.get_str(USER);
     let up = matches.get_str(UP);
     let busy = matches.get_str(BUSY);
+    let status = is_true(matches, STATUS);
     Some(QuestionOrder {
         caller,
         dialled,
@@ -310,6 +316,7 @@ fn question_of<'a>(matches: &ArgMatches<'a>) -> Option<QuestionOrder<'a>>
         user,
         up,
         busy,
+        status,
     })
 }
 
@@ -365,7 +372,7 @@ fn limits_of(matches: &ArgMatches) -> Option<Limits>
 }
 
 /// Whether an argument that is there or not is there.
-fn is_true(matches: &ArgMatches, name: &str) -> bool
+pub(crate) fn is_true(matches: &ArgMatches, name: &str) -> bool
     ensures { result ≡ says_true (first_of name.now (rows_of (found_of matches.now))) }
 {
     match matches.get_str(name) {

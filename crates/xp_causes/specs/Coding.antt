@@ -60,6 +60,7 @@ pub record DiagnosticsAreCoded : Type 0 where
   pub facility_code_not_allowed : diagnostic.FACILITY_CODE_NOT_ALLOWED ≡ 65
   pub facility_parameter_not_allowed : diagnostic.FACILITY_PARAMETER_NOT_ALLOWED ≡ 66
   pub invalid_called_address : diagnostic.INVALID_CALLED_ADDRESS ≡ 67
+  pub invalid_calling_address : diagnostic.INVALID_CALLING_ADDRESS ≡ 68
   pub invalid_facility_length : diagnostic.INVALID_FACILITY_LENGTH ≡ 69
   pub incoming_call_barred : diagnostic.INCOMING_CALL_BARRED ≡ 70
   pub no_logical_channel_available : diagnostic.NO_LOGICAL_CHANNEL_AVAILABLE ≡ 71
@@ -78,6 +79,7 @@ pub record RefusalsAreCoded : Type 0 where
   pub access_barred : indicated refusal.ACCESS_BARRED ≡ (0x0b, 0)
   pub group_not_known : indicated refusal.GROUP_NOT_KNOWN ≡ (0x0b, 66)
   pub address_not_known : indicated refusal.ADDRESS_NOT_KNOWN ≡ (0x0d, 67)
+  pub caller_not_known : indicated refusal.CALLER_NOT_KNOWN ≡ (0x0b, 68)
   pub incoming_calls_barred : indicated refusal.INCOMING_CALLS_BARRED ≡ (0x0b, 70)
   pub reverse_charging_not_accepted : indicated refusal.REVERSE_CHARGING_NOT_ACCEPTED ≡ (0x19, 0)
   pub fast_select_not_accepted : indicated refusal.FAST_SELECT_NOT_ACCEPTED ≡ (0x29, 0)

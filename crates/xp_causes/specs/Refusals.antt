@@ -3,7 +3,7 @@ use Rattle.std.specs.Prelude.{ℕ, ◌<◌, List, [], ◌∷◌, All}
 use Rattle.xp_causes.specs.declared.refusal.Refusal.{Refusal}
 use Rattle.xp_causes.specs.declared.refusal.TheConstants.Refusal.{FACILITY_LENGTH, FACILITY_NOT_ALLOWED, FACILITY_PARAMETER, USER_DATA_TOO_LONG, ACCESS_BARRED, GROUP_NOT_KNOWN, ADDRESS_NOT_KNOWN, INCOMING_CALLS_BARRED, REVERSE_CHARGING_NOT_ACCEPTED, FAST_SELECT_NOT_ACCEPTED, OUT_OF_ORDER, NUMBER_BUSY, TOO_MANY_REDIRECTIONS}
 
--- all of them
+-- those of the decision of a call request
 abbrev pub call_refusals : List Refusal
 call_refusals =
     FACILITY_LENGTH

@@ -50,6 +50,8 @@ pub const FACILITY_CODE_NOT_ALLOWED: u8 = 65;
 pub const FACILITY_PARAMETER_NOT_ALLOWED: u8 = 66;
 /// Invalid called address.
 pub const INVALID_CALLED_ADDRESS: u8 = 67;
+/// Invalid calling address.
+pub const INVALID_CALLING_ADDRESS: u8 = 68;
 /// Invalid facility length.
 pub const INVALID_FACILITY_LENGTH: u8 = 69;
 /// Incoming call barred.

@@ -50,6 +50,12 @@ impl Refusal {
         diagnostic: diagnostic::INVALID_CALLED_ADDRESS,
     };
 
+    /// No line behind the caller's router is of the calling address.
+    pub const CALLER_NOT_KNOWN: Refusal = Refusal {
+        cause: clearing_cause::ACCESS_BARRED,
+        diagnostic: diagnostic::INVALID_CALLING_ADDRESS,
+    };
+
     /// The called station has incoming calls barred.
     pub const INCOMING_CALLS_BARRED: Refusal = Refusal {
         cause: clearing_cause::ACCESS_BARRED,

@@ -66,15 +66,19 @@ calls_text status =
     live_text status.calls.items
     ++ single_text (codes "gonukire_calls_total") (codes "counter") (codes "Call requests, with those that were refused.") status.totals.calls
 
--- how many call requests were refused with this cause
-unfoldable pub refused_sample : ℕ × ℕ → List ℕ
-refused_sample refused =
-    labelled_text (codes "gonukire_refused_total") (codes "cause") (cause_text refused.0) refused.1
+-- how many calls were refused with this cause
+unfoldable pub cause_sample : List ℕ → ℕ × ℕ → List ℕ
+cause_sample name refused = labelled_text name (codes "cause") (cause_text refused.0) refused.1
 
-unfoldable pub refused_text : RefusedCalls → List ℕ
-refused_text refused =
-    head_text (codes "gonukire_refused_total") (codes "counter") (codes "Call requests that were refused, by the clearing cause.")
-    ++ flat_map refused_sample (by_cause refused)
+-- calls that were refused, by the clearing cause
+unfoldable pub causes_text : List ℕ → List ℕ → RefusedCalls → List ℕ
+causes_text name help refused = head_text name (codes "counter") help ++ flat_map (cause_sample name) (by_cause refused)
+
+-- call requests of lines, and calls of routers that no line took
+unfoldable pub refused_text : Totals → List ℕ
+refused_text totals =
+    causes_text (codes "gonukire_refused_total") (codes "Call requests that were refused, by the clearing cause.") totals.refused
+    ++ causes_text (codes "gonukire_router_refusals_total") (codes "Calls of routers that no line took, by the clearing cause.") totals.router_refusals
 
 -- how many there are of two kinds, such as directions
 unfoldable pub directions_text : List ℕ → List ℕ → ℕ → List ℕ → ℕ → List ℕ
@@ -106,6 +110,6 @@ waiting_text totals =
 -- all metrics
 unfoldable pub metrics_text : ExchangeStatus → List ℕ
 metrics_text status =
-    lines_text status.lines.items ++ calls_text status ++ refused_text status.totals.refused
+    lines_text status.lines.items ++ calls_text status ++ refused_text status.totals
     ++ segments_text status.totals ++ octets_text status.totals ++ events_text status.totals
     ++ waiting_text status.totals

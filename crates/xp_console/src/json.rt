@@ -116,6 +116,7 @@ fn totals_value(alloc: Global, totals: &Totals) -> Result<Value, AllocError>
         "octets_sent": totals.octets_sent,
         "records_waiting": totals.records_waiting,
         "refused": causes_value(alloc, &totals.refused.by_cause())?,
+        "router_refusals": causes_value(alloc, &totals.router_refusals.by_cause())?,
         "segments_from_called": totals.segments_from_called,
         "segments_from_callers": totals.segments_from_callers,
         "stalls": totals.stalls,

@@ -1,7 +1,7 @@
 //! The counts in Prometheus' text format.
 
 ghost use Rattle.std.specs.Prelude.{◌≡◌, ◌++◌, decimal, flat_map, IfOk, OnOk, string_bytes};
-ghost use Rattle.xp_console.specs.Metrics.{calls_text, count_in, directions_text, events_text, head_text, is_same_state, labelled_text, lines_text, live_text, metrics_text, octets_text, refused_sample, refused_text, sample_text, segments_text, single_text, state_sample, waiting_text};
+ghost use Rattle.xp_console.specs.Metrics.{calls_text, count_in, directions_text, events_text, head_text, is_same_state, labelled_text, lines_text, live_text, metrics_text, octets_text, cause_sample, causes_text, refused_text, sample_text, segments_text, single_text, state_sample, waiting_text};
 
 use crate::refused::RefusedCalls;
 use crate::status::{ExchangeStatus, LineState, LineStatus, LiveCall, Totals};
@@ -16,6 +16,8 @@ const COUNTER: &str = "counter";
 const LINES: &str = "gonukire_lines";
 
 const REFUSED: &str = "gonukire_refused_total";
+
+const ROUTER_REFUSALS: &str = "gonukire_router_refusals_total";
 
 const SEGMENTS: &str = "gonukire_segments_total";
 
@@ -38,7 +40,7 @@ pub(crate) fn status_metrics(alloc: Global, status: &ExchangeStatus) -> Result<S
     let mut text = String::new(alloc);
     push_lines(&mut text, &status.lines)?;
     push_calls(&mut text, status)?;
-    push_refused(&mut text, &status.totals.refused)?;
+    push_refused(&mut text, &status.totals)?;
     push_segments(&mut text, &status.totals)?;
     push_octets(&mut text, &status.totals)?;
     push_events(&mut text, &status.totals)?;
@@ -122,31 +124,45 @@ fn push_live(text: &mut String, calls: &[LiveCall]) -> Result<(), AllocError>
     )
 }
 
-/// How many call requests were refused, by the clearing cause.
-fn push_refused(text: &mut String, refused: &RefusedCalls) -> Result<(), AllocError>
-    ensures { OnOk result (string_bytes text.new ≡ string_bytes text.old ++ refused_text refused.now) }
+/// How many call requests were refused, and how many calls of routers no line took, by the clearing cause.
+fn push_refused(text: &mut String, totals: &Totals) -> Result<(), AllocError>
+    ensures { OnOk result (string_bytes text.new ≡ string_bytes text.old ++ refused_text totals.now) }
 {
     let help = "Call requests that were refused, by the clearing cause.";
-    push_head(text, REFUSED, COUNTER, help)?;
-    push_causes(text, &refused.by_cause())
+    push_by_cause(text, REFUSED, help, &totals.refused)?;
+    let help = "Calls of routers that no line took, by the clearing cause.";
+    push_by_cause(text, ROUTER_REFUSALS, help, &totals.router_refusals)
 }
 
-/// How many call requests were refused with each of these causes.
-fn push_causes(text: &mut String, counts: &[(u8, u64)]) -> Result<(), AllocError>
-    ensures { OnOk result (string_bytes text.new ≡ string_bytes text.old ++ flat_map refused_sample counts.now) }
+/// How many calls were refused, by the clearing cause.
+fn push_by_cause(
+    text: &mut String,
+    name: &str,
+    help: &str,
+    refused: &RefusedCalls,
+) -> Result<(), AllocError>
+    ensures { OnOk result (string_bytes text.new ≡ string_bytes text.old ++ causes_text name.now help.now refused.now) }
+{
+    push_head(text, name, COUNTER, help)?;
+    push_causes(text, name, &refused.by_cause())
+}
+
+/// How many calls were refused with each of these causes.
+fn push_causes(text: &mut String, name: &str, counts: &[(u8, u64)]) -> Result<(), AllocError>
+    ensures { OnOk result (string_bytes text.new ≡ string_bytes text.old ++ flat_map (cause_sample name.now) counts.now) }
 {
     for count in counts {
-        push_cause(text, count.0, count.1)?;
+        push_cause(text, name, count.0, count.1)?;
     }
     Ok(())
 }
 
-/// How many call requests were refused with this cause.
-#[tactic(auto, unfolding(crate::specs::Metrics::refused_sample))]
-fn push_cause(text: &mut String, cause: u8, count: u64) -> Result<(), AllocError>
-    ensures { OnOk result (string_bytes text.new ≡ string_bytes text.old ++ refused_sample (cause, count)) }
+/// How many calls were refused with this cause.
+#[tactic(auto, unfolding(crate::specs::Metrics::cause_sample))]
+fn push_cause(text: &mut String, name: &str, cause: u8, count: u64) -> Result<(), AllocError>
+    ensures { OnOk result (string_bytes text.new ≡ string_bytes text.old ++ cause_sample name.now (cause, count)) }
 {
-    push_labelled(text, REFUSED, "cause", cause_text(cause), count)
+    push_labelled(text, name, "cause", cause_text(cause), count)
 }
 
 /// How many segments ended calls had, by the end that sent them.

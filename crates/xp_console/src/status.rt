@@ -118,6 +118,8 @@ pub struct Totals {
     pub calls: u64,
     /// Call requests that were refused, by the cause.
     pub refused: RefusedCalls,
+    /// Calls of routers that no line took, by the cause. They are no call requests of a line, and have no number.
+    pub router_refusals: RefusedCalls,
     pub segments_from_callers: u64,
     pub segments_from_called: u64,
     /// Events of lines.

@@ -1,1 +1,3 @@
 mod Openings
+mod RouterCalls
+mod Stations

@@ -1,7 +1,7 @@
 -- What an operator is to know of the lines' connections.
 use Rattle.std.specs.Prelude.{ℕ, Option, None, Some}
 use Rattle.xp_door.specs.declared.notices.Notice.{Notice}
-use Rattle.xp_door.specs.declared.notices.Notice.TheVariants.{Closed, Connected, DoorFailing, DoorWorks, Down, EndedEarly, HasOne, MoreRefused, NoFrame, NoFraming, NoFreeLine, NoRoom, NoRouter, NotConnected, PortFailing, PortWorks, Refused, Replaced, Up}
+use Rattle.xp_door.specs.declared.notices.Notice.TheVariants.{Closed, Connected, DoorFailing, DoorWorks, Down, EndedEarly, HasOne, MoreRefused, NoCaller, NoFrame, NoFraming, NoFreeLine, NoRoom, NoRouter, NotConnected, PortFailing, PortWorks, Refused, Replaced, Up}
 
 -- the line that a notice is of; none where it is of the port for routers
 abbrev pub line_of : Notice → Option ℕ
@@ -18,6 +18,7 @@ line_of (PortFailing line) = Some line
 line_of (PortWorks line) = Some line
 line_of (NoRouter peer) = None
 line_of (NoFreeLine peer) = None
+line_of (NoCaller peer) = None
 line_of (NoRoom peer) = None
 line_of (NoFrame peer) = None
 line_of (NoFraming peer) = None

@@ -1,7 +1,12 @@
 //! Connections of routers that wait for their first frame.
 
+ghost use Rattle.std.specs.Prelude.{List, ℕ};
+ghost use Rattle.std.specs.Net.Socket.{socket_ip};
+ghost use Rattle.xp_door.specs.steps.Choices.{IsStanding};
+
 use crate::notices::Notice;
 use crate::opening::{Opening, opening_of};
+use crate::router_call::RouterCall;
 use crate::router_line::Arrival;
 use mio::{Interest, Registry, Token};
 use std::alloc::{AllocError, Global};
@@ -30,12 +35,12 @@ struct Caller {
 }
 
 /// What has become of a connection that waits.
-#[derive(Clone, Copy, PartialEq)]
+#[derive(Drop)]
 enum Standing {
     /// Its first frame is not whole yet.
     Waits,
-    /// Its first frame is whole.
-    Calls,
+    /// Its first frame is whole, and has this call request, or else none.
+    Calls(Option<RouterCall>),
     /// It is to be closed, which is told so.
     Over(Notice),
 }
@@ -45,8 +50,8 @@ enum Standing {
 pub(crate) enum Heard {
     /// It still waits.
     Nothing,
-    /// Its first frame has come. None of its octets is read yet.
-    Call(Arrival),
+    /// Its first frame has come, with this call request, or else none. None of its octets is read yet.
+    Call(Arrival, Option<RouterCall>),
     /// It was closed, which is to be told so.
     Closed(Notice),
 }
@@ -112,11 +117,11 @@ impl Callers {
                 Ok(()) => Heard::Nothing,
                 Err(_) => Heard::Closed(Notice::NoRoom { peer }),
             },
-            Standing::Calls => {
+            Standing::Calls(call) => {
                 let mut arrival = caller.arrival;
                 // It fails only where the door did not wait for the connection.
                 let _ = waits.deregister(&mut arrival.stream);
-                Heard::Call(arrival)
+                Heard::Call(arrival, call)
             }
             Standing::Over(notice) => Heard::Closed(notice),
         }
@@ -138,17 +143,24 @@ impl Caller {
     }
 
     /// What has become of it, where these octets have come.
-    fn standing_by(&self, alloc: Global, octets: &[u8], now: Duration) -> Standing {
+    fn standing_by(&self, alloc: Global, octets: &[u8], now: Duration) -> Standing
+        ensures { IsStanding (socket_ip self.now.arrival.peer) octets.now result }
+    {
         let peer = self.arrival.peer;
         match opening_of(alloc, octets) {
-            Ok(Opening::Packet(_)) => Standing::Calls,
+            Ok(Opening::Packet(packet)) => match RouterCall::of(alloc, peer.ip(), &packet) {
+                Ok(call) => Standing::Calls(call),
+                Err(_) => self.standing_in_time(now),
+            },
             Ok(Opening::BadHeader) => Standing::Over(Notice::NoFraming { peer }),
             Ok(Opening::Partial) | Err(_) => self.standing_in_time(now),
         }
     }
 
     /// What has become of it, where its first frame is not whole.
-    fn standing_in_time(&self, now: Duration) -> Standing {
+    fn standing_in_time(&self, now: Duration) -> Standing
+        ensures { (octets : List ℕ) → IsStanding (socket_ip self.now.arrival.peer) octets result }
+    {
         let peer = self.arrival.peer;
         if now.saturating_sub(self.since) < Duration::from_secs(LONGEST_WAIT) {
             Standing::Waits

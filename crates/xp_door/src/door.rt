@@ -1,10 +1,16 @@
 //! The TCP port that routers connect to.
 
+ghost use Rattle.std.specs.Net.Socket.{socket_ip};
+ghost use Rattle.std.specs.Prelude.{◌≡◌, IfOk, map};
+ghost use Rattle.xp_door.specs.steps.Choices.{IsGiven, candidate_of};
+
 use crate::callers::{Callers, Heard};
-use crate::choosing::{Candidate, is_router, line_for};
+use crate::choosing::{Candidate, Choice, choose, is_router, line_for};
 use crate::connect_fault::ConnectFault;
 use crate::door_bell::DoorBell;
 use crate::notices::{Notice, Notices};
+use crate::refused_calls::RefusedCalls;
+use crate::router_call::RouterCall;
 use crate::router_line::{Arrival, RouterLine};
 use crate::wakers::LineWaker;
 use crate::want::is_in_want;
@@ -15,6 +21,7 @@ use std::io::ErrorKind;
 use std::net::Net;
 use std::sync::{Arc, Wait};
 use std::time::Duration;
+use xp_causes::Refusal;
 use xp_clock::uptime;
 
 /// How many connections are taken at most before the lines are looked at again.
@@ -29,8 +36,8 @@ const LONGEST_SLEEP: u64 = 500;
 /// The door of the lines behind routers: it listens at one TCP port for all routers. A connection waits with it until its first frame
 /// is whole, and is then given to a line behind the router that it comes from. It begins the connections to routers that lines wait
 /// for. It waits for no line and no router.
-#[derive(Drop)]
 pub struct Door {
+    alloc: Global,
     listener: TcpListener,
     poll: Poll,
     /// Room for what the thread was woken by, which is not looked at.
@@ -40,11 +47,31 @@ pub struct Door {
     /// The same lines as they were last looked at.
     candidates: Vec<Candidate>,
     callers: Callers,
+    refused: RefusedCalls,
     wakers: Arc<Vec<LineWaker>>,
     notices: Arc<Notices>,
     bell: Arc<DoorBell>,
     /// No connection could be accepted, for want of descriptors or of memory, and none was since.
     is_failing: bool,
+}
+
+impl Drop for Door {
+    fn drop(self) {
+        let Door {
+            alloc: _,
+            listener: _,
+            poll: _,
+            events: _,
+            lines: _,
+            candidates: _,
+            callers: _,
+            refused: _,
+            wakers: _,
+            notices: _,
+            bell: _,
+            is_failing: _,
+        } = self;
+    }
 }
 
 /// What a door is made of, before its lines are known.
@@ -74,12 +101,14 @@ impl Door {
             port: _,
         } = sockets;
         Ok(Door {
+            alloc,
             listener,
             poll,
             events,
             lines,
             candidates,
             callers: Callers::new(alloc),
+            refused: RefusedCalls::new(alloc),
             wakers,
             notices,
             bell,
@@ -122,7 +151,7 @@ impl Door {
         }
         for place in 0..self.lines.len() {
             if let Some(back) = self.begin_for(rt, place) {
-                self.give(back);
+                self.receive(back);
             }
         }
     }
@@ -183,37 +212,74 @@ impl Door {
         }
     }
 
-    /// Looks at each connection that waits for its first frame.
+    /// Looks at each connection that waits for its first frame, and at those whose calls are refused.
     fn hear_callers(&mut self) {
         let count = self.callers.count();
-        if count == 0 {
+        if count == 0 && self.refused.is_empty() {
             return;
         }
         let now = uptime().unwrap_or(Duration::MAX);
         for _caller in 0..count {
             match self.callers.hear(self.poll.registry(), now) {
                 Heard::Nothing => {}
-                Heard::Call(arrival) => self.give(arrival),
+                Heard::Call(arrival, call) => self.give(arrival, call),
                 Heard::Closed(notice) => self.notices.tell(notice),
             }
         }
+        self.refused.look(now);
     }
 
-    /// Gives a connection to a line behind its router. Where none is free it is closed.
-    fn give(&mut self, arrival: Arrival) {
-        let peer = arrival.peer;
+    /// Gives a connection to the line that takes its call, or where it opens with no call request, to a line behind its router. Where
+    /// there is none it is refused.
+    fn give(&mut self, arrival: Arrival, call: Option<RouterCall>) {
         let mut left = Some(arrival);
+        let mut choice = Choice::NoFreeLine;
         for _choice in 0..MOST_CHOICES {
-            self.look();
-            let Some(place) = line_for(peer.ip(), self.candidates.as_slice()) else {
-                break;
-            };
-            left = self.hand(place, left);
-            if left.is_none() {
+            let Some(arrival) = left else {
                 return;
+            };
+            self.look();
+            choice = self.choice_of(&arrival, &call);
+            left = Some(arrival);
+            match choice {
+                Choice::Line(place) => left = self.hand(place, left),
+                Choice::NoFreeLine | Choice::NoCaller => break,
             }
         }
-        self.notices.tell(Notice::NoFreeLine { peer });
+        if let Some(arrival) = left {
+            self.refuse(arrival, call, choice.refusal());
+        }
+    }
+
+    /// Which line takes a connection.
+    fn choice_of(&self, arrival: &Arrival, call: &Option<RouterCall>) -> Choice
+        ensures { IsGiven (socket_ip arrival.now.peer) call.now self.now.candidates.items result }
+    {
+        let candidates = self.candidates.as_slice();
+        match call {
+            Some(call) => choose(call, candidates),
+            None => match line_for(arrival.peer.ip(), candidates) {
+                Some(place) => Choice::Line(place),
+                None => Choice::NoFreeLine,
+            },
+        }
+    }
+
+    /// Refuses a connection, which is told: its call by a clear indication, and one without a call by its end.
+    fn refuse(&mut self, arrival: Arrival, call: Option<RouterCall>, refusal: Refusal) {
+        let Arrival { stream, peer } = arrival;
+        self.notices.tell(if refusal == Refusal::CALLER_NOT_KNOWN {
+            Notice::NoCaller { peer }
+        } else {
+            Notice::NoFreeLine { peer }
+        });
+        let Some(call) = call else {
+            return;
+        };
+        if let Some(frame) = call.refusal(self.alloc, refusal) {
+            let now = uptime().unwrap_or(Duration::MAX);
+            self.refused.add(self.poll.registry(), stream, &frame, now);
+        }
     }
 
     /// Hands a connection to a line. It comes back where the line can't take it.
@@ -258,14 +324,14 @@ impl Door {
 }
 
 /// The lines as a connection's choice sees them, none of them free before they are looked at.
-fn candidates_of(
-    alloc: Global,
-    lines: &Vec<Arc<RouterLine>>,
-) -> Result<Vec<Candidate>, AllocError> {
+fn candidates_of(alloc: Global, lines: &Vec<Arc<RouterLine>>) -> Result<Vec<Candidate>, AllocError>
+    ensures { IfOk result (λ candidates. candidates.items ≡ map (λ line. candidate_of line.value) lines.now.items) }
+{
     let mut candidates = Vec::with_capacity(alloc, lines.len())?;
     for line in lines {
         candidates.push(Candidate {
             router: line.router.ip(),
+            caller: line.caller.copy(),
             is_free: false,
         })?;
     }

@@ -49,8 +49,10 @@ pub enum Notice {
     PortWorks { line: LineNo },
     /// A connection to the routers' port was closed: its address is that of no line's router.
     NoRouter { peer: SocketAddr },
-    /// A connection to the routers' port was closed: each line behind its router has one.
+    /// A connection to the routers' port was refused: each line that may take its call has one.
     NoFreeLine { peer: SocketAddr },
+    /// A call of a router was refused: no line behind it is of the calling address.
+    NoCaller { peer: SocketAddr },
     /// A connection to the routers' port was closed: too many wait for their first frame.
     NoRoom { peer: SocketAddr },
     /// A connection to the routers' port was closed: its first frame was not whole in 10 seconds.
@@ -84,6 +86,7 @@ impl Notice {
             | Notice::PortWorks { line } => Some(*line),
             Notice::NoRouter { .. }
             | Notice::NoFreeLine { .. }
+            | Notice::NoCaller { .. }
             | Notice::NoRoom { .. }
             | Notice::NoFrame { .. }
             | Notice::NoFraming { .. }
@@ -127,6 +130,10 @@ impl fmt::Display for Notice {
             Notice::NoFreeLine { peer } => {
                 write!(f, "connection from {peer} refused: no line is free")
             }
+            Notice::NoCaller { peer } => write!(
+                f,
+                "call from {peer} refused: no line is of its calling address"
+            ),
             Notice::NoRoom { peer } => write!(
                 f,
                 "connection from {peer} refused: too many wait for their first frame"

@@ -4,6 +4,7 @@ ghost use Rattle.std.specs.Prelude.{◌≡◌, IfOk};
 ghost use Rattle.std.specs.Net.Socket.{socket_ip};
 ghost use Rattle.xp_door.specs.Hosts.{IsSameHost};
 
+use crate::choosing::Caller;
 use crate::connect_fault::ConnectFault;
 use crate::door_bell::DoorBell;
 use crate::hosts::is_same_host;
@@ -59,6 +60,8 @@ pub struct RouterLine {
     pub line: LineNo,
     /// Where the router takes connections. It makes its own from this address, and any port.
     pub router: SocketAddr,
+    /// What the calls of the router are matched with.
+    pub caller: Caller,
     stage: Mutex<Stage>,
     /// Whether the line's last link went before it was used.
     was_unused: AtomicBool,
@@ -67,12 +70,18 @@ pub struct RouterLine {
 
 impl RouterLine {
     /// A line without a connection, whose thread rings this bell.
-    pub fn new(line: LineNo, router: SocketAddr, bell: Option<Arc<DoorBell>>) -> RouterLine
-        ensures { (result.line ≡ line) × (result.router ≡ router) }
+    pub fn new(
+        line: LineNo,
+        router: SocketAddr,
+        caller: Caller,
+        bell: Option<Arc<DoorBell>>,
+    ) -> RouterLine
+        ensures { (result.line ≡ line) × (result.router ≡ router) × (result.caller ≡ caller) }
     {
         RouterLine {
             line,
             router,
+            caller,
             stage: Mutex::new(Stage::Free),
             was_unused: AtomicBool::new(false),
             bell,

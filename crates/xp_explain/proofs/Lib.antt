@@ -1,3 +1,4 @@
 pub mod LineLemmas
+pub mod NameLemmas
 pub mod RuleLemmas
 pub mod WayLemmas

@@ -1,5 +1,5 @@
 -- How a call request is decided.
-use Rattle.std.specs.Prelude.{◌≡◌, ℕ, codes, List, ◌++◌, Result, Ok, Err}
+use Rattle.std.specs.Prelude.{◌≡◌, ℕ, Bool, true, false, codes, List, ◌++◌, Result, Ok, Err}
 use Rattle.std.specs.String.{string_bytes}
 use Rattle.std.specs.declared.alloc.Global.{Global}
 use Rattle.xp_causes.specs.declared.refusal.Refusal.{Refusal}
@@ -32,6 +32,11 @@ abbrev pub verdict_text : Tables → Verdict Global → List ℕ
 verdict_text tables (Take ring) = codes "line " ++ (line_at tables ring.line).name ++ codes " rings"
 verdict_text tables (Refuse refusal) =
     codes "refused: cause " ++ cause_text clearing_causes refusal.cause ++ codes ", diagnostic " ++ diagnostic_text refusal.diagnostic
+
+-- the decision is to refuse
+abbrev pub is_refusal : Verdict Global → Bool
+is_refusal (Take ring) = false
+is_refusal (Refuse refusal) = true
 
 -- the text ends with the decision
 abbrev pub EndsWithVerdict : Tables → Verdict Global → List ℕ → Type 0

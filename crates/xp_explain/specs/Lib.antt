@@ -1,4 +1,6 @@
 pub mod Explanation
+pub mod Names
+pub mod Octets
 pub mod Rules
 pub mod Stated
 pub mod Way

@@ -2,7 +2,7 @@
 
 ghost use Rattle.std.specs.Prelude.{◌≡◌, ◌<◌, true, false, IfOk};
 ghost use Rattle.xp_decide.specs.Asks.{MayNotAsk};
-ghost use Rattle.xp_explain.specs.Explanation.{AreReasons, Explains};
+ghost use Rattle.xp_explain.specs.Explanation.{AreReasons, Explains, is_refusal};
 ghost use Rattle.xp_explain.specs.Rules.{RefusesCaller};
 ghost use Rattle.xp_facilities.specs.Requested.{Means, IsFaulty};
 ghost use Rattle.xp_facilities.specs.declared.fault.FacilityFault.{FacilityFault};
@@ -18,7 +18,7 @@ use xp_causes::Refusal;
 use xp_decide::{CallFault, LinesForCaller, Request, Verdict, decide, open};
 use xp_facilities::laws::every_field_has_one_reading;
 use xp_facilities::{FacilityFault, parse};
-use xp_hunt::Lines;
+use xp_hunt::{LineState, Lines};
 use xp_packets::Block;
 use xp_subs::{LineNo, Subs};
 
@@ -50,6 +50,15 @@ pub struct Explanation<'a> {
     pub text: String,
 }
 
+impl Explanation<'_> {
+    /// Whether the call request is refused.
+    pub fn is_refused(&self) -> bool
+        ensures { result ≡ is_refusal self.now.verdict }
+    {
+        matches!(self.verdict, Verdict::Refuse(_))
+    }
+}
+
 /// How the call request with this block, which the line `from` makes, is decided. The contract says of the text that it ends
 /// with the decision. Where several lines are idle, the contract does not say which one rings.
 ///
@@ -79,6 +88,7 @@ pub fn explain<'a, L: Lines>(
         line,
         station: subs.station(line.station),
         address: subs.address_of(from),
+        is_up: !matches!(lines.state(from), LineState::Off),
         block,
     };
     let text = question.text(alloc, &reasons, &verdict)?;

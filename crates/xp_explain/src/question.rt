@@ -29,6 +29,8 @@ pub(crate) struct Question<'q, L> {
     pub(crate) line: &'q Line,
     pub(crate) station: &'q Station,
     pub(crate) address: &'q Digits,
+    /// Whether the calling line is in service. One that is not makes no calls.
+    pub(crate) is_up: bool,
     /// The block of the call request.
     pub(crate) block: &'q Block,
 }
@@ -61,6 +63,7 @@ impl<'q, L: Lines> Question<'q, L> {
     {
         let mut text = String::new(alloc);
         self.push_request(&mut text)?;
+        self.push_caller(&mut text)?;
         let refused_by = reasons.refused_by;
         match &reasons.asked {
             Err(_) => self.push_caller_refused(alloc, &mut text, refused_by)?,
@@ -73,7 +76,7 @@ impl<'q, L: Lines> Question<'q, L> {
         Ok(text)
     }
 
-    /// The call request, and who makes it.
+    /// The call request.
     fn push_request(&self, text: &mut String) -> Result<(), AllocError> {
         let packet = Packet::Call {
             d: false,
@@ -83,12 +86,20 @@ impl<'q, L: Lines> Question<'q, L> {
             direction: Direction::FromDte,
             packet: &packet,
         };
+        writeln!(text, "{words}")
+    }
+
+    /// Who makes the call request, and whether it can.
+    fn push_caller(&self, text: &mut String) -> Result<(), AllocError> {
         let line = self.line.name.as_str();
-        writeln!(text, "{words}")?;
+        let address = &self.station.address;
+        writeln!(text, "caller: line {line} of station {address}")?;
+        if self.is_up {
+            return Ok(());
+        }
         writeln!(
             text,
-            "caller: line {line} of station {}",
-            self.station.address
+            "line {line} is out of service: it makes no calls until it is up"
         )
     }
 

@@ -1,12 +1,12 @@
 -- The content of the subscription file, table by table.
-use Rattle.std.specs.Prelude.{ℕ, ◌<◌, ◌≤◌, List, Option, All, IsTrue, length}
+use Rattle.std.specs.Prelude.{ℕ, ◌<◌, ◌≤◌, List, Bool, false, Option, All, IsTrue, length}
 use Rattle.xp_file.specs.declared.entry.Access.{Access}
 use Rattle.xp_file.specs.declared.entry.Access.TheVariants.{Port, Router}
 use Rattle.xp_file.specs.declared.entry.Facilities.{Facilities}
 use Rattle.xp_file.specs.declared.entry.GroupEntry.{GroupEntry}
 use Rattle.xp_file.specs.declared.entry.LineEntry.{LineEntry}
 use Rattle.xp_file.specs.declared.entry.Redirection.{Redirection}
-use Rattle.xp_file.specs.Name.{is_line_name}
+use Rattle.xp_file.specs.Name.{same, is_line_name}
 use Rattle.xp_file.specs.Routers.{IsPort, IsRouter}
 use Rattle.xp_file.specs.Sources.{AreSources}
 
@@ -15,6 +15,7 @@ pub record StationData : Type 0 where
   pub address : List ℕ
   pub facilities : Facilities
   pub preferential : Option ℕ
+  pub default_caller : Bool
   pub lines : List LineEntry
   pub groups : List GroupEntry
   pub redirect : Option Redirection
@@ -23,6 +24,11 @@ pub record StationData : Type 0 where
 abbrev pub IsAccess : Access → Type 0
 IsAccess (Port port) = IsPort port
 IsAccess (Router router) = IsRouter router
+
+-- a line is behind the router with this address, whatever port of the router the file names
+abbrev pub is_behind : List ℕ → Access → Bool
+is_behind address (Port port) = false
+is_behind address (Router router) = same router.address address
 
 -- the line has a valid name, a valid port or router, and at most 8 valid sources
 pub record IsLineEntry (line : LineEntry) : Type 0 where

@@ -27,7 +27,7 @@ top_keys = keys.SegmentLimit ∷ keys.Journal ∷ keys.Host ∷ keys.XotPort ∷
 abbrev pub station_keys : List Key
 station_keys =
     keys.Address ∷ keys.Line ∷ keys.OutgoingBarred ∷ keys.IncomingBarred ∷ keys.ReverseCharging ∷ keys.FastSelect ∷
-    keys.OutgoingAccess ∷ keys.IncomingAccess ∷ keys.Preferential ∷ keys.Group ∷ keys.Redirect ∷ []
+    keys.OutgoingAccess ∷ keys.IncomingAccess ∷ keys.Preferential ∷ keys.DefaultCaller ∷ keys.Group ∷ keys.Redirect ∷ []
 
 abbrev pub line_keys : List Key
 line_keys = keys.Name ∷ keys.Port ∷ keys.Router ∷ keys.Address ∷ keys.Modulus ∷ keys.From ∷ []
@@ -134,6 +134,7 @@ entry_of table = do
   line_tables ← required some_tables_in keys.Line table
   facilities ← facilities_of table
   preferential ← optional (number_in 0 9999) keys.Preferential table
+  default_caller ← flag keys.DefaultCaller table
   group_tables ← defaulted tables_in [] keys.Group table
   redirect_table ← optional as_table keys.Redirect table
   lines ← lines_of line_tables
@@ -143,6 +144,7 @@ entry_of table = do
     address = address;
     facilities = facilities;
     preferential = preferential;
+    default_caller = default_caller;
     lines = lines;
     groups = groups;
     redirect = redirect;

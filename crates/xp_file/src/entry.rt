@@ -1,5 +1,6 @@
 //! The content of the subscription file, table by table.
 ghost use Rattle.std.specs.Prelude.{◌≡◌};
+ghost use Rattle.xp_file.specs.Entries.{is_behind};
 
 use crate::name::Name;
 use crate::router::RouterAddress;
@@ -70,6 +71,16 @@ impl Access {
             Access::Router(router) => Access::Router(router.copy()),
         }
     }
+
+    /// Whether it is a router with this address, at whatever port.
+    pub fn is_behind(&self, router: &str) -> bool
+        ensures { result ≡ is_behind router.now self.now }
+    {
+        match self {
+            Access::Port(_) => false,
+            Access::Router(own) => own.address() == router,
+        }
+    }
 }
 
 /// A line.
@@ -106,6 +117,9 @@ pub struct StationEntry {
     pub facilities: Facilities,
     /// The index of the preferential group, 0 to 9,999.
     pub preferential: Option<u16>,
+    /// Whether the station takes the calls of its routers whose calling address is missing, or is that of no station behind
+    /// the router.
+    pub default_caller: bool,
     /// The lines in the order of the file, at least one.
     pub lines: Vec<LineEntry>,
     /// The closed user groups in the order of the file.
@@ -122,6 +136,7 @@ impl Model for StationEntry {
       address = station.address;
       facilities = station.facilities;
       preferential = station.preferential;
+      default_caller = station.default_caller;
       lines = station.lines.items;
       groups = station.groups.items;
       redirect = station.redirect;

@@ -7,7 +7,8 @@ use std::error::Error;
 use std::fmt;
 
 /// Why a subscription file is refused. Each check goes over the whole file before the next one starts: first the
-/// text, then the values of its keys, its limits, the values that are used twice, and the indexes of groups.
+/// text, then the values of its keys, its limits, the values that are used twice, the default callers of routers, and the
+/// indexes of groups.
 #[derive(Clone, Copy, Debug, PartialEq, Eq)]
 pub enum SubscriptionFault {
     /// The text is not TOML.
@@ -15,7 +16,7 @@ pub enum SubscriptionFault {
     /// The value of this key is missing, of another type, misspelt or out of range. [`Key::Other`] means that the
     /// file has a key that it may not have.
     Field(Key),
-    /// An address, a line's name or a port is used twice.
+    /// An address, a line's name or a port is used twice, or a router has two default callers.
     TwiceUsed(Key),
     /// A station has an index or a group twice, or its preferential index is not one of its indexes.
     Index,

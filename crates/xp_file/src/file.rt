@@ -84,7 +84,7 @@ const TOP_KEYS: [Key; 5] = [
     Key::Station,
 ];
 
-const STATION_KEYS: [Key; 11] = [
+const STATION_KEYS: [Key; 12] = [
     Key::Address,
     Key::Line,
     Key::OutgoingBarred,
@@ -94,6 +94,7 @@ const STATION_KEYS: [Key; 11] = [
     Key::OutgoingAccess,
     Key::IncomingAccess,
     Key::Preferential,
+    Key::DefaultCaller,
     Key::Group,
     Key::Redirect,
 ];
@@ -229,6 +230,7 @@ fn entry(alloc: Global, table: &Table) -> Result<StationEntry, SubscriptionFault
     let line_tables = some_tables_at(alloc, table, Key::Line)?;
     let facilities = facilities(table)?;
     let preferential = preferential_of(table)?;
+    let default_caller = flag(table, Key::DefaultCaller)?;
     let group_tables = tables_at(alloc, table, Key::Group)?;
     let redirect_table = optional_table(table, Key::Redirect)?;
     let lines = lines(alloc, &line_tables)?;
@@ -241,6 +243,7 @@ fn entry(alloc: Global, table: &Table) -> Result<StationEntry, SubscriptionFault
         address,
         facilities,
         preferential,
+        default_caller,
         lines,
         groups,
         redirect,

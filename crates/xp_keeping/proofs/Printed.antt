@@ -1,12 +1,12 @@
 -- Records that a printer is given, some after the others.
-use Rattle.std.proofs.Common.{ℕ, List, ◌++◌, Option, Result, Ok, Err, ap, append_assoc, flat_map, subst, sym, ◌∙◌}
+use Rattle.std.proofs.Common.{◌≡◌, ℕ, ◌+◌, ◌≤◌, List, [], ◌++◌, Option, Result, Ok, Err, true, false, ap, append-nil, append_assoc, arith, flat_map, is_ok, length, length-append, refl, subst, sym, ◌∙◌}
 use Rattle.std.proofs.lemmas.Grind.{flat_map-append}
 use Rattle.std.specs.Io.KnownBytes.{Appends}
 use Rattle.xp_charge.specs.Text.{record_text}
 use Rattle.xp_charge.specs.declared.record.Record.{Record}
-use Rattle.xp_exchange.proofs.Bytes.{appends_both}
+use Rattle.xp_exchange.proofs.Bytes.{appends_both, appends_nothing}
 use Rattle.xp_keeping.proofs.Fronts.{front_after}
-use Rattle.xp_keeping.specs.Printing.{IsFront, Prints}
+use Rattle.xp_keeping.specs.Printing.{HasPrinted, IsFront, IsPrinted, Printer, Prints}
 use Rattle.xp_keeping.specs.declared.keep_fault.KeepFault.{KeepFault}
 use Rattle.xp_keeping.specs.steps.Printing.{PrintsOn}
 use Rattle.xp_subs.specs.Tables.{Tables}
@@ -32,3 +32,60 @@ pub printed_more : (subs : Tables) (given records : List Record) (before between
 printed_more subs given records before between after so_far result printed more =
     subst (λ whole. Prints before after whole result) (sym (flat_map-append (record_text subs) given records))
     (prints_both before between after (flat_map (record_text subs) given) (flat_map (record_text subs) records) so_far result printed more)
+
+-- what was written
+text_written : (old new : Option (List ℕ)) (whole : List ℕ) (so_far result : Result (Unit {0}) KeepFault) → PrintsOn so_far old new whole result
+    → (text : List ℕ) × Appends old new text
+text_written old new whole (Ok done) (Ok also) more = (whole, more)
+text_written old new whole (Ok done) (Err fault) more = (more.0, more.1)
+text_written old new whole (Err fault) result more = ([], subst (λ known. Appends old known []) (sym more.0) (appends_nothing old))
+
+-- what was printed stays so
+printed_still : (subs : Tables) (given records : List Record) (before between after : Option (List ℕ)) (so_far result : Result (Unit {0}) KeepFault) (count : ℕ)
+    → HasPrinted (record { subs = subs; given = given; before = before; contents = between; outcome = so_far }) count
+    → PrintsOn so_far between after (flat_map (record_text subs) records) result
+    → HasPrinted (record { subs = subs; given = given ++ records; before = before; contents = after; outcome = result }) count
+printed_still subs given records before between after so_far result count has more =
+    let wrote = text_written between after (flat_map (record_text subs) records) so_far result more in
+    let text = flat_map (record_text subs) has.kept in
+    record {
+      kept = has.kept;
+      rest = has.rest ++ records;
+      given_are = ap (λ first. first ++ records) has.given_are ∙ append_assoc has.kept has.rest records;
+      within = has.within;
+      more = has.more ++ wrote.0;
+      written = subst (Appends before after) (append_assoc text has.more wrote.0)
+          (appends_both before between after (text ++ has.more) wrote.0 has.written wrote.1);
+    }
+
+-- all are printed
+printed_all : (printer : Printer) (count : ℕ) → printer.outcome ≡ Ok tt → IsPrinted printer → count ≤ length printer.given → HasPrinted printer count
+printed_all printer count fine printed within =
+    let text = flat_map (record_text printer.subs) printer.given in
+    record {
+      kept = printer.given;
+      rest = [];
+      given_are = sym (append-nil printer.given);
+      within = within;
+      more = [];
+      written = subst (Appends printer.before printer.contents) (sym (append-nil text))
+          (subst (λ outcome. Prints printer.before printer.contents text outcome) fine printed);
+    }
+
+at_most : (count next : ℕ) (kept rest given records : List Record) → given ≡ kept ++ rest → count ≤ length kept → next ≤ count + length records → next ≤ length (given ++ records)
+at_most count next kept rest given records is within more =
+    omega (arith, length-append given records, length-append kept rest, ap length is, within, more)
+
+-- more are printed, or a fault is told
+pub printed_on : (subs : Tables) (given records : List Record) (before between after : Option (List ℕ)) (so_far result : Result (Unit {0}) KeepFault) (count next : ℕ)
+    → IsPrinted (record { subs = subs; given = given ++ records; before = before; contents = after; outcome = result })
+    → HasPrinted (record { subs = subs; given = given; before = before; contents = between; outcome = so_far }) count
+    → PrintsOn so_far between after (flat_map (record_text subs) records) result
+    → (is_ok result ≡ true → next ≤ count + length records) → (is_ok result ≡ false → next ≡ count)
+    → HasPrinted (record { subs = subs; given = given ++ records; before = before; contents = after; outcome = result }) next
+printed_on subs given records before between after so_far (Ok done) count next printed has writes more same =
+    printed_all (record { subs = subs; given = given ++ records; before = before; contents = after; outcome = Ok done }) next refl printed
+    (at_most count next has.kept has.rest given records has.given_are has.within (more refl))
+printed_on subs given records before between after so_far (Err fault) count next printed has writes more same =
+    subst (HasPrinted (record { subs = subs; given = given ++ records; before = before; contents = after; outcome = Err fault })) (sym (same refl))
+    (printed_still subs given records before between after so_far (Err fault) count has writes)

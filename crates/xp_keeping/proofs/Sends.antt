@@ -31,25 +31,22 @@ pub printer_send : (W : RattleType) (write : _) → IsSend W → IsSend (RecordP
 printer_send W write may =
     let T = recorded.declared (printer.struct W write) (printer.the_propositions W.Denot) in
     let all : IsSend (declared.row T) = recorded_send (Struct (declared.shape T)) T.D T.to T.to_one
-    (struct_send (declared.shape T) (subs_send, (may, (search parts depth 20, (search parts depth 20, (snapshot_send W, (past.the_send _, tt))))))) in
+    (struct_send (declared.shape T) (subs_send, (may, (search parts depth 20, (search parts depth 20, (search parts depth 20, (snapshot_send W, (past.the_send _, tt)))))))) in
     record { owned = λ d vs x. (all.owned x.0 vs, tt); leaving = λ k d w. tt }
 
-pub details_send : (F L W : RattleType) (file : _) (log : _) (write : _) → IsSend F → IsSend L → IsSend W → IsSend (DetailKeeper.the_row F L W file log write)
-details_send F L W file log write file_may log_may may =
-    let T = recorded.declared (details.struct F L W file log write) (details.the_propositions F.Denot L.Denot W.Denot) in
+pub details_send : (F L : RattleType) (file : _) (log : _) → IsSend F → IsSend L → IsSend (DetailKeeper.the_row F L file log)
+details_send F L file log file_may log_may =
+    let T = recorded.declared (details.struct F L file log) (details.the_propositions F.Denot L.Denot) in
     let all : IsSend (declared.row T) = recorded_send (Struct (declared.shape T)) T.D T.to T.to_one
     (struct_send (declared.shape T) (
       subs_send,
       (
         search (writer.the_send) depth 9,
         (
-          may,
+          search (sendable, clock.the_field_send) depth 9,
           (
-            search (sendable, clock.the_field_send) depth 9,
-            (
-              search (sendable, operator.the_field_send) depth 9,
-              (search parts depth 20, (search parts depth 20, (past.the_send _, (snapshot_send W, tt)))),
-            ),
+            search (sendable, operator.the_field_send) depth 9,
+            (search parts depth 20, (search parts depth 20, (search parts depth 20, (past.the_send _, tt)))),
           ),
         ),
       ),

@@ -1,4 +1,5 @@
 pub mod Details
+pub mod Doubt
 pub mod Printing
 pub mod Queued
 pub mod steps

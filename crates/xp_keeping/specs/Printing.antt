@@ -1,5 +1,5 @@
 -- What is written of charging records that are printed (`IsPrinted`).
-use Rattle.std.specs.Prelude.{◌≡◌, ℕ, List, ◌++◌, flat_map, Option, Result, Ok, Err}
+use Rattle.std.specs.Prelude.{◌≡◌, ℕ, ◌≤◌, List, ◌++◌, flat_map, length, Option, Result, Ok, Err}
 use Rattle.std.specs.Io.KnownBytes.{Appends}
 use Rattle.xp_charge.specs.Text.{record_text}
 use Rattle.xp_charge.specs.declared.record.Record.{Record}
@@ -33,3 +33,12 @@ pub record Printer : Type 0 where
 -- The text of all records that the printer was given is written, or a front of it.
 abbrev pub IsPrinted : Printer → Type 0
 IsPrinted printer = Prints printer.before printer.contents (flat_map (record_text printer.subs) printer.given) printer.outcome
+
+-- The text of the first so many records is written, perhaps of more.
+pub record HasPrinted (printer : Printer) (count : ℕ) : Type 0 where
+  pub kept : List Record
+  pub rest : List Record
+  pub given_are : printer.given ≡ kept ++ rest
+  pub within : count ≤ length kept
+  pub more : List ℕ
+  pub written : Appends printer.before printer.contents (flat_map (record_text printer.subs) kept ++ more)

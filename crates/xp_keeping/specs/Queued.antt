@@ -1,5 +1,5 @@
 -- What is kept of charging records by a keeper on a thread of its own (`AreKeptBeside`).
-use Rattle.std.specs.Prelude.{◌≡◌, List, ◌++◌, Bool, true, false, Option, None, Some, Result, Err}
+use Rattle.std.specs.Prelude.{◌≡◌, List, [], ◌++◌, Bool, true, false, Option, None, Some, Result, Err}
 use Rattle.xp_charge.specs.declared.record.Record.{Record}
 use Rattle.xp_keeping.specs.Details.{IsFirstOf}
 use Rattle.xp_keeping.specs.declared.keep_fault.KeepFault.{KeepFault}
@@ -26,6 +26,15 @@ pub record Queued (K : Type 0) : Type 0 where
   -- what is told where the thread gives nothing back
   pub fault : KeepFault
 
+-- a keeper whose thread has just begun
+abbrev pub first_queued : {K : Type 0} → Tables → K → KeepFault → Queued K
+first_queued tables keeper fault =
+    record { subs = tables; given = []; is_short = false; first = keeper; last = None; left = []; fault = fault }
+
+-- what stays the same of a keeper on a thread of its own
+abbrev pub KeepsBeside : {K : Type 0} → Queued K → Queued K → Type 0
+KeepsBeside old new = (new.subs ≡ old.subs) × (new.first ≡ old.first) × (new.fault ≡ old.fault)
+
 -- what is told once this came of keeping what went to the thread
 abbrev pub told : Bool → Result (Unit {0}) KeepFault → Result (Unit {0}) KeepFault
 told true outcome = Err Memory
@@ -43,10 +52,14 @@ module _ {K : Type 0} (kept : K → List Record → Result (Unit {0}) KeepFault 
     pub keeps_on : keeps queued.first keeper
     pub told_is : result ≡ told queued.is_short outcome
 
-  -- The thread was given up. What it has not told as kept is the end of all records.
+  -- The thread was given up. All records went to it, or a front of them where memory was wanting, and what it has not told as kept is
+  -- the end of these.
   pub record AreLeft (queued : Queued K) (records : List Record) (result : Result (Unit {0}) KeepFault) : Type 0 where
-    pub last : queued.is_short ≡ false → IsLastOf queued.left records
-    pub told_is : result ≡ Err queued.fault
+    pub front : List Record
+    pub first : IsFirstOf front records
+    pub all : queued.is_short ≡ false → front ≡ records
+    pub last : IsLastOf queued.left front
+    pub told_is : result ≡ told queued.is_short (Err queued.fault)
 
   abbrev pub AreKeptOrLeft : Option K → Queued K → List Record → Result (Unit {0}) KeepFault → Type 0
   AreKeptOrLeft None queued records result = AreLeft queued records result

@@ -1,24 +1,21 @@
 //! Keeping call detail records in a file, each as its call ends.
 
-ghost use Rattle.std.specs.Prelude.{◌≡◌, ◌++◌, [], All, false};
-ghost use Rattle.xp_cdr.specs.Ledger.{opening};
+ghost use Rattle.std.specs.Prelude.{◌≡◌, ◌++◌, [], All};
+ghost use Rattle.xp_cdr.specs.Ledger.{IsUnfinished};
 ghost use Rattle.xp_charge.specs.Lines.{HasLines};
-ghost use Rattle.xp_keeping.specs.Details.{AreKept, GoesOnAs};
-ghost use Rattle.xp_keeping.specs.steps.Details.{Gives, WritesUnfinished};
+ghost use Rattle.xp_keeping.specs.Details.{AreKept, GoesOnAs, first_keeping};
+ghost use Rattle.xp_keeping.specs.steps.Details.{Gives, PutsOnDisk};
 ghost use Rattle.xp_subs.specs.Tables.{line_count};
 
 use crate::keep_fault::KeepFault;
-use crate::keeping::RecordKeeper;
+use crate::keeping::{CountedKeeper, RecordKeeper, count_on};
 use crate::operator_log::OperatorLog;
 use log::Log;
 use std::alloc::Global;
-use std::io::Write;
 use std::marker::Model;
-use std::snapshot::Snapshot;
 use xp_cdr::{DetailWriter, RecordFile};
 use xp_charge::Record;
 use xp_clock::WallClock;
-use xp_exchange::write_out;
 use xp_lines::{Received, RecordSink};
 use xp_past::Past;
 use xp_subs::Subs;
@@ -31,41 +28,39 @@ const MOST_WAITING: usize = 100_000;
 const SECONDS_TO_RETRY: u64 = 1;
 
 /// Writes call detail records to a file, and waits until they are on the disk. Where the file fails, they wait in order, and are
-/// offered to it again each second. Once memory was wanting, it takes no more records.
+/// offered to it again each second. Once memory was wanting, it takes no more records. It has no other output than the file and the
+/// log.
 #[derive(Drop)]
-pub struct DetailKeeper<F: RecordFile, L: Log, W: Write> {
+pub struct DetailKeeper<F: RecordFile, L: Log> {
     /// The subscriptions, from which the lines have their names and addresses.
     subs: Subs,
     writer: DetailWriter<F>,
-    /// Where what the file has not taken at the end is written.
-    output: W,
     clock: WallClock,
     log: OperatorLog<L>,
     /// From which second on the file is tried again, where its last write failed.
     retry_at: Option<u64>,
     /// Whether memory was wanting.
     is_short: bool,
+    /// How many records were given to the writer of the file.
+    count: usize,
     /// All records that it was given.
     given: Past<Record>,
-    /// The output as it was given.
-    first: Snapshot<W>,
 }
 
-impl<F: RecordFile, L: Log, W: Write> Model for DetailKeeper<F, L, W> {
-    ghost use Rattle.std.specs.Prelude.{◌≡◌, false};
+impl<F: RecordFile, L: Log> Model for DetailKeeper<F, L> {
+    ghost use Rattle.std.specs.Prelude.{◌≤◌, length};
     ghost use Rattle.xp_keeping.specs.Details.{Keeping};
     ghost use Rattle.xp_keeping.specs.steps.Details.{IsGivenAs};
 
     ghost Value = { Keeping };
 
-    ghost view = { λ k. record { subs = k.subs; given = k.given.items; ledger = k.writer; before = W.contents k.first.value; contents = W.contents k.output; is_short = k.is_short } };
+    ghost view = { λ k. record { subs = k.subs; given = k.given.items; ledger = k.writer; is_short = k.is_short } };
 
-    ghost invariant = { λ k. IsGivenAs (record { subs = k.subs; given = k.given.items; ledger = k.writer; before = W.contents k.first.value; contents = W.contents k.output; is_short = k.is_short }) };
+    ghost invariant = { λ k. IsGivenAs (record { subs = k.subs; given = k.given.items; ledger = k.writer; is_short = k.is_short }) × (k.count ≤ length k.writer.given) };
 }
 
-impl<F: RecordFile, L: Log, W: Write> DetailKeeper<F, L, W> {
-    /// The keeper that writes to a file that has just been opened, for a run that began at `started`, in seconds since 1970. What
-    /// the file has not taken at the end is written on `output`.
+impl<F: RecordFile, L: Log> DetailKeeper<F, L> {
+    /// The keeper that writes to a file that has just been opened, for a run that began at `started`, in seconds since 1970.
     pub fn new(
         alloc: Global,
         file: F,
@@ -73,31 +68,30 @@ impl<F: RecordFile, L: Log, W: Write> DetailKeeper<F, L, W> {
         started: u64,
         clock: WallClock,
         log: OperatorLog<L>,
-        output: W,
-    ) -> DetailKeeper<F, L, W>
+    ) -> DetailKeeper<F, L>
         requires taken { F.taken file ≡ [] }
         requires synced { F.synced file ≡ [] }
         requires failures { F.failures file ≡ 0 }
-        ensures { result ≡ record { subs = subs; given = []; ledger = opening subs started; before = W.contents output; contents = W.contents output; is_short = false } }
+        ensures { result ≡ first_keeping subs started }
     {
         DetailKeeper {
             writer: DetailWriter::new(alloc, file, &subs, started),
             subs,
-            first: Snapshot::of(&output),
-            output,
             clock,
             log,
             retry_at: None,
             is_short: false,
+            count: 0,
             given: Past::new(),
         }
     }
 
-    /// Where what the file has not taken at the end is written.
-    pub fn output(&self) -> &W
-        ensures { W.contents result.now ≡ self.now.contents }
+    /// The lines of the call detail records that the file does not have on the disk: those of the records that were given to its writer
+    /// last.
+    pub(crate) fn unfinished_lines(&self) -> &[u8]
+        ensures { IsUnfinished self.now.ledger result.now }
     {
-        &self.output
+        self.writer.unfinished_lines()
     }
 
     /// Gives further records to the writer of the file, unless memory was wanting before.
@@ -109,6 +103,7 @@ impl<F: RecordFile, L: Log, W: Write> DetailKeeper<F, L, W> {
         let was_short = self.is_short;
         self.is_short = give_more(was_short, &mut self.writer, &self.subs, records);
         self.given.extend(records);
+        self.count = count_on(self.count, records, !self.is_short);
         if self.is_short && !was_short {
             let now = self.clock.now();
             self.log.error(
@@ -150,21 +145,21 @@ impl<F: RecordFile, L: Log, W: Write> DetailKeeper<F, L, W> {
     ///
     /// # Errors
     ///
-    /// `Memory`, or `Details` where the file failed. The lines that it does not hold whole are then written on the output; `Output`
-    /// where they could not be.
+    /// `Memory`, or `Details` where the file failed and does not have all of them on the disk.
     pub fn keep_rest(&mut self, rest: &[Record]) -> Result<(), KeepFault>
         requires { All (HasLines (line_count self.old.subs)) rest.now }
         ensures kept { AreKept self.new (self.old.given ++ rest.now) result }
         ensures keeps { GoesOnAs self.old self.new }
     {
         self.give(rest);
-        let flushed = self.writer.flush();
+        let is_on_disk = put_on_disk(&mut self.writer);
         if self.is_short {
             return Err(KeepFault::Memory);
         }
-        match flushed {
-            Ok(()) => Ok(()),
-            Err(_) => Err(write_unfinished(&self.writer, &mut self.output)),
+        if is_on_disk {
+            Ok(())
+        } else {
+            Err(KeepFault::Details)
         }
     }
 
@@ -196,26 +191,20 @@ fn give_more<F: RecordFile>(
     writer.give(subs, records).is_err()
 }
 
-/// Writes the lines that the file does not hold whole on the output.
-///
-/// # Errors
-///
-/// `Details`, or `Output` where they could not be written.
-fn write_unfinished<F: RecordFile, W: Write>(writer: &DetailWriter<F>, output: &mut W) -> KeepFault
-    ensures { WritesUnfinished writer.now (W.contents output.old) (W.contents output.new) result }
+/// Puts what waits on the disk. Returns whether nothing waits any more.
+fn put_on_disk<F: RecordFile>(writer: &mut DetailWriter<F>) -> bool
+    ensures { PutsOnDisk writer.old result writer.new }
 {
-    let lines = writer.unfinished_lines();
-    match write_out(output, lines) {
-        Ok(()) => {}
-        Err(_) => return KeepFault::Output,
+    if writer.waiting_octets() == 0 {
+        return true;
     }
-    match output.flush() {
-        Ok(()) => KeepFault::Details,
-        Err(_) => KeepFault::Output,
+    match writer.flush() {
+        Ok(()) => true,
+        Err(_) => false,
     }
 }
 
-impl<F: RecordFile, L: Log + Drop, W: Write + Drop> RecordSink for DetailKeeper<F, L, W> {
+impl<F: RecordFile, L: Log + Drop> RecordSink for DetailKeeper<F, L> {
     ghost use Rattle.std.specs.Prelude.{◌≡◌};
     ghost use Rattle.std.proofs.Common.{refl, ◌∙◌};
     ghost use Rattle.xp_keeping.specs.Details.{GoesOnAs};
@@ -249,7 +238,7 @@ impl<F: RecordFile, L: Log + Drop, W: Write + Drop> RecordSink for DetailKeeper<
     ghost keeps_on = { λ k l m first second. (second.0 ∙ first.0, second.1 ∙ first.1, second.2 ∙ first.2) };
 }
 
-impl<F: RecordFile, L: Log + Drop, W: Write + Drop> RecordKeeper for DetailKeeper<F, L, W> {
+impl<F: RecordFile, L: Log + Drop> RecordKeeper for DetailKeeper<F, L> {
     ghost use Rattle.std.proofs.Common.{refl};
     ghost use Rattle.xp_keeping.specs.Details.{AreKept};
 
@@ -267,5 +256,15 @@ impl<F: RecordFile, L: Log + Drop, W: Write + Drop> RecordKeeper for DetailKeepe
 
     fn finish(&mut self, rest: &[Record]) -> Result<(), KeepFault> {
         self.keep_rest(rest)
+    }
+}
+
+impl<F: RecordFile, L: Log + Drop> CountedKeeper for DetailKeeper<F, L> {
+    ghost use Rattle.xp_keeping.specs.Details.{HasKept};
+
+    ghost has_kept = { HasKept };
+
+    fn count_kept(&self) -> usize {
+        self.count.saturating_sub(self.writer.waiting_records())
     }
 }

@@ -12,7 +12,7 @@ pub enum KeepFault {
     Memory,
     /// Standard output failed.
     Output,
-    /// The file of call detail records failed, and what it did not take was written on standard output.
+    /// The file of call detail records failed, or the thread that keeps them was given up. Some of the records are in doubt.
     Details,
 }
 

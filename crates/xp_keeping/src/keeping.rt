@@ -1,6 +1,6 @@
 //! Keeping the charging records of a run.
 
-ghost use Rattle.std.specs.Prelude.{◌≡◌, ◌++◌, All};
+ghost use Rattle.std.specs.Prelude.{◌≡◌, ◌≤◌, ◌+◌, ◌++◌, All, false, length, true};
 ghost use Rattle.xp_charge.specs.Lines.{HasLines};
 
 use crate::keep_fault::KeepFault;
@@ -36,4 +36,28 @@ pub trait RecordKeeper: RecordSink {
     ghost has_lines: { (keeper : Self) → Self.lines keeper ≡ line_count (named_by keeper) };
 
     ghost keeps_names: { (first second : Self) → Self.keeps first second → named_by second ≡ named_by first };
+}
+
+/// A keeper that counts the records that it has kept.
+pub trait CountedKeeper: RecordKeeper {
+    ghost use Rattle.std.specs.Prelude.{ℕ};
+
+    // The first so many of the records that were received are kept.
+    ghost has_kept: { Self → ℕ → Type 0 };
+
+    /// How many of the records that were received are kept, from the first on. There may be more.
+    fn count_kept(&self) -> usize
+        ensures { has_kept self.now result };
+}
+
+/// How many records there are at least, once these follow so many others. They are counted where `counts` says so.
+pub(crate) fn count_on(count: usize, records: &[Record], counts: bool) -> usize
+    ensures more { counts ≡ true → result ≤ count + length records.now }
+    ensures same { counts ≡ false → result ≡ count }
+{
+    if counts {
+        count.saturating_add(records.len())
+    } else {
+        count
+    }
 }

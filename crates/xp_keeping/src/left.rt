@@ -1,4 +1,4 @@
-//! Writing the charging records that nobody is known to have kept.
+//! Writing the charging records that the thread has not told as kept.
 
 ghost use Rattle.std.specs.Prelude.{◌≡◌, flat_map};
 ghost use Rattle.xp_cdr.specs.Details.{detail_text};
@@ -22,7 +22,7 @@ use xp_subs::Subs;
 /// # Errors
 ///
 /// `Memory`, `Output`, or `Details` where a record names a line that there is not. Then a front of them is written.
-pub fn write_left<W: Write>(
+pub(crate) fn write_left<W: Write>(
     alloc: Global,
     subs: &Subs,
     started: u64,

@@ -2,6 +2,7 @@
 #![tactic(auto)]
 
 mod details;
+mod doubt;
 mod keep_fault;
 mod keeping;
 mod left;
@@ -15,9 +16,9 @@ mod signal;
 mod starting;
 
 pub use details::DetailKeeper;
+pub use doubt::write_doubted;
 pub use keep_fault::KeepFault;
-pub use keeping::RecordKeeper;
-pub use left::write_left;
+pub use keeping::{CountedKeeper, RecordKeeper};
 pub use operator_log::OperatorLog;
 pub use output::{PatientOutput, StandardOutput};
 pub use printing::RecordPrinter;

@@ -8,7 +8,7 @@ ghost use Rattle.xp_keeping.specs.steps.Printing.{PrintsOn};
 ghost use Rattle.xp_subs.specs.Tables.{line_count};
 
 use crate::keep_fault::KeepFault;
-use crate::keeping::RecordKeeper;
+use crate::keeping::{CountedKeeper, RecordKeeper, count_on};
 use std::alloc::Global;
 use std::io::Write;
 use std::marker::Model;
@@ -30,6 +30,8 @@ pub struct RecordPrinter<W: Write> {
     text: Vec<u8>,
     /// Whether memory was wanting, or the writer failed.
     outcome: Result<(), KeepFault>,
+    /// How many records were written before that.
+    count: usize,
     /// The writer as it was given.
     first: Snapshot<W>,
     /// All records that it was given.
@@ -37,13 +39,13 @@ pub struct RecordPrinter<W: Write> {
 }
 
 impl<W: Write> Model for RecordPrinter<W> {
-    ghost use Rattle.xp_keeping.specs.Printing.{IsPrinted, Printer};
+    ghost use Rattle.xp_keeping.specs.Printing.{HasPrinted, IsPrinted, Printer};
 
     ghost Value = { Printer };
 
     ghost view = { λ p. record { subs = p.subs; given = p.given.items; before = W.contents p.first.value; contents = W.contents p.writer; outcome = p.outcome } };
 
-    ghost invariant = { λ p. IsPrinted (record { subs = p.subs; given = p.given.items; before = W.contents p.first.value; contents = W.contents p.writer; outcome = p.outcome }) };
+    ghost invariant = { λ p. IsPrinted (record { subs = p.subs; given = p.given.items; before = W.contents p.first.value; contents = W.contents p.writer; outcome = p.outcome }) × HasPrinted (record { subs = p.subs; given = p.given.items; before = W.contents p.first.value; contents = W.contents p.writer; outcome = p.outcome }) p.count };
 }
 
 impl<W: Write> RecordPrinter<W> {
@@ -55,6 +57,7 @@ impl<W: Write> RecordPrinter<W> {
             subs,
             text: Vec::new(alloc),
             outcome: Ok(()),
+            count: 0,
             first: Snapshot::of(&writer),
             given: Past::new(),
             writer,
@@ -76,6 +79,7 @@ impl<W: Write> RecordPrinter<W> {
             &mut self.writer,
         );
         self.given.extend(records);
+        self.count = count_on(self.count, records, self.outcome.is_ok());
     }
 
     /// Returns what came of all records: their text was written, or a front of it.
@@ -99,6 +103,7 @@ impl<W: Write> RecordPrinter<W> {
             writer,
             text: _,
             outcome: _,
+            count: _,
             first: _,
             given: _,
         } = self;
@@ -161,6 +166,16 @@ impl<W: Write + Drop> RecordKeeper for RecordPrinter<W> {
     fn finish(&mut self, rest: &[Record]) -> Result<(), KeepFault> {
         self.print(rest);
         self.outcome()
+    }
+}
+
+impl<W: Write + Drop> CountedKeeper for RecordPrinter<W> {
+    ghost use Rattle.xp_keeping.specs.Printing.{HasPrinted};
+
+    ghost has_kept = { HasPrinted };
+
+    fn count_kept(&self) -> usize {
+        self.count
     }
 }
 

@@ -1,13 +1,13 @@
 //! Keeping charging records on a thread of its own.
 
-ghost use Rattle.std.specs.Prelude.{◌≡◌, ◌↔◌, ◌++◌, ◌∷◌, [], All, IfOk, None, false, true};
-ghost use Rattle.xp_keeping.specs.Queued.{AreKeptBeside, IsLastOf};
+ghost use Rattle.std.specs.Prelude.{◌≡◌, ◌↔◌, ◌++◌, ◌∷◌, [], IfOk, None, option_copied, true};
+ghost use Rattle.xp_keeping.specs.Queued.{AreKeptBeside, KeepsBeside, first_queued};
 ghost use Rattle.xp_keeping.specs.steps.Queued.{Adds, GoesOnBeside};
 ghost use Rattle.xp_keeping.specs.steps.Thread.{IsGivenBack};
 ghost use Rattle.xp_subs.specs.Tables.{line_count};
 
 use crate::keep_fault::KeepFault;
-use crate::keeping::RecordKeeper;
+use crate::keeping::{CountedKeeper, RecordKeeper};
 use crate::record_queue::RecordQueue;
 use crate::record_thread::{GivesBack, ThreadEnd, keep_records};
 use crate::signal::KeepingSignal;
@@ -64,7 +64,7 @@ impl<K: RecordKeeper, R: Threads + Wait> Model for QueuedKeeper<K, R> {
     ghost invariant = { λ k. IsHandedOn k.queue.all k.given.items k.is_short × IfSome k.thread (λ handle. (handle.promise.first.value ≡ k.first.value) × (handle.promise.records.value.queue ≡ k.queue.queue)) };
 }
 
-impl<K: RecordKeeper + Send + 'static, R: Threads + Wait + Copy + Send + 'static> QueuedKeeper<
+impl<K: CountedKeeper + Send + 'static, R: Threads + Wait + Copy + Send + 'static> QueuedKeeper<
     K,
     R,
 > {
@@ -82,7 +82,7 @@ impl<K: RecordKeeper + Send + 'static, R: Threads + Wait + Copy + Send + 'static
     ) -> Result<QueuedKeeper<K, R>, AllocError>
         requires lines { K.lines keeper ≡ line_count subs.now }
         requires received { K.received keeper ≡ [] }
-        ensures { IfOk result (λ queued. queued ≡ record { subs = subs.now; given = []; is_short = false; first = keeper; last = None; left = []; fault = fault }) }
+        ensures { IfOk result (λ queued. queued ≡ first_queued subs.now keeper fault) }
     {
         let (queue, records) = RecordQueue::new(alloc)?;
         let signal = Arc::new(alloc, KeepingSignal::new())?;
@@ -121,6 +121,13 @@ impl<K: RecordKeeper, R: Threads + Wait + Copy> QueuedKeeper<K, R> {
         ensures { result.now.items ≡ self.now.left }
     {
         self.queue.left()
+    }
+
+    /// The keeper, where the thread has given it back.
+    pub(crate) fn last(&self) -> Option<&K>
+        ensures { option_copied result ≡ self.now.last }
+    {
+        self.last.as_ref()
     }
 
     /// Whether the thread has given nothing back.
@@ -201,7 +208,7 @@ impl<K: RecordKeeper, R: Threads + Wait + Copy> QueuedKeeper<K, R> {
     fn end(&mut self) -> Result<(), KeepFault>
         requires { self.old.last ≡ None }
         ensures kept { AreKeptBeside K.kept K.keeps self.new self.old.given result }
-        ensures goes_on { (self.new.subs ≡ self.old.subs) × (self.new.first ≡ self.old.first) × (self.new.fault ≡ self.old.fault) }
+        ensures goes_on { KeepsBeside self.old self.new }
     {
         let Some(handle) = self.thread.take() else {
             return self.give_up();
@@ -225,13 +232,17 @@ impl<K: RecordKeeper, R: Threads + Wait + Copy> QueuedKeeper<K, R> {
         }
     }
 
-    /// Tells that the thread was given up.
+    /// Tells that the thread was given up, or that memory was wanting before.
     fn give_up(&self) -> Result<(), KeepFault>
         requires { self.now.last ≡ None }
         ensures { AreKeptBeside K.kept K.keeps self.now self.now.given result }
     {
         let _left = self.queue.left();
-        Err(self.fault)
+        if self.is_short {
+            Err(KeepFault::Memory)
+        } else {
+            Err(self.fault)
+        }
     }
 }
 
@@ -245,14 +256,14 @@ fn add(is_short: bool, queue: &mut RecordQueue, ended: Record) -> bool
 impl<K: RecordKeeper, R: Threads + Wait + Copy + Drop> RecordSink for QueuedKeeper<K, R> {
     ghost use Rattle.std.specs.Prelude.{◌≡◌};
     ghost use Rattle.std.proofs.Common.{refl, ◌∙◌};
-    ghost use Rattle.xp_keeping.specs.steps.Queued.{GoesOnBeside};
+    ghost use Rattle.xp_keeping.specs.Queued.{KeepsBeside};
     ghost use Rattle.xp_subs.specs.Tables.{line_count};
 
     ghost received = { λ k. k.given };
 
     ghost lines = { λ k. line_count k.subs };
 
-    ghost keeps = { λ k l. (l.subs ≡ k.subs) × (l.first ≡ k.first) × (l.fault ≡ k.fault) };
+    ghost keeps = { KeepsBeside };
 
     fn receive(&mut self, records: Vec<Record>) -> Received {
         self.hand_over(&records);

@@ -5,7 +5,7 @@ ghost use Rattle.xp_charge.specs.Lines.{HasLines};
 ghost use Rattle.xp_keeping.specs.steps.Thread.{IsGivenBack};
 
 use crate::keep_fault::KeepFault;
-use crate::keeping::RecordKeeper;
+use crate::keeping::{CountedKeeper, RecordKeeper};
 use crate::signal::KeepingSignal;
 use std::alloc::Global;
 use std::snapshot::Snapshot;
@@ -56,7 +56,7 @@ struct Look {
 }
 
 /// Gives the records that come through the queue to the keeper, until no further one is handed over, and lets it finish.
-pub(crate) fn keep_records<K: RecordKeeper, R: Wait>(
+pub(crate) fn keep_records<K: CountedKeeper, R: Wait>(
     rt: &R,
     alloc: Global,
     lines: usize,
@@ -71,7 +71,6 @@ pub(crate) fn keep_records<K: RecordKeeper, R: Wait>(
 {
     let mut keeper = keeper;
     let mut records = records;
-    let mut given = 0_usize;
     for _ in rt.forever() {
         let is_over = signal.is_over();
         let Ok(look) = keep_some(rt, alloc, lines, &mut keeper, &mut records) else {
@@ -82,12 +81,7 @@ pub(crate) fn keep_records<K: RecordKeeper, R: Wait>(
                 outcome: None,
             };
         };
-        given = given.saturating_add(look.count);
-        tell(
-            signal,
-            given.saturating_sub(keeper.waiting()),
-            look.received,
-        );
+        tell(signal, &keeper, look.received);
         if look.count == 0 {
             if is_over {
                 return finish(keeper, records, signal);
@@ -119,8 +113,8 @@ fn finish<K: RecordKeeper>(
 }
 
 /// Tells how many records are kept, and whether the keeper asks for a stop.
-fn tell(signal: &KeepingSignal, kept: usize, received: Received) {
-    signal.tell_kept(kept);
+fn tell<K: CountedKeeper>(signal: &KeepingSignal, keeper: &K, received: Received) {
+    signal.tell_kept(keeper);
     match received {
         Received::GoesOn => {}
         Received::Stops => signal.ask_to_stop(),

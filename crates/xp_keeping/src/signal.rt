@@ -1,5 +1,6 @@
 //! What the thread that keeps charging records and the thread that hands them to it tell each other.
 
+use crate::keeping::CountedKeeper;
 use std::sync::Wait;
 use std::sync::atomic::Ordering::SeqCst;
 use std::sync::atomic::{AtomicBool, AtomicUsize};
@@ -58,9 +59,9 @@ impl KeepingSignal {
         self.is_over.load(SeqCst)
     }
 
-    /// Tells that so many records are kept.
-    pub(crate) fn tell_kept(&self, count: usize) {
-        self.kept.store(count, SeqCst);
+    /// Tells how many records this keeper has kept.
+    pub(crate) fn tell_kept<K: CountedKeeper>(&self, keeper: &K) {
+        self.kept.store(keeper.count_kept(), SeqCst);
     }
 
     /// How many records are kept, as was told last.

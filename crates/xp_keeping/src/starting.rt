@@ -1,6 +1,7 @@
 //! Starting the keepers of a program, each on a thread of its own.
 
-ghost use Rattle.std.specs.Prelude.{◌≡◌, [], IfOk, None, false};
+ghost use Rattle.std.specs.Prelude.{◌≡◌, [], IfOk};
+ghost use Rattle.xp_keeping.specs.Queued.{first_queued};
 
 use crate::details::DetailKeeper;
 use crate::keep_fault::KeepFault;
@@ -23,17 +24,16 @@ use xp_subs::Subs;
 pub fn start_details<
     F: RecordFile + Send + 'static,
     L: Log + Drop + Send + 'static,
-    W: Write + Drop + Send + 'static,
     R: Threads + Wait + Copy + Send + 'static,
 >(
     rt: R,
     alloc: Global,
     subs: &Subs,
-    keeper: DetailKeeper<F, L, W>,
-) -> Result<QueuedKeeper<DetailKeeper<F, L, W>, R>, AllocError>
+    keeper: DetailKeeper<F, L>,
+) -> Result<QueuedKeeper<DetailKeeper<F, L>, R>, AllocError>
     requires named { keeper.subs ≡ subs.now }
     requires received { keeper.given ≡ [] }
-    ensures { IfOk result (λ queued. queued ≡ record { subs = subs.now; given = []; is_short = false; first = keeper; last = None; left = []; fault = KeepFault.Details }) }
+    ensures { IfOk result (λ queued. queued ≡ first_queued subs.now keeper KeepFault.Details) }
 {
     QueuedKeeper::start(rt, alloc, subs, keeper, KeepFault::Details)
 }
@@ -51,7 +51,7 @@ pub fn start_printer<W: Write + Drop + Send + 'static, R: Threads + Wait + Copy 
 ) -> Result<QueuedKeeper<RecordPrinter<W>, R>, AllocError>
     requires named { keeper.subs ≡ subs.now }
     requires received { keeper.given ≡ [] }
-    ensures { IfOk result (λ queued. queued ≡ record { subs = subs.now; given = []; is_short = false; first = keeper; last = None; left = []; fault = KeepFault.Output }) }
+    ensures { IfOk result (λ queued. queued ≡ first_queued subs.now keeper KeepFault.Output) }
 {
     QueuedKeeper::start(rt, alloc, subs, keeper, KeepFault::Output)
 }

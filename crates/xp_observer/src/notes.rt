@@ -21,6 +21,8 @@ pub(crate) struct Notes {
     /// How many calls have ended.
     pub(crate) ended: u64,
     pub(crate) refused: RefusedCalls,
+    /// Calls of routers that no line took.
+    pub(crate) router_refusals: RefusedCalls,
     /// The segments from the callers of the calls that have ended, and from the called lines.
     pub(crate) from_callers: u64,
     pub(crate) from_called: u64,
@@ -38,6 +40,7 @@ impl Notes {
             records: VecDeque::with_capacity(alloc, MOST_RECORDS)?,
             ended: 0,
             refused: RefusedCalls::default(),
+            router_refusals: RefusedCalls::default(),
             from_callers: 0,
             from_called: 0,
         })

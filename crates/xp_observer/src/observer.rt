@@ -72,6 +72,13 @@ impl Observer {
         self.notes.set_peer(line, None);
     }
 
+    /// Takes note that a call of a router was refused with this cause, since no line took it.
+    pub fn router_refused(&mut self, cause: u8)
+        ensures { self.new ≡ self.old }
+    {
+        self.notes.router_refusals.count(cause);
+    }
+
     /// Takes note of the records of calls that have ended.
     pub fn note_ended(&mut self, records: &[Record])
         ensures { self.new ≡ self.old }
@@ -176,6 +183,7 @@ fn totals_of(
     Totals {
         calls: notes.ended.saturating_add(live as u64),
         refused: notes.refused,
+        router_refusals: notes.router_refusals,
         segments_from_callers: notes.from_callers,
         segments_from_called: notes.from_called,
         events: view.entries,

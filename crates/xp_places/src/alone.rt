@@ -92,7 +92,7 @@ fn refused_group<'a>(
 }
 
 /// Whether a file of this text is refused for this fault.
-fn is_refused(
+pub(crate) fn is_refused(
     alloc: Global,
     text: impl fmt::Display + Drop,
     fault: SubscriptionFault,

@@ -2,6 +2,7 @@
 #![tactic(auto)]
 
 mod alone;
+mod default_callers;
 mod place;
 mod refused;
 mod twice;

@@ -1,6 +1,7 @@
 //! Where a refused subscription file has its fault.
 
 use crate::alone::{array, refused_part};
+use crate::default_callers::rivals;
 use crate::place::Place;
 use crate::twice::twice_used;
 use crate::wanted::{keys_at, wanted};
@@ -13,7 +14,7 @@ use xp_file::{Key, SubscriptionFault};
 /// `at station 2 (address 2080020), line 1 (name b1): a number from 1 to 65535 is wanted, found "x"`. Empty where no place is found.
 ///
 /// The place is that of the first station, and of its first line, group or redirection, that is refused for this fault where it
-/// stands alone in a file. No contract says what the text tells.
+/// stands alone in a file. Of what is used twice both places are told. No contract says what the text tells.
 ///
 /// # Errors
 ///
@@ -46,6 +47,7 @@ fn push_place(
 ) -> Result<(), AllocError> {
     match fault {
         SubscriptionFault::Toml | SubscriptionFault::Memory => Ok(()),
+        SubscriptionFault::TwiceUsed(Key::DefaultCaller) => push_rivals(alloc, told, file),
         SubscriptionFault::TwiceUsed(key) => push_twice(alloc, told, file, key),
         SubscriptionFault::Field(key) => {
             let place = refused_part(alloc, file, fault)?.unwrap_or(Place::Top(file));
@@ -72,6 +74,18 @@ fn push_twice(alloc: Global, told: &mut String, file: &Table, key: Key) -> Resul
             "at {} and {}: {}",
             first.place, second.place, second.value
         ),
+        None => Ok(()),
+    }
+}
+
+fn push_rivals(alloc: Global, told: &mut String, file: &Table) -> Result<(), AllocError> {
+    match rivals(alloc, file)? {
+        Some((first, second)) => {
+            write!(
+                told,
+                "at {first} and {second}: both have lines behind one router"
+            )
+        }
         None => Ok(()),
     }
 }

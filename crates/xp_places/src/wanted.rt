@@ -11,7 +11,7 @@ const TOP_KEYS: [Key; 5] = [
     Key::Station,
 ];
 
-const STATION_KEYS: [Key; 11] = [
+const STATION_KEYS: [Key; 12] = [
     Key::Address,
     Key::Line,
     Key::OutgoingBarred,
@@ -21,6 +21,7 @@ const STATION_KEYS: [Key; 11] = [
     Key::OutgoingAccess,
     Key::IncomingAccess,
     Key::Preferential,
+    Key::DefaultCaller,
     Key::Group,
     Key::Redirect,
 ];
@@ -79,6 +80,7 @@ pub(crate) fn wanted(place: Place<'_>, key: Key) -> &'static str {
         | Key::FastSelect
         | Key::OutgoingAccess
         | Key::IncomingAccess
+        | Key::DefaultCaller
         | Key::Systematic
         | Key::Busy
         | Key::OutOfOrder => "true or false",

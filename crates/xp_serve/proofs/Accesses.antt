@@ -4,7 +4,7 @@ use Rattle.std.proofs.lemmas.List.{take_more}
 use Rattle.xp_lines.specs.Pairs.{AreEach}
 use Rattle.xp_serve.specs.Accesses.{IsServedAt}
 use Rattle.xp_subs.specs.declared.line.Line.{Line}
-use Rattle.xp_subs.specs.Tables.{no_line}
+use Rattle.xp_subs.specs.Tables.{Tables, no_line}
 use Rattle.xp_tcp.specs.Accesses.{Origin}
 
 each_more : {X Y : Type 0} (R : X → Y → Type 0) (xs : List X) (ys : List Y) (x : X) (y : Y) → AreEach R xs ys → R x y → AreEach R (xs ++ x ∷ []) (ys ++ y ∷ [])
@@ -14,12 +14,12 @@ each_more R (a ∷ xs) [] x y are is = absurd are
 each_more R (a ∷ xs) (b ∷ ys) x y are is = (are.0, each_more R xs ys x y are.1 is)
 
 -- one more line is served
-pub served_more : (lines : List Line) (i : ℕ) (origins : List Origin) (origin : Origin) → i < length lines
-    → AreEach IsServedAt (take i lines) origins → IsServedAt (slice_index_or lines i no_line) origin
-    → AreEach IsServedAt (take (i + 1) lines) (origins ++ origin ∷ [])
-served_more lines i origins origin within are is =
-    subst (λ xs. AreEach IsServedAt xs (origins ++ origin ∷ [])) (sym (take_more lines i no_line within))
-    (each_more IsServedAt (take i lines) origins (slice_index_or lines i no_line) origin are is)
+pub served_more : (tables : Tables) (lines : List Line) (i : ℕ) (origins : List Origin) (origin : Origin) → i < length lines
+    → AreEach (IsServedAt tables) (take i lines) origins → IsServedAt tables (slice_index_or lines i no_line) origin
+    → AreEach (IsServedAt tables) (take (i + 1) lines) (origins ++ origin ∷ [])
+served_more tables lines i origins origin within are is =
+    subst (λ xs. AreEach (IsServedAt tables) xs (origins ++ origin ∷ [])) (sym (take_more lines i no_line within))
+    (each_more (IsServedAt tables) (take i lines) origins (slice_index_or lines i no_line) origin are is)
 
 each_count : {X Y : Type 0} (R : X → Y → Type 0) (xs : List X) (ys : List Y) → AreEach R xs ys → length ys ≡ length xs
 each_count R [] [] are = refl
@@ -28,5 +28,5 @@ each_count R (x ∷ xs) [] are = absurd are
 each_count R (x ∷ xs) (y ∷ ys) are = ap suc (each_count R xs ys are.1)
 
 -- as many lines are served as there are
-pub served_count : (lines : List Line) (origins : List Origin) → AreEach IsServedAt lines origins → length origins ≡ length lines
-served_count lines origins are = each_count IsServedAt lines origins are
+pub served_count : (tables : Tables) (lines : List Line) (origins : List Origin) → AreEach (IsServedAt tables) lines origins → length origins ≡ length lines
+served_count tables lines origins are = each_count (IsServedAt tables) lines origins are

@@ -1,5 +1,7 @@
 mod Accesses
 mod Addresses
 mod EarlyEnds
+mod LeftAlone
+mod OfKeeper
 mod Passes
 mod Told

@@ -7,6 +7,7 @@ use Rattle.std.specs.declared.net.socket_addr.SocketAddr.{SocketAddr}
 use Rattle.xp_file.specs.declared.entry.Access.{Access}
 use Rattle.xp_file.specs.declared.entry.Access.TheVariants as subscribed
 use Rattle.xp_lines.specs.Pairs.{AreEach}
+use Rattle.xp_door.specs.Callers.{caller_of}
 use Rattle.xp_subs.specs.Tables.{Tables}
 use Rattle.xp_subs.specs.declared.line.Line.{Line}
 use Rattle.xp_tcp.specs.Accesses.{Origin, AtPort, Behind}
@@ -18,18 +19,18 @@ AreAddresses [] (address ∷ addresses) = ⊥
 AreAddresses (text ∷ texts) [] = ⊥
 AreAddresses (text ∷ texts) (address ∷ addresses) = IsIpText text address × AreAddresses texts addresses
 
--- a line with this access and these texts of addresses is served so: on its own port, for connections from its own addresses, or
--- with the router of the address that the text writes, at its port
-abbrev pub IsServedBy : Access → List (List ℕ) → Origin → Type 0
-IsServedBy (subscribed.Port port) from origin =
-    (addresses : List IpAddr) × (origin ≡ AtPort port addresses) × AreAddresses from addresses
-IsServedBy (subscribed.Router router) from origin =
-    (at : SocketAddr) × (origin ≡ Behind at) × IsIpText router.address (socket_ip at) × (socket_port at ≡ router.port)
+-- a line with this access is served so: on its own port, for connections from its own addresses, or with the router of the address that
+-- the text writes, at its port, whose calls are matched with the line and its station
+abbrev pub IsServedBy : Tables → Line → Access → Origin → Type 0
+IsServedBy tables line (subscribed.Port port) origin =
+    (addresses : List IpAddr) × (origin ≡ AtPort port addresses) × AreAddresses line.from addresses
+IsServedBy tables line (subscribed.Router router) origin =
+    (at : SocketAddr) × (origin ≡ Behind at (caller_of tables line)) × IsIpText router.address (socket_ip at) × (socket_port at ≡ router.port)
 
 -- a line is served where it is subscribed
-abbrev pub IsServedAt : Line → Origin → Type 0
-IsServedAt line origin = IsServedBy line.access line.from origin
+abbrev pub IsServedAt : Tables → Line → Origin → Type 0
+IsServedAt tables line origin = IsServedBy tables line line.access origin
 
 -- all lines are, in the order of lines
 abbrev pub AreServedAt : Tables → List Origin → Type 0
-AreServedAt tables origins = AreEach IsServedAt tables.lines origins
+AreServedAt tables origins = AreEach (IsServedAt tables) tables.lines origins

@@ -1,2 +1,3 @@
 -- What only private steps tell one another: no public contract cites it.
+pub mod LeftAlone
 pub mod Serving

@@ -1,8 +1,19 @@
 //! What goes on beside the lines while they are served.
 
+ghost use Rattle.std.specs.Prelude.{◌≡◌, []};
+ghost use Rattle.xp_serve.specs.Serving.{Serves};
+
+use crate::serving::{ServeEnd, serve};
+use std::alloc::Global;
+use std::net::{Net, TcpListener, TcpStream};
+use std::sync::{Arc, Wait};
+use std::thread::Threads;
 use xp_charge::Record;
 use xp_keeping::{KeepFault, RecordKeeper};
+use xp_limits::Limits;
 use xp_lines::{Received, RecordSink};
+use xp_subs::Subs;
+use xp_tcp::Notices;
 use xp_view::ExchangeView;
 
 /// What is looked at again and again while the lines are served.
@@ -80,4 +91,26 @@ impl<K: RecordKeeper, W: Watch> RecordKeeper for Attending<K, W> {
         self.watch.end();
         kept
     }
+}
+
+/// Serves the lines by [`serve`] with a keeper of their charging records and what is looked at beside it, and gives the keeper back.
+pub fn serve_attended<
+    R: Net<Listener = TcpListener, Stream = TcpStream> + Threads + Wait + Sync,
+    K: RecordKeeper,
+    W: Watch,
+>(
+    rt: &R,
+    alloc: Global,
+    subs: Subs,
+    limits: Limits,
+    notices: Arc<Notices>,
+    attending: Attending<K, W>,
+) -> ServeEnd<K>
+    requires names { K.named_by attending.keeper ≡ subs }
+    requires new { K.received attending.keeper ≡ [] }
+    ensures { Serves K.kept K.keeps subs attending.keeper result.keeper result.outcome }
+{
+    let ServeEnd { keeper, outcome } = serve(rt, alloc, subs, limits, notices, attending);
+    let Attending { keeper, watch: _ } = keeper;
+    ServeEnd { keeper, outcome }
 }

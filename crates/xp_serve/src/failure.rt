@@ -40,7 +40,8 @@ pub enum ServeFailure {
     /// Standard output cannot be written on.
     #[error("xp: output")]
     Output,
-    /// The file of call detail records can't be written on. What it did not take is written on standard output.
+    /// The file of call detail records can't be written on, or the thread that does was given up. The records in doubt are written on
+    /// standard output.
     #[error("xp: cdr")]
     Details,
 }

@@ -5,6 +5,7 @@
 mod attending;
 mod beside_door;
 mod console_feed;
+mod doubt;
 mod ends;
 mod failure;
 mod host;
@@ -19,8 +20,9 @@ mod traced_watch;
 mod tracing;
 mod watching;
 
-pub use attending::{Attending, Watch};
+pub use attending::{Attending, Watch, serve_attended};
 pub use console_feed::{ConsoleFeed, NoConsole};
+pub use doubt::settle;
 pub use ends::{EarlyEnd, EarlyEndCause};
 pub use failure::ServeFailure;
 pub use listening::listen_all;

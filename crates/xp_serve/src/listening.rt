@@ -17,7 +17,7 @@ use std::net::{IpAddr, Net, SocketAddr};
 use std::num::NonZeroUsize;
 use std::sync::Arc;
 use xp_subs::{Access, LineNo, RouterAddress, Subs};
-use xp_tcp::{Admission, AdmissionFault, ListenFault, Notices, Sockets};
+use xp_tcp::{Admission, AdmissionFault, Caller, ListenFault, Notices, Sockets};
 
 /// Listens on the port of each line, in order, at an address of the machine, and for the routers of the lines that are behind one.
 /// So many threads are to serve the lines.
@@ -147,7 +147,7 @@ fn listen<R: Net>(
 ) -> Result<(), ServeFailure>
     requires line { line < line_count subs.now }
     requires sound { IsSound subs.now }
-    ensures one { OnOk result ((origin : Origin) × (sockets.new ≡ sockets.old ++ origin ∷ []) × IsServedAt (line_at subs.now line) origin) }
+    ensures one { OnOk result ((origin : Origin) × (sockets.new ≡ sockets.old ++ origin ∷ []) × IsServedAt subs.now (line_at subs.now line) origin) }
     ensures wanting { IfErr result (IsWanting subs.now) }
 {
     match subs.access_of(line) {
@@ -188,11 +188,11 @@ fn add_behind<R: Net>(
 ) -> Result<(), ServeFailure>
     requires line { line < line_count subs.now }
     requires router { (line_at subs.now line).access ≡ subscribed.Router router.now }
-    ensures one { OnOk result ((origin : Origin) × (sockets.new ≡ sockets.old ++ origin ∷ []) × IsServedBy (subscribed.Router router.now) (line_at subs.now line).from origin) }
+    ensures one { OnOk result ((origin : Origin) × (sockets.new ≡ sockets.old ++ origin ∷ []) × IsServedBy subs.now (line_at subs.now line) (subscribed.Router router.now) origin) }
     ensures wanting { IfErr result (IsWanting subs.now) }
 {
     let at = router_of(subs, line, router)?;
-    match sockets.add_router(rt, at) {
+    match sockets.add_router(rt, at, Caller::of(subs, line)) {
         Ok(()) => Ok(()),
         Err(ListenFault::Port) => Err(ServeFailure::port(subs, line)),
         Err(ListenFault::Memory) => Err(ServeFailure::Memory),

@@ -51,6 +51,7 @@ fn totals() -> Totals {
             out_of_order: 1,
             ..RefusedCalls::default()
         },
+        router_refusals: RefusedCalls::default(),
         segments_from_callers: 500,
         segments_from_called: 600,
         events: 4_000,

@@ -7,7 +7,8 @@ use std::sync::Arc;
 use std::test::Fail;
 use xp_clock::Start;
 use xp_lines::{Arrived, Link, Port, Pushed};
-use xp_tcp::{Ends, Notices, Sockets};
+use xp_packets::{Digits, Modulus};
+use xp_tcp::{Caller, Ends, Notices, Sockets};
 
 /// A clear request, as a frame (RFC 1613).
 const CLEAR: &[u8] = b"\x00\x00\x00\x05\x10\x01\x13\x00\x00";
@@ -17,7 +18,14 @@ fn ends_of<R: Net>(rt: &R, alloc: Global) -> Result<Ends, Fail> {
     let router = SocketAddr::V4(SocketAddrV4::new(Ipv4Addr::LOCALHOST, 1998));
     let notices = Arc::new(alloc, Notices::new(alloc, Start::read())?)?;
     let mut sockets = Sockets::new(alloc, 1, NonZeroUsize::MIN, notices)?;
-    sockets.add_router(rt, router)?;
+    let caller = Caller {
+        modulus: Modulus::Eight,
+        station: 0,
+        own_address: None,
+        address: Digits::new(),
+        is_default: false,
+    };
+    sockets.add_router(rt, router, caller)?;
     Ok(sockets.into_ends(alloc)?)
 }
 

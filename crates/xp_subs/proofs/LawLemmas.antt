@@ -2,12 +2,14 @@
 use Rattle.std.proofs.Common.{◌≡◌, ℕ, List, [], ◌∷◌, ◌++◌, true, false, Result, Ok, Err, inl, inr, refl, sym, ap, subst, ◌∙◌}
 use Rattle.xp_file.specs.declared.fault.SubscriptionFault.{SubscriptionFault}
 use Rattle.xp_file.specs.declared.fault.SubscriptionFault.TheVariants as faults
+use Rattle.xp_file.specs.declared.key.Key.{Key}
 use Rattle.xp_file.specs.Entries.{StationData}
 use Rattle.xp_file.specs.SubscriptionFile.{FileData, file_in}
 use Rattle.xp_file.proofs.Choices.{none_is_some, err_is_ok}
-use Rattle.xp_subs.specs.Built.{Refuses, Accepts, SetsUp, tables_of}
+use Rattle.xp_subs.specs.Built.{IsTwiceUsed, Refuses, Accepts, SetsUp, tables_of}
+use Rattle.xp_subs.specs.DefaultCallers.{HasTwoDefaultCallers}
 use Rattle.xp_subs.specs.Tables.{Tables}
-use Rattle.xp_subs.specs.UsedValues.{Use, key_of, uses_of, IsFirstRepeated}
+use Rattle.xp_subs.specs.UsedValues.{Use, Once, key_of, uses_of, IsFirstRepeated}
 
 true_is_false : true ≡ false → ⊥
 true_is_false e = cc
@@ -39,17 +41,26 @@ one_first uses u v one other =
       | second rest is ↦ absurd (one.once other.before v rest is other.again)
     ]
 
+key_once : (stations : List StationData) (k l : Key) → IsTwiceUsed stations k → IsTwiceUsed stations l → k ≡ l
+key_once stations k l (inl (again, repeat, is)) (inl (again', repeat', is')) =
+    is ∙ ap key_of (one_first (uses_of stations) again again' repeat repeat') ∙ sym is'
+key_once stations k l (inl (again, repeat, is)) (inr (once, two, is')) = absurd (once repeat.before again repeat.after repeat.split repeat.again)
+key_once stations k l (inr (once, two, is)) (inl (again, repeat, is')) = absurd (once repeat.before again repeat.after repeat.split repeat.again)
+key_once stations k l (inr (once, two, is)) (inr (once', two', is')) = is ∙ sym is'
+
+nothing_twice : (stations : List StationData) (key : Key) → IsTwiceUsed stations key → Once (uses_of stations) → (HasTwoDefaultCallers stations → ⊥) → ⊥
+nothing_twice stations key (inl (again, repeat, is)) once none = once repeat.before again repeat.after repeat.split repeat.again
+nothing_twice stations key (inr (other, two, is)) once none = none two
+
 refused_once : (stations : List StationData) (one other : SubscriptionFault) → Refuses stations one → Refuses stations other → one ≡ other
 refused_once stations (faults.Limit k) (faults.Limit l) a b = let is : k ≡ l = (let e = sym a ∙ b in cc) in ap (λ x. faults.Limit x) is
 refused_once stations (faults.Limit k) (faults.TwiceUsed l) a b = absurd (none_is_some (sym b.0 ∙ a))
 refused_once stations (faults.Limit k) faults.Index a b = absurd (none_is_some (sym b.0 ∙ a))
 refused_once stations (faults.TwiceUsed k) (faults.Limit l) a b = absurd (none_is_some (sym a.0 ∙ b))
-refused_once stations (faults.TwiceUsed k) (faults.TwiceUsed l) a b =
-    let same = one_first (uses_of stations) a.1 b.1 a.2 b.2 in
-    ap (λ x. faults.TwiceUsed x) (a.3 ∙ ap key_of same ∙ sym b.3)
-refused_once stations (faults.TwiceUsed k) faults.Index a b = absurd (b.1 a.2.before a.1 a.2.after a.2.split a.2.again)
+refused_once stations (faults.TwiceUsed k) (faults.TwiceUsed l) a b = ap (λ x. faults.TwiceUsed x) (key_once stations k l a.1 b.1)
+refused_once stations (faults.TwiceUsed k) faults.Index a b = absurd (nothing_twice stations k a.1 b.1 b.2)
 refused_once stations faults.Index (faults.Limit l) a b = absurd (none_is_some (sym a.0 ∙ b))
-refused_once stations faults.Index (faults.TwiceUsed l) a b = absurd (a.1 b.2.before b.1 b.2.after b.2.split b.2.again)
+refused_once stations faults.Index (faults.TwiceUsed l) a b = absurd (nothing_twice stations l b.1 a.1 a.2)
 refused_once stations faults.Index faults.Index a b = refl
 refused_once stations faults.Toml other a b = absurd a
 refused_once stations (faults.Field k) other a b = absurd a
@@ -66,8 +77,8 @@ refused_once stations faults.Index faults.Memory a b = absurd b
 
 accepted_or_refused : (stations : List StationData) (fault : SubscriptionFault) → Accepts stations → Refuses stations fault → ⊥
 accepted_or_refused stations (faults.Limit k) a b = none_is_some (sym a.limits ∙ b)
-accepted_or_refused stations (faults.TwiceUsed k) a b = a.once b.2.before b.1 b.2.after b.2.split b.2.again
-accepted_or_refused stations faults.Index a b = true_is_false (sym a.indexes ∙ b.2)
+accepted_or_refused stations (faults.TwiceUsed k) a b = nothing_twice stations k b.1 a.once a.default_callers
+accepted_or_refused stations faults.Index a b = true_is_false (sym a.indexes ∙ b.3)
 accepted_or_refused stations faults.Toml a b = b
 accepted_or_refused stations (faults.Field k) a b = b
 accepted_or_refused stations faults.Memory a b = b

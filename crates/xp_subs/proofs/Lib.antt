@@ -8,6 +8,7 @@ pub mod AgreeLemmas
 pub mod UsesLemmas
 pub mod EntersLemmas
 pub mod GroupLemmas
+pub mod DefaultCallerLemmas
 pub mod BuiltLemmas
 pub mod ReadLemmas
 pub mod LawLemmas

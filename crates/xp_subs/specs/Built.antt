@@ -5,12 +5,15 @@ use Rattle.xp_file.specs.declared.entry.GroupEntry.{GroupEntry}
 use Rattle.xp_file.specs.declared.entry.LineEntry.{LineEntry}
 use Rattle.xp_file.specs.declared.fault.SubscriptionFault.{SubscriptionFault}
 use Rattle.xp_file.specs.declared.fault.SubscriptionFault.TheVariants as faults
+use Rattle.xp_file.specs.declared.key.Key.{Key}
+use Rattle.xp_file.specs.declared.key.Key.TheVariants as keys
 use Rattle.xp_file.specs.Entries.{StationData}
 use Rattle.xp_file.specs.SubscriptionFile.{FileData, file_in}
 use Rattle.xp_file.specs.Name.{same}
 use Rattle.xp_subs.specs.declared.line.Line.{Line}
 use Rattle.xp_subs.specs.declared.station.Membership.{Membership}
 use Rattle.xp_subs.specs.declared.station.Station.{Station}
+use Rattle.xp_subs.specs.DefaultCallers.{HasTwoDefaultCallers}
 use Rattle.xp_subs.specs.Passes.{over_limit, has_own_indexes}
 use Rattle.xp_subs.specs.Tables.{Tables}
 use Rattle.xp_subs.specs.UsedValues.{Use, key_of, uses_of, Once, IsFirstRepeated}
@@ -72,6 +75,7 @@ station_from known line entry = record {
   lines = record { items = numbers line (length entry.lines) };
   facilities = entry.facilities;
   preferential = entry.preferential;
+  default_caller = entry.default_caller;
   memberships = record { items = memberships_of known entry.groups };
   redirect = entry.redirect;
 }
@@ -93,16 +97,25 @@ tables_of file = record {
   xot_port = file.xot_port;
 }
 
--- The first fault of stations whose keys have been read: a limit, a value that is used twice, or an index.
+-- What the file has twice, by its key: the first value that was used before; or, where each is used once, the default caller of
+-- a router.
+abbrev pub IsTwiceUsed : List StationData → Key → Type 0
+IsTwiceUsed stations key =
+    ((again : Use) × IsFirstRepeated (uses_of stations) again × (key ≡ key_of again))
+    ⊎ (Once (uses_of stations) × HasTwoDefaultCallers stations × (key ≡ keys.DefaultCaller))
+
+-- The first fault of stations whose keys have been read: a limit, a value or a default caller that is there twice, or an index.
 abbrev pub Refuses : List StationData → SubscriptionFault → Type 0
 Refuses stations (faults.Limit key) = over_limit stations ≡ Some key
-Refuses stations (faults.TwiceUsed key) = (over_limit stations ≡ None) × (again : Use) × IsFirstRepeated (uses_of stations) again × (key ≡ key_of again)
-Refuses stations faults.Index = (over_limit stations ≡ None) × Once (uses_of stations) × (list_all has_own_indexes stations ≡ false)
+Refuses stations (faults.TwiceUsed key) = (over_limit stations ≡ None) × IsTwiceUsed stations key
+Refuses stations faults.Index =
+    (over_limit stations ≡ None) × Once (uses_of stations) × (HasTwoDefaultCallers stations → ⊥) × (list_all has_own_indexes stations ≡ false)
 Refuses stations _ = ⊥
 
 pub record Accepts (stations : List StationData) : Type 0 where
   pub limits : over_limit stations ≡ None
   pub once : Once (uses_of stations)
+  pub default_callers : HasTwoDefaultCallers stations → ⊥
   pub indexes : list_all has_own_indexes stations ≡ true
 
 -- The tables of a text, or its first fault: of its values, or of the stations.

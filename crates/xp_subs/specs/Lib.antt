@@ -1,5 +1,6 @@
 pub mod Built
 pub mod Consistency
+pub mod DefaultCallers
 pub mod Laws
 pub mod Passes
 pub mod Sound

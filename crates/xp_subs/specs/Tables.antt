@@ -40,6 +40,7 @@ no_station = record {
     incoming_access = false;
   };
   preferential = None;
+  default_caller = false;
   memberships = record { items = [] };
   redirect = None;
 }

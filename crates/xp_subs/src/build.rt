@@ -79,6 +79,7 @@ fn station(entry: &StationEntry, first: LineNo, known: &IndexSet<Name>) -> Stati
         lines: line_numbers(first, entry.lines.len()),
         facilities: entry.facilities,
         preferential: entry.preferential,
+        default_caller: entry.default_caller,
         memberships: memberships(&entry.groups, known),
         redirect: entry.redirect.as_ref().map(|redirect| redirect.copy()),
     }

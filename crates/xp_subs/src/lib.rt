@@ -2,6 +2,7 @@
 #![tactic(auto)]
 
 mod build;
+mod default_callers;
 mod indexes;
 mod laws;
 mod limits;

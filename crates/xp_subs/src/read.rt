@@ -13,6 +13,7 @@ ghost use Rattle.xp_subs.specs.steps.Passes.{nothing_used, with_stations};
 ghost use Rattle.xp_subs.specs.Tables.{group_count, same};
 
 use crate::build;
+use crate::default_callers::default_callers_differ;
 use crate::indexes::all_have_own_indexes;
 use crate::limits::over_limit;
 use crate::line::Line;
@@ -21,7 +22,7 @@ use crate::subs::Subs;
 use crate::used_values::UsedValues;
 use indexmap::IndexSet;
 use std::alloc::{AllocError, Global};
-use xp_file::{Name, StationEntry, SubscriptionFault, SubscriptionFile};
+use xp_file::{Key, Name, StationEntry, SubscriptionFault, SubscriptionFile};
 
 impl Subs {
     /// Reads the text of a subscription file.
@@ -34,6 +35,7 @@ impl Subs {
     /// - `Field` for the values of its keys;
     /// - `Limit` for the numbers of stations, lines and groups;
     /// - `TwiceUsed` for addresses, names and ports;
+    /// - `TwiceUsed(Key::DefaultCaller)` for the default callers of routers;
     /// - `Index` for the groups of a station.
     ///
     /// `Memory` if an allocation fails.
@@ -49,6 +51,9 @@ impl Subs {
             return Err(SubscriptionFault::Limit(key));
         }
         let uses = UsedValues::of(alloc, &file.stations)?;
+        if !default_callers_differ(&file.stations) {
+            return Err(SubscriptionFault::TwiceUsed(Key::DefaultCaller));
+        }
         if !all_have_own_indexes(&file.stations) {
             return Err(SubscriptionFault::Index);
         }

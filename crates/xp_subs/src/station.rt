@@ -28,6 +28,8 @@ pub struct Station {
     pub facilities: Facilities,
     /// The index of the preferential group. It is the index of one of the memberships.
     pub preferential: Option<u16>,
+    /// Whether it takes the calls of its routers whose calling address is missing, or is that of no station behind the router.
+    pub default_caller: bool,
     /// Its closed user groups.
     pub memberships: ArrayVec<Membership, MAX_GROUPS_OF_STATION>,
     /// Where its calls are redirected, if they are (X.25 clause 6.25.1).

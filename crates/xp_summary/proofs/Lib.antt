@@ -1,4 +1,9 @@
 pub mod FieldLemmas
-pub mod JoinLemmas
 pub mod LineLemmas
+pub mod Reaching
 pub mod RedirectionLemmas
+pub mod SelectionLemmas
+pub mod Selections
+pub mod Unchanged
+pub mod Unredirected
+pub mod Ways

@@ -1,5 +1,5 @@
 -- What redirections lead to (X.25 clause 6.25).
-use Rattle.std.specs.Prelude.{◌≡◌, ℕ, zero, suc, ◌<◌, List, Option, None, Some, option_map, Bool, ◌||◌, if◌then◌else◌, is_none}
+use Rattle.std.specs.Prelude.{◌≡◌, ℕ, zero, suc, ◌<◌, List, Option, None, Some, option_map, Bool, false, not, ◌||◌, if◌then◌else◌, is_none}
 use Rattle.xp_file.specs.declared.entry.Redirection.{Redirection}
 use Rattle.xp_subs.specs.declared.target.Target.{Target}
 use Rattle.xp_subs.specs.Tables.{Tables, station_at, station_count, target_of}
@@ -42,3 +42,8 @@ abbrev pub alternate_of_nobody : Tables → Option Redirection → Option (List 
 alternate_of_nobody tables None = None
 alternate_of_nobody tables (Some redirection) =
     if is_none (target_of tables redirection.to) then Some redirection.to else None
+
+-- the station has a redirection, and it applies for no reason
+abbrev pub redirects_never : Option Redirection → Bool
+redirects_never None = false
+redirects_never (Some redirection) = not (redirects redirection)

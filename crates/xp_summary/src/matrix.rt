@@ -1,12 +1,11 @@
 //! Who may call whom, as a matrix with a row for each caller.
 
-ghost use Rattle.std.specs.Prelude.{◌≡◌, ℕ, ◌<◌, ◌≤◌, IsTrue, ◌↔◌, IfOk, [], ◌∷◌};
+ghost use Rattle.std.specs.Prelude.{◌≡◌, ℕ, ◌<◌, ◌≤◌, IfOk, [], ◌∷◌};
 ghost use Rattle.std.specs.String.{string_bytes};
-ghost use Rattle.xp_groups.specs.MayJoin.{MayJoin};
-ghost use Rattle.xp_subs.specs.Tables.{station_at, station_count};
+ghost use Rattle.xp_subs.specs.Tables.{station_count};
 ghost use Rattle.xp_summary.specs.Matrix.{AreFields, IsField};
 
-use crate::joins::may_join;
+use crate::reach::{Reach, reach_between};
 use std::alloc::{AllocError, Global};
 use std::fmt::Write;
 use xp_subs::{StationNo, Subs};
@@ -15,17 +14,8 @@ use xp_subs::{StationNo, Subs};
 /// 80 columns.
 const WIDTH: usize = 60;
 
-/// Whether closed user groups permit a call from the one station to the other: a field of the matrix.
-pub fn may_call(subs: &Subs, caller: StationNo, called: StationNo) -> bool
-    requires caller { caller < station_count subs.now }
-    requires called { called < station_count subs.now }
-    ensures { IsTrue result ↔ MayJoin (station_at subs.now caller) (station_at subs.now called) }
-{
-    may_join(subs.station(caller), subs.station(called))
-}
-
-/// The fields of a caller's row for the called stations from `first` to the one before `past`: `x` where it may call the
-/// station, and `.` where not.
+/// The fields of a caller's row for the called stations from `first` to the one before `past`: `x` where it reaches the station by
+/// a call without facilities, `s` where only by one that selects a closed user group, and `.` where never.
 ///
 /// # Errors
 ///
@@ -55,10 +45,10 @@ fn field(subs: &Subs, caller: StationNo, called: StationNo) -> &'static str
     requires called { called < station_count subs.now }
     ensures { (code : ℕ) × (result.now ≡ code ∷ []) × IsField subs.now caller called code }
 {
-    if may_call(subs, caller, called) {
-        "x"
-    } else {
-        "."
+    match reach_between(subs, caller, called) {
+        Reach::Plain => "x",
+        Reach::Selecting => "s",
+        Reach::Never => ".",
     }
 }
 

@@ -2,10 +2,10 @@
 
 ghost use Rattle.std.specs.Prelude.{◌≡◌, ◌<◌, IsTrue, ◌↔◌, IfSome, option_map};
 ghost use Rattle.xp_subs.specs.Tables.{station_at, station_count};
-ghost use Rattle.xp_summary.specs.Redirections.{IsInCircle, alternate_address, next_station, alternate_of_nobody};
+ghost use Rattle.xp_summary.specs.Redirections.{IsInCircle, alternate_address, next_station, alternate_of_nobody, redirects, redirects_never};
 
 use xp_packets::Digits;
-use xp_subs::{Station, StationNo, Subs};
+use xp_subs::{Redirection, Station, StationNo, Subs};
 
 /// Whether the station's calls may be redirected in a circle: from station to station, and back to it. It is so whatever the
 /// reasons of the redirections; where all are systematic, each call to the station is refused.
@@ -40,9 +40,7 @@ fn alternate_address(station: &Station) -> Option<&Digits>
     ensures { option_map (λ address. address.now) result ≡ alternate_address station.now.redirect }
 {
     match &station.redirect {
-        Some(redirect) if redirect.systematic || redirect.busy || redirect.out_of_order => {
-            Some(&redirect.to)
-        }
+        Some(redirect) if redirects(redirect) => Some(&redirect.to),
         _ => None,
     }
 }
@@ -55,4 +53,21 @@ pub fn alternate_of_nobody<'a>(subs: &Subs, station: &'a Station) -> Option<&'a 
         Some(redirect) if subs.find(&redirect.to).is_none() => Some(&redirect.to),
         _ => None,
     }
+}
+
+/// Whether the station has a redirection that applies in no case.
+pub fn redirects_never(station: &Station) -> bool
+    ensures { result ≡ redirects_never station.now.redirect }
+{
+    match &station.redirect {
+        Some(redirect) => !redirects(redirect),
+        None => false,
+    }
+}
+
+/// Whether calls are redirected for some reason.
+fn redirects(redirect: &Redirection) -> bool
+    ensures { result ≡ redirects redirect.now }
+{
+    redirect.systematic || redirect.busy || redirect.out_of_order
 }

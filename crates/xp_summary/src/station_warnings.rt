@@ -1,13 +1,14 @@
 //! What to look at again in a station.
 
-ghost use Rattle.std.specs.Prelude.{◌≡◌, ◌<◌};
+ghost use Rattle.std.specs.Prelude.{◌≡◌, ◌<◌, IsTrue, ◌↔◌};
 ghost use Rattle.xp_groups.specs.Groups.{preferred, selected};
 ghost use Rattle.xp_subs.specs.Tables.{station_count};
-ghost use Rattle.xp_summary.specs.Warnings.{Warns, barred_preferential};
+ghost use Rattle.xp_summary.specs.Warnings.{IsAlone, NeedsSelection, Warns, barred_preferential, is_in};
 
-use crate::redirections::{alternate_of_nobody, is_in_circle};
+use crate::reach::{Reach, reach_between};
+use crate::redirections::{alternate_of_nobody, is_in_circle, redirects_never};
 use xp_packets::Digits;
-use xp_subs::{Membership, Station, StationNo, Subs};
+use xp_subs::{GroupNo, Membership, Station, StationNo, Subs};
 
 /// What to look at again in a station.
 #[derive(Clone, Copy)]
@@ -16,8 +17,12 @@ pub struct StationWarnings<'a> {
     pub in_circle: bool,
     /// The address to which its calls are redirected, where nobody has it.
     pub alternate_of_nobody: Option<&'a Digits>,
+    /// It has a redirection that applies in no case.
+    pub redirects_never: bool,
     /// Its preferential group, where outgoing calls are barred in it.
     pub barred_preferential: Option<Membership>,
+    /// It reaches stations by a selection of a closed user group, and none without.
+    pub needs_selection: bool,
 }
 
 /// What to look at again in the station with this number.
@@ -29,7 +34,9 @@ pub fn warnings(subs: &Subs, station: StationNo) -> StationWarnings<'_>
     StationWarnings {
         in_circle: is_in_circle(subs, station),
         alternate_of_nobody: alternate_of_nobody(subs, held),
+        redirects_never: redirects_never(held),
         barred_preferential: barred_preferential(held),
+        needs_selection: needs_selection(subs, station),
     }
 }
 
@@ -59,4 +66,39 @@ fn membership(station: &Station, index: u16) -> Option<Membership>
         .iter()
         .find(|held| held.index == index)
         .copied()
+}
+
+/// Whether the station reaches others by a selection of a closed user group, and none without.
+pub fn needs_selection(subs: &Subs, caller: StationNo) -> bool
+    requires { caller < station_count subs.now }
+    ensures { IsTrue result ↔ NeedsSelection subs.now caller }
+{
+    let mut selects = false;
+    for called in 0..subs.counts().stations {
+        match reach_between(subs, caller, called as StationNo) {
+            Reach::Plain => return false,
+            Reach::Selecting => selects = true,
+            Reach::Never => {}
+        }
+    }
+    selects
+}
+
+/// Whether no other station of the file is in the group.
+pub fn is_alone(subs: &Subs, station: StationNo, group: GroupNo) -> bool
+    ensures { IsTrue result ↔ IsAlone subs.now station group }
+{
+    for other in 0..subs.counts().stations {
+        if other != usize::from(station) && is_in(subs.station(other as StationNo), group) {
+            return false;
+        }
+    }
+    true
+}
+
+/// Whether the station is in the group.
+fn is_in(station: &Station, group: GroupNo) -> bool
+    ensures { result ≡ is_in station.now group }
+{
+    station.memberships.iter().any(|held| held.group == group)
 }

@@ -3,11 +3,13 @@
 ghost use Rattle.std.specs.Prelude.{◌<◌};
 ghost use Rattle.xp_subs.specs.Tables.{line_count, station_count};
 
-use crate::station_warnings::warnings;
+use crate::default_callers::is_default_caller;
 use std::alloc::AllocError;
 use std::fmt::Write;
 use xp_packets::Modulus;
-use xp_subs::{Facilities, LineNo, Membership, Redirection, Station, StationNo, Subs};
+use xp_subs::{
+    Access, Facilities, LineNo, Membership, Redirection, Sources, Station, StationNo, Subs,
+};
 
 /// A station, with its number from 1.
 pub(crate) fn push_station(
@@ -19,7 +21,12 @@ pub(crate) fn push_station(
 {
     let station = subs.station(number);
     let shown = usize::from(number) + 1;
-    writeln!(text, "{shown} station {}", station.address)?;
+    let caller = if is_default_caller(subs, number) {
+        ", default caller of its router"
+    } else {
+        ""
+    };
+    writeln!(text, "{shown} station {}{caller}", station.address)?;
     push_lines(text, subs, number)?;
     push_rights(text, &station.facilities)?;
     push_groups(text, subs, station)?;
@@ -34,25 +41,50 @@ fn push_lines(text: &mut String, subs: &Subs, number: StationNo) -> Result<(), A
 {
     // The contract of this call says that the lines of stations are lines of the exchange.
     let _ = subs.counts();
-    write!(text, "  lines:")?;
     for line in subs.station(number).lines.as_slice() {
         push_line(text, subs, *line)?;
     }
-    writeln!(text, "")
+    Ok(())
 }
 
-/// A line, with its own address and with modulo 128.
+/// A line, with its port or its router, its own address, modulo 128, and the addresses from which it may connect.
 fn push_line(text: &mut String, subs: &Subs, number: LineNo) -> Result<(), AllocError>
     requires { number < line_count subs.now }
 {
     let line = subs.line(number);
     let name = line.name.as_str();
-    write!(text, " {name}")?;
+    write!(text, "  line {name}: ")?;
+    push_access(text, &line.access)?;
     if let Some(address) = &line.address {
-        write!(text, " (address {address})")?;
+        write!(text, ", address {address}")?;
     }
     if line.modulus == Modulus::Long {
-        write!(text, " (modulo 128)")?;
+        write!(text, ", modulo 128")?;
+    }
+    push_sources(text, &line.from)?;
+    writeln!(text, "")
+}
+
+fn push_access(text: &mut String, access: &Access) -> Result<(), AllocError> {
+    match access {
+        Access::Port(port) => write!(text, "port {port}"),
+        Access::Router(router) => {
+            let address = router.address();
+            let port = router.port();
+            write!(text, "router {address} port {port}")
+        }
+    }
+}
+
+/// The addresses from which connections may come, if not from any.
+fn push_sources(text: &mut String, sources: &Sources) -> Result<(), AllocError> {
+    if sources.is_empty() {
+        return Ok(());
+    }
+    write!(text, ", from")?;
+    for place in 0..sources.len() {
+        let source = sources.get(place).unwrap_or("");
+        write!(text, " {source}")?;
     }
     Ok(())
 }
@@ -67,7 +99,11 @@ fn push_rights(text: &mut String, rights: &Facilities) -> Result<(), AllocError>
         (rights.outgoing_access, "outgoing_access"),
         (rights.incoming_access, "incoming_access"),
     ];
-    push_keys(text, "  rights:", &keys)
+    if *rights == Facilities::default() {
+        return writeln!(text, "  no special rights");
+    }
+    write!(text, "  rights:")?;
+    push_keys(text, &keys)
 }
 
 /// Why its calls are redirected, and where to.
@@ -77,13 +113,12 @@ fn push_redirection(text: &mut String, redirect: &Redirection) -> Result<(), All
         (redirect.busy, "busy"),
         (redirect.out_of_order, "out_of_order"),
     ];
-    write!(text, "  redirected to {}", redirect.to)?;
-    push_keys(text, ":", &keys)
+    write!(text, "  redirected to {}:", redirect.to)?;
+    push_keys(text, &keys)
 }
 
-/// Those of the keys that are set, on a line of their own.
-fn push_keys(text: &mut String, head: &str, keys: &[(bool, &str)]) -> Result<(), AllocError> {
-    write!(text, "{head}")?;
+/// Those of the keys that are set, up to the end of the line.
+fn push_keys(text: &mut String, keys: &[(bool, &str)]) -> Result<(), AllocError> {
     let mut is_any = false;
     for (is_set, key) in keys {
         if *is_set {
@@ -129,36 +164,4 @@ fn push_group(
         text,
         "  group {name}: index {index}{preferred}{outgoing}{incoming}"
     )
-}
-
-/// What to look at again in a station.
-pub(crate) fn push_warnings(
-    text: &mut String,
-    subs: &Subs,
-    number: StationNo,
-) -> Result<(), AllocError>
-    requires { number < station_count subs.now }
-{
-    let address = &subs.station(number).address;
-    let found = warnings(subs, number);
-    if found.in_circle {
-        writeln!(
-            text,
-            "warning: station {address}: redirections lead back to it"
-        )?;
-    }
-    if let Some(alternate) = found.alternate_of_nobody {
-        writeln!(
-            text,
-            "warning: station {address}: nobody has {alternate}, to which its calls are redirected"
-        )?;
-    }
-    if let Some(held) = found.barred_preferential {
-        let name = subs.group_name(held.group).unwrap_or("");
-        writeln!(
-            text,
-            "warning: station {address}: outgoing_barred in its preferential group {name}"
-        )?;
-    }
-    Ok(())
 }

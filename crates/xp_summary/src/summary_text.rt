@@ -1,10 +1,12 @@
 //! The summary as text.
 
+use crate::line_warning_text::push_line_warnings;
 use crate::matrix::push_matrix;
-use crate::stations::{push_station, push_warnings};
+use crate::stations::push_station;
+use crate::warning_text::push_warnings;
 use std::alloc::{AllocError, Global};
 use std::fmt::Write;
-use xp_subs::{StationNo, Subs};
+use xp_subs::{LineNo, StationNo, Subs};
 
 /// A summary of the subscriptions: each station, who may call whom, and what to look at again.
 ///
@@ -22,10 +24,15 @@ pub fn summary(alloc: Global, subs: &Subs) -> Result<String, AllocError> {
     push_stations(&mut text, subs)?;
     writeln!(
         text,
-        "who may call whom: a row for each caller, with x where it may call the station"
+        "who may call whom, where lines are idle and no call is redirected: a row for each caller"
+    )?;
+    writeln!(
+        text,
+        "x: put through, s: only with a closed user group selection, .: never"
     )?;
     push_matrix(alloc, &mut text, subs)?;
     push_all_warnings(&mut text, subs)?;
+    push_all_line_warnings(&mut text, subs)?;
     Ok(text)
 }
 
@@ -39,6 +46,13 @@ fn push_stations(text: &mut String, subs: &Subs) -> Result<(), AllocError> {
 fn push_all_warnings(text: &mut String, subs: &Subs) -> Result<(), AllocError> {
     for number in 0..subs.counts().stations {
         push_warnings(text, subs, number as StationNo)?;
+    }
+    Ok(())
+}
+
+fn push_all_line_warnings(text: &mut String, subs: &Subs) -> Result<(), AllocError> {
+    for number in 0..subs.counts().lines {
+        push_line_warnings(text, subs, number as LineNo)?;
     }
     Ok(())
 }

@@ -2,18 +2,19 @@
 use Rattle.std.specs.Prelude.{◌≡◌, ℕ, ◌<◌, List, [], ◌∷◌, ◌++◌, Option, None, Some}
 use Rattle.std.specs.declared.net.ip_addr.IpAddr.{IpAddr}
 use Rattle.std.specs.declared.net.socket_addr.SocketAddr.{SocketAddr}
+use Rattle.xp_door.specs.declared.choosing.Caller.{Caller}
 use Rattle.xp_tcp.specs.declared.access.Access.{Access}
 use Rattle.xp_tcp.specs.declared.access.Access.TheVariants.{Port, Router}
 
 -- Where the connections of a line come from: to a port of its own, from these addresses, or from any where there are none; or between
--- it and the router of this address.
+-- it and the router of this address, whose calls are matched with this.
 pub data Origin : Type 0 where
   AtPort : ℕ → List IpAddr → Origin
-  Behind : SocketAddr → Origin
+  Behind : SocketAddr → Caller → Origin
 
 abbrev pub access_of : Origin → Access
 access_of (AtPort port admitted) = Port port
-access_of (Behind router) = Router router
+access_of (Behind router caller) = Router router
 
 -- The next line is listened for on this port, for connections from these addresses: the port that was asked for, or where that is 0,
 -- one that the system picks.
@@ -25,5 +26,5 @@ pub record Listens (old : List Origin) (asked : ℕ) (admitted : List IpAddr) (n
 -- the port of a line that has one of its own
 abbrev pub port_of : Option Origin → Option ℕ
 port_of (Some (AtPort port admitted)) = Some port
-port_of (Some (Behind router)) = None
+port_of (Some (Behind router caller)) = None
 port_of None = None

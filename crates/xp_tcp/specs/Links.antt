@@ -1,17 +1,16 @@
 -- Where the links of a line come from.
-use Rattle.std.specs.Prelude.{List, []}
-use Rattle.std.specs.declared.net.ip_addr.IpAddr.{IpAddr}
+use Rattle.std.specs.Prelude.{ℕ}
 use Rattle.xp_tcp.specs.Accesses.{Origin, AtPort, Behind}
 use Rattle.xp_tcp.specs.declared.access.Access.{Access}
 use Rattle.xp_tcp.specs.declared.access.Access.TheVariants as access
 use Rattle.xp_tcp.specs.declared.line_port.LinkSource.{LinkSource}
 use Rattle.xp_tcp.specs.declared.line_port.LinkSource.TheVariants as links
 
--- of a line with its own port the addresses that its links may come from
-abbrev pub admitted_by : LinkSource → List IpAddr
-admitted_by (links.Own port) = port
-admitted_by (links.Router port) = []
+-- the port of a line that has one of its own
+abbrev pub own_port : Access → ℕ
+own_port (access.Port port) = port
+own_port (access.Router router) = 0
 
 abbrev pub link_origin : Access → LinkSource → Origin
-link_origin (access.Port port) source = AtPort port (admitted_by source)
-link_origin (access.Router router) source = Behind router
+link_origin access (links.Own port) = AtPort (own_port access) port
+link_origin access (links.Router port) = Behind port.0 port.1

@@ -35,6 +35,7 @@ pub use router_link::RouterLink;
 pub use router_port::RouterPort;
 pub use sockets::{Ends, ListenFault, Sockets};
 pub use xp_door::{
-    Candidate, ConnectFault, Door, DoorBell, Notice, Notices, Trace, is_router, line_for,
+    Caller, CallerRule, Candidate, Choice, ConnectFault, Door, DoorBell, Notice, Notices,
+    RouterCall, Trace, choose, is_router, line_for,
 };
 pub use xp_trace::{NamesFault, TracedLines};

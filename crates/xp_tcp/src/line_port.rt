@@ -14,10 +14,18 @@ use std::net::SocketAddr;
 use xp_lines::{Arrived, Link, Port, Pulled, Pushed};
 
 /// Where a line's links come from. Contracts see where its connections come from, and from which addresses they may.
-#[derive(Drop)]
 pub struct LinePort {
     access: Access,
     source: LinkSource,
+}
+
+impl Drop for LinePort {
+    fn drop(self) {
+        let LinePort {
+            access: _,
+            source: _,
+        } = self;
+    }
 }
 
 /// What gives a line its links.
@@ -49,7 +57,7 @@ impl LinePort {
 
     /// The port of a line behind the router of this address.
     pub(crate) fn behind(router: SocketAddr, source: RouterPort) -> LinePort
-        ensures { result ≡ Behind router }
+        ensures { result ≡ Behind source.0 source.1 }
     {
         LinePort {
             access: Access::Router(router),

@@ -15,6 +15,7 @@ use std::io;
 use std::marker::Model;
 use std::net::{Net, SocketAddr};
 use std::sync::Arc;
+use xp_door::Caller;
 use xp_subs::LineNo;
 
 /// Where the connections of one line are to come from.
@@ -22,8 +23,8 @@ use xp_subs::LineNo;
 pub(crate) enum LineSource {
     /// A socket that listens on a port of the line's own, and from where its connections may come.
     Own(u16, TcpListener, Admission),
-    /// The router of this address.
-    Router(SocketAddr),
+    /// The router of this address, whose calls are matched with this.
+    Router(SocketAddr, Caller),
 }
 
 /// A line, and where its connections come from, which is all that contracts see of it.
@@ -50,7 +51,7 @@ impl LineSockets {
     {
         match &self.source {
             LineSource::Own(port, _, _) => Access::Port(*port),
-            LineSource::Router(router) => Access::Router(*router),
+            LineSource::Router(router, _) => Access::Router(*router),
         }
     }
 }

@@ -27,7 +27,7 @@ use std::num::NonZeroUsize;
 use std::sync::Arc;
 use thiserror::Error;
 use xp_clock::Start;
-use xp_door::{Door, DoorBell, DoorSockets, LineShare, LineWaker, Notices, RouterLine};
+use xp_door::{Caller, Door, DoorBell, DoorSockets, LineShare, LineWaker, Notices, RouterLine};
 use xp_subs::LineNo;
 
 /// How many events a wait of the door takes.
@@ -135,17 +135,22 @@ impl Sockets {
         self.push(number, source)
     }
 
-    /// Adds the next line, which is behind the router of this address and port.
+    /// Adds the next line, which is behind the router of this address and port, whose calls are matched with this.
     ///
     /// # Errors
     ///
     /// `Port` where the system has no descriptors left, or where there are 65,536 lines already, `Memory`. No line is added then.
-    pub fn add_router<R: Net>(&mut self, rt: &R, router: SocketAddr) -> Result<(), ListenFault>
-        ensures ok { OnOk result (self.new ≡ self.old ++ Behind router ∷ []) }
+    pub fn add_router<R: Net>(
+        &mut self,
+        rt: &R,
+        router: SocketAddr,
+        caller: Caller,
+    ) -> Result<(), ListenFault>
+        ensures ok { OnOk result (self.new ≡ self.old ++ Behind router caller ∷ []) }
         ensures err { OnErr result (self.new ≡ self.old) }
     {
         let number = self.reserve(rt)?;
-        self.push(number, LineSource::Router(router))
+        self.push(number, LineSource::Router(router, caller))
     }
 
     /// Listens on a port, at an address of the machine, for the connections of all routers. At port 0 the system picks one. Lines
@@ -328,8 +333,8 @@ impl Shared {
                 let listener = Arc::new(alloc, LineListener::new(listener, admission, share))?;
                 Ok(LinePort::own(port, TcpPort::new(listener, links)))
             }
-            LineSource::Router(router) => {
-                let router_line = self.behind(alloc, line, router)?;
+            LineSource::Router(router, caller) => {
+                let router_line = self.behind(alloc, line, router, caller)?;
                 behind.push(Arc::try_clone(&router_line)?)?;
                 Ok(LinePort::behind(router, RouterPort::new(router_line, links, share)))
             }
@@ -342,12 +347,15 @@ impl Shared {
         alloc: Global,
         line: LineNo,
         router: SocketAddr,
-    ) -> Result<Arc<RouterLine>, AllocError> {
+        caller: Caller,
+    ) -> Result<Arc<RouterLine>, AllocError>
+        ensures { IfOk result (λ shared. (shared.value.router ≡ router) × (shared.value.caller ≡ caller)) }
+    {
         let bell = match &self.bell {
             Some(bell) => Some(Arc::try_clone(bell)?),
             None => None,
         };
-        Ok(Arc::new(alloc, RouterLine::new(line, router, bell))?)
+        Ok(Arc::new(alloc, RouterLine::new(line, router, caller, bell))?)
     }
 
     /// The door of these lines.

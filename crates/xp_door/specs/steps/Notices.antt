@@ -4,7 +4,7 @@ use Rattle.std.specs.Net.Text.{socket_text}
 use Rattle.xp_door.specs.declared.connect_fault.ConnectFault.{ConnectFault}
 use Rattle.xp_door.specs.declared.connect_fault.ConnectFault.TheVariants as faults
 use Rattle.xp_door.specs.declared.notices.Notice.{Notice}
-use Rattle.xp_door.specs.declared.notices.Notice.TheVariants.{Closed, Connected, DoorFailing, DoorWorks, Down, EndedEarly, HasOne, MoreRefused, NoFrame, NoFraming, NoFreeLine, NoRoom, NoRouter, NotConnected, PortFailing, PortWorks, Refused, Replaced, Up}
+use Rattle.xp_door.specs.declared.notices.Notice.TheVariants.{Closed, Connected, DoorFailing, DoorWorks, Down, EndedEarly, HasOne, MoreRefused, NoCaller, NoFrame, NoFraming, NoFreeLine, NoRoom, NoRouter, NotConnected, PortFailing, PortWorks, Refused, Replaced, Up}
 
 abbrev pub fault_text : ConnectFault → List ℕ
 fault_text faults.Refused = codes "refused"
@@ -27,6 +27,7 @@ text_of (PortFailing line) = codes "port fails: no connection can be accepted"
 text_of (PortWorks line) = codes "port works again"
 text_of (NoRouter peer) = codes "connection from " ++ socket_text peer ++ codes " refused: no line is behind this router"
 text_of (NoFreeLine peer) = codes "connection from " ++ socket_text peer ++ codes " refused: no line is free"
+text_of (NoCaller peer) = codes "call from " ++ socket_text peer ++ codes " refused: no line is of its calling address"
 text_of (NoRoom peer) = codes "connection from " ++ socket_text peer ++ codes " refused: too many wait for their first frame"
 text_of (NoFrame peer) = codes "connection from " ++ socket_text peer ++ codes " closed: no whole frame came in 10 seconds"
 text_of (NoFraming peer) = codes "connection from " ++ socket_text peer ++ codes " closed: no frame of RFC 1613"

@@ -7,7 +7,7 @@ use Rattle.xp_tcp.specs.declared.line_sockets.LineSource.TheVariants as sources
 
 abbrev pub source_origin : LineSource → Origin
 source_origin (sources.Own port listener admission) = AtPort port admission
-source_origin (sources.Router router) = Behind router
+source_origin (sources.Router router caller) = Behind router caller
 
 -- a port of the line's own, for these addresses: the one that was asked for, or where that is 0, any
 abbrev pub IsListening : ℕ → List IpAddr → Origin → Type 0

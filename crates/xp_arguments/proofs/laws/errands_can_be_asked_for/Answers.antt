@@ -106,7 +106,7 @@ returns-clause-ladder c = record { faultless = refl; asked = record { word = _; 
 pub returns-clause-explain : goal.returns-clause-explain
 unfolding clap_on_literals
 returns-clause-explain c =
-    λ question caller dialled facilities user up busy. record {
+    λ question caller dialled facilities user up busy status. record {
       faultless = refl;
       asked = record {
         word = _;
@@ -121,8 +121,17 @@ returns-clause-explain c =
             user = ap (option_map (λ text. text.now)) user;
             up = ap (option_map (λ text. text.now)) up;
             busy = busy;
+            status = status;
           },
         );
         named = refl;
       };
     }
+
+pub returns-clause-version : goal.returns-clause-version
+unfolding clap_on_literals
+returns-clause-version c = refl
+
+pub returns-clause-short_version : goal.returns-clause-short_version
+unfolding clap_on_literals
+returns-clause-short_version c = refl

@@ -28,4 +28,5 @@ returns-clause-found c =
       user = c.get_str-user.ensures ∙ first_value-rows matches (codes "user");
       up = c.get_str-up.ensures ∙ first_value-rows matches (codes "up");
       busy = c.get_str-busy.ensures ∙ first_value-rows matches (codes "busy");
+      status = c.is_true-status.ensures;
     }

@@ -1,13 +1,7 @@
 use Rattle.xp_console.specs.Metrics.{refused_text}
 use Rattle.xp_console.proofs.Appends.{then_appended}
-use Rattle.std.proofs.Common.{◌≡◌, ◌++◌, flat_map, OnOk, string_bytes, subst}
-use Rattle.xp_console.specs.Metrics.{refused_sample}
 use Rattle.xp_console.proofs.metrics.push_refused.Goals as goal
 
 pub returns : goal.returns
 unfolding refused_text
-returns c =
-    let t = c.push_causes.new.text in
-    let before = c.push_head.new.text in
-    then_appended c.push_causes.result _ _ _ _ _ c.in_ok-push_head.ensures
-    (subst (λ counts. OnOk c.push_causes.result (string_bytes t ≡ string_bytes before ++ flat_map refused_sample counts)) c.by_cause.ensures c.push_causes.ensures)
+returns c = then_appended c.push_by_cause-2.result _ _ _ _ _ c.in_ok-push_by_cause.ensures c.push_by_cause-2.ensures

@@ -9,7 +9,7 @@ use Rattle.xp_keeping.proofs.starting.start_details.Lts.{arg-0-0}
 pub start-requires-send-K : goal.start-requires-send-K
 start-requires-send-K g c κs within =
     param_send _
-    (arg-0-0 g.row.F g.row.L g.row.W g.row.R g.F.laws g.L.laws g.W.laws g.R.laws g.R.copy g.F.RecordFile g.F.RecordFile-dict g.L.Log g.L.Log-dict g.W.Write g.W.Write-dict
-    g.R.Threads g.R.Threads-dict g.R.Wait g.R.Wait-dict g.R.Clone g.R.Clone-dict g.F.Destruct-dict g.L.Destruct-dict g.W.Destruct-dict κs)
-    (arg_send _ yes (DetailKeeper.the_row (param 0 g.row.F) (param 1 g.row.L) (param 2 g.row.W) g.F.RecordFile g.L.Log g.W.Write)
-    (details_send (param 0 g.row.F) (param 1 g.row.L) (param 2 g.row.W) g.F.RecordFile g.L.Log g.W.Write c.type_bounds.send-F c.type_bounds.send-L c.type_bounds.send-W))
+    (arg-0-0 g.row.F g.row.L g.row.R g.F.laws g.L.laws g.R.laws g.R.copy g.F.RecordFile g.F.RecordFile-dict g.L.Log g.L.Log-dict
+    g.R.Threads g.R.Threads-dict g.R.Wait g.R.Wait-dict g.R.Clone g.R.Clone-dict g.F.Destruct-dict g.L.Destruct-dict κs)
+    (arg_send _ yes (DetailKeeper.the_row (param 0 g.row.F) (param 1 g.row.L) g.F.RecordFile g.L.Log)
+    (details_send (param 0 g.row.F) (param 1 g.row.L) g.F.RecordFile g.L.Log c.type_bounds.send-F c.type_bounds.send-L))

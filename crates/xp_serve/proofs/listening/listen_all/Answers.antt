@@ -13,5 +13,5 @@ loop-line-preserved g c =
     let count = c.counts-lines.ensures.lines in
     let within : line < line_count subs = omega (arith, below, count) in
     let one = c.in_ok-listen.ensures.one in
-    subst (AreEach IsServedAt (take (line + 1) subs.lines)) (sym one.1)
-    (served_more subs.lines line c.loop-line.sockets one.0 within c.loop-line.invariant one.2)
+    subst (AreEach (IsServedAt subs) (take (line + 1) subs.lines)) (sym one.1)
+    (served_more subs subs.lines line c.loop-line.sockets one.0 within c.loop-line.invariant one.2)

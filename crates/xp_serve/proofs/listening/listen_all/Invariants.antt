@@ -4,4 +4,4 @@ use Rattle.xp_serve.specs.Accesses.{IsServedAt}
 use Rattle.xp_serve.proofs.listening.listen_all.Given as goal
 
 abbrev pub invariant-loop-line : goal.invariant-loop-line
-invariant-loop-line g l = AreEach IsServedAt (take l.line l.subs.lines) l.sockets
+invariant-loop-line g l = AreEach (IsServedAt l.subs) (take l.line l.subs.lines) l.sockets

@@ -8,7 +8,7 @@ pub returns-in-Err : goal.returns-in-Err
 returns-in-Err g c = inl (refl, c.in-Err.ensures.wanting)
 
 pub serve_on-requires-clause-sockets : goal.serve_on-requires-clause-sockets
-serve_on-requires-clause-sockets g c κs within = served_count c.args.subs.lines c.in-Ok.sockets c.in-Ok.ensures.accesses
+serve_on-requires-clause-sockets g c κs within = served_count c.args.subs c.args.subs.lines c.in-Ok.sockets c.in-Ok.ensures.accesses
 
 pub serve_on-requires-clause-lines : goal.serve_on-requires-clause-lines
 serve_on-requires-clause-lines g c κs within = g.met.K.RecordKeeper.has_lines c.args.keeper ∙ ap line_count c.requires.names

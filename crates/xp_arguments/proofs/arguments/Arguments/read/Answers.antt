@@ -1,11 +1,12 @@
-use Rattle.std.proofs.Common.{◌≡◌, ◌∙◌, ℕ, List, [], refl, sym, ap, subst, true, map, string_bytes, Err, IfErr, ⊎_elim}
+use Rattle.std.proofs.Common.{◌≡◌, ◌∙◌, ℕ, List, [], ◌∷◌, refl, sym, ap, subst, true, map, string_bytes, Err, IfErr, inl, inr, ⊎_elim}
 use Rattle.std.proofs.lemmas.Result.{err_from_is_err_and}
-use Rattle.clap.specs.Words.{App, HasKind, HasMatchesOf, IsAmong, Text, fault_of, is_simple_and_free, kind_of, subcommand_of, subcommand_rows_of}
+use Rattle.clap.specs.Kinds.{or_else}
+use Rattle.clap.specs.Words.{App, HasKind, HasMatchesOf, IsAmong, Kinds, Text, fault_of, is_simple_and_free, kind_of, subcommand_of, subcommand_rows_of}
 use Rattle.clap.specs.declared.error.Error.{Error}
-use Rattle.clap.specs.declared.error.kind.ErrorKind.TheVariants.{OutOfMemory}
+use Rattle.clap.specs.declared.error.kind.ErrorKind.TheVariants.{InvalidValue, OutOfMemory}
 use Rattle.clap.specs.declared.parser.matches.ArgMatches.{ArgMatches}
 use Rattle.xp_arguments.specs.declared.subcommand.Subcommand.{Subcommand}
-use Rattle.xp_arguments.specs.Commands.{AreRight, AsksFor, program}
+use Rattle.xp_arguments.specs.Commands.{AreRight, AsksFor, kinds_of, program}
 use Rattle.xp_arguments.proofs.arguments.Arguments.read.Goals as goal
 
 is_free : (app : App) → app ≡ program → is_simple_and_free app ≡ true
@@ -31,6 +32,32 @@ returns-in_err-matches-clause-taken c =
     subst (λ result. IfErr result (λ error. AreRight words → kind_of error ≡ OutOfMemory)) (sym (p.1 ∙ ap Err p.2))
     (λ right. only_memory _ words c.in_err-matches.field-0.0 c.in_ok-command.ensures c.in_err-matches.ensures.kinds right.2.faultless)
 
+-- the error of a fault has the kind of the words
+first_kind : (kinds : Kinds) (error : Error) → HasKind kinds error → HasKind (or_else kinds (InvalidValue ∷ [])) error
+first_kind [] error (inl memory) = inl memory
+first_kind [] error (inr among) = absurd among
+first_kind (kind ∷ kinds) error has = has
+
+kind_alike : (app : App) (words : List Text) (error : Error) → app ≡ program → (is_simple_and_free app ≡ true → HasKind (fault_of app words) error) → HasKind (kinds_of words) error
+kind_alike app words error same has =
+    first_kind (fault_of program words) error (subst (λ kinds. HasKind kinds error) (faults_alike app words same) (has (is_free app same)))
+
+-- and so has that of words without a fault which ask for nothing
+unfit_kind : (kinds : Kinds) (error : Error) → kinds ≡ [] → kind_of error ≡ InvalidValue → HasKind (or_else kinds (InvalidValue ∷ [])) error
+unfit_kind kinds error none is = subst (λ kinds. HasKind (or_else kinds (InvalidValue ∷ [])) error) (sym none) (inr (inl is))
+
+pub returns-in_err-matches-clause-kind : goal.returns-in_err-matches-clause-kind
+returns-in_err-matches-clause-kind c =
+    let words = map string_bytes c.args.words.now in
+    let p = err_from_is_err_and c.from_residual-in_err-matches.result c.from_residual-in_err-matches.ensures.1 in
+    subst (λ result. IfErr result (HasKind (kinds_of words))) (sym (p.1 ∙ ap Err p.2))
+    (kind_alike _ words c.in_err-matches.field-0.0 c.in_ok-command.ensures c.in_err-matches.ensures.kinds)
+
+pub returns-clause-kind : goal.returns-clause-kind
+returns-clause-kind c =
+    let words = map string_bytes c.args.words.now in
+    unfit_kind (fault_of program words) c.in_ok-unfit-in-None.field-0 (no_fault _ words c.in_ok-command.ensures c.in_ok-matches.ensures.kinds) c.in_ok-unfit-in-None.ensures.refused
+
 -- what was found among the words is what they ask for
 found_alike : (words : List Text) (app : App) (matches : ArgMatches) → app ≡ program → HasMatchesOf app words matches
     → subcommand_rows_of matches ≡ subcommand_of program words
@@ -41,10 +68,10 @@ found_as_asked : (words : List Text) (app : App) (matches : ArgMatches) → app 
 found_as_asked words app matches same has none right =
     none right.0 right.1 (subst (λ found. AsksFor found right.0 right.1) (sym (found_alike words app matches same has)) right.2.asked)
 
-pub returns-in_err-refused-in-None-clause-taken : goal.returns-in_err-refused-in-None-clause-taken
-returns-in_err-refused-in-None-clause-taken c =
+pub returns-in_err-unfit-in-None-clause-taken : goal.returns-in_err-unfit-in-None-clause-taken
+returns-in_err-unfit-in-None-clause-taken c =
     let words = map string_bytes c.args.words.now in
-    let p = err_from_is_err_and c.from_residual-in_err-refused-in-None.result c.from_residual-in_err-refused-in-None.ensures.1 in
+    let p = err_from_is_err_and c.from_residual-in_err-unfit-in-None.result c.from_residual-in_err-unfit-in-None.ensures.1 in
     subst (λ result. IfErr result (λ error. AreRight words → kind_of error ≡ OutOfMemory)) (sym p.1)
     (λ right. absurd (found_as_asked words _ _ c.in_ok-command.ensures c.in_ok-matches.ensures.matches c.in-None.ensures.none right))
 

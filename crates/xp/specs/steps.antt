@@ -1,2 +1,0 @@
--- What only private steps tell one another: no public contract cites it.
-pub mod Failures

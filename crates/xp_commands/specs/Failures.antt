@@ -1,0 +1,16 @@
+-- The exit status of a command that fails.
+use Rattle.std.specs.Prelude.{ℕ}
+use Rattle.xp_tasks.specs.Failures.{status_of as status_of_task}
+use Rattle.xp_commands.specs.declared.failure.CommandFailure.{CommandFailure}
+use Rattle.xp_commands.specs.declared.failure.CommandFailure.TheVariants.{Address, Arguments, Ask, CallRefused, Question, Refused, Task, Unread}
+
+-- 1 for a call that is refused, 2 for what was asked
+abbrev pub status_of : CommandFailure → ℕ
+status_of (Arguments told) = 2
+status_of (Question fault told) = 2
+status_of CallRefused = 1
+status_of (Task failure) = status_of_task failure
+status_of (Refused failure place) = status_of_task failure
+status_of Unread = 5
+status_of (Address text) = 5
+status_of (Ask fault) = 5

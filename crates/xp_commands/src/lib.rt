@@ -1,0 +1,20 @@
+//! What the program does over files and standard streams, and at a console that serves: it checks a subscription file, replays a script,
+//! explains a call request, and asks a console.
+#![tactic(auto)]
+
+mod asking;
+mod checking;
+mod explaining;
+mod failure;
+mod output;
+mod replaying;
+mod router_callers;
+mod subscribing;
+
+pub use asking::{address_of, ask_console};
+pub use checking::check_file;
+pub use explaining::{QuestionFault, explain_call};
+pub use failure::CommandFailure;
+pub use output::print_text;
+pub use replaying::replay_script;
+pub use subscribing::{file_text, named_file, read_subscriptions};

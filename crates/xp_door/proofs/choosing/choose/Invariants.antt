@@ -1,0 +1,7 @@
+use Rattle.std.proofs.Common.{◌<◌, ℕ, slice_index_or}
+use Rattle.xp_door.specs.Choices.{MayTake}
+use Rattle.xp_door.specs.declared.choosing.Candidate.{Candidate}
+use Rattle.xp_door.proofs.choosing.choose.Given as goal
+
+abbrev pub invariant-loop-place : goal.invariant-loop-place
+invariant-loop-place l = (k : ℕ) (other : Candidate) → k < l.place → MayTake l.call l.rule (slice_index_or l.candidates k other) → ⊥

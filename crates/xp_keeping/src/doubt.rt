@@ -1,0 +1,77 @@
+//! Writing the records in doubt, as a run ends whose records go to a file.
+
+ghost use Rattle.std.specs.Prelude.{[], IfSome};
+ghost use Rattle.xp_keeping.specs.Doubt.{IsToldBy, WritesDoubted};
+ghost use Rattle.xp_keeping.specs.Printing.{Prints};
+
+use crate::details::DetailKeeper;
+use crate::keep_fault::KeepFault;
+use crate::left::write_left;
+use crate::queued::QueuedKeeper;
+use log::Log;
+use std::alloc::Global;
+use std::io::Write;
+use std::sync::Wait;
+use std::thread::Threads;
+use xp_cdr::RecordFile;
+use xp_exchange::write_out;
+use xp_subs::Subs;
+
+/// Writes the call detail records of the records in doubt on the output, of a run that began at `started`, in seconds since 1970, and
+/// flushes the output. The thread of the keeper writes nothing there, also where it was given up and goes on.
+///
+/// # Errors
+///
+/// `Memory`, `Output`, or `Details` where a record names a line that there is not. Then a front of them is written.
+pub fn write_doubted<F: RecordFile, L: Log + Drop, R: Threads + Wait + Copy, W: Write>(
+    alloc: Global,
+    subs: &Subs,
+    started: u64,
+    keeper: &QueuedKeeper<DetailKeeper<F, L>, R>,
+    output: &mut W,
+) -> Result<(), KeepFault>
+    requires { IfSome keeper.now.last (IsToldBy subs.now started) }
+    ensures { WritesDoubted subs.now started keeper.now (W.contents output.old) (W.contents output.new) result }
+{
+    match write_unflushed(alloc, subs, started, keeper, output) {
+        Ok(()) => flush(output),
+        Err(fault) => Err(fault),
+    }
+}
+
+/// Writes the call detail records of the records in doubt.
+fn write_unflushed<F: RecordFile, L: Log + Drop, R: Threads + Wait + Copy, W: Write>(
+    alloc: Global,
+    subs: &Subs,
+    started: u64,
+    keeper: &QueuedKeeper<DetailKeeper<F, L>, R>,
+    output: &mut W,
+) -> Result<(), KeepFault>
+    requires { IfSome keeper.now.last (IsToldBy subs.now started) }
+    ensures { WritesDoubted subs.now started keeper.now (W.contents output.old) (W.contents output.new) result }
+{
+    match keeper.last() {
+        Some(last) => write_lines(last.unfinished_lines(), output),
+        None => write_left(alloc, subs, started, keeper.left(), output),
+    }
+}
+
+/// Writes lines.
+fn write_lines<W: Write>(lines: &[u8], output: &mut W) -> Result<(), KeepFault>
+    ensures { Prints (W.contents output.old) (W.contents output.new) lines.now result }
+{
+    match write_out(output, lines) {
+        Ok(()) => Ok(()),
+        Err(_) => Err(KeepFault::Output),
+    }
+}
+
+/// Flushes the output.
+fn flush<W: Write>(output: &mut W) -> Result<(), KeepFault>
+    ensures { Prints (W.contents output.old) (W.contents output.new) [] result }
+{
+    match output.flush() {
+        Ok(()) => Ok(()),
+        Err(_) => Err(KeepFault::Output),
+    }
+}
