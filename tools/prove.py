@@ -26,8 +26,9 @@ EXAMPLE = f"{TOP}/examples/three-stations.toml"
 # Bytes, the most that the proof of a crate was seen to take: xp_console 3.9 GB, xp_lock 3.3, xp_lines 2.8, most others below 2.
 # So four proofs at once fit into 16 GB. rt plans two to three times as much.
 MEMORY_OF_A_PROOF = 4_000_000_000
-# Lines from which a crate is proved sooner by several jobs. A crate of 800 lines took longer by four jobs than by one.
-LARGE = 1000
+# Lines from which a crate is proved sooner by several jobs, and how many: a crate of 800 lines took longer by four jobs than by one, and a
+# large one by four took three times the processors' time that it takes by one.
+LARGE, JOBS = 1000, 2
 # Seconds after which a line says what is still running.
 SILENCE = 60
 LINES_SHOWN = 40
@@ -113,9 +114,9 @@ class Proof:
                 threading.Thread(target=self.build, args=[crate, self.jobs_for(crate)], daemon=True).start()
 
     def jobs_for(self, crate):
-        """Returns in how many processes the crate is proved: the one with the longest chain gets every processor."""
+        """Returns in how many processes the crate is proved: more than one where it has the longest chain."""
         leads = all(self.chains[crate] >= self.chains[it] for it in self.running)
-        return self.at_once if leads and self.lines[crate] >= LARGE else 1
+        return min(JOBS, self.at_once) if leads and self.lines[crate] >= LARGE else 1
 
     def build(self, crate, jobs):
         status = 1
@@ -133,7 +134,7 @@ class Proof:
         # rt itself keeps other runs out, and nothing else runs by now.
         for it in self.held:
             os.close(it)
-        words = [*self.kit.guarded(), "rt", "run", "--jobs", str(self.at_once), "--", "check", EXAMPLE]
+        words = [*self.kit.guarded(), "rt", "run", "--jobs", str(min(JOBS, self.at_once)), "--", "check", EXAMPLE]
         return subprocess.run(words, cwd=PROGRAM, stdin=subprocess.DEVNULL, stdout=log, stderr=log).returncode
 
     def next_finished(self):
