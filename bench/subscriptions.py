@@ -42,13 +42,19 @@ def file_of(stations, distinct):
     return "\n".join(station(number, distinct) for number in range(stations)) + "\n"
 
 
+def time_of_children():
+    """The processor time of all runs so far, in seconds. The kernel knows the sum exactly, and guesses which part of it is the system's."""
+    usage = resource.getrusage(resource.RUSAGE_CHILDREN)
+    return usage.ru_utime + usage.ru_stime
+
+
 def best_time(program, path, runs, expected):
     """The least processor time in seconds of some runs, each of which has to print what is expected."""
     times = []
     for _ in range(runs):
-        start = resource.getrusage(resource.RUSAGE_CHILDREN).ru_utime
+        start = time_of_children()
         run = subprocess.run([program, "check", str(path)], capture_output=True, text=True, check=False)
-        times.append(resource.getrusage(resource.RUSAGE_CHILDREN).ru_utime - start)
+        times.append(time_of_children() - start)
         if run.returncode != 0 or run.stdout != expected:
             sys.exit(f"{path.name}: status {run.returncode}, {run.stdout!r}, {run.stderr!r}; wanted {expected!r}")
     return min(times)

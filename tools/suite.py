@@ -43,7 +43,7 @@ SCRIPTS = [
     Script("explain.py", "--requests 200 --matrices 1 --jobs 2", "what explain says of random requests is what a replay does, and the matrix what explain says", 80,
            "--requests 1000 --matrices 10 --jobs 2"),
     Script("words.py", "", "the words of each row say what its octets say", 60),
-    Script("subscriptions.py", "--stations 32 --runs 1", "reading subscriptions takes time in proportion to them", 10, "--runs 1"),
+    Script("subscriptions.py", "--stations 32 --runs 1", "reading subscriptions takes time in proportion to them", 10, "--runs 5"),
     Script("serve/console.py", "", "the console: answers, what it shows, its stop", 40),
     Script("serve/records_file.py", "", "the file of call detail records", 40),
     Script("serve/traces.py", "", "the trace of lines", 40),
@@ -66,6 +66,9 @@ SCRIPTS = [
     Script("serve/metrics_named.py", "", "alerts, dashboard and OPERATING.md name the metrics of an exchange", 5),
     Script("serve/dead_peer.py", "", "peers that are gone without a word (takes root)", 95),
 ]
+# The scripts whose times depend on what else the machine does: those over sockets, and one that compares times.
+TIMED = ("serve/", "subscriptions.py")
+
 # Seconds that a script may take, and a build or a part of the rows, on a machine that does other things too.
 MOST_OF_SCRIPT, MOST_OF_BUILD = 600, 1200
 
@@ -87,8 +90,7 @@ def script_jobs(is_proved):
         words = it.proved_words if is_proved and it.proved_words is not None else it.words
         command = [sys.executable, TOP / "bench" / it.name, *(word.replace("{launcher}", launcher(is_proved)) for word in words.split())]
         if is_proved or not it.proved_only:
-            # Times over sockets depend on what else the machine does.
-            is_timed = it.name.startswith("serve/")
+            is_timed = it.name.startswith(TIMED)
             jobs.append(Job(it.name, it.looks_at, command, it.usual, MOST_OF_SCRIPT, str(TOP), environment, after, is_timed))
     return jobs
 

@@ -8,7 +8,9 @@ says what is checked.
 
 import argparse
 import os
+import re
 import select
+import signal
 import socket
 import subprocess
 import sys
@@ -19,7 +21,8 @@ import run
 import server
 from server import call_request, frame
 
-# The ends of the link: addresses of a network for examples (RFC 5737), which no other link should have.
+# The network of the link, of addresses for examples (RFC 5737), which no other link should have, and the ends of the link in it.
+NETWORK = "198.51.100.0/30"
 HERE, THERE = "198.51.100.1", "198.51.100.2"
 
 # The seconds within which a line whose peer is gone has to take its next connection, and those that have to pass before. A line
@@ -34,6 +37,15 @@ def ip(*words):
     subprocess.run(["ip", *words], check=True)
 
 
+def remove_what_is_left():
+    """Removes the namespaces and links of runs that were killed: another link with these addresses would take the octets of this one."""
+    names = subprocess.run(["ip", "netns", "list"], check=True, capture_output=True, text=True).stdout.split()
+    for number in [it.removeprefix("xp-") for it in names if re.fullmatch(r"xp-\d+", it)]:
+        if not os.path.exists(f"/proc/{number}"):
+            subprocess.run(["ip", "link", "delete", f"xpn{number}"], stderr=subprocess.DEVNULL)
+            ip("netns", "delete", f"xp-{number}")
+
+
 class Network:
     """A network namespace with one link to this machine, for as long as the block."""
 
@@ -42,6 +54,10 @@ class Network:
         self.name, self.near, self.far = f"xp-{number}", f"xpn{number}", f"xpf{number}"
 
     def __enter__(self):
+        remove_what_is_left()
+        routes = subprocess.run(["ip", "route", "show", "exact", NETWORK], check=True, capture_output=True, text=True).stdout
+        if routes:
+            sys.exit(f"another link has the network {NETWORK}: {routes.strip()}")
         ip("netns", "add", self.name)
         try:
             ip("link", "add", self.near, "type", "veth", "peer", "name", self.far, "netns", self.name)
@@ -148,6 +164,8 @@ def main():
     arguments = parser.parse_args()
     if arguments.as_peer_of is not None:
         return be_peer(arguments.as_peer_of)
+    # A run that is told to end removes its namespace too.
+    signal.signal(signal.SIGTERM, lambda number, _: sys.exit(128 + number))
 
     with tempfile.TemporaryDirectory() as folder, server.Serving(arguments.xp, folder, 4, subscriptions, 2) as exchange, Network() as network:
         calling, called, named, silent = range(exchange.base, exchange.base + 4)
