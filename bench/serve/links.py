@@ -253,6 +253,8 @@ def serve(exchange, theirs):
     theirs.clear()
     theirs.ends()
     exchange.d.cleared()
+    # Its answer shows that the confirmation before it was read, and so that d is free for the next call.
+    exchange.d.clear()
     return connected
 
 
