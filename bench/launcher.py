@@ -119,6 +119,10 @@ class Tree:
         return launcher.returncode, output, told
 
 
+# What the launcher tells the program of SIGTERM before it closes its pipe.
+TOLD_OF_SIGNAL = "TERM\n"
+
+
 def output_of(name, *words, given=""):
     """What the program of this name prints."""
     return name + "\n" + "".join(f"[{word}]\n" for word in words) + given
@@ -201,7 +205,7 @@ def unproved_that_cannot_be_built(tree):
 def unproved_serves_when_asked(tree):
     words = ("serve", "lines of mine.toml", "--until-eof")
     status, output, told = serve_until_terminated(tree, "--unproved", "serve", "lines of mine.toml")
-    yield (status, output), (0, output_of("unproved", *words))
+    yield (status, output), (0, output_of("unproved", *words, given=TOLD_OF_SIGNAL))
     yield told.endswith(NOT_PROVED), True
     asked = tree.run("--unproved", "serve", "lines.toml", "--until-eof", status=4)
     yield asked, (4, output_of("unproved", "serve", "lines.toml", "--until-eof"), NOT_PROVED)
@@ -225,7 +229,7 @@ def proved_is_run(tree):
     yield (status, output), (0, "")
     words = ("explain", "a file.toml", "", "*")
     yield tree.run(*words, status=2), (2, output_of("proved", *words), "")
-    yield serve_until_terminated(tree, "serve", "lines.toml"), (0, output_of("proved", "serve", "lines.toml", "--until-eof"), "")
+    yield serve_until_terminated(tree, "serve", "lines.toml"), (0, output_of("proved", "serve", "lines.toml", "--until-eof", given=TOLD_OF_SIGNAL), "")
     yield tree.run("--version")[1].splitlines()[2], "proved: yes"
     yield tree.run("prove")[:2], (0, "")
     yield (tree.runs_of("proved"), tree.runs_of("unproved")), (1, 0)
@@ -242,12 +246,12 @@ def serve_gets_the_launchers_word_behind_its_own(tree):
         (("-",), ("-", "--until-eof")),
         (("",), ("", "--until-eof")),
     ):
-        yield serve_until_terminated(tree, "serve", *words), (0, output_of("proved", "serve", *wanted), "")
+        yield serve_until_terminated(tree, "serve", *words), (0, output_of("proved", "serve", *wanted, given=TOLD_OF_SIGNAL), "")
 
 
 def serve_without_a_file_has_no_word_of_the_launcher(tree):
     tree.run("prove")
-    options = ("--cdr", "--console", "--records", "--trace", "--trace-lines", "--turns")
+    options = ("--cdr", "--console", "--name", "--records", "--trace", "--trace-lines", "--turns")
     for words in ((), ("--help",), ("--quiet", "--"), *((option, "x") for option in options), *((option,) for option in options)):
         yield tree.run("serve", *words, status=2), (2, output_of("proved", "serve", *words), "")
     yield tree.run("--unproved", "serve", status=2)[:2], (2, output_of("unproved", "serve"))
@@ -258,7 +262,7 @@ def proved_that_is_older_is_run(tree):
     tree.write("crates/low/specs/Lib.antt", "another definition")
     older = OLDER.format("source crates/low/specs/Lib.antt")
     yield tree.run("check", "f"), (0, output_of("proved", "check", "f"), older)
-    yield serve_until_terminated(tree, "serve", "f", status=5), (5, output_of("proved", "serve", "f", "--until-eof"), older)
+    yield serve_until_terminated(tree, "serve", "f", status=5), (5, output_of("proved", "serve", "f", "--until-eof", given=TOLD_OF_SIGNAL), older)
     yield tree.run("--version")[1].splitlines()[2], "proved: yes, but older than the sources"
     yield tree.run("prove", failure="yes")[:2], (1, "")
     yield tree.run("check", "f"), (0, output_of("proved", "check", "f"), older)

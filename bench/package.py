@@ -32,8 +32,8 @@ import server
 from routers import ACCEPTED, CALL, PATIENCE, Wrong, XotCall
 from served import require
 
-# Seconds that the making of a Debian may take.
-LIMIT_OF_DEBIAN = 600
+# Seconds that the making of a Debian may take, and a look of lintian, on a machine that does other things too.
+LIMIT_OF_DEBIAN, LIMIT_OF_LINTIAN = 600, 300
 
 DOCUMENTS, UNIT = "usr/share/doc/gonukire", "usr/lib/systemd/system/xp.service"
 EXECUTABLES = {"usr/bin/xp", "usr/lib/gonukire/xp"}
@@ -109,21 +109,33 @@ def files(package):
 
 
 def documents(package):
-    """the manual page, the changelog of the top heading, the licences, and a sum of each file"""
+    """the manual page, a changelog with a block for each version, the licences, and a sum of each file"""
     share = package.root / "usr/share"
     require(gzip.decompress((share / "man/man1/xp.1.gz").read_bytes()) == (TOP / "docs/xp.1").read_bytes(), "another manual page")
-    text = gzip.decompress((package.root / DOCUMENTS / "changelog.gz").read_bytes()).decode("utf-8")
-    require(text.startswith(f"gonukire ({package.field('Version')}) unstable; urgency=medium\n\n  * "), f"a changelog that begins {text[:80]!r}")
-    require(text.splitlines()[-1].startswith(f" -- {package.field('Maintainer')}  "), "its changelog does not end as one of Debian")
-    entries = re.split(r"^## .*$", (TOP / "CHANGELOG.md").read_text(encoding="utf-8"), flags=re.M)[1]
-    wanted = [line.removeprefix("- ").replace("**", "").split() for line in entries.splitlines() if line.startswith("- ")]
-    found = [entry.split() for entry in text.partition("\n -- ")[0].split("\n  * ")[1:]]
-    require(found == wanted, "its changelog is not that of the top heading")
+    changelog(package, gzip.decompress((package.root / DOCUMENTS / "changelog.gz").read_bytes()).decode("utf-8"))
     copyright_text = (package.root / DOCUMENTS / "copyright").read_text(encoding="utf-8")
     require("\nclap, " in copyright_text and "Permission is hereby granted" in copyright_text, "a licence of the kit's libraries is missing")
     told_by("dpkg-deb", "-e", package.file, package.folder / "control")
     sums = dict(line.split("  ")[::-1] for line in (package.folder / "control/md5sums").read_text().splitlines())
     require(sums == {it: hashlib.md5((package.root / it).read_bytes()).hexdigest() for it in FILES}, "its sums are others")
+
+
+def changelog(package, text):
+    """The changelog has a block for each heading of CHANGELOG.md, with its entries. The top one has the package's version."""
+    _, *parts = re.split(r"^## (.*)$", (TOP / "CHANGELOG.md").read_text(encoding="utf-8"), flags=re.M)
+    wanted = [(name.replace("-", "."), entries_of(entries)) for name, entries in zip(parts[::2], parts[1::2])]
+    wanted[0] = (package.field("Version"), wanted[0][1])
+    found = []
+    for block in re.split(r"^(?=gonukire )", text, flags=re.M)[1:]:
+        name = re.match(r"gonukire \((.*)\) unstable; urgency=medium\n\n  \* ", block)
+        entries, _, signature = block.partition("\n -- ")
+        require(name and signature.startswith(f"{package.field('Maintainer')}  "), f"its changelog has a block that is none of Debian: {block[:80]!r}")
+        found.append((name[1], [entry.split() for entry in entries.split("\n  * ")[1:]]))
+    require(found == wanted, "its changelog is not that of CHANGELOG.md")
+
+
+def entries_of(text):
+    return [line.removeprefix("- ").replace("**", "").split() for line in text.splitlines() if line.startswith("- ")]
 
 
 def same_octets(package):
@@ -151,7 +163,7 @@ def systemd(package):
 def lintian(package):
     """lintian finds no error"""
     need("lintian")
-    print(told_by("lintian", "--fail-on", "error", "--allow-root", package.file), end="")
+    print(told_by("lintian", "--fail-on", "error", "--allow-root", package.file, timeout=LIMIT_OF_LINTIAN), end="")
 
 
 # ---- what it installs

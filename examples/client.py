@@ -1,5 +1,6 @@
 #!/usr/bin/env python3
-"""Places a call over TCP: client.py PORT ADDRESS, as client.py 19981 2080020 for the line a1 of three-stations.toml.
+"""Places a call over TCP: client.py PORT ADDRESS, as client.py 19981 2080020 for the line a1 of three-stations.toml. Where the exchange is
+on another machine, HOST:PORT takes the place of PORT.
 
 It sends some data once the call is accepted, and clears. Where the call is refused, it tells the cause and the diagnostic as
 docs/PROTOCOL.md writes them.
@@ -7,8 +8,8 @@ docs/PROTOCOL.md writes them.
 import socket
 import sys
 
-USAGE = "usage: python3 {0} PORT ADDRESS, as python3 {0} 19981 2080020"
-NOBODY = "nobody listens at 127.0.0.1:{}: start the exchange first: ./xp serve examples/three-stations.toml"
+USAGE = "usage: python3 {0} [HOST:]PORT ADDRESS, as python3 {0} 19981 2080020"
+NOBODY = "nobody listens at {}:{}: start the exchange first: ./xp serve examples/three-stations.toml"
 
 
 def receive(line):
@@ -41,16 +42,18 @@ def place_call(line, address):
 
 def main(words):
     try:
-        port, address = words
-        if not (0 < int(port) < 65536 and address.isascii() and address.isdigit() and len(address) <= 15):
+        word, address = words
+        host, _, port = word.rpartition(":")
+        where = host.strip("[]") or "127.0.0.1", int(port)
+        if not (0 < where[1] < 65536 and address.isascii() and address.isdigit() and len(address) <= 15):
             raise ValueError
     except ValueError:
         print(USAGE.format(sys.argv[0]), file=sys.stderr)
         return 2
     try:
-        line = socket.create_connection(("127.0.0.1", int(port)))
+        line = socket.create_connection(where)
     except ConnectionRefusedError:
-        return NOBODY.format(port)
+        return NOBODY.format(*where)
     with line:
         try:
             place_call(line, address)

@@ -1,14 +1,20 @@
 #!/usr/bin/env python3
-"""Takes calls over TCP: host.py PORT, as host.py 19982 for the line b1 of three-stations.toml.
+"""Takes calls over TCP: host.py PORT, as host.py 19982 for the line b1 of three-stations.toml, or host.py ADDRESS:PORT.
 
-The exchange opens connections to XOT routers alone, so a host that wants to be called keeps its line connected. It accepts each
-incoming call, acknowledges what it gets, and confirms that the call is cleared; then the next call may come. Ctrl-C ends it.
+The exchange opens connections to XOT routers alone, so a host that wants to be called keeps its line connected: it connects anew when its
+connection is gone. It accepts each incoming call, acknowledges what it gets, and confirms that the call is cleared; then the next call may
+come. Ctrl-C ends it.
 """
 import socket
 import sys
+import time
 
-USAGE = "usage: python3 {0} PORT, as python3 {0} 19982"
-NOBODY = "nobody listens at 127.0.0.1:{}: start the exchange first: ./xp serve examples/three-stations.toml"
+USAGE = "usage: python3 {0} [ADDRESS:]PORT, as python3 {0} 19982"
+NOBODY = "nobody listens at {}:{}: start the exchange first: ./xp serve examples/three-stations.toml"
+
+# A machine that has lost its power tells nobody. So the system asks it after so many seconds of silence, again each second, and gives the
+# connection up where nothing is answered or acknowledged for so many milliseconds.
+ASKING = {socket.TCP_KEEPIDLE: 2, socket.TCP_KEEPINTVL: 1, socket.TCP_KEEPCNT: 2, socket.TCP_USER_TIMEOUT: 3000}
 
 
 def receive(line):
@@ -41,26 +47,47 @@ def take_calls(line):
             send(line, b"\x10" + channel[1:] + b"\x1f")  # reset confirmation
 
 
+def connect(where):
+    line = socket.create_connection(where, timeout=2)
+    line.settimeout(None)
+    line.setsockopt(socket.SOL_SOCKET, socket.SO_KEEPALIVE, 1)
+    for option, value in ASKING.items():
+        line.setsockopt(socket.IPPROTO_TCP, option, value)
+    print("connected, and waiting for a call", flush=True)
+    return line
+
+
+def connect_anew(where):
+    while True:
+        time.sleep(0.5)
+        try:
+            return connect(where)
+        except OSError:
+            pass
+
+
 def main(words):
     try:
-        [port] = words
-        if not 0 < int(port) < 65536:
+        [word] = words
+        address, _, port = word.rpartition(":")
+        where = address.strip("[]") or "127.0.0.1", int(port)
+        if not 0 < where[1] < 65536:
             raise ValueError
     except ValueError:
         print(USAGE.format(sys.argv[0]), file=sys.stderr)
         return 2
     try:
-        line = socket.create_connection(("127.0.0.1", int(port)))
+        line = connect(where)
     except ConnectionRefusedError:
-        return NOBODY.format(port)
-    with line:
-        print("connected, and waiting for a call", flush=True)
-        try:
-            take_calls(line)
-        except ConnectionError:
-            return "the connection broke off"
-    print("the exchange has closed the connection")
-    return 0
+        return NOBODY.format(*where)
+    while True:
+        with line:
+            try:
+                take_calls(line)
+                print("the exchange has closed the connection: connecting anew", flush=True)
+            except OSError:
+                print("the connection broke off: connecting anew", flush=True)
+        line = connect_anew(where)
 
 
 if __name__ == "__main__":

@@ -29,6 +29,7 @@ import time
 from concurrent.futures import FIRST_COMPLETED, ThreadPoolExecutor, wait
 
 from edit_tries import Earlier, Try, batches_of
+from kit import without_repeats
 
 TOP = pathlib.Path(__file__).resolve().parent.parent
 NAME = re.compile(r"[A-Za-z0-9_-][A-Za-z0-9_.-]*\.edit")
@@ -46,6 +47,8 @@ def load_gate():
     loader = importlib.machinery.SourceFileLoader("rt_gate", file)
     gate = importlib.util.module_from_spec(importlib.util.spec_from_loader("rt_gate", loader))
     loader.exec_module(gate)
+    for name in ("below", "stamp"):
+        setattr(gate.rtlib.Crate, name, without_repeats(getattr(gate.rtlib.Crate, name)))
     return gate
 
 

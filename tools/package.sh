@@ -71,13 +71,28 @@ put_documents() {
   gzip -9n < "$top/docs/xp.1" > "$manual/xp.1.gz"
 }
 
-# The changelog of the package: the entries of CHANGELOG.md's top heading.
+# The changelog of the package: a block for each heading of CHANGELOG.md, with its entries. The top one has the moment of the commit, any
+# other the day that it names.
 changelog() {
-  printf 'gonukire (%s) unstable; urgency=medium\n\n' "$version"
-  awk '/^## /{ headings++ } headings == 1 && /^- /' "$top/CHANGELOG.md" | sed 's/^- //; s/\*\*//g' | while IFS= read -r entry; do
-    fold -s -w 74 <<< "$entry" | sed '1s/^/  * /; 1!s/^/    /; s/ *$//'
-  done
-  printf '\n -- %s  %s\n' "$maintainer" "$(LC_ALL=C date -u -R -d "@$moment")"
+  local word text signature=
+  awk '/^## /{ print "version", $2 } /^- /{ print "entry", substr($0, 3) }' "$top/CHANGELOG.md" | sed 's/\*\*//g' | {
+    while read -r word text; do
+      if [ "$word" = entry ]; then
+        fold -s -w 74 <<< "$text" | sed '1s/^/  * /; 1!s/^/    /; s/ *$//'
+      elif [ -z "$signature" ]; then
+        printf 'gonukire (%s) unstable; urgency=medium\n\n' "$version"
+        signature=$(signature_of "@$moment")
+      else
+        printf '\n%s\n\ngonukire (%s) unstable; urgency=medium\n\n' "$signature" "${text//-/.}"
+        signature=$(signature_of "${text:0:10}")
+      fi
+    done
+    printf '\n%s\n' "$signature"
+  }
+}
+
+signature_of() {
+  printf ' -- %s  %s' "$maintainer" "$(LC_ALL=C TZ=UTC date -R -d "$1")"
 }
 
 # The newest glibc whose symbols the program asks for.

@@ -134,7 +134,8 @@ class Proof:
         # rt itself keeps other runs out, and nothing else runs by now.
         for it in self.held:
             os.close(it)
-        words = [*self.kit.guarded(), "rt", "run", "--jobs", str(min(JOBS, self.at_once)), "--", "check", EXAMPLE]
+        run = [sys.executable, f"{TOP}/tools/kit.py", "run", "--jobs", str(min(JOBS, self.at_once))]
+        words = [*self.kit.guarded(), *run, "--", "check", EXAMPLE]
         return subprocess.run(words, cwd=PROGRAM, stdin=subprocess.DEVNULL, stdout=log, stderr=log).returncode
 
     def next_finished(self):

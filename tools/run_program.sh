@@ -5,7 +5,7 @@ names_a_file() {
   while [ $# != 0 ]; do
     case $1 in
       --) [ $# -gt 1 ]; return ;;
-      --cdr | --console | --records | --trace | --trace-lines | --turns) shift ;;
+      --cdr | --console | --name | --records | --trace | --trace-lines | --turns) shift ;;
       -?*) ;;
       *) return 0 ;;
     esac
@@ -14,8 +14,8 @@ names_a_file() {
   return 1
 }
 
-# Serves with its own pipe as the program's standard input. The program is started with the signals ignored: the first one closes the
-# pipe, which stops the program cleanly, and the second kills it. The launcher's own word stands behind the others, so that the program
+# Serves with its own pipe as the program's standard input. The program is started with the signals ignored: of the first one the pipe
+# tells, and it is closed, which stops the program cleanly; the second kills it. The launcher's own word stands behind the others, so that the program
 # does not show it where it refuses one of these.
 serve_until_signal() {
   local program=$1 child status words=()
@@ -27,7 +27,11 @@ serve_until_signal() {
   words+=(--until-eof "$@")
   exec {pipe}> >(trap '' INT TERM HUP && exec "$program" serve "${words[@]}")
   child=$!
-  trap stop_serving INT TERM HUP
+  trap 'stop_serving INT' INT
+  trap 'stop_serving TERM' TERM
+  trap 'stop_serving HUP' HUP
+  # The program may have ended by then.
+  trap '' PIPE
   signalled=yes
   # A signal ends the wait, mostly before the program has ended. Then its status is still to come.
   while [ -n "$signalled" ]; do
@@ -41,6 +45,7 @@ serve_until_signal() {
 stop_serving() {
   signalled=yes
   if [ -n "${pipe-}" ]; then
+    echo "$1" >&"$pipe" 2> /dev/null
     exec {pipe}>&-
     pipe=
   else

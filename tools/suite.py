@@ -45,7 +45,9 @@ SCRIPTS = [
     Script("words.py", "", "the words of each row say what its octets say", 60),
     Script("subscriptions.py", "--stations 32 --runs 1", "reading subscriptions takes time in proportion to them", 10, "--runs 5"),
     Script("serve/console.py", "", "the console: answers, what it shows, its stop", 40),
+    Script("serve/page.py", "", "the console's page in a browser, where there is one", 15),
     Script("serve/records_file.py", "", "the file of call detail records", 40),
+    Script("serve/rotation.py", "", "the file of call detail records moved, removed and rotated under calls", 40),
     Script("serve/traces.py", "", "the trace of lines", 40),
     Script("serve/disk.py", "", "disks that fail or hang, and outputs that nobody reads", 60),
     Script("serve/ports.py", "", "hosts, ports, strangers, and output that fails", 40),
@@ -53,6 +55,7 @@ SCRIPTS = [
     Script("serve/waiting.py", "", "connections of routers before their first frame is whole", 20),
     Script("serve/callers.py", "--calls 1000", "calls of routers behind which several stations have lines", 30, ""),
     Script("serve/newcomers.py", "", "connections to the port of a line that has one", 20),
+    Script("serve/telling.py", "", "what the log tells of lines that go down, and of calls that are refused or cleared", 20),
     Script("serve/last_octets.py", "", "fifty calls in the middle of transfers as the exchange stops: the last octets", 30),
     Script("serve/endings.py", "--rounds 3 --launcher={launcher}", "three kills and three stops under calls: the records", 60),
     Script("serve/routers.py", "--rounds 50", "calls of routers in both directions, and from both sides at once", 60, "--rounds 300"),
@@ -64,6 +67,7 @@ SCRIPTS = [
     Script("serve/soak.py", "20 --pairs 32 --growth 20000", "calls that come and go at random: octets and records", 40, "20"),
     Script("serve/metrics_format.py", "--serve", "the metrics of an exchange are in Prometheus' text format", 5),
     Script("serve/metrics_named.py", "", "alerts, dashboard and OPERATING.md name the metrics of an exchange", 5),
+    Script("serve/two_machines.py", "", "two machines and an address that keepalived moves: lines, calls, records (takes root)", 45),
     Script("serve/dead_peer.py", "", "peers that are gone without a word (takes root)", 95),
 ]
 # The scripts whose times depend on what else the machine does: those over sockets, and one that compares times.

@@ -8,11 +8,12 @@ import contextlib
 import json
 import socket
 import subprocess
+import time
 
 import metrics_format
 import server
 from console_forms import wanted_metrics, wanted_table
-from routers import ACCEPTED, CALL, PATIENCE
+from routers import ACCEPTED, CALL, FIRST, PATIENCE, Router
 from server import call_request, frame
 from served import OUT_OF_ORDER, Served, data, require, rest_of, run_script, station, until
 
@@ -96,6 +97,10 @@ class Shown(Served):
         )
         super().__init__(program, folder, text, "--console", f"{host}:{self.console}")
 
+    def shown_lines(self):
+        """What `/status.json` has of each line, by its name."""
+        return {line["name"]: line for line in json.loads(shown(self, b"/status.json"))["lines"]}
+
     def reach(self):
         """A connection to the console."""
         connection = self.connect(self.console)
@@ -107,6 +112,28 @@ class Shown(Served):
         command = [str(self.program), word, address or f"127.0.0.1:{self.console}"]
         run = subprocess.run(command, stdin=subprocess.DEVNULL, capture_output=True, text=True, timeout=PATIENCE)
         return run.returncode, run.stdout, run.stderr
+
+
+class ShownRouter(Shown):
+    """An exchange of a station with a port, and of two stations with three lines behind one router, with a console."""
+
+    def __init__(self, program, folder):
+        self.program = program
+        self.base = server.free_ports(3)
+        self.console = self.base + 2
+        self.router = Router(FIRST, self.base + 1)
+        behind = lambda name: f'{{ name = "{name}", router = "{FIRST}:{self.router.port}" }}'
+        text = (
+            f"xot_port = {self.base + 1}\n" + station("200001", ("a1", self.base, ""))
+            + f'[[station]]\naddress = "300001"\nline = [{behind("x1")}, {behind("x2")}]\n'
+            + f'[[station]]\naddress = "300002"\nline = [{behind("y1")}]\n'
+        )
+        Served.__init__(self, program, folder, text, "--console", f"127.0.0.1:{self.console}")
+
+    def __exit__(self, *gone):
+        with contextlib.suppress(AttributeError, OSError):
+            self.router.leave()
+        super().__exit__(*gone)
 
 
 # ---- requests
@@ -208,11 +235,13 @@ def clear(caller, called):
 
 def wanted_status(came, a1, h1):
     """What `/status.json` has to show in the known state, with the moments that came: these are looked at on their own."""
-    parties = {name: {"address": number, "line": name} for name, number in (("a1", "200001"), ("h1", "200003"))}
+    addresses = {"a1": "200001", "b1": "200002", "h1": "200003", "h2": "200032"}
+    parties = {name: {"address": addresses[name], "line": name} for name in ("a1", "h1")}
     peers = {name: "%s:%d" % line.connection.getsockname() for name, line in (("a1", a1), ("h1", h1))}
     lines = [
-        {"call": 3 if name in peers else None, "name": name, "peer": peers.get(name), "since": told["since"],
-         "state": "data transfer" if name in peers else "out of service"}
+        {"address": addresses[name], "call": 3 if name in peers else None, "name": name, "peer": peers.get(name),
+         "router_unreachable_since": None, "since": told["since"], "state": "data transfer" if name in peers else "out of service",
+         "station": "200003" if name == "h2" else addresses[name]}
         for name, told in zip(("a1", "b1", "h1", "h2"), came["lines"])
     ]
     live, (refused, ended) = came["calls"][0], came["recent"]
@@ -231,10 +260,14 @@ def wanted_status(came, a1, h1):
              "requested": ended["requested"], "seconds": ended["seconds"], "segments": {"from_called": 1, "from_caller": 2}},
         ],
         "started": came["started"],
+        "stations": [
+            {"address": "200001", "from": 2, "refused": 1, "to": 0}, {"address": "200002", "from": 0, "refused": 0, "to": 0},
+            {"address": "200003", "from": 0, "refused": 0, "to": 1},
+        ],
         "totals": {
             "calls": 3, "events": EVENTS, "octets_received": came["totals"]["octets_received"], "octets_sent": came["totals"]["octets_sent"],
             "records_waiting": 0, "refused": [{"cause": cause, "count": int(cause == 9), "words": words} for cause, words in REFUSALS],
-            "router_refusals": [{"cause": cause, "count": 0, "words": words} for cause, words in REFUSALS],
+            "router_failures": 0, "router_refusals": [{"cause": cause, "count": 0, "words": words} for cause, words in REFUSALS],
             "segments_from_called": 1, "segments_from_callers": 2, "stalls": 0,
         },
     }
@@ -300,6 +333,63 @@ def octets_of_the_known_state():
     return received, sent
 
 
+def fail_to_connect(exchange, a1, times):
+    """A call to each of these stations in turn, whose router takes no connection. It is told."""
+    for number in ("300001", "300002"):
+        a1.send(call_request(number))
+        require(a1.cleared() == (0x09, 0), "a call to a router that takes no connection is not cleared as out of order")
+        a1.clear()
+    exchange.wait_until_told("no connection to the router: refused", times)
+
+
+def router_failures(program, folder):
+    """A router that takes no connection is shown at each of its lines, and its failures are counted, until a connection is made."""
+    with ShownRouter(program, folder) as exchange:
+        a1 = exchange.rise(exchange.base)
+        require(all(line["router_unreachable_since"] is None for line in exchange.shown_lines().values()), "a router has failed before a call")
+        begun = int(time.time())
+        fail_to_connect(exchange, a1, 2)
+        until(lambda: "gonukire_router_failures_total 2\n" in shown(exchange, b"/metrics"), "the metrics do not count two failures")
+        first = {name: line["router_unreachable_since"] for name, line in exchange.shown_lines().items()}
+        require(first.pop("a1") is None, "a line with a port has an unreachable router")
+        require(set(first) == {"x1", "x2", "y1"} and len(set(first.values())) == 1, f"the lines of one router show {first}")
+        require(begun - 1 <= first["x1"] <= time.time() + 1, f"the router has been unreachable since {first['x1']}, and not since {begun}")
+        text = check_form(exchange, lambda: shown(exchange, b"/status.txt"), wanted_table)
+        require(text.count("-, router unreachable since ") == 3, f"the table does not tell the router of three lines:\n{text}")
+        time.sleep(1)
+        fail_to_connect(exchange, a1, 4)
+        until(lambda: "gonukire_router_failures_total 4\n" in shown(exchange, b"/metrics"), "the metrics do not count four failures")
+        again = {name: line["router_unreachable_since"] for name, line in exchange.shown_lines().items() if name != "a1"}
+        require(again == first, f"the lines show {again} after {first}")
+        require(not metrics_format.Metrics().read(shown(exchange, b"/metrics")), "the metrics have faults")
+        exchange.router.listen()
+        a1.send(call_request("300002"))
+        call, _ = exchange.router.called()
+        exchange.lines.append(call)
+        until(lambda: all(line["router_unreachable_since"] is None for line in exchange.shown_lines().values()), "the router is still unreachable")
+        require("router unreachable" not in shown(exchange, b"/status.txt"), "the table tells of the router that has a connection")
+        require("gonukire_router_failures_total 4\n" in shown(exchange, b"/metrics"), "the failures are forgotten")
+
+
+def stations(program, folder):
+    """Each station has the count of its ended calls in both directions and of its refused call requests, in the JSON and the metrics."""
+    with Shown(program, folder) as exchange:
+        a1, b1, h1 = (exchange.rise(exchange.base + place) for place in range(3))
+        for caller, called, dialled in ((a1, b1, "200002"), (a1, h1, "200003"), (b1, a1, "200001")):
+            call(caller, called, dialled)
+            clear(caller, called)
+        for dialled in ("200032", "99"):
+            h1.send(call_request(dialled))
+            h1.cleared()
+            h1.clear()
+        wanted = [("200001", 2, 0, 1), ("200002", 1, 0, 1), ("200003", 2, 2, 1)]
+        counts = lambda: [
+            (one["address"], one["from"], one["refused"], one["to"]) for one in json.loads(shown(exchange, b"/status.json"))["stations"]
+        ]
+        until(lambda: counts() == wanted, lambda: f"the stations are {counts()} in place of {wanted}")
+        check_form(exchange, lambda: shown(exchange, b"/metrics"), wanted_metrics)
+
+
 def stop(program, folder):
     """`xp stop` ends the exchange and its live call, and nobody is at the address then."""
     with Shown(program, folder) as exchange:
@@ -320,7 +410,7 @@ def stop(program, folder):
             require(run == (5, "", f"xp: console: {wanted}\n"), f"`xp status` of nobody ends with {run}")
 
 
-CHECKS = (answers, own_address, crowd, one_stop, address_in_use, status, stop)
+CHECKS = (answers, own_address, crowd, one_stop, address_in_use, status, router_failures, stations, stop)
 
 
 if __name__ == "__main__":

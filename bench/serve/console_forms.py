@@ -1,5 +1,7 @@
 """What a console has to show of a status, which is its JSON: the metrics, and the tables for a terminal."""
 
+import time
+
 STATES = ("out of service", "ready", "DTE waiting", "DCE waiting", "data transfer", "DCE clear indication")
 
 METRICS = (
@@ -8,6 +10,9 @@ METRICS = (
     ("calls_total", "counter", "Call requests, with those that were refused."),
     ("refused_total", "counter", "Call requests that were refused, by the clearing cause."),
     ("router_refusals_total", "counter", "Calls of routers that no line took, by the clearing cause."),
+    ("router_failures_total", "counter", "Connections to routers that could not be made."),
+    ("station_calls_total", "counter", "Ended calls, by the station that they came from or were offered to."),
+    ("station_refusals_total", "counter", "Call requests that were refused, by the station that they came from."),
     ("segments_total", "counter", "Segments of ended calls, by the end that sent them."),
     ("link_octets_total", "counter", "Octets of the connections of lines."),
     ("events_total", "counter", "Events of lines."),
@@ -25,6 +30,12 @@ def wanted_metrics(status):
         "calls_total": [("", totals["calls"])],
         "refused_total": [('{cause="%s"}' % refused["words"], refused["count"]) for refused in totals["refused"]],
         "router_refusals_total": [('{cause="%s"}' % refused["words"], refused["count"]) for refused in totals["router_refusals"]],
+        "router_failures_total": [("", totals["router_failures"])],
+        "station_calls_total": [
+            ('{address="%s",direction="%s"}' % (station["address"], direction), station[direction])
+            for station in status["stations"] for direction in ("from", "to")
+        ],
+        "station_refusals_total": [('{address="%s"}' % station["address"], station["refused"]) for station in status["stations"]],
         "segments_total": [
             ('{direction="from_caller"}', totals["segments_from_callers"]), ('{direction="from_called"}', totals["segments_from_called"])
         ],
@@ -45,13 +56,26 @@ def age(seconds):
     return (f"{days}d " if days else "") + f"{hours}:{minutes:02}:{seconds:02}"
 
 
+def row_of_line(line, moment):
+    """The row of a line, with its station where that has another address, and what is told of its router."""
+    number = "-" if line["call"] is None else line["call"]
+    row = f"{line['name']:<16} {line['address']:<15} {line['state']:<20} {age(moment - line['since']):>10} {number:>8} {line['peer'] or '-'}"
+    if line["station"] != line["address"]:
+        row += f", station {line['station']}"
+    since = line["router_unreachable_since"]
+    if since is None:
+        return row
+    if moment - since >= 86_400:
+        return f"{row}, router unreachable for {age(moment - since)}"
+    return f"{row}, router unreachable since {time.strftime('%H:%M:%S', time.gmtime(since))}"
+
+
 def wanted_table(status):
     """The tables of a status, for a terminal."""
     moment, totals = status["moment"], status["totals"]
-    rows = [f"serving for {age(moment - status['started'])}", "", "line             state                       for     call peer"]
-    for line in status["lines"]:
-        number = "-" if line["call"] is None else line["call"]
-        rows.append(f"{line['name']:<16} {line['state']:<20} {age(moment - line['since']):>10} {number:>8} {line['peer'] or '-'}")
+    head = "line             address         state                       for     call peer"
+    rows = [f"serving for {age(moment - status['started'])}", "", head]
+    rows += [row_of_line(line, moment) for line in status["lines"]]
     rows += ["", "   call caller           called                  for  from caller  from called"]
     for live in status["calls"]:
         since = "ringing" if live["connected"] is None else age(live["seconds"])
@@ -68,7 +92,8 @@ def wanted_table(status):
         "",
         f"calls {totals['calls']}, refused {sum(refused['count'] for refused in totals['refused'])}, events {totals['events']},"
         f" stalls {totals['stalls']}, records waiting {totals['records_waiting']}",
-        f"segments from callers {totals['segments_from_callers']}, from called {totals['segments_from_called']}",
+        f"failed connections to routers {totals['router_failures']}",
+        f"segments of ended calls from callers {totals['segments_from_callers']}, from called {totals['segments_from_called']}",
         f"octets received {totals['octets_received']}, sent {totals['octets_sent']}",
     ]
     return "\n".join(rows) + "\n"

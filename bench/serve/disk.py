@@ -87,7 +87,7 @@ def syncs_that_fail(program, folder):
 
 
 def syncs_that_go_on_to_fail(program, folder):
-    """From the 3rd on each sync fails: the records that are not known to be on the disk are printed at the end, with status 5."""
+    """From the 3rd on each sync fails: the console counts the records behind as waiting, and the end prints them, with status 5."""
     details = pathlib.Path(folder) / "doubt.csv"
     with Disk(program, folder, details, library_in(folder), XP_DISK_SYNCS="3-") as exchange:
         line = exchange.line()
@@ -95,6 +95,8 @@ def syncs_that_go_on_to_fail(program, folder):
         until(lambda: waiting(exchange.connect(exchange.console)) == 0, "the first record is not kept")
         for _ in range(CALLS):
             refused_call(line)
+        # So the alert of records that wait is also one of syncs that fail.
+        until(lambda: waiting(exchange.connect(exchange.console)) == CALLS, "records do not wait that were not synced")
         require(exchange.end_late() == 5, f"it ended otherwise; {exchange.said()}")
         require("xp: cdr" in exchange.told(), f"it has not told it; {exchange.said()}")
         require(printed_numbers(exchange) == list(range(2, CALLS + 2)), f"it has printed {printed_numbers(exchange)}")

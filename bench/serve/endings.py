@@ -26,7 +26,7 @@ LAUNCHER = server.HERE.parent.parent / "xp"
 
 HEADER = (
     "started,number,caller_line,caller_address,called_line,called_address,dialled,payer,segments_from_caller,"
-    "segments_from_called,requested,connected,ended,seconds,cause,diagnostic"
+    "segments_from_called,requested,connected,ended,seconds,cause,diagnostic,exchange,ended_by"
 ).split(",")
 
 # A call that was over so many seconds before a kill has its record on the disk.

@@ -162,7 +162,7 @@ def behind_a_bad_header(program, folder):
             require(line.connection.recv(1, socket.MSG_PEEK), "the call is not answered")
             line.connection.sendall(b"\xff\xff\xff\xff" + SPARE)
             reads_to_the_end(line, NOT_OBTAINABLE)
-            exchange.wait_until_told("line b1: down\n", count)
+            exchange.wait_until_told("line b1: down: no frame of RFC 1613 (version 65535 found)\n", count)
         require(exchange.end() == 0, f"it ended badly; {exchange.said()}")
 
 

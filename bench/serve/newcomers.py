@@ -105,7 +105,7 @@ def replaced(program, folder):
         require(rest_of(b1.connection) == b"", "the connection before was sent something at its end")
         exchange.wait_until_told(f"line b1: up from {peer}\n")
         facts = exchange.facts("b1")[-3:]
-        require(facts == [f"replaced by a connection from {peer}", "down", f"up from {peer}"], f"it has told {facts}")
+        require(facts == [f"replaced by a connection from {peer}", "down: replaced by another connection", f"up from {peer}"], f"it has told {facts}")
         call(a1, newcomer, "b1")
         send(a1, newcomer, data(0, 64 * b"z"))
         clear(a1, newcomer)
@@ -176,7 +176,7 @@ def refused_meanwhile(program, folder):
             clear(a1, line)
             require(len(exchange.facts(name)) == 2, f"of {name} it has told {exchange.facts(name)}")
             line.close()
-            exchange.wait_until_told(f"line {name}: down\n")
+            exchange.wait_until_told(f"line {name}: down: closed by the peer\n")
             exchange.line(name, named)
         exchange.finish(*(f"a1 {name} {LINES[name][0]} caller 4 1 00 0" for name in ("b1", "e1")))
 

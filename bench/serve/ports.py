@@ -5,6 +5,7 @@ served, and output that fails.
 README.md says what is checked.
 """
 
+import errno
 import itertools
 import os
 import resource
@@ -13,7 +14,7 @@ import socket
 import server
 from routers import CONFIRMATION, PATIENCE, XotCall
 from server import CLEAR_CONFIRMATION, CLEAR_REQUEST, call_request
-from served import ACCEPTED, OUT_OF_ORDER, Served, refused, require, run_script, station
+from served import ACCEPTED, OUT_OF_ORDER, Served, checked, refused, require, run_script, station
 
 # What b1 gets as a1 calls it, and a1 as b1 accepts (X.25 clauses 5.2.1 and 5.2.2): addresses, packet sizes of 128, windows of 2, user data.
 USER = b"\1\0\0\0"
@@ -116,30 +117,52 @@ def at_localhost(program, folder):
 
 # ---- what is refused
 
-# Hosts, and what is told where the port of the line a1 is taken at 127.0.0.1. A host that is no address is told before.
-HOSTS = (("127.0.0.1", "xp: port a1\n"), ("localhost", "xp: port a1\n"), ("example.invalid", "xp: host\n"), ("", "xp: host\n"))
+# Hosts at which the port of the line a1 is taken, and hosts that are no addresses, which are told before.
+HOSTS = ("127.0.0.1", "localhost")
+STRANGE_HOSTS = ("example.invalid", "")
 
-# Lines with sources and routers that are no addresses.
-SOURCES = (
-    (', from = "10.0.0"', "xp: from a1\n"),
-    (', from = ["10.0.0.9", "10.0.0.999"]', "xp: from a1\n"),
-    (', from = ["::1", "10:20"]', "xp: from a1\n"),
-)
-ROUTERS = (("10.0.0", "xp: router z\n"), ("[::1::2]:1998", "xp: router z\n"))
+# Sources of the line a1, with one that is none, and routers that are none.
+SOURCES = (('"10.0.0"', "10.0.0"), ('["10.0.0.9", "10.0.0.999"]', "10.0.0.999"), ('["::1", "10:20"]', "10:20"), ('"10.0.0.0/33"', "10.0.0.0/33"))
+ROUTERS = (("10.0.0", "10.0.0"), ("[::1::2]:1998", "::1::2"))
+
+
+def in_use(port):
+    """What the system tells of a port that is in use at 127.0.0.1."""
+    return f"127.0.0.1:{port}: Address already in use (os error {errno.EADDRINUSE})\n"
+
+
+def refused_files(port):
+    """Files that cannot be served where this port is in use at 127.0.0.1, and what is told of each; first those that need no port for it."""
+    behind = '[[station]]\naddress = "200004"\nline = [{ name = "z", router = "%s" }]\n'
+    files = [
+        (f'host = "{host}"\n' + station("200001", ("a1", port, "")), f'xp: host\nhost = "{host}": neither localhost nor an IP address\n') for host in STRANGE_HOSTS
+    ]
+    files += [
+        (pair(server.free_ports(FEW), more=f", from = {texts}"), f'xp: from a1\nfrom = "{text}": neither an address nor a network\n') for texts, text in SOURCES
+    ]
+    files += [(behind % router, f'xp: router z\nrouter = "{text}": no IP address\n') for router, text in ROUTERS]
+    own = server.free_ports(1)
+    files.append((f"xot_port = {own}\n" + station("200001", ("a1", own, "")) + behind % "127.0.0.3", f"xp: xot_port\nport {own} is that of line a1 too\n"))
+    ports = [(f'host = "{host}"\n' + station("200001", ("a1", port, "")), "xp: port a1\n" + in_use(port)) for host in HOSTS]
+    ports.append((f"xot_port = {port}\n" + behind % "127.0.0.3", "xp: xot_port\n" + in_use(port)))
+    return files, ports
 
 
 def refusals(program, folder):
-    """A port in use, a host, a source and a router that is no address: each is told by its own name, with status 5, and nothing is served."""
+    """What cannot be served is told, and which, where and why, with status 5; `check` tells the same, with --serve or --ports, before."""
     with socket.create_server(("127.0.0.1", 0)) as taken:
         port = taken.getsockname()[1]
-        behind = '[[station]]\naddress = "200004"\nline = [{ name = "z", router = "%s" }]\n'
-        cases = [(f'host = "{host}"\n' + station("200001", ("a1", port, "")), told) for host, told in HOSTS]
-        cases += [(pair(server.free_ports(FEW), more=more), told) for more, told in SOURCES]
-        cases += [(behind % router, told) for router, told in ROUTERS]
-        cases.append((f"xot_port = {port}\n" + behind % "127.0.0.3", "xp: xot_port\n"))
-        for text, told in cases:
-            run = refused(program, folder, text)
-            require(run == (5, "", told), f"{text} ends with {run} in place of {told}")
+        files, ports = refused_files(port)
+        for text, told in files + ports:
+            words = ["--ports"] if (text, told) in ports else ["--serve"]
+            run, looked_at = refused(program, folder, text), checked(program, folder, text, *words)
+            require(run == looked_at == (5, "", told), f"{text} ends with {run}, and as it is checked with {looked_at}, in place of {told}")
+        for text, _ in ports:
+            run = checked(program, folder, text, "--serve")
+            require((run[0], run[2]) == (0, ""), f"{text} ends with {run} without a look at its ports")
+    for text, _ in ports:
+        run = checked(program, folder, text, "--ports")
+        require((run[0], run[2]) == (0, ""), f"{text} ends with {run} where its ports are free")
 
 
 def strangers(program, folder):
@@ -158,9 +181,29 @@ def strangers(program, folder):
             line.clear()
             exchange.wait_until_told(f"line {name}: up from {peer}\n")
             line.close()
-            exchange.wait_until_told(f"line {name}: down\n")
+            exchange.wait_until_told(f"line {name}: down: closed by the peer\n")
         require(exchange.end() == 0, f"it ended badly; {exchange.said()}")
         require(exchange.told().count("stopping: standard input has ended\n") == 1, exchange.said())
+
+
+def first_and_last_lines(program, folder):
+    """The log begins with what is served, and where, and it tells by what the exchange is stopped."""
+    base = server.free_ports(MANY + 1)
+    behind = '[[station]]\naddress = "200004"\nline = [{ name = "z", router = "127.0.0.3" }]\n'
+    one = f"xot_port = {base}\n" + station("200001", ("a1", base + 1, "")) + behind
+    several = [
+        (pair(base), (), f"2 lines at 127.0.0.1, on ports {base} to {base + 1}; records on standard output"),
+        (pair(base, MANY), ("--cdr", f"{folder}/calls.csv"), f"{MANY} lines at 127.0.0.1, on ports {base} to {base + MANY - 1}; records in {folder}/calls.csv"),
+        (one, (), f"2 lines at 127.0.0.1, on port {base + 1}, routers on port {base}; records on standard output"),
+    ]
+    for (text, words, told), signal in zip(several, ("TERM", "INT", "HUP"), strict=True):
+        with Served(program, folder, text, *words) as exchange:
+            exchange.wait_until_told("serving ")
+            exchange.process.stdin.write(f"{signal}\n")
+            require(exchange.end() == 0, f"it ended badly; {exchange.said()}")
+        first, last = exchange.lines_told[0], exchange.lines_told[-1]
+        require(first.endswith(f" serving {told}\n"), f"its log begins with {first}")
+        require(last.endswith(f" stopping: SIG{signal}\n"), f"its log ends with {last}")
 
 
 def quiet(program, folder):
@@ -183,7 +226,7 @@ def no_descriptors(program, folder):
     text = f"xot_port = {base + FEW}\n" + pair(base) + '[[station]]\naddress = "200004"\nline = [{ name = "z", router = "127.0.0.3" }]\n'
     with Served(program, folder, text) as exchange:
         exchange.rise(base).close()
-        exchange.wait_until_told("line a1: down\n")
+        exchange.wait_until_told("line a1: down: closed by the peer\n")
         pid, most = exchange.process.pid, resource.prlimit(exchange.process.pid, resource.RLIMIT_NOFILE)
         resource.prlimit(pid, resource.RLIMIT_NOFILE, (next_descriptor(pid), most[1]))
         line, router = (XotCall(connection_from(source, port)) for source, port in (("127.0.0.1", base), ("127.0.0.3", base + FEW)))
@@ -204,7 +247,7 @@ def no_descriptors(program, folder):
         require(exchange.end() == 0, f"it ended badly; {exchange.said()}")
 
 
-CHECKS = (calls, output_that_fails, at_localhost, refusals, strangers, quiet, no_descriptors)
+CHECKS = (calls, output_that_fails, at_localhost, refusals, strangers, first_and_last_lines, quiet, no_descriptors)
 
 
 if __name__ == "__main__":

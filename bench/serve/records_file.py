@@ -19,7 +19,7 @@ from served import Served, data, refused, require, run_script, station, until
 NAMES = ",".join(HEADER) + "\n"
 
 # A line of a run that ended long ago.
-OLD = "2026-11-26T12:00:00Z,2,b1,200002,,,99999999,caller,0,0,2026-11-26T12:15:00Z,,2026-11-26T12:15:00Z,0,0d,67\n"
+OLD = "2026-11-26T12:00:00Z,2,b1,200002,,,99999999,caller,0,0,2026-11-26T12:15:00Z,,2026-11-26T12:15:00Z,0,0d,67,x-1,call\n"
 
 REVERSE = bytes.fromhex("0101")
 
@@ -40,9 +40,11 @@ def subscriptions(base):
 class Recorded(Served):
     """An exchange whose call detail records go to a file."""
 
-    def __init__(self, program, folder, details, *words, limit=None):
+    def __init__(self, program, folder, details, *words, limit=None, name="x-1.net", own_name=None):
         self.base = server.free_ports(len(LINES) + 1)
-        super().__init__(program, folder, subscriptions(self.base), "--cdr", details, *words, limit=limit)
+        named = ("--name", name) if name else ()
+        keys = f'name = "{own_name}"\n' if own_name else ""
+        super().__init__(program, folder, keys + subscriptions(self.base), "--cdr", details, *named, *words, limit=limit)
 
     def line(self, name):
         return self.rise(self.base + LINES.index(name))
@@ -71,11 +73,11 @@ def seconds_of(moment):
 
 # What the records of the calls of `make_calls` have, but for their moments: the call is connected or not, the columns.
 WANTED = (
-    (True, "1,a1,200001,h2,200032,200003,caller,3,1,00,0"),
-    (False, "2,b1,200002,,,99999999,caller,0,0,0d,67"),
-    (False, "3,a1,200001,h2,200032,200003,called,0,0,ff,255"),
-    (True, "4,a1,200001,h2,200032,200005,called,0,2,80,1"),
-    (False, "5,b1,200002,,,,caller,0,0,0d,67"),
+    (True, "1,a1,200001,h2,200032,200003,caller,3,1,00,0,x-1.net,call"),
+    (False, "2,b1,200002,,,99999999,caller,0,0,0d,67,x-1.net,call"),
+    (False, "3,a1,200001,h2,200032,200003,called,0,0,ff,255,x-1.net,call"),
+    (True, "4,a1,200001,h2,200032,200005,called,0,2,80,1,x-1.net,call"),
+    (False, "5,b1,200002,,,,caller,0,0,0d,67,x-1.net,call"),
 )
 COUNTED = [name for name in HEADER if name not in ("started", "requested", "connected", "ended", "seconds")]
 
@@ -144,6 +146,34 @@ def columns(program, folder):
     require(len({row["started"] for row in rows}) == 1, "the records of one run have two beginnings")
 
 
+def origins(program, folder):
+    """Without any other name the exchange has that of its host. A call that a stop ends is told so, and one that has ended before is not."""
+    details = pathlib.Path(folder) / "origins.csv"
+    with Recorded(program, folder, details, name=None) as exchange:
+        a1, b1, h2 = (exchange.line(name) for name in ("a1", "b1", "h2"))
+        refused_call(b1)
+        until(lambda: len(rows_of(details)) == 1, "the record of the refused call")
+        a1.send(call_request("200003"))
+        h2.expect(CALL)
+        h2.accept()
+        a1.expect(ACCEPTED)
+        require(exchange.end() == 0, f"it ended badly; {exchange.said()}")
+    host = re.sub(r"[^A-Za-z0-9.-]", "-", pathlib.Path("/proc/sys/kernel/hostname").read_text().strip())[:64]
+    found = [(row["caller_line"], row["exchange"], row["ended_by"]) for row in rows_of(details)]
+    require(found == [("b1", host, "call"), ("a1", host, "stop")], f"the records tell {found}")
+
+
+def names(program, folder):
+    """The exchange has the name that `--name` gives it, else the one of its subscription file."""
+    for name, wanted in ((None, "Bern1"), ("x-1.net", "x-1.net")):
+        details = pathlib.Path(folder) / f"names-{wanted}.csv"
+        with Recorded(program, folder, details, name=name, own_name="Bern1") as exchange:
+            refused_call(exchange.line("b1"))
+            require(exchange.end() == 0, f"it ended badly; {exchange.said()}")
+        found = [row["exchange"] for row in rows_of(details)]
+        require(found == [wanted], f"with --name {name} the records are of {found}")
+
+
 # ---- the file as it is found
 
 
@@ -184,6 +214,25 @@ def torn_line(program, folder):
         told, line = one_call(program, folder, details)
         require(details.read_text() == (whole or NAMES) + line, f"{torn[:40]} has led to {details.read_text()[:400]!r}")
         require(told.count(f"cdr: a torn last line of {len(torn)} octets was cut off\n") == 1, f"{torn[:40]} is told so: {told}")
+
+
+# What files began with before they told their exchange and by what a call ended, and the last line of one.
+OLD_NAMES = ",".join(HEADER[:16]) + "\n"
+OLD_LINE = "2026-11-26T12:00:00Z,2,b1,200002,,,99999999,caller,0,0,2026-11-26T12:15:00Z,,2026-11-26T12:15:00Z,0,0d,67\n"
+
+
+def old_columns(program, folder):
+    """A file with fewer columns is moved aside as it is, and told; the run's records go to a new one. Where one was moved aside before, it is refused."""
+    details, moved = (pathlib.Path(folder) / name for name in ("old.csv", "old.csv.16-columns"))
+    details.write_text(OLD_NAMES + OLD_LINE)
+    told, line = one_call(program, folder, details)
+    require(moved.read_text() == OLD_NAMES + OLD_LINE, f"what was moved is {moved.read_text()!r}")
+    require(details.read_text() == NAMES + line, f"the new file is {details.read_text()!r}")
+    require(told.count("cdr: a file of 16 columns was moved to the same path with .16-columns behind it, and a new one is begun\n") == 1, f"it is told so: {told}")
+    details.write_text(OLD_NAMES)
+    status, printed, told = refused(program, folder, subscriptions(server.free_ports(len(LINES))), "--cdr", details)
+    require((status, printed) == (5, "") and told.startswith("xp: cdr: has the 16 columns of an earlier version, and cannot be moved "), f"a second one ends with status {status}: {told}")
+    require((details.read_text(), moved.read_text()) == (OLD_NAMES, OLD_NAMES + OLD_LINE), "a file was changed")
 
 
 OTHERS = ("started\n", "a note", "started,number\n1,2\n")
@@ -273,7 +322,7 @@ def full_disk_at_the_end(program, folder):
         require([row["number"] for row in rows_of(details)] == ["1", "2", "3"], "the file and what was printed are not the three records")
 
 
-CHECKS = (columns, new_and_old_file, torn_line, files_that_are_refused, full_disk, full_disk_at_the_end)
+CHECKS = (columns, origins, names, new_and_old_file, torn_line, old_columns, files_that_are_refused, full_disk, full_disk_at_the_end)
 
 
 if __name__ == "__main__":

@@ -130,9 +130,18 @@ def rest_of(connection):
 
 def refused(program, folder, text, *words):
     """Has `xp serve` refuse to serve. Returns its status, what it printed and what it told."""
+    return run_on(program, "serve", folder, text, *words)
+
+
+def checked(program, folder, text, *words):
+    """Has `xp check` look at a file of this text. Returns its status, what it printed and what it told."""
+    return run_on(program, "check", folder, text, *words)
+
+
+def run_on(program, subcommand, folder, text, *words):
     file = pathlib.Path(folder) / "refused.toml"
     file.write_text(text)
-    command = [str(program), "serve", str(file), *map(str, words)]
+    command = [str(program), subcommand, str(file), *map(str, words)]
     run = subprocess.run(command, stdin=subprocess.DEVNULL, capture_output=True, text=True, timeout=PATIENCE)
     return run.returncode, run.stdout, run.stderr
 

@@ -203,7 +203,7 @@ def names(program, folder):
         require(traced == wanted, f"with {words} the lines {traced} are traced")
     for text, told in UNNAMED:
         run = refused(program, folder, subscriptions(server.free_ports(len(LINES))), "--trace", path, "--trace-lines", text)
-        require(run == (5, "", f"xp: trace-lines {told}\n"), f"the names {text!r} end with {run}")
+        require(run == (5, "", f"xp: trace-lines {told}\nno line of the subscription file has this name\n"), f"the names {text!r} end with {run}")
     status, printed, _ = refused(program, folder, subscriptions(server.free_ports(len(LINES))), "--trace-lines", "a1")
     require((status, printed) == (2, ""), f"names of lines without a file end with status {status}")
 
@@ -327,7 +327,7 @@ def files_that_are_kept(program, folder):
         taken.listen()
         base = taken.getsockname()[1]
         run = refused(program, folder, station("200001", ("a1", base, "")), "--trace", path)
-    require(run == (5, "", "xp: port a1\n"), f"a port in use ends with {run}")
+    require(run == (5, "", f"xp: port a1\n127.0.0.1:{base}: Address already in use (os error 98)\n"), f"a port in use ends with {run}")
     require(path.read_bytes() == before, "the older trace is gone, and nothing was served")
 
 

@@ -3,14 +3,11 @@
 
 ghost use Rattle.std.specs.Prelude.{◌≡◌};
 
-mod failure;
 mod into_file;
 mod served_console;
 mod serving;
 mod status_feed;
-mod tracing;
 
-use crate::failure::Failure;
 use crate::serving::{ThreeSubs, serve_lines};
 use log::Log;
 use std::fs::{File, Files};
@@ -22,12 +19,15 @@ use std::rt::Env;
 use std::sync::Wait;
 use std::thread::Threads;
 use std::time::Clock;
-use std::{env, fs};
-use xp_arguments::{Arguments, ServeOrder, Subcommand, refused};
+use std::{env, fs, io};
+use xp_arguments::{
+    Arguments, CheckOrder, QuestionOrder, ReplayForm, ServeOrder, Subcommand, refused,
+};
 use xp_commands::{
     CommandFailure, ask_console, check_file, explain_call, file_text, named_file, print_text,
-    read_subscriptions, replay_script,
+    replay_script, subscriptions_of,
 };
+use xp_readiness::{Failure, check_readiness, explained, refusal_warning};
 use xp_subs::Subs;
 use xp_tasks::TaskFailure;
 
@@ -42,7 +42,7 @@ fn main(rt: HostRuntime) -> ExitCode {
     }
 }
 
-/// Performs the subcommand on the file, or at the console, that the arguments name.
+/// Performs what the words of the command line ask for.
 fn run<
     R: AllocGlobal
         + Clock
@@ -62,27 +62,74 @@ fn run<
         + 'static,
 >(rt: &R, host: HostRuntime) -> Result<(), Failure> {
     let words = words(rt)?;
-    let arguments = match Arguments::read(rt.alloc(), &words) {
-        Ok(arguments) => arguments,
-        Err(told) => return Ok(tell_version(rt, told)?),
-    };
+    match Arguments::read(rt.alloc(), &words) {
+        Ok(arguments) => perform(rt, host, arguments),
+        Err(told) => Ok(tell_version(rt, told)?),
+    }
+}
+
+/// Performs the subcommand on the file, or at the console, that the arguments name.
+fn perform<
+    R: AllocGlobal
+        + Clock
+        + Copy
+        + Drop
+        + Files<File = File>
+        + Input
+        + Log
+        + Net<Listener = TcpListener, Stream = TcpStream>
+        + Print
+        + RandomSource
+        + Send
+        + Sync
+        + Threads
+        + Wait
+        + 'static,
+>(rt: &R, host: HostRuntime, arguments: Arguments<'_>) -> Result<(), Failure> {
     let operand = arguments.operand;
     match arguments.subcommand {
-        Subcommand::Check(form) => Ok(check_file(rt, form, subscriptions_in(rt, operand)?)?),
-        Subcommand::Replay(form) => {
-            let file = named_file(rt.alloc(), operand, "standard input is the script")?;
-            Ok(replay_script(rt, form, file)?)
-        }
-        Subcommand::Explain(question) => {
-            let subs = subscriptions_in(rt, operand)?;
-            Ok(explain_call(rt, &subs, &question)?)
-        }
+        Subcommand::Check(order) => check(rt, order, operand),
+        Subcommand::Replay(form) => replay(rt, form, operand),
+        Subcommand::Explain(question) => explain(rt, &question, operand),
         Subcommand::Serve(order) => {
             let file = named_file(rt.alloc(), operand, "standard input stops the exchange")?;
             serve_file(rt, host, &order, file)
         }
         Subcommand::Ask(request) => Ok(ask_console(rt, request, operand)?),
     }
+}
+
+/// Checks a subscription file.
+fn check<R: AllocGlobal + Files<File = File> + Input + Net + Print>(
+    rt: &R,
+    order: CheckOrder,
+    file: &str,
+) -> Result<(), Failure> {
+    let subs = subscriptions_in(rt, file)?;
+    check_readiness(rt, &subs, order.depth)?;
+    let warning = refusal_warning(rt, &subs, order.form)?;
+    check_file(rt, order.form, subs)?;
+    Ok(print_text(rt, &warning)?)
+}
+
+/// Replays the script on standard input.
+fn replay<R: AllocGlobal + Files<File = File> + Input + Print>(
+    rt: &R,
+    form: ReplayForm<'_>,
+    file: &str,
+) -> Result<(), Failure> {
+    let file = named_file(rt.alloc(), file, "standard input is the script")?;
+    Ok(replay_script(rt, form, file)?)
+}
+
+/// Explains how a call request is decided.
+fn explain<R: AllocGlobal + Files<File = File> + Input + Print>(
+    rt: &R,
+    question: &QuestionOrder<'_>,
+    file: &str,
+) -> Result<(), Failure> {
+    let subs = subscriptions_in(rt, file)?;
+    Ok(explain_call(rt, &subs, question)?)
 }
 
 /// Prints the version where these words asked for it. All else that is told of words is a failure.
@@ -114,12 +161,30 @@ fn serve_file<
         + Wait
         + 'static,
 >(rt: &R, host: HostRuntime, order: &ServeOrder<'_>, file: &str) -> Result<(), Failure> {
-    let alloc = rt.alloc();
     let text = fs::read_to_string(rt, file);
-    let own = read_subscriptions(alloc, &text)?;
-    let names = read_subscriptions(alloc, &text)?;
-    let spare = read_subscriptions(alloc, &text)?;
-    serve_lines(rt, host, order, ThreeSubs { own, names, spare })
+    let own = subscriptions_of(rt, file, &text)?;
+    let names = subscriptions_of(rt, file, &text)?;
+    let spare = subscriptions_of(rt, file, &text)?;
+    match serve_lines(rt, host, order, ThreeSubs { own, names, spare }) {
+        Ok(()) => Ok(()),
+        Err(failure) => Err(with_reason(rt, file, &text, failure)),
+    }
+}
+
+/// This failure to serve the lines of a file of this text, with which, where and why if that is found.
+fn with_reason<R: AllocGlobal + Files<File = File> + Net>(
+    rt: &R,
+    file: &str,
+    text: &io::Result<String>,
+    failure: Failure,
+) -> Failure {
+    let Failure::Serve(failure) = failure else {
+        return failure;
+    };
+    match subscriptions_of(rt, file, text) {
+        Ok(subs) => explained(rt, &subs, failure),
+        Err(_) => Failure::Serve(failure),
+    }
 }
 
 /// The subscriptions of the file that a word names, which may be standard input.
@@ -127,7 +192,7 @@ fn subscriptions_in<R: AllocGlobal + Files<File = File> + Input>(
     rt: &R,
     file: &str,
 ) -> Result<Subs, CommandFailure> {
-    read_subscriptions(rt.alloc(), &file_text(rt, file))
+    subscriptions_of(rt, file, &file_text(rt, file))
 }
 
 /// The words of the command line.

@@ -1,6 +1,5 @@
 //! The console of the exchange that is served.
 
-use crate::failure::Failure;
 use crate::status_feed::StatusFeed;
 use std::alloc::{AllocGlobal, Global};
 use std::net::{IpAddr, Net};
@@ -11,17 +10,31 @@ use std::time::Clock;
 use xp_clock::WallClock;
 use xp_commands::address_of;
 use xp_console::{Console, ConsoleService};
-use xp_observer::{BoardSource, StatusBoard};
+use xp_observer::{BoardName, BoardSource, StatusBoard};
+use xp_readiness::Failure;
 use xp_subs::Subs;
 use xp_tasks::TaskFailure;
 use xp_tcp::Notices;
+
+/// The name of the board of the console that is served. It says nothing of what is shown on it.
+pub(crate) struct ServedBoard;
+
+impl BoardName for ServedBoard {
+    ghost use Rattle.std.specs.Prelude.{⊤};
+
+    ghost may_show = { λ _. ⊤ };
+
+    ghost may_stop = { ⊤ };
+
+    ghost granted = { λ _ _ _. tt };
+}
 
 /// A console that listens at its address, and the board over which it asks for what it shows.
 pub(crate) struct ServedConsole {
     console: Console,
     /// The address at which it listens.
     own: IpAddr,
-    board: Arc<StatusBoard>,
+    board: Arc<StatusBoard<ServedBoard>>,
     alloc: Global,
 }
 

@@ -3,10 +3,8 @@
 ghost use Rattle.std.specs.Prelude.{◌≡◌, [], IfOk};
 ghost use Rattle.xp_serve.specs.Serving.{Serves};
 
-use crate::failure::Failure;
 use crate::into_file::serve_into_file;
 use crate::served_console::ServedConsole;
-use crate::tracing::Tracing;
 use log::Log;
 use std::alloc::AllocGlobal;
 use std::fs::{File, Files};
@@ -23,13 +21,15 @@ use xp_arguments::ServeOrder;
 use xp_clock::WallClock;
 use xp_keeping::{OperatorLog, RecordKeeper, RecordPrinter, StandardOutput, start_printer};
 use xp_limits::Limits;
+use xp_readiness::{Failure, Tracing, opening};
 use xp_serve::{
-    Attending, ConsoleFeed, NoConsole, OperatorWatch, ServeEnd, StopInput, TraceThread,
-    TracedWatch, Watch, serve_attended,
+    Attending, ConsoleFeed, NoConsole, OperatorWatch, ServeEnd, StopInput, TracedWatch, Watch,
+    serve_attended,
 };
 use xp_subs::Subs;
 use xp_tasks::TaskFailure;
 use xp_tcp::Notices;
+use xp_tracing::TraceThread;
 
 /// The subscriptions of the lines that are served, three times.
 #[derive(Drop)]
@@ -183,10 +183,11 @@ impl<R: AllocGlobal + Copy + Drop + Log + Send + Threads + Wait + 'static> Watch
             notices,
             trace,
         } = self;
+        let opening = opening(rt.alloc(), order, subs)?;
         let stop = order.until_eof.then_some(StopInput::default());
         let log = OperatorLog::new(*rt, order.quiet);
         let watch = OperatorWatch::new(rt.alloc(), subs, notices, stop, console, clock, log)?;
-        Ok(TracedWatch::new(watch, trace))
+        Ok(TracedWatch::new(watch.with_opening(opening), trace))
     }
 }
 

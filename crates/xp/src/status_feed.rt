@@ -1,5 +1,6 @@
 //! What feeds the console of the exchange that is served.
 
+use crate::served_console::ServedBoard;
 use std::alloc::{AllocError, Global};
 use std::sync::Arc;
 use xp_causes::Refusal;
@@ -17,7 +18,7 @@ use xp_view::ExchangeView;
 pub(crate) struct StatusFeed {
     alloc: Global,
     observer: Observer,
-    board: Arc<StatusBoard>,
+    board: Arc<StatusBoard<ServedBoard>>,
     notices: Arc<Notices>,
     clock: WallClock,
     /// The moment at which the exchange was seen last, in seconds since 1970.
@@ -35,7 +36,7 @@ impl StatusFeed {
         alloc: Global,
         subs: &Subs,
         clock: WallClock,
-        board: Arc<StatusBoard>,
+        board: Arc<StatusBoard<ServedBoard>>,
         notices: Arc<Notices>,
     ) -> Result<StatusFeed, AllocError> {
         let seen = clock.seconds();
@@ -51,12 +52,19 @@ impl StatusFeed {
 }
 
 impl ConsoleFeed for StatusFeed {
+    ghost use Rattle.std.specs.Prelude.{⊤};
+
+    ghost may_stop = { ⊤ };
+
     fn note(&mut self, notice: &Notice) {
         match notice {
-            Notice::Up { line, peer } | Notice::Connected { line, peer } => {
-                self.observer.came_up(*line, *peer);
+            Notice::Up { line, peer } => self.observer.came_up(*line, *peer),
+            Notice::Connected { line, peer } => self.observer.router_connected(*line, *peer),
+            Notice::NotConnected { line, .. } => {
+                let now = self.clock.now();
+                self.observer.router_failed(*line, now);
             }
-            Notice::Down { line } | Notice::Closed { line } => self.observer.went_down(*line),
+            Notice::Down { line, .. } | Notice::Closed { line } => self.observer.went_down(*line),
             Notice::NoCaller { .. } => self
                 .observer
                 .router_refused(Refusal::CALLER_NOT_KNOWN.cause),
@@ -78,10 +86,13 @@ impl ConsoleFeed for StatusFeed {
         self.seen = now;
         let (received, sent) = self.notices.traffic();
         let traffic = Traffic { received, sent };
-        let status = self
+        match self
             .observer
-            .status(self.alloc, now, view, waiting, traffic);
-        self.board.put(status.ok());
+            .status(self.alloc, now, view, waiting, traffic)
+        {
+            Ok(status) => self.board.put(Some(status)),
+            Err(_) => self.board.put(None),
+        }
     }
 
     fn is_asked_to_stop(&self) -> bool {

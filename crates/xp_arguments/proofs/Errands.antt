@@ -1,7 +1,7 @@
 -- What the arguments of a command ask for.
-use Rattle.std.proofs.Common.{◌≡◌, ◌∙◌, [], cond, refl, sym, ap, subst, codes, option_map, Option, Some, None, IfNone, IfSome, List, ℕ, Bool, true, false, nat_eq, slice_index_or}
+use Rattle.std.proofs.Common.{◌≡◌, ◌∙◌, [], cond, refl, sym, ap, subst, codes, option_map, Option, Some, None, IfNone, IfSome, List, ℕ, Bool, nat_eq, slice_index_or}
 use Rattle.clap.specs.Words.{Row, Text, first_of}
-use Rattle.xp_arguments.specs.Commands.{AsksFor, HasLimits, HasReplayForm, HasTrace, IsOneForm, IsOrder, has_flag, IsQuestion, IsSubcommand, IsTrace, operand_of, verb_of, word_of}
+use Rattle.xp_arguments.specs.Commands.{AsksFor, HasLimits, HasName, HasReplayForm, HasTrace, IsNamed, IsOneForm, IsOrder, has_flag, IsQuestion, IsSubcommand, IsTrace, operand_of, verb_of, word_of}
 use Rattle.xp_arguments.specs.declared.subcommand.QuestionOrder.{QuestionOrder}
 use Rattle.xp_arguments.specs.declared.subcommand.ReplayForm.{ReplayForm}
 use Rattle.xp_arguments.specs.declared.subcommand.ServeOrder.{ServeOrder}
@@ -44,6 +44,18 @@ no_order rows none order is = none order.limits is.limits
 -- arguments that name lines to be traced, and no file
 pub no_trace : (rows : List Row) → ((trace : Option TraceOrder) → HasTrace rows trace → ⊥) → (order : ServeOrder) → IsOrder rows order → ⊥
 no_trace rows none order is = none order.trace is.trace
+
+-- arguments with a name that is none of an exchange
+pub no_name : (rows : List Row) → ((name : Option Text) → HasName rows name → ⊥) → (order : ServeOrder) → IsOrder rows order → ⊥
+no_name rows none order is = none (option_map (λ name. name.now) order.exchange) is.exchange
+
+-- the name that the arguments say
+module _ {X : Type 0} (rows : List Row) (text : Option Text) (text_is : text ≡ first_of (codes "name") rows) (found : Option X) where
+  pub has_name : (shown : X → Option Text) → IfSome found (λ x. IsNamed text (shown x)) → IfSome found (λ x. HasName rows (shown x))
+  has_name shown is = subst (λ text. IfSome found (λ x. IsNamed text (shown x))) text_is is
+
+  pub has_no_name : IfNone found ((name : Option Text) → IsNamed text name → ⊥) → IfNone found ((name : Option Text) → HasName rows name → ⊥)
+  has_no_name none = subst (λ text. IfNone found ((name : Option Text) → IsNamed text name → ⊥)) text_is none
 
 -- the trace for which the arguments ask
 module _ (rows : List Row) (path lines : Option Text) (path_is : path ≡ first_of (codes "trace") rows) (lines_are : lines ≡ first_of (codes "trace-lines") rows)

@@ -4,6 +4,8 @@ use Rattle.clap.specs.Kinds.{or_else}
 use Rattle.clap.specs.Words.{App, Kinds, Row, Rule, Text, fault_of, first_of, new_app, new_rule, subcommand_of, with_rule, with_subcommand}
 use Rattle.clap.specs.declared.builder.action.ArgAction.TheVariants.{SetTrue}
 use Rattle.clap.specs.declared.error.kind.ErrorKind.TheVariants.{InvalidValue}
+use Rattle.xp_arguments.specs.declared.subcommand.CheckDepth.{CheckDepth}
+use Rattle.xp_arguments.specs.declared.subcommand.CheckDepth.TheVariants as check_depths
 use Rattle.xp_arguments.specs.declared.subcommand.CheckForm.{CheckForm}
 use Rattle.xp_arguments.specs.declared.subcommand.CheckForm.TheVariants as check_forms
 use Rattle.xp_arguments.specs.declared.subcommand.ConsoleRequest.{ConsoleRequest}
@@ -17,6 +19,7 @@ use Rattle.xp_arguments.specs.declared.subcommand.Subcommand.TheVariants as subc
 use Rattle.xp_arguments.specs.declared.subcommand.TraceOrder.{TraceOrder}
 use Rattle.xp_arguments.specs.declared.subcommand.Verb.{Verb}
 use Rattle.xp_arguments.specs.declared.subcommand.Verb.TheVariants.{Check, Replay, Explain, Serve, Status, Stop}
+use Rattle.xp_cdr.specs.Names.{is_exchange_name}
 use Rattle.xp_limits.specs.Limits.{AreLimits}
 use Rattle.xp_limits.specs.declared.limits.Limits.{Limits}
 use Rattle.xp_subs.specs.Tables.{same}
@@ -57,7 +60,7 @@ command_of verb = with_rule (new_app (word_of verb)) (positional (operand_of ver
 
 -- the command that checks a file
 abbrev pub check : App
-check = with_rule (command_of Check) (flag (codes "words"))
+check = with_rule (with_rule (with_rule (command_of Check) (flag (codes "words"))) (flag (codes "serve"))) (flag (codes "ports"))
 
 -- the command that replays a script
 abbrev pub replay : App
@@ -75,7 +78,7 @@ explain = with_rule (with_rule (with_rule call (valued (codes "up"))) (valued (c
 
 -- the command that serves, with the arguments that tell of records
 abbrev pub recording : App
-recording = with_rule (with_rule (command_of Serve) (valued (codes "cdr"))) (valued (codes "records"))
+recording = with_rule (with_rule (with_rule (command_of Serve) (valued (codes "cdr"))) (valued (codes "name"))) (valued (codes "records"))
 
 -- with those that tell of a trace
 abbrev pub tracing : App
@@ -120,6 +123,16 @@ abbrev pub HasCheckForm : List Row → CheckForm → Type 0
 HasCheckForm rows check_forms.Counts = has_flag (codes "words") rows ≡ false
 HasCheckForm rows check_forms.Words = has_flag (codes "words") rows ≡ true
 
+-- how much is looked at, where these flags are there or not
+abbrev pub IsDepth : Bool → Bool → CheckDepth → Type 0
+IsDepth serve ports check_depths.File = (serve ≡ false) × (ports ≡ false)
+IsDepth serve ports check_depths.Serving = (serve ≡ true) × (ports ≡ false)
+IsDepth serve ports check_depths.Ports = ports ≡ true
+
+-- the arguments ask for so much to be looked at
+abbrev pub HasDepth : List Row → CheckDepth → Type 0
+HasDepth rows depth = IsDepth (has_flag (codes "serve") rows) (has_flag (codes "ports") rows) depth
+
 -- this form is asked for, and no other: words, a ladder, or a capture of this name
 abbrev pub IsOneForm : Bool → Bool → Option Text → ReplayForm → Type 0
 IsOneForm words ladder capture replay_forms.Digits = (words ≡ false) × (ladder ≡ false) × (capture ≡ None)
@@ -154,10 +167,22 @@ IsTrace path lines (Some trace) = (path ≡ Some trace.path.now) × (option_map 
 abbrev pub HasTrace : List Row → Option TraceOrder → Type 0
 HasTrace rows trace = IsTrace (first_of (codes "trace") rows) (first_of (codes "trace-lines") rows) trace
 
+-- the exchange is given this name, which is one of an exchange, or none
+abbrev pub IsNamed : Option Text → Option Text → Type 0
+IsNamed None None = Unit {0}
+IsNamed None (Some name) = ⊥
+IsNamed (Some text) None = ⊥
+IsNamed (Some text) (Some name) = (text ≡ name) × (is_exchange_name text ≡ true)
+
+-- the arguments say the name of the exchange
+abbrev pub HasName : List Row → Option Text → Type 0
+HasName rows name = IsNamed (first_of (codes "name") rows) name
+
 -- the arguments say how the lines are to be served
 pub record IsOrder (rows : List Row) (order : ServeOrder) : Type 0 where
   pub limits : HasLimits rows order.limits
   pub details : option_map (λ name. name.now) order.details ≡ first_of (codes "cdr") rows
+  pub exchange : HasName rows (option_map (λ name. name.now) order.exchange)
   pub trace : HasTrace rows order.trace
   pub console : option_map (λ address. address.now) order.console ≡ first_of (codes "console") rows
   pub quiet : order.quiet ≡ has_flag (codes "quiet") rows
@@ -170,7 +195,7 @@ verb_to requests.Stop = Stop
 
 -- what a subcommand does
 abbrev pub verb_of : Subcommand → Verb
-verb_of (subcommands.Check form) = Check
+verb_of (subcommands.Check order) = Check
 verb_of (subcommands.Replay form) = Replay
 verb_of (subcommands.Explain question) = Explain
 verb_of (subcommands.Serve order) = Serve
@@ -178,7 +203,7 @@ verb_of (subcommands.Ask request) = verb_to request
 
 -- the arguments that were found are those of this subcommand
 abbrev pub Suits : List Row → Subcommand → Type 0
-Suits rows (subcommands.Check form) = HasCheckForm rows form
+Suits rows (subcommands.Check order) = HasCheckForm rows order.form × HasDepth rows order.depth
 Suits rows (subcommands.Replay form) = HasReplayForm rows form
 Suits rows (subcommands.Explain question) = IsQuestion rows question
 Suits rows (subcommands.Serve order) = IsOrder rows order

@@ -8,8 +8,8 @@ ghost use Rattle.xp_arguments.specs.Commands.{AreRight, Ask, AsksFor, call as ca
 
 use crate::misfits::misfit;
 use crate::subcommand::{
-    BUSY, CALLER, CDR, CONSOLE, DIALLED, FACILITIES, LADDER, PCAP, QUIET, RECORDS, STATUS,
-    Subcommand, TRACE, TRACE_LINES, TURNS, UNTIL_EOF, UP, USER, Verb, WORDS,
+    BUSY, CALLER, CDR, CONSOLE, DIALLED, FACILITIES, LADDER, NAME, PCAP, PORTS, QUIET, RECORDS,
+    SERVE, STATUS, Subcommand, TRACE, TRACE_LINES, TURNS, UNTIL_EOF, UP, USER, Verb, WORDS,
 };
 use crate::texts;
 use clap::error::ErrorKind;
@@ -165,7 +165,9 @@ fn check_command<'a>(alloc: Global) -> Result<Command<'a>, AllocError>
         texts::CHECK_DETAILS,
         texts::FILE_OR_INPUT_HELP,
     )?
-    .arg(flag(alloc, WORDS, texts::CHECK_WORDS_HELP))
+    .arg(flag(alloc, WORDS, texts::CHECK_WORDS_HELP))?
+    .arg(flag(alloc, SERVE, texts::CHECK_SERVE_HELP))?
+    .arg(flag(alloc, PORTS, texts::CHECK_PORTS_HELP))
 }
 
 /// The subcommand that replays a script.
@@ -249,6 +251,7 @@ fn recording_command<'a>(alloc: Global) -> Result<Command<'a>, AllocError>
         texts::FILE_HELP,
     )?
     .arg(valued(alloc, CDR, "PATH", texts::CDR_HELP))?
+    .arg(valued(alloc, NAME, "NAME", texts::NAME_HELP))?
     .arg(valued(alloc, RECORDS, "N", texts::RECORDS_HELP))
 }
 

@@ -14,5 +14,6 @@ pub use arguments::{Arguments, refused};
 pub use laws::errands_can_be_asked_for;
 pub use source::FileSource;
 pub use subcommand::{
-    CheckForm, ConsoleRequest, QuestionOrder, ReplayForm, ServeOrder, Subcommand, TraceOrder, Verb,
+    CheckDepth, CheckForm, CheckOrder, ConsoleRequest, QuestionOrder, ReplayForm, ServeOrder,
+    Subcommand, TraceOrder, Verb,
 };

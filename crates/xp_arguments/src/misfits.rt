@@ -1,19 +1,31 @@
 //! What is wrong with arguments that ask for nothing, in words for a person. No contract says what is told.
 
-use crate::subcommand::{LADDER, PCAP, RECORDS, TRACE, TRACE_LINES, TURNS, WORDS, is_true};
+use crate::subcommand::{LADDER, NAME, PCAP, RECORDS, TRACE, TRACE_LINES, TURNS, WORDS, is_true};
 use clap::ArgMatches;
 use std::alloc::{AllocError, Global};
+use xp_cdr::ExchangeName;
 use xp_limits::Limits;
 
-/// What is wrong with the arguments that were found of a subcommand, where they ask for nothing: a number that is none, or arguments
+/// What is wrong with the arguments that were found of a subcommand, where they ask for nothing: a number or a name that is none, or arguments
 /// that do not go together.
 pub(crate) fn misfit(alloc: Global, matches: &ArgMatches<'_>) -> Result<String, AllocError> {
-    match faulty_number(matches) {
-        Some((name, text)) => format!(in alloc;
+    if let Some((name, text)) = faulty_number(matches) {
+        return format!(in alloc;
             "--{name}: a number from 1 to 1000000000000 is wanted, found {text:?}"
+        );
+    }
+    match faulty_name(matches) {
+        Some(text) => format!(in alloc;
+            "--name: 1 to 64 letters, digits, - and . are wanted, found {text:?}"
         ),
         None => String::from_str(alloc, unfit_arguments(matches)),
     }
+}
+
+/// The name of the exchange, where it is none.
+fn faulty_name<'a>(matches: &ArgMatches<'a>) -> Option<&'a str> {
+    let text = matches.get_str(NAME)?;
+    (!ExchangeName::is_name(text)).then_some(text)
 }
 
 /// The first of the two numbers that may not be asked for, with its argument.

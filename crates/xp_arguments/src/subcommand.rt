@@ -1,10 +1,11 @@
 //! The subcommands of the program.
 
 ghost use Rattle.std.specs.Prelude.{◌≡◌, IfNone, IfSome, Option, Some, codes, option_map};
-ghost use Rattle.clap.specs.Words.{first_of, found_of, rows_of};
-ghost use Rattle.xp_arguments.specs.Commands.{HasCheckForm, HasLimits, HasReplayForm, HasTrace, IsOneForm, IsOrder, IsQuestion, IsSubcommand, IsTrace, Suits, operand_of, says_true, verb_of, word_of};
+ghost use Rattle.clap.specs.Words.{Text, first_of, found_of, rows_of};
+ghost use Rattle.xp_arguments.specs.Commands.{HasCheckForm, HasDepth, HasLimits, HasName, HasReplayForm, HasTrace, IsNamed, IsOneForm, IsOrder, IsQuestion, IsSubcommand, IsTrace, Suits, operand_of, says_true, verb_of, word_of};
 
 use clap::ArgMatches;
+use xp_cdr::ExchangeName;
 use xp_limits::Limits;
 
 /// The name of the subscription file.
@@ -21,6 +22,12 @@ pub const DIALLED: &str = "DIALLED";
 
 /// The argument by which words for people are printed.
 pub const WORDS: &str = "words";
+
+/// The argument by which a check looks at what serving needs.
+pub const SERVE: &str = "serve";
+
+/// The argument by which a check tries the ports too.
+pub const PORTS: &str = "ports";
 
 /// The argument by which a ladder diagram is printed.
 pub const LADDER: &str = "ladder";
@@ -45,6 +52,9 @@ pub const STATUS: &str = "status";
 
 /// The argument for the file of call detail records.
 pub const CDR: &str = "cdr";
+
+/// The argument for the name of the exchange.
+pub const NAME: &str = "name";
 
 /// The argument for the file of the trace.
 pub const TRACE: &str = "trace";
@@ -131,6 +141,24 @@ pub enum CheckForm {
     Words,
 }
 
+/// How much a check looks at.
+#[derive(Clone, Copy, PartialEq, Eq)]
+pub enum CheckDepth {
+    /// The subscription file.
+    File,
+    /// What serving needs without any port: the addresses in the file too.
+    Serving,
+    /// What serving needs: the ports too, which are listened on for a moment.
+    Ports,
+}
+
+/// How a subscription file is to be checked.
+#[derive(Clone, Copy, PartialEq, Eq)]
+pub struct CheckOrder {
+    pub form: CheckForm,
+    pub depth: CheckDepth,
+}
+
 /// The form in which a replay is told.
 #[derive(Clone, Copy, PartialEq, Eq)]
 pub enum ReplayForm<'a> {
@@ -178,6 +206,8 @@ pub struct ServeOrder<'a> {
     pub limits: Limits,
     /// The name of the file of call detail records, if there is to be one.
     pub details: Option<&'a str>,
+    /// The name of the exchange, if it is given one. It is that of an exchange.
+    pub exchange: Option<&'a str>,
     /// What is to be traced, if anything.
     pub trace: Option<TraceOrder<'a>>,
     /// The address at which the console is to be, if there is to be one.
@@ -201,7 +231,7 @@ pub enum ConsoleRequest {
 #[derive(Clone, Copy, PartialEq, Eq)]
 pub enum Subcommand<'a> {
     /// Checks a subscription file.
-    Check(CheckForm),
+    Check(CheckOrder),
     /// Replays a script from standard input.
     Replay(ReplayForm<'a>),
     /// Explains how a call request is decided.
@@ -228,7 +258,10 @@ impl<'a> Subcommand<'a> {
         ensures none { IfNone result ((subcommand : Subcommand) → verb_of subcommand ≡ verb → Suits (rows_of (found_of matches.now)) subcommand → ⊥) }
     {
         match verb {
-            Verb::Check => Some(Subcommand::Check(check_form(matches))),
+            Verb::Check => Some(Subcommand::Check(CheckOrder {
+                form: check_form(matches),
+                depth: check_depth(matches),
+            })),
             Verb::Replay => {
                 let form = replay_form(matches)?;
                 Some(Subcommand::Replay(form))
@@ -269,6 +302,19 @@ fn check_form(matches: &ArgMatches) -> CheckForm
         CheckForm::Words
     } else {
         CheckForm::Counts
+    }
+}
+
+/// How much the arguments ask to be looked at. Who asks for the ports asks for all.
+fn check_depth(matches: &ArgMatches) -> CheckDepth
+    ensures { HasDepth (rows_of (found_of matches.now)) result }
+{
+    if is_true(matches, PORTS) {
+        CheckDepth::Ports
+    } else if is_true(matches, SERVE) {
+        CheckDepth::Serving
+    } else {
+        CheckDepth::File
     }
 }
 
@@ -327,6 +373,7 @@ fn order_of<'a>(matches: &ArgMatches<'a>) -> Option<ServeOrder<'a>>
 {
     let limits = limits_of(matches)?;
     let trace = trace_of(matches)?;
+    let exchange = exchange_of(matches)?;
     let details = matches.get_str(CDR);
     let console = matches.get_str(CONSOLE);
     let quiet = is_true(matches, QUIET);
@@ -334,11 +381,33 @@ fn order_of<'a>(matches: &ArgMatches<'a>) -> Option<ServeOrder<'a>>
     Some(ServeOrder {
         limits,
         details,
+        exchange,
         trace,
         console,
         quiet,
         until_eof,
     })
+}
+
+/// The name that the arguments give the exchange, if they do. `None` where they give a text that is none.
+fn exchange_of<'a>(matches: &ArgMatches<'a>) -> Option<Option<&'a str>>
+    ensures found { IfSome result (λ name. HasName (rows_of (found_of matches.now)) (option_map (λ name. name.now) name)) }
+    ensures none { IfNone result ((name : Option Text) → HasName (rows_of (found_of matches.now)) name → ⊥) }
+{
+    let name = matches.get_str(NAME);
+    named_so(name)
+}
+
+/// This name, where it is that of an exchange.
+fn named_so<'a>(name: Option<&'a str>) -> Option<Option<&'a str>>
+    ensures found { IfSome result (λ named. IsNamed (option_map (λ text. text.now) name.entry) (option_map (λ text. text.now) named)) }
+    ensures none { IfNone result ((named : Option Text) → IsNamed (option_map (λ text. text.now) name.entry) named → ⊥) }
+{
+    match name {
+        Some(text) if ExchangeName::is_name(text) => Some(Some(text)),
+        Some(_) => None,
+        None => Some(None),
+    }
 }
 
 /// What the arguments ask to be traced, if anything. `None` where they name lines and no file.

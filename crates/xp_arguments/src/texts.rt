@@ -25,8 +25,12 @@ Prints one line, as: stations 3 lines 5 groups 0
 A group that several stations share counts once. With --words it prints a
 summary: stations, lines, groups, who may call whom, and what looks wrong.
 
+With --serve the addresses in the FILE are looked at too, as `xp serve` does,
+and refused as there, with status 5. With --ports each port is listened on for
+a moment as well: it has to be free, so nobody may be serving this FILE.
+
 Example:
-  xp check examples/three-stations.toml --words";
+  xp check examples/three-stations.toml --words --serve";
 
 pub(crate) const EXPLAIN_ABOUT: &str = "Explains how a call request is decided, rule by rule";
 
@@ -77,6 +81,10 @@ Example:
 
 pub(crate) const CHECK_WORDS_HELP: &str = "Prints a summary for a person";
 
+pub(crate) const CHECK_SERVE_HELP: &str = "Looks also at the addresses in it, as `xp serve` does";
+
+pub(crate) const CHECK_PORTS_HELP: &str = "Tries also to listen on its ports";
+
 pub(crate) const REPLAY_WORDS_HELP: &str = "Prints each event, packet and record in words";
 
 pub(crate) const LADDER_HELP: &str = "Prints the packets as a ladder diagram, 80 columns wide";
@@ -100,6 +108,9 @@ pub(crate) const BUSY_HELP: &str = "The lines that are in a call, as h1,h2";
 pub(crate) const STATUS_HELP: &str = "Ends with status 1 where the call is refused";
 
 pub(crate) const CDR_HELP: &str = "Writes call detail records at the end of this file (CSV)";
+
+pub(crate) const NAME_HELP: &str =
+    "Names the exchange so in its records, not by its file or host: letters, digits, - and .";
 
 pub(crate) const TRACE_HELP: &str = "Writes what passes on the lines into this file";
 

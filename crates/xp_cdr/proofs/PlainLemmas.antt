@@ -18,7 +18,12 @@ use Rattle.xp_charge.specs.declared.record.Record.{Record}
 use Rattle.xp_charge.specs.Duration.{seconds_of}
 use Rattle.xp_charge.specs.Lines.{HasLines}
 use Rattle.xp_charge.specs.Text.{name_of, payer_text}
-use Rattle.xp_cdr.specs.Details.{AreJoined, call_fields, called_fields, charge_fields, connected_text, detail_fields, detail_text, end_fields, line_fields, moment_fields}
+use Rattle.xp_cdr.specs.Details.{AreJoined, call_fields, called_fields, charge_fields, connected_text, detail_fields, detail_text, end_fields, ended_by_text, line_fields, moment_fields, origin_fields}
+use Rattle.xp_cdr.specs.Names.{IsExchangeName, is_exchange_letter}
+use Rattle.xp_cdr.specs.declared.ended.EndedBy.{EndedBy}
+use Rattle.xp_cdr.specs.declared.ended.EndedBy.TheVariants.{Call, Stop, Partial}
+use Rattle.xp_cdr.specs.declared.ended.EndedCall.{EndedCall}
+use Rattle.xp_cdr.specs.declared.run.ExchangeRun.{ExchangeRun}
 use Rattle.xp_cdr.specs.Moments.{calendar_text, date_in_year, last_moment, moment_text, time_text, year_and_day, month_and_day}
 
 -- no octet of the field calls for quotes
@@ -128,12 +133,28 @@ plain_both : (fields more : List (List ℕ)) → ArePlain fields → ArePlain mo
 plain_both [] more first second = second
 plain_both (field ∷ fields) more first second = (first.0, plain_both fields more first.1 second)
 
-plain_fields : (tables : Tables) (started : ℕ) (ended : Record) → IsSound tables → HasLines (line_count tables) ended → ArePlain (detail_fields tables started ended)
-plain_fields tables started ended sound lines =
+-- the names of exchanges
+exchange_letter_high : (octet : ℕ) → is_exchange_letter octet ≡ true → 45 ≤ octet
+exchange_letter_high octet is = grind (arith, nat_tests)
+
+plain_exchange : (name : List ℕ) → IsExchangeName name → IsPlain name
+plain_exchange [] all = plain_none
+plain_exchange (octet ∷ name) all =
+    plain_cons octet name (exchange_letter_high octet ((and_parts _ _ all).0)) (plain_exchange name ((and_parts _ _ all).1))
+
+plain_end : (ended_by : EndedBy) → IsPlain (ended_by_text ended_by)
+plain_end Call = record { none = refl }
+plain_end Stop = record { none = refl }
+plain_end Partial = record { none = refl }
+
+plain_fields : (tables : Tables) (run : ExchangeRun) (call : EndedCall) → IsSound tables → HasLines (line_count tables) call.charging → IsExchangeName run.exchange
+    → ArePlain (detail_fields tables run call)
+plain_fields tables run call sound lines name =
+    let ended = call.charging in
     let caller = plain_line tables ended.caller sound lines.caller in
     let called = plain_called tables ended.called sound lines.called in
-    let call : ArePlain (call_fields tables started ended) = (
-      plain_moment started,
+    let which : ArePlain (call_fields tables run.started ended) = (
+      plain_moment run.started,
       (
         plain_decimal ended.number,
         plain_both (line_fields tables ended.caller ++ called_fields tables ended.called) (text_of ended.dialled ∷ [])
@@ -145,9 +166,11 @@ plain_fields tables started ended sound lines =
     let moments : ArePlain (moment_fields ended) =
     (plain_moment ended.requested, (plain_connected ended.connected, (plain_moment ended.ended, (plain_decimal (seconds_of ended), tt)))) in
     let end : ArePlain (end_fields ended) = (plain_hex ended.cause, (plain_decimal ended.diagnostic, tt)) in
-    plain_both (call_fields tables started ended ++ charge_fields ended ++ moment_fields ended) (end_fields ended)
-    (plain_both (call_fields tables started ended ++ charge_fields ended) (moment_fields ended)
-    (plain_both (call_fields tables started ended) (charge_fields ended) call charge) moments) end
+    let origin : ArePlain (origin_fields run call.ended_by) = (plain_exchange run.exchange name, (plain_end call.ended_by, tt)) in
+    plain_both (call_fields tables run.started ended ++ charge_fields ended ++ moment_fields ended ++ end_fields ended) (origin_fields run call.ended_by)
+    (plain_both (call_fields tables run.started ended ++ charge_fields ended ++ moment_fields ended) (end_fields ended)
+    (plain_both (call_fields tables run.started ended ++ charge_fields ended) (moment_fields ended)
+    (plain_both (call_fields tables run.started ended) (charge_fields ended) which charge) moments) end) origin
 
 -- plain fields are written as they are, with commas between them
 plain_field : (field : List ℕ) → IsPlain field → field_text default_writer field ≡ field
@@ -168,4 +191,4 @@ row_joined first next rest plain =
 
 pub are_joined : AreJoined
 unfolding detail_text
-are_joined tables started ended sound lines = row_joined _ _ _ (plain_fields tables started ended sound lines)
+are_joined tables run call sound lines name = row_joined _ _ _ (plain_fields tables run call sound lines name)

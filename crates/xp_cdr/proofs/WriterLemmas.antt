@@ -2,13 +2,13 @@
 use Rattle.std.proofs.Common.{◌≡◌, ℕ, ◌+◌, ◌≤◌, List, [], ◌++◌, Option, None, Some, append-nil, append_assoc, arith, drop, flat_map, length, length-append, sym, take, take-add, ap, ◌∙◌, refl}
 use Rattle.std.proofs.lemmas.List.{append_cancel_left, length-drop, take-append-drop, take-append-le, take_all}
 use Rattle.std.proofs.lemmas.List.Concat.{flat_map-append}
-use Rattle.xp_charge.specs.declared.record.Record.{Record}
+use Rattle.xp_cdr.specs.declared.ended.EndedCall.{EndedCall}
 use Rattle.xp_cdr.specs.Files.{HasFront, LosesAnEnd}
 use Rattle.xp_cdr.specs.steps.Batch.{Texts, no_texts}
 use Rattle.xp_cdr.specs.steps.Writer.{IsAt, IsBatchOf, IsSettled}
 
 -- what is on the disk, and then what waits
-pub all_text : (text : Record → List ℕ) (given : List Record) (synced : List ℕ) (batch : Texts) → IsBatchOf text given synced batch → flat_map text given ≡ synced ++ batch.octets
+pub all_text : (text : EndedCall → List ℕ) (given : List EndedCall) (synced : List ℕ) (batch : Texts) → IsBatchOf text given synced batch → flat_map text given ≡ synced ++ batch.octets
 all_text text given synced batch is =
     ap (flat_map text) is.given_are
     ∙ flat_map-append text is.before is.last
@@ -16,7 +16,7 @@ all_text text given synced batch is =
     ∙ ap (λ front. front ++ batch.octets) (sym is.synced_is)
 
 -- the whole batch is on the disk
-pub all_synced : (text : Record → List ℕ) (given : List Record) (synced : List ℕ) (batch : Texts) (new : List ℕ) → IsBatchOf text given synced batch → new ≡ synced ++ batch.octets → IsBatchOf text given new no_texts
+pub all_synced : (text : EndedCall → List ℕ) (given : List EndedCall) (synced : List ℕ) (batch : Texts) (new : List ℕ) → IsBatchOf text given synced batch → new ≡ synced ++ batch.octets → IsBatchOf text given new no_texts
 all_synced text given synced batch new is put = record {
   before = given;
   last = [];

@@ -1,4 +1,4 @@
--- The text of call detail records: a line of CSV for each charging record.
+-- The text of call detail records: a line of CSV for each call that has ended.
 use Rattle.std.specs.Prelude.{◌≡◌, ℕ, codes, decimal, List, [], ◌∷◌, ◌++◌, Option, None, Some}
 use Rattle.std.specs.List.{join_with_byte}
 use Rattle.csv.specs.Machine.{next_record}
@@ -14,11 +14,16 @@ use Rattle.xp_charge.specs.Duration.{seconds_of}
 use Rattle.xp_charge.specs.Lines.{HasLines}
 use Rattle.xp_charge.specs.Text.{name_of, payer_text}
 use Rattle.xp_cdr.specs.Moments.{moment_text}
+use Rattle.xp_cdr.specs.Names.{IsExchangeName}
+use Rattle.xp_cdr.specs.declared.ended.EndedBy.{EndedBy}
+use Rattle.xp_cdr.specs.declared.ended.EndedBy.TheVariants.{Call, Stop, Partial}
+use Rattle.xp_cdr.specs.declared.ended.EndedCall.{EndedCall}
+use Rattle.xp_cdr.specs.declared.run.ExchangeRun.{ExchangeRun}
 
 -- the names of the fields, as the first line of a file
 abbrev pub header_text : List ℕ
 header_text =
-    codes "started,number,caller_line,caller_address,called_line,called_address,dialled,payer,segments_from_caller,segments_from_called,requested,connected,ended,seconds,cause,diagnostic\n"
+    codes "started,number,caller_line,caller_address,called_line,called_address,dialled,payer,segments_from_caller,segments_from_called,requested,connected,ended,seconds,cause,diagnostic,exchange,ended_by\n"
 
 -- the name and the address of a line
 abbrev pub line_fields : Tables → ℕ → List (List ℕ)
@@ -61,24 +66,39 @@ moment_fields ended =
 abbrev pub end_fields : Record → List (List ℕ)
 end_fields ended = encode_lower (ended.cause ∷ []) ∷ decimal ended.diagnostic ∷ []
 
--- the sixteen fields of a call detail record
-abbrev pub detail_fields : Tables → ℕ → Record → List (List ℕ)
-detail_fields tables started ended =
-    call_fields tables started ended ++ charge_fields ended ++ moment_fields ended ++ end_fields ended
+-- by what the call ended: it was cleared, serving stopped, or the run that had it came to an end without one
+abbrev pub ended_by_text : EndedBy → List ℕ
+ended_by_text Call = codes "call"
+ended_by_text Stop = codes "stop"
+ended_by_text Partial = codes "partial"
 
--- The call detail record of an ended call, of an exchange that began at `started`: its fields as a line of CSV.
-unfoldable pub detail_text : Tables → ℕ → Record → List ℕ
-detail_text tables started ended = row_text default_writer (detail_fields tables started ended)
+-- of which exchange it was, and by what it ended
+abbrev pub origin_fields : ExchangeRun → EndedBy → List (List ℕ)
+origin_fields run ended_by = run.exchange ∷ ended_by_text ended_by ∷ []
 
--- A reader of CSV reads the sixteen fields back, whatever follows the line.
+-- the eighteen fields of a call detail record
+abbrev pub detail_fields : Tables → ExchangeRun → EndedCall → List (List ℕ)
+detail_fields tables run call =
+    call_fields tables run.started call.charging
+    ++ charge_fields call.charging
+    ++ moment_fields call.charging
+    ++ end_fields call.charging
+    ++ origin_fields run call.ended_by
+
+-- The call detail record of an ended call, of a run of an exchange: its fields as a line of CSV.
+unfoldable pub detail_text : Tables → ExchangeRun → EndedCall → List ℕ
+detail_text tables run call = row_text default_writer (detail_fields tables run call)
+
+-- A reader of CSV reads the eighteen fields back, whatever follows the line.
 abbrev pub AreReadBack : Type 0
 AreReadBack =
-    (tables : Tables) (started : ℕ) (ended : Record) (rest : List ℕ)
-    → next_record default_config StartRecord [] [] (detail_text tables started ended ++ rest)
-    ≡ Some (detail_fields tables started ended, StartRecord, rest)
+    (tables : Tables) (run : ExchangeRun) (call : EndedCall) (rest : List ℕ)
+    → next_record default_config StartRecord [] [] (detail_text tables run call ++ rest)
+    ≡ Some (detail_fields tables run call, StartRecord, rest)
 
--- No field needs quotes: the line is the sixteen fields with commas between them, and then a line feed.
+-- No field needs quotes: the line is the eighteen fields with commas between them, and then a line feed.
 abbrev pub AreJoined : Type 0
 AreJoined =
-    (tables : Tables) (started : ℕ) (ended : Record) → IsSound tables → HasLines (line_count tables) ended
-    → detail_text tables started ended ≡ join_with_byte 44 (detail_fields tables started ended) ++ 10 ∷ []
+    (tables : Tables) (run : ExchangeRun) (call : EndedCall) → IsSound tables → HasLines (line_count tables) call.charging
+    → IsExchangeName run.exchange
+    → detail_text tables run call ≡ join_with_byte 44 (detail_fields tables run call) ++ 10 ∷ []

@@ -1,17 +1,19 @@
 -- Call detail records on their way to a file.
-use Rattle.std.specs.Prelude.{◌≡◌, ℕ, ◌+◌, List, [], ◌++◌, flat_map, length, slice_index_or, Result, Ok, Err}
+use Rattle.std.specs.Prelude.{◌≡◌, ℕ, ◌+◌, List, [], ◌++◌, flat_map, length, slice_index_or, None, Result, Ok, Err}
 use Rattle.xp_subs.specs.Tables.{Tables}
-use Rattle.xp_charge.specs.declared.record.Record.{Record}
 use Rattle.xp_cdr.specs.Details.{detail_text}
 use Rattle.xp_cdr.specs.Files.{HasFront}
+use Rattle.xp_cdr.specs.declared.ended.EndedCall.{EndedCall}
+use Rattle.xp_cdr.specs.declared.run.ExchangeRun.{ExchangeRun}
 
 pub record Ledger : Type 0 where
-  -- the subscriptions that the details are told by, and when the exchange began
+  -- the subscriptions that the details are told by, and the run of which exchange they are of
   pub subs : Tables
-  pub started : ℕ
-  -- the records that were given, in order
-  pub given : List Record
-  -- what the file has taken since it was opened, and the front of that which it has on the disk
+  pub run : ExchangeRun
+  -- the records that were given, in order, each with by what its call ended
+  pub given : List EndedCall
+  -- what the file has taken since it was opened, and the front of that which it has on the disk; where new files were begun at its
+  -- path, what all of them have, one after the other
   pub taken : List ℕ
   pub synced : List ℕ
   -- what is not on the disk yet, in memory
@@ -20,8 +22,8 @@ pub record Ledger : Type 0 where
   pub failures : ℕ
 
 -- the call detail records of these records, in order
-abbrev pub details_text : Ledger → List Record → List ℕ
-details_text ledger records = flat_map (detail_text ledger.subs ledger.started) records
+abbrev pub details_text : Ledger → List EndedCall → List ℕ
+details_text ledger records = flat_map (detail_text ledger.subs ledger.run) records
 
 -- What is on the disk, and then what waits, is the call detail records of all records that were given: each once, in order, and
 -- whole. Behind what is on the disk the file has taken nothing but a front of what waits.
@@ -31,8 +33,8 @@ pub record IsWhole (ledger : Ledger) : Type 0 where
 
 -- The file has the call detail records of all records but the last `count` on the disk, and nothing of those.
 pub record LacksLast (ledger : Ledger) (count : ℕ) : Type 0 where
-  pub whole : List Record
-  pub rest : List Record
+  pub whole : List EndedCall
+  pub rest : List EndedCall
   pub given_are : ledger.given ≡ whole ++ rest
   pub count_is : count ≡ length rest
   pub synced_is : ledger.synced ≡ details_text ledger whole
@@ -40,21 +42,25 @@ pub record LacksLast (ledger : Ledger) (count : ℕ) : Type 0 where
 -- These are the call detail records of the records that were given last. The file has those before them on the disk, and nothing
 -- of these.
 pub record IsUnfinished (ledger : Ledger) (lines : List ℕ) : Type 0 where
-  pub whole : List Record
-  pub rest : List Record
+  pub whole : List EndedCall
+  pub rest : List EndedCall
   pub given_are : ledger.given ≡ whole ++ rest
   pub lines_are : lines ≡ details_text ledger rest
   pub synced_is : ledger.synced ≡ details_text ledger whole
 
 -- a ledger of an open file, to which no record was given
-abbrev pub opening : Tables → ℕ → Ledger
-opening tables started =
-    record { subs = tables; started = started; given = []; taken = []; synced = []; waiting = []; failures = 0 }
+abbrev pub opening : Tables → ExchangeRun → Ledger
+opening tables run =
+    record { subs = tables; run = run; given = []; taken = []; synced = []; waiting = []; failures = 0 }
 
 -- more records were given
-abbrev pub with_given : Ledger → List Record → Ledger
+abbrev pub with_given : Ledger → List EndedCall → Ledger
 with_given ledger records =
     record ledger { given = ledger.given ++ records; waiting = ledger.waiting ++ details_text ledger records }
+
+-- the file has failed once more, and nothing else has changed
+abbrev pub with_failure : Ledger → Ledger
+with_failure ledger = record ledger { failures = ledger.failures + 1 }
 
 -- More of what waited is on the disk, from the front on.
 pub record Takes (old new : Ledger) : Type 0 where
@@ -62,7 +68,7 @@ pub record Takes (old new : Ledger) : Type 0 where
   pub waited : old.waiting ≡ more ++ new.waiting
   pub synced : new.synced ≡ old.synced ++ more
   pub subs : new.subs ≡ old.subs
-  pub started : new.started ≡ old.started
+  pub run : new.run ≡ old.run
   pub given : new.given ≡ old.given
 
 -- Nothing waits. The file has taken the call detail records of all records that were given, and has them on the disk.
@@ -78,7 +84,7 @@ Flushes old (Err fault) new = Takes old new × (new.failures ≡ old.failures + 
 
 -- the subscriptions of an exchange without lines
 abbrev pub no_tables : Tables
-no_tables = record { stations = []; lines = []; groups = []; segment_limit = 0; journal = 0; host = []; xot_port = 0 }
+no_tables = record { stations = []; lines = []; groups = []; segment_limit = 0; journal = 0; host = []; xot_port = 0; name = None }
 
 -- the subscriptions that a writer began with
 abbrev pub first_tables : List Tables → Tables

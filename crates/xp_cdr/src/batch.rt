@@ -7,9 +7,10 @@ ghost use Rattle.xp_cdr.specs.Details.{detail_text};
 ghost use Rattle.xp_cdr.specs.steps.Batch.{no_texts, with_text, with_texts};
 
 use crate::detail::write_detail;
+use crate::ended::EndedCall;
+use crate::run::ExchangeRun;
 use std::alloc::{AllocError, Global};
 use std::marker::Model;
-use xp_charge::Record;
 use xp_subs::Subs;
 
 /// Call detail records, one after the other.
@@ -61,7 +62,7 @@ impl Batch {
         self.count = 0;
     }
 
-    /// Adds the call detail records of these records.
+    /// Adds the call detail records of these calls.
     ///
     /// # Errors
     ///
@@ -69,16 +70,16 @@ impl Batch {
     pub fn push_all(
         &mut self,
         subs: &Subs,
-        started: u64,
-        records: &[Record],
+        run: &ExchangeRun,
+        calls: &[EndedCall],
     ) -> Result<(), AllocError>
-        requires { All (HasLines (line_count subs.now)) records.now }
-        ensures ok { OnOk result (self.new ≡ with_texts (detail_text subs.now started) self.old records.now) }
+        requires { All (λ call. HasLines (line_count subs.now) call.charging) calls.now }
+        ensures ok { OnOk result (self.new ≡ with_texts (detail_text subs.now run.now) self.old calls.now) }
         ensures err { OnErr result (self.new ≡ self.old) }
     {
         let (octets, count) = (self.octets.len(), self.count);
-        for ended in records {
-            match self.push(subs, started, ended) {
+        for call in calls {
+            match self.push(subs, run, call) {
                 Ok(()) => {}
                 Err(refused) => {
                     self.octets.truncate(octets);
@@ -90,15 +91,15 @@ impl Batch {
         Ok(())
     }
 
-    /// Adds the call detail record of a record, or nothing if memory is wanting.
-    fn push(&mut self, subs: &Subs, started: u64, ended: &Record) -> Result<(), AllocError>
-        requires { HasLines (line_count subs.now) ended.now }
-        ensures ok { OnOk result (self.new ≡ with_text self.old (detail_text subs.now started ended.now)) }
+    /// Adds the call detail record of a call, or nothing if memory is wanting.
+    fn push(&mut self, subs: &Subs, run: &ExchangeRun, call: &EndedCall) -> Result<(), AllocError>
+        requires { HasLines (line_count subs.now) call.now.charging }
+        ensures ok { OnOk result (self.new ≡ with_text self.old (detail_text subs.now run.now call.now)) }
         ensures err { OnErr result (self.new ≡ self.old) }
     {
         let count = self.count.checked_add(1).ok_or(AllocError)?;
         let alloc = *self.octets.allocator();
-        write_detail(alloc, subs, started, ended, &mut self.octets)?;
+        write_detail(alloc, subs, run, call, &mut self.octets)?;
         self.count = count;
         Ok(())
     }

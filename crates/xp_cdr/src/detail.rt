@@ -7,14 +7,19 @@ ghost use Rattle.xp_charge.specs.Lines.{HasLines};
 ghost use Rattle.xp_subs.specs.Tables.{line_count};
 ghost use Rattle.xp_cdr.specs.Details.{detail_fields, detail_text, header_text};
 
-use crate::fields::{push_call, push_charge, push_end, push_moments};
+use crate::ended::EndedCall;
+use crate::fields::{push_call, push_charge, push_end, push_moments, push_origin};
+use crate::run::ExchangeRun;
 use csv::{ByteRecord, Writer};
 use std::alloc::{AllocError, Allocator, Global};
-use xp_charge::Record;
 use xp_subs::Subs;
 
 /// The first line of a file of call detail records: the names of the fields.
 pub const HEADER: &str =
+    "started,number,caller_line,caller_address,called_line,called_address,dialled,payer,segments_from_caller,segments_from_called,requested,connected,ended,seconds,cause,diagnostic,exchange,ended_by\n";
+
+/// The first line of a file of call detail records that tell neither their exchange nor by what a call ended.
+pub(crate) const OLD_HEADER: &str =
     "started,number,caller_line,caller_address,called_line,called_address,dialled,payer,segments_from_caller,segments_from_called,requested,connected,ended,seconds,cause,diagnostic\n";
 
 /// Appends the names of the fields to `text`, as one line.
@@ -29,8 +34,8 @@ pub fn write_header<A: Allocator>(text: &mut Vec<u8, A>) -> Result<(), AllocErro
     text.extend_from_slice(HEADER.as_bytes())
 }
 
-/// Appends the call detail record of an ended call to `text`, as one line of CSV. The exchange began at `started`, in seconds
-/// since 1970.
+/// Appends the call detail record of an ended call to `text`, as one line of CSV, of this run of
+/// an exchange.
 ///
 /// # Errors
 ///
@@ -39,15 +44,15 @@ pub fn write_header<A: Allocator>(text: &mut Vec<u8, A>) -> Result<(), AllocErro
 pub fn write_detail<A: Allocator>(
     alloc: Global,
     subs: &Subs,
-    started: u64,
-    ended: &Record,
+    run: &ExchangeRun,
+    call: &EndedCall,
     text: &mut Vec<u8, A>,
 ) -> Result<(), AllocError>
-    requires { HasLines (line_count subs.now) ended.now }
-    ensures ok { OnOk result (text.new.items ≡ text.old.items ++ detail_text subs.now started ended.now) }
+    requires { HasLines (line_count subs.now) call.now.charging }
+    ensures ok { OnOk result (text.new.items ≡ text.old.items ++ detail_text subs.now run.now call.now) }
     ensures err { OnErr result (text.new.items ≡ text.old.items) }
 {
-    let row = row_of(alloc, subs, started, ended)?;
+    let row = row_of(alloc, subs, run, call)?;
     let line = line_of(alloc, &row)?;
     text.extend_from_slice(line.as_slice())
 }
@@ -56,17 +61,18 @@ pub fn write_detail<A: Allocator>(
 fn row_of(
     alloc: Global,
     subs: &Subs,
-    started: u64,
-    ended: &Record,
+    run: &ExchangeRun,
+    call: &EndedCall,
 ) -> Result<ByteRecord, AllocError>
-    requires { HasLines (line_count subs.now) ended.now }
-    ensures { IfOk result (λ row. fields_of row ≡ detail_fields subs.now started ended.now) }
+    requires { HasLines (line_count subs.now) call.now.charging }
+    ensures { IfOk result (λ row. fields_of row ≡ detail_fields subs.now run.now call.now) }
 {
     let mut row = ByteRecord::new(alloc);
-    push_call(&mut row, subs, started, ended)?;
-    push_charge(&mut row, ended)?;
-    push_moments(&mut row, ended)?;
-    push_end(&mut row, ended)?;
+    push_call(&mut row, subs, run.started, &call.charging)?;
+    push_charge(&mut row, &call.charging)?;
+    push_moments(&mut row, &call.charging)?;
+    push_end(&mut row, &call.charging)?;
+    push_origin(&mut row, run, call.ended_by)?;
     Ok(row)
 }
 

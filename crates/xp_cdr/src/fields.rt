@@ -7,9 +7,11 @@ ghost use Rattle.xp_packets.specs.Digits.{text_of};
 ghost use Rattle.xp_charge.specs.Lines.{HasLines};
 ghost use Rattle.xp_charge.specs.Text.{payer_text};
 ghost use Rattle.xp_subs.specs.Tables.{line_count};
-ghost use Rattle.xp_cdr.specs.Details.{call_fields, called_fields, charge_fields, connected_text, end_fields, line_fields, moment_fields};
+ghost use Rattle.xp_cdr.specs.Details.{call_fields, called_fields, charge_fields, connected_text, end_fields, ended_by_text, line_fields, moment_fields, origin_fields};
 
+use crate::ended::EndedBy;
 use crate::moment::push_moment;
+use crate::run::ExchangeRun;
 use arrayvec::ArrayVec;
 use csv::ByteRecord;
 use itoa::Buffer;
@@ -68,6 +70,20 @@ pub fn push_end(row: &mut ByteRecord, ended: &Record) -> Result<(), AllocError>
 {
     push_octet(row, ended.cause)?;
     push_number(row, u64::from(ended.diagnostic))
+}
+
+/// Adds of which exchange the call was, and by what it ended.
+pub fn push_origin(
+    row: &mut ByteRecord,
+    run: &ExchangeRun,
+    ended_by: EndedBy,
+) -> Result<(), AllocError>
+    requires begun { partial_of row.old ≡ [] }
+    ensures fields { OnOk result (fields_of row.new ≡ fields_of row.old ++ origin_fields run.now ended_by) }
+    ensures whole { OnOk result (partial_of row.new ≡ []) }
+{
+    row.push_field(run.exchange.as_bytes())?;
+    row.push_field(name_of_end(ended_by).as_bytes())
 }
 
 /// Adds a number in decimal.
@@ -157,5 +173,15 @@ fn name_of_payer(payer: End) -> &'static str
     match payer {
         End::Caller => "caller",
         End::Called => "called",
+    }
+}
+
+fn name_of_end(ended_by: EndedBy) -> &'static str
+    ensures { result.now ≡ ended_by_text ended_by }
+{
+    match ended_by {
+        EndedBy::Call => "call",
+        EndedBy::Stop => "stop",
+        EndedBy::Partial => "partial",
     }
 }

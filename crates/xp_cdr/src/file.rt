@@ -4,54 +4,24 @@ ghost use Rattle.std.specs.Prelude.{◌≡◌, [], ◌∷◌, ◌++◌, IfOk, le
 ghost use Rattle.std.specs.Io.{StartsWith};
 ghost use Rattle.std.specs.IoError.{error_kind};
 
-use crate::detail::HEADER;
+use crate::detail::{HEADER, OLD_HEADER};
 use crate::last_line::last_started;
-use crate::record_file::RecordFile;
+use crate::opening::{OpenFault, Opened};
+use crate::record_file::{Place, RecordFile};
 use crate::torn::end_of_lines;
 use std::alloc::Global;
-use std::fs::{File, Files, TryLockError};
-use std::io;
+use std::fs::{File, Files, Metadata, TryLockError};
 use std::io::{ErrorKind, Read, Seek, SeekFrom, Write};
 use std::os::unix::fs::MetadataExt;
-use thiserror::Error;
+use std::{fs, io};
 use xp_past::Past;
-
-/// Why a file of call detail records was not opened.
-#[derive(Debug, Drop, Error)]
-pub enum OpenFault {
-    #[error("cannot be opened: {0}")]
-    Open(io::Error),
-    /// Another exchange has the file open.
-    #[error("is in use by another exchange")]
-    InUse,
-    #[error("cannot be locked: {0}")]
-    Lock(io::Error),
-    #[error("cannot be read: {0}")]
-    Read(io::Error),
-    /// The file does not begin with the names of the fields of call detail records. It was left as it was.
-    #[error("holds something else than call detail records")]
-    OtherContent,
-    #[error("cannot be written: {0}")]
-    Write(io::Error),
-}
-
-/// How a file was found when it was opened.
-#[derive(Clone, Copy, Debug, Default, PartialEq, Eq)]
-pub struct Opened {
-    /// Whether the names of the fields had to be written, since the file had no whole line.
-    pub is_new: bool,
-    /// How many octets of a torn last line were cut off.
-    pub torn: u64,
-    /// When the exchange began whose record is the last whole line, in seconds since 1970. There is none if that line is no record,
-    /// or is longer than any record.
-    pub last_started: Option<u64>,
-}
 
 /// A file of call detail records, which no other exchange can open while this one has it open.
 ///
 /// No contract can say what a file holds. So proofs know the file by what it has told since it was opened: the octets that it
 /// took, the front of them that a good sync covers, and its failures. Where a sync has failed, they know of no octet behind that
-/// front.
+/// front. Where it is moved or removed, a new file is begun at its path (`follow`): what it took is what these files took, one after
+/// the other.
 #[derive(Drop)]
 pub struct DetailFile<R: Files<File = File> + Drop> {
     rt: R,
@@ -67,6 +37,17 @@ pub struct DetailFile<R: Files<File = File> + Drop> {
     synced: Past<u8>,
     failures: Past<ErrorKind>,
     ghost front: { StartsWith taken.items synced.items },
+}
+
+/// A file that has just been opened.
+#[derive(Drop)]
+struct Begun {
+    /// The handle that holds the lock.
+    locked: File,
+    /// The handle that is written.
+    file: File,
+    /// How long the file is.
+    length: u64,
 }
 
 impl<R: Files<File = File> + Drop> RecordFile for DetailFile<R> {
@@ -112,11 +93,25 @@ impl<R: Files<File = File> + Drop> RecordFile for DetailFile<R> {
             Err(error) => Err(self.failed(error)),
         }
     }
+
+    fn follow(&mut self) -> Result<Place, OpenFault> {
+        match begun_anew(&self.rt, self.path.as_str(), &self.locked) {
+            Ok(None) => Ok(Place::Same),
+            Ok(Some(begun)) => {
+                self.go_on_in(begun);
+                Ok(Place::Begun)
+            }
+            Err(fault) => {
+                self.failures.push(&ErrorKind::Other);
+                Err(fault)
+            }
+        }
+    }
 }
 
 impl<R: Files<File = File> + Drop> DetailFile<R> {
     /// Opens the file at this path, or makes it. A torn last line is cut off, and a file without lines gets the names of the
-    /// fields. Where a sync fails, the file is opened anew at this path.
+    /// fields. Where a sync fails, the file is opened anew, at this path if it still lies there.
     ///
     /// # Errors
     ///
@@ -127,15 +122,13 @@ impl<R: Files<File = File> + Drop> DetailFile<R> {
         ensures failures { IfOk result (λ opened. ⟦<DetailFile<R> as RecordFile>⟧.failures opened.0 ≡ 0) }
     {
         let path = owned(alloc, path).map_err(OpenFault::Open)?;
-        let locked = open_locked(&rt, path.as_str())?;
-        let (opened, length) = tidy(&locked)?;
-        let file = locked.try_clone().map_err(OpenFault::Open)?;
+        let (begun, opened) = begin_or_move(alloc, &rt, path.as_str())?;
         let file = DetailFile {
             rt,
             path,
-            locked,
-            file,
-            length,
+            locked: begun.locked,
+            file: begun.file,
+            length: begun.length,
             more: 0,
             taken: Past::new(),
             synced: Past::new(),
@@ -164,6 +157,19 @@ impl<R: Files<File = File> + Drop> DetailFile<R> {
         self.taken = self.synced.again();
     }
 
+    /// Goes on in this file, which has just been opened. All that was taken before is on the disk.
+    fn go_on_in(&mut self, begun: Begun)
+        requires { self.old.taken.items ≡ self.old.synced.items }
+        ensures taken { self.new.taken ≡ self.old.taken }
+        ensures synced { self.new.synced ≡ self.old.synced }
+        ensures failures { self.new.failures ≡ self.old.failures }
+    {
+        self.locked = begun.locked;
+        self.file = begun.file;
+        self.length = begun.length;
+        self.more = 0;
+    }
+
     /// Notes a failure, and passes it on.
     fn failed(&mut self, error: io::Error) -> io::Error
         ensures taken { self.new.taken ≡ self.old.taken }
@@ -182,6 +188,66 @@ fn owned(alloc: Global, path: &str) -> io::Result<String> {
         .map_err(|_| io::Error::from(ErrorKind::OutOfMemory))
 }
 
+/// Opens the file at this path as `begin` does. One that lacks the last columns is moved aside, and a new one is begun.
+fn begin_or_move<R: Files<File = File>>(
+    alloc: Global,
+    rt: &R,
+    path: &str,
+) -> Result<(Begun, Opened), OpenFault> {
+    match begin(rt, path) {
+        Err(OpenFault::OldColumns(last_started)) => {
+            move_aside(alloc, rt, path).map_err(OpenFault::Move)?;
+            let (begun, opened) = begin(rt, path)?;
+            let opened = Opened {
+                moved_aside: true,
+                last_started,
+                ..opened
+            };
+            Ok((begun, opened))
+        }
+        result => result,
+    }
+}
+
+/// Moves the file at this path to where no file lies, beside it.
+fn move_aside<R: Files<File = File>>(alloc: Global, rt: &R, path: &str) -> io::Result<()> {
+    let mut aside = path.to_string(alloc)?;
+    aside.push_str(BEHIND_MOVED)?;
+    if fs::exists(rt, &aside)? {
+        return Err(io::Error::from(ErrorKind::AlreadyExists));
+    }
+    fs::rename(rt, path, &aside)
+}
+
+/// What stands behind the path of a file that was moved aside.
+const BEHIND_MOVED: &str = ".16-columns";
+
+/// Opens the file at this path, or makes it, locks it, and tidies it. Tells how it was found, too.
+fn begin<R: Files<File = File>>(rt: &R, path: &str) -> Result<(Begun, Opened), OpenFault> {
+    let locked = open_locked(rt, path)?;
+    let (opened, length) = tidy(&locked)?;
+    let file = locked.try_clone().map_err(OpenFault::Open)?;
+    let begun = Begun {
+        locked,
+        file,
+        length,
+    };
+    Ok((begun, opened))
+}
+
+/// Begins a new file at this path, or opens the one that lies there, unless that is the locked one.
+fn begun_anew<R: Files<File = File>>(
+    rt: &R,
+    path: &str,
+    locked: &File,
+) -> Result<Option<Begun>, OpenFault> {
+    if lies_at(rt, path, locked).map_err(OpenFault::Open)? {
+        return Ok(None);
+    }
+    let (begun, _) = begin(rt, path)?;
+    Ok(Some(begun))
+}
+
 /// Opens the file at this path, or makes it, and locks it.
 fn open_locked<R: Files<File = File>>(rt: &R, path: &str) -> Result<File, OpenFault> {
     let file = File::options()
@@ -194,16 +260,15 @@ fn open_locked<R: Files<File = File>>(rt: &R, path: &str) -> Result<File, OpenFa
     Ok(file)
 }
 
-/// Opens the locked file anew at this path, and cuts it back to this length. It is refused where another file lies there now, or
-/// one that is shorter.
+/// Opens the locked file anew, and cuts it back to this length. It is refused where the file is shorter.
 fn reopened<R: Files<File = File>>(
     rt: &R,
     path: &str,
     locked: &File,
     length: u64,
 ) -> io::Result<File> {
-    let file = File::options().read(true).append(true).open(rt, path)?;
-    if !is_same(&file, locked)? || file.metadata()?.len() < length {
+    let file = another_handle(rt, path, locked)?;
+    if file.metadata()?.len() < length {
         return Err(io::Error::from(ErrorKind::InvalidData));
     }
     file.set_len(length)?;
@@ -211,10 +276,33 @@ fn reopened<R: Files<File = File>>(
     Ok(file)
 }
 
-/// Whether both are handles of one file.
-fn is_same(file: &File, other: &File) -> io::Result<bool> {
-    let (one, two) = (file.metadata()?, other.metadata()?);
-    Ok(one.dev() == two.dev() && one.ino() == two.ino())
+/// Opens the locked file anew at this path. Where it does not lie there, it is a copy of the locked handle.
+fn another_handle<R: Files<File = File>>(rt: &R, path: &str, locked: &File) -> io::Result<File> {
+    match File::options().read(true).append(true).open(rt, path) {
+        Ok(file) => {
+            if is_same(&file.metadata()?, &locked.metadata()?) {
+                Ok(file)
+            } else {
+                locked.try_clone()
+            }
+        }
+        Err(error) if error.kind() == ErrorKind::NotFound => locked.try_clone(),
+        Err(error) => Err(error),
+    }
+}
+
+/// Whether the file of this handle lies at this path.
+fn lies_at<R: Files<File = File>>(rt: &R, path: &str, file: &File) -> io::Result<bool> {
+    match fs::metadata(rt, path) {
+        Ok(there) => Ok(is_same(&there, &file.metadata()?)),
+        Err(error) if error.kind() == ErrorKind::NotFound => Ok(false),
+        Err(error) => Err(error),
+    }
+}
+
+/// Whether both are of one file.
+fn is_same(one: &Metadata, two: &Metadata) -> bool {
+    one.dev() == two.dev() && one.ino() == two.ino()
 }
 
 /// Locks the file, for as long as it is open.
@@ -230,16 +318,20 @@ fn lock(file: &File) -> Result<(), OpenFault> {
 /// it is now.
 fn tidy(mut file: &File) -> Result<(Opened, u64), OpenFault> {
     let length = file.metadata().map_err(OpenFault::Read)?.len();
-    if !is_ours(&mut file, length).map_err(OpenFault::Read)? {
-        return Err(OpenFault::OtherContent);
-    }
+    let columns = columns_of(&mut file, length).map_err(OpenFault::Read)?;
     let end = end_of_lines(&mut file, length).map_err(OpenFault::Read)?;
     let last_started = last_started(&mut file, end).map_err(OpenFault::Read)?;
+    match columns {
+        Columns::These => {}
+        Columns::Old => return Err(OpenFault::OldColumns(last_started)),
+        Columns::Other => return Err(OpenFault::OtherContent),
+    }
     write_lines(file, length, end).map_err(OpenFault::Write)?;
     let opened = Opened {
         is_new: end == 0,
         torn: length - end,
         last_started,
+        moved_aside: false,
     };
     Ok((opened, end.max(HEADER.len() as u64)))
 }
@@ -255,13 +347,28 @@ fn write_lines(mut file: &File, length: u64, end: u64) -> io::Result<()> {
     file.sync_all()
 }
 
-/// Whether a file of this length begins with the names of the fields, or with as many octets of them as it has.
-fn is_ours<S: Read + Seek>(file: &mut S, length: u64) -> io::Result<bool> {
+/// Which columns a file has.
+#[derive(Clone, Copy)]
+enum Columns {
+    These,
+    /// Those of call detail records before they told their exchange and by what a call ended.
+    Old,
+    Other,
+}
+
+/// Which columns a file of this length has, by its first line, or by as many octets of it as it has.
+fn columns_of<S: Read + Seek>(file: &mut S, length: u64) -> io::Result<Columns> {
     let names = HEADER.as_bytes();
     let mut buffer = [0; HEADER.len()];
     let size = length.min(names.len() as u64) as usize;
     let front = &mut buffer[..size];
     file.seek(SeekFrom::Start(0))?;
     file.read_exact(front)?;
-    Ok(names.starts_with(front))
+    if names.starts_with(front) {
+        Ok(Columns::These)
+    } else if front.starts_with(OLD_HEADER.as_bytes()) {
+        Ok(Columns::Old)
+    } else {
+        Ok(Columns::Other)
+    }
 }

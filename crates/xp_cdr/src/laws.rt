@@ -13,7 +13,7 @@ pub fn details_are_read_back()
     ensures { AreReadBack }
 {}
 
-/// A call detail record is its sixteen fields with commas between them, and a line feed: no field needs quotes.
+/// A call detail record is its eighteen fields with commas between them, and a line feed: no field needs quotes.
 pub fn details_need_no_quotes()
     ensures { AreJoined }
 {}

@@ -3,13 +3,24 @@
 ghost use Rattle.std.specs.Prelude.{◌≡◌, ◌+◌, ◌<◌, ◌≤◌, ◌++◌, IfOk, MatchResult, OnErr, OnOk, length, take};
 ghost use Rattle.xp_cdr.specs.Files.{LosesAnEnd};
 
+use crate::opening::OpenFault;
 use std::io;
+
+/// Where a file goes on.
+#[derive(Clone, Copy, Debug, PartialEq, Eq)]
+pub enum Place {
+    /// In the file that is open.
+    Same,
+    /// In a new file at the path, from which the one that was open was moved or removed.
+    Begun,
+}
 
 /// A file to whose end octets are written.
 pub trait RecordFile: Drop {
     ghost use Rattle.std.specs.Prelude.{ℕ, List};
 
-    // All octets that the file has taken since it was opened, in order: what it holds behind its old end.
+    // All octets that the file has taken since it was opened, in order: what it holds behind its old end. Where new files were begun
+    // at its path, it is what all of them have taken, one after the other.
     ghost taken: { Self → List ℕ };
 
     // The front of them that a good sync covers, with no failed one since they were written.
@@ -52,5 +63,17 @@ pub trait RecordFile: Drop {
         ensures synced { synced self.new ≡ synced self.old }
         ensures ok { OnOk result (taken self.new ≡ synced self.new) }
         ensures lost { OnErr result (LosesAnEnd (synced self.old) (taken self.old) (taken self.new)) }
+        ensures failures { MatchResult result (λ _. failures self.new ≡ failures self.old) (λ _. failures self.new ≡ failures self.old + 1) };
+
+    /// Looks whether the file still lies at its path, and begins a new one there if not. All that the file has taken has to be on the
+    /// disk, so that nothing of it is written to another file.
+    ///
+    /// # Errors
+    ///
+    /// No new file was begun, and the one that is open goes on.
+    fn follow(&mut self) -> Result<Place, OpenFault>
+        requires { taken self.old ≡ synced self.old }
+        ensures taken { taken self.new ≡ taken self.old }
+        ensures synced { synced self.new ≡ synced self.old }
         ensures failures { MatchResult result (λ _. failures self.new ≡ failures self.old) (λ _. failures self.new ≡ failures self.old + 1) };
 }

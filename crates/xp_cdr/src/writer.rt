@@ -1,17 +1,19 @@
 //! A writer of call detail records.
 
-ghost use Rattle.std.specs.Prelude.{◌≡◌, [], All, OnErr, OnOk, length};
+ghost use Rattle.std.specs.Prelude.{◌≡◌, [], All, MatchResult, OnErr, OnOk, length};
 ghost use Rattle.xp_charge.specs.Lines.{HasLines};
 ghost use Rattle.xp_subs.specs.Tables.{line_count};
-ghost use Rattle.xp_cdr.specs.Ledger.{Flushes, IsUnfinished, IsWhole, LacksLast, opening, with_given};
+ghost use Rattle.xp_cdr.specs.Ledger.{Flushes, IsUnfinished, IsWhole, LacksLast, opening, with_failure, with_given};
 
 use crate::batch::Batch;
 use crate::disk::put_on_disk;
-use crate::record_file::RecordFile;
+use crate::ended::EndedCall;
+use crate::opening::OpenFault;
+use crate::record_file::{Place, RecordFile};
+use crate::run::ExchangeRun;
 use std::alloc::{AllocError, Global};
 use std::io;
 use std::marker::Model;
-use xp_charge::Record;
 use xp_past::Past;
 use xp_subs::Subs;
 
@@ -21,15 +23,15 @@ use xp_subs::Subs;
 #[derive(Drop)]
 pub struct DetailWriter<F: RecordFile> {
     file: F,
-    /// When the exchange began, in seconds since 1970.
-    started: u64,
+    /// The run of which exchange the records are of.
+    run: ExchangeRun,
     /// The call detail records that are not on the disk: those of the records that were given last.
     batch: Batch,
     /// How many octets of the batch the file has taken. It is not known where a sync has failed since the last good one.
     taken: Option<usize>,
     /// The subscriptions that the details are told by.
     told_by: Past<Subs>,
-    given: Past<Record>,
+    given: Past<EndedCall>,
 }
 
 impl<F: RecordFile> Model for DetailWriter<F> {
@@ -40,22 +42,23 @@ impl<F: RecordFile> Model for DetailWriter<F> {
 
     ghost Value = { Ledger };
 
-    ghost view = { λ w. record { subs = first_tables w.told_by.items; started = w.started; given = w.given.items; taken = F.taken w.file; synced = F.synced w.file; waiting = w.batch.octets; failures = F.failures w.file } };
+    ghost view = { λ w. record { subs = first_tables w.told_by.items; run = w.run; given = w.given.items; taken = F.taken w.file; synced = F.synced w.file; waiting = w.batch.octets; failures = F.failures w.file } };
 
-    ghost invariant = { λ w. IsBatchOf (detail_text (first_tables w.told_by.items) w.started) w.given.items (F.synced w.file) w.batch × IsAt (F.synced w.file) w.batch.octets (F.taken w.file) w.taken };
+    ghost invariant = { λ w. IsBatchOf (detail_text (first_tables w.told_by.items) w.run) w.given.items (F.synced w.file) w.batch × IsAt (F.synced w.file) w.batch.octets (F.taken w.file) w.taken };
 }
 
 impl<F: RecordFile> DetailWriter<F> {
-    /// Returns a writer to a file that has just been opened, of an exchange that began at `started`, in seconds since 1970.
-    pub fn new(alloc: Global, file: F, subs: &Subs, started: u64) -> DetailWriter<F>
+    /// Returns a writer to a file that has just been opened, of this run of an
+    /// exchange.
+    pub fn new(alloc: Global, file: F, subs: &Subs, run: ExchangeRun) -> DetailWriter<F>
         requires taken { F.taken file ≡ [] }
         requires synced { F.synced file ≡ [] }
         requires failures { F.failures file ≡ 0 }
-        ensures { result ≡ opening subs.now started }
+        ensures { result ≡ opening subs.now run }
     {
         DetailWriter {
             file,
-            started,
+            run,
             batch: Batch::new(alloc),
             taken: Some(0),
             told_by: Past::new().and(subs),
@@ -63,19 +66,19 @@ impl<F: RecordFile> DetailWriter<F> {
         }
     }
 
-    /// Takes the records of more calls that have ended. Their call detail records wait until `flush`.
+    /// Takes more calls that have ended. Their call detail records wait until `flush`.
     ///
     /// # Errors
     ///
-    /// Memory is wanting. Then nothing has changed, and the records were not given.
-    pub fn give(&mut self, subs: &Subs, records: &[Record]) -> Result<(), AllocError>
+    /// Memory is wanting. Then nothing has changed, and the calls were not given.
+    pub fn give(&mut self, subs: &Subs, calls: &[EndedCall]) -> Result<(), AllocError>
         requires subs { subs.now ≡ self.old.subs }
-        requires lines { All (HasLines (line_count subs.now)) records.now }
-        ensures ok { OnOk result (self.new ≡ with_given self.old records.now) }
+        requires lines { All (λ call. HasLines (line_count subs.now) call.charging) calls.now }
+        ensures ok { OnOk result (self.new ≡ with_given self.old calls.now) }
         ensures err { OnErr result (self.new ≡ self.old) }
     {
-        self.batch.push_all(subs, self.started, records)?;
-        self.given.extend(records);
+        self.batch.push_all(subs, &self.run, calls)?;
+        self.given.extend(calls);
         Ok(())
     }
 
@@ -95,6 +98,21 @@ impl<F: RecordFile> DetailWriter<F> {
         result?;
         self.batch.clear();
         Ok(())
+    }
+
+    /// Looks whether the file still lies at its path, and begins a new one there if not. Where the file may have taken some of the
+    /// octets that wait, they go on in this file, and it does not look.
+    ///
+    /// # Errors
+    ///
+    /// No new file was begun, and the one that is open goes on.
+    pub fn follow(&mut self) -> Result<Place, OpenFault>
+        ensures { MatchResult result (λ _. self.new ≡ self.old) (λ _. self.new ≡ with_failure self.old) }
+    {
+        match self.taken {
+            Some(0) => self.file.follow(),
+            _ => Ok(Place::Same),
+        }
     }
 
     /// How many octets are not on the disk.

@@ -4,6 +4,7 @@ ghost use Rattle.std.specs.Prelude.{IfSome};
 ghost use Rattle.xp_charge.specs.Lines.{HasLines};
 ghost use Rattle.xp_subs.specs.Tables.{line_count};
 
+use xp_cdr::{EndedBy, EndedCall, ExchangeName, ExchangeRun};
 use xp_charge::Record;
 use xp_packets::{Digits, End};
 use xp_subs::Subs;
@@ -13,19 +14,19 @@ pub const STARTED: u64 = 1_795_694_400;
 
 /// The call detail records of the calls 1 to 4.
 pub static DETAILS: [&str; 4] = [
-    "2026-11-26T12:00:00Z,1,a1,2080010,b1,2080020,2080020,caller,3,2,2026-11-26T12:15:00Z,2026-11-26T12:15:02Z,2026-11-26T12:16:02Z,60,00,0\n",
-    "2026-11-26T12:00:00Z,2,a1,2080010,b1,2080020,2080020,caller,3,2,2026-11-26T12:15:00Z,2026-11-26T12:15:02Z,2026-11-26T12:16:02Z,60,00,0\n",
-    "2026-11-26T12:00:00Z,3,a1,2080010,b1,2080020,2080020,caller,3,2,2026-11-26T12:15:00Z,2026-11-26T12:15:02Z,2026-11-26T12:16:02Z,60,00,0\n",
-    "2026-11-26T12:00:00Z,4,a1,2080010,b1,2080020,2080020,caller,3,2,2026-11-26T12:15:00Z,2026-11-26T12:15:02Z,2026-11-26T12:16:02Z,60,00,0\n",
+    "2026-11-26T12:00:00Z,1,a1,2080010,b1,2080020,2080020,caller,3,2,2026-11-26T12:15:00Z,2026-11-26T12:15:02Z,2026-11-26T12:16:02Z,60,00,0,x-1.net,call\n",
+    "2026-11-26T12:00:00Z,2,a1,2080010,b1,2080020,2080020,caller,3,2,2026-11-26T12:15:00Z,2026-11-26T12:15:02Z,2026-11-26T12:16:02Z,60,00,0,x-1.net,call\n",
+    "2026-11-26T12:00:00Z,3,a1,2080010,b1,2080020,2080020,caller,3,2,2026-11-26T12:15:00Z,2026-11-26T12:15:02Z,2026-11-26T12:16:02Z,60,00,0,x-1.net,call\n",
+    "2026-11-26T12:00:00Z,4,a1,2080010,b1,2080020,2080020,caller,3,2,2026-11-26T12:15:00Z,2026-11-26T12:15:02Z,2026-11-26T12:16:02Z,60,00,0,x-1.net,call\n",
 ];
 
 /// A call from a1 to b1, connected after two seconds and for a minute.
-pub fn call(subs: &Subs, number: u64) -> Option<Record>
-    ensures { IfSome result (HasLines (line_count subs.now)) }
+pub fn call(subs: &Subs, number: u64) -> Option<EndedCall>
+    ensures { IfSome result (λ call. HasLines (line_count subs.now) call.charging) }
 {
     let caller = subs.line_named("a1")?;
     let called = subs.line_named("b1")?;
-    Some(Record {
+    let charging = Record {
         number,
         caller,
         called: Some(called),
@@ -38,5 +39,17 @@ pub fn call(subs: &Subs, number: u64) -> Option<Record>
         requested: 1_795_695_300,
         connected: Some(1_795_695_302),
         ended: 1_795_695_362,
+    };
+    Some(EndedCall {
+        charging,
+        ended_by: EndedBy::Call,
     })
+}
+
+/// The run of the exchange `x-1.net` that began then.
+pub fn run_at(started: u64) -> ExchangeRun {
+    ExchangeRun {
+        started,
+        exchange: ExchangeName::of_host(b"x-1.net"),
+    }
 }

@@ -5,7 +5,7 @@ ghost use Rattle.std.specs.Prelude.{◌≡◌, ◌+◌, ◌<◌, [], length};
 use std::alloc::Global;
 use std::io;
 use std::io::{Error, ErrorKind};
-use xp_cdr::RecordFile;
+use xp_cdr::{OpenFault, Place, RecordFile};
 use xp_past::Past;
 
 /// How such a file fails: some of its calls, one after the other, from one on. The first call has number 1.
@@ -30,6 +30,7 @@ pub struct FailingFile {
     failing: Failing,
     calls: u64,
     cuts: u64,
+    begun: u64,
 }
 
 impl FailingFile {
@@ -47,6 +48,7 @@ impl FailingFile {
             failing,
             calls: 0,
             cuts: 0,
+            begun: 0,
         }
     }
 
@@ -68,6 +70,11 @@ impl FailingFile {
     /// How often it was cut back.
     pub fn cuts(&self) -> u64 {
         self.cuts
+    }
+
+    /// How often a new one was begun at its path.
+    pub fn begun(&self) -> u64 {
+        self.begun
     }
 
     /// Counts a call, and tells whether it fails.
@@ -134,5 +141,13 @@ impl RecordFile for FailingFile {
         self.cuts = self.cuts.saturating_add(1);
         self.behind.clear();
         Ok(())
+    }
+
+    fn follow(&mut self) -> Result<Place, OpenFault> {
+        if self.fails() {
+            return Err(OpenFault::Open(self.failure(ErrorKind::PermissionDenied)));
+        }
+        self.begun = self.begun.saturating_add(1);
+        Ok(Place::Begun)
     }
 }

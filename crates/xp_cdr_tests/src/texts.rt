@@ -4,11 +4,10 @@ ghost use Rattle.std.specs.Prelude.{◌≡◌, IfSome};
 ghost use Rattle.xp_charge.specs.Lines.{HasLines};
 ghost use Rattle.xp_subs.specs.Tables.{line_count};
 
-use crate::calls::{DETAILS, STARTED, call};
+use crate::calls::{DETAILS, STARTED, call, run_at};
 use std::alloc::Global;
 use std::test::Fail;
-use xp_cdr::write_detail;
-use xp_charge::Record;
+use xp_cdr::{EndedBy, EndedCall, ExchangeName, write_detail};
 use xp_packets::End;
 use xp_subs::Subs;
 use xp_testing::{Refusing, THREE_STATIONS};
@@ -32,7 +31,7 @@ fn begin_with_moments(alloc: Global, subs: &Subs) -> Result<bool, Fail> {
     let mut text = Vec::new(alloc);
     for (moment, wanted) in &MOMENTS {
         text.clear();
-        write_detail(alloc, subs, *moment, &ended, &mut text)?;
+        write_detail(alloc, subs, &run_at(*moment), &ended, &mut text)?;
         if !text.as_slice().starts_with(wanted.as_bytes()) {
             return Ok(false);
         }
@@ -50,10 +49,12 @@ fn moments(rt: HostRuntime) -> Result<(), Fail> {
 }
 
 /// A call over midnight with the greatest of each number, whose clock goes back.
-fn greatest(subs: &Subs) -> Option<Record>
-    ensures { IfSome result (HasLines (line_count subs.now)) }
+fn greatest(subs: &Subs) -> Option<EndedCall>
+    ensures { IfSome result (λ call. HasLines (line_count subs.now) call.charging) }
 {
-    let mut ended = call(subs, 18_446_744_073_709_551_615)?;
+    let mut call = call(subs, 18_446_744_073_709_551_615)?;
+    call.ended_by = EndedBy::Partial;
+    let ended = &mut call.charging;
     ended.payer = End::Called;
     ended.from_caller = 99_999_999;
     ended.from_called = 99_999_999;
@@ -62,17 +63,17 @@ fn greatest(subs: &Subs) -> Option<Record>
     ended.ended = 1_795_737_598;
     ended.cause = 0xff;
     ended.diagnostic = 255;
-    Some(ended)
+    Some(call)
 }
 
 const GREATEST: &str =
-    "2026-11-26T12:00:00Z,18446744073709551615,a1,2080010,b1,2080020,2080020,called,99999999,99999999,2026-11-26T23:59:59Z,2026-11-27T00:00:00Z,2026-11-26T23:59:58Z,0,ff,255\n";
+    "2026-11-26T12:00:00Z,18446744073709551615,a1,2080010,b1,2080020,2080020,called,99999999,99999999,2026-11-26T23:59:59Z,2026-11-27T00:00:00Z,2026-11-26T23:59:58Z,0,ff,255,x-1.net,partial\n";
 
 /// The call detail record of that call.
 fn greatest_detail(alloc: Global, subs: &Subs) -> Result<Vec<u8>, Fail> {
     let ended = greatest(subs).ok_or("no call")?;
     let mut text = Vec::new(alloc);
-    write_detail(alloc, subs, STARTED, &ended, &mut text)?;
+    write_detail(alloc, subs, &run_at(STARTED), &ended, &mut text)?;
     Ok(text)
 }
 
@@ -92,9 +93,9 @@ fn write_behind(alloc: Global, subs: &Subs) -> Result<(usize, usize, bool), Fail
     let refusing = Refusing::new(alloc, 2);
     let mut text = Vec::new(&refusing);
     text.push(b'#')?;
-    let is_refused = write_detail(alloc, subs, STARTED, &ended, &mut text).is_err();
+    let is_refused = write_detail(alloc, subs, &run_at(STARTED), &ended, &mut text).is_err();
     let first = text.len();
-    write_detail(alloc, subs, STARTED, &ended, &mut text)?;
+    write_detail(alloc, subs, &run_at(STARTED), &ended, &mut text)?;
     Ok((
         first,
         text.len(),
@@ -109,5 +110,49 @@ fn no_memory_for_a_text(rt: HostRuntime) -> Result<(), Fail> {
     let written = write_behind(rt.alloc(), &subs);
     drop(subs);
     assert_eq!(rt; written?, (1, DETAILS[0].len() + 1, true));
+    Ok(())
+}
+
+/// Names of exchanges, and texts that are none.
+static NAMES: [(&str, bool); 8] = [
+    ("xp-1.example", true),
+    ("A", true),
+    (
+        "0123456789012345678901234567890123456789012345678901234567890123",
+        true,
+    ),
+    (
+        "01234567890123456789012345678901234567890123456789012345678901234",
+        false,
+    ),
+    ("", false),
+    ("a,b", false),
+    ("a b", false),
+    ("a_b", false),
+];
+
+/// Names of hosts, and of the exchanges on them.
+static HOSTS: [(&str, &str); 4] = [
+    ("xp-1", "xp-1"),
+    ("a,b_\"c", "a-b--c"),
+    ("", "localhost"),
+    (
+        "01234567890123456789012345678901234567890123456789012345678901234",
+        "0123456789012345678901234567890123456789012345678901234567890123",
+    ),
+];
+
+#[test]
+fn names_of_exchanges(rt: HostRuntime) -> Result<(), Fail> {
+    for (text, is_name) in &NAMES {
+        assert_eq!(rt; ExchangeName::from_text(text).is_some(), *is_name, "{text}");
+    }
+    for (host, name) in &HOSTS {
+        assert_eq!(rt;
+            ExchangeName::of_host(host.as_bytes()).as_bytes(),
+            name.as_bytes(),
+            "{host}"
+        );
+    }
     Ok(())
 }

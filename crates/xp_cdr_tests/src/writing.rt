@@ -2,7 +2,7 @@
 
 ghost use Rattle.std.specs.Prelude.{◌≡◌, ◌<◌, OnOk};
 
-use crate::calls::{DETAILS, STARTED, call};
+use crate::calls::{DETAILS, STARTED, call, run_at};
 use crate::failing::{Failing, FailingFile};
 use std::alloc::Global;
 use std::process::Abort;
@@ -46,7 +46,8 @@ fn give(writer: &mut DetailWriter<FailingFile>, subs: &Subs, number: u64) -> Res
     Ok(())
 }
 
-/// Gives each call for itself, and flushes after each, and a few times more. Returns how often the file failed.
+/// Gives each call for itself, and flushes after each, and a few times more. Before each flush it looks where the file goes on.
+/// Returns how often the file failed.
 fn write_all<R: Abort>(
     rt: &R,
     subs: &Subs,
@@ -61,9 +62,10 @@ fn write_all<R: Abort>(
         if given == turn {
             give(writer, subs, given as u64)?;
         }
+        let stayed = u64::from(writer.follow().is_err());
         assert_front(rt, writer, all, given);
         let failed = u64::from(writer.flush().is_err());
-        failures = failures.saturating_add(failed);
+        failures = failures.saturating_add(stayed).saturating_add(failed);
         assert_front(rt, writer, all, given);
     }
     Ok(failures)
@@ -81,7 +83,7 @@ fn count_calls<R: Abort>(
     requires { 0 < most }
 {
     let file = FailingFile::new(alloc, most, failing);
-    let mut writer = DetailWriter::new(alloc, file, subs, STARTED);
+    let mut writer = DetailWriter::new(alloc, file, subs, run_at(STARTED));
     let failures = write_all(rt, subs, all, &mut writer)?;
     let calls = writer.file().calls();
     let reached = calls.saturating_add(1).saturating_sub(failing.from);
@@ -121,10 +123,10 @@ static WAYS: [(usize, u64, usize); 8] = [
     (5, 1, 0),
     (100, 1, 1_000),
     (4_096, 1, 0),
-    (4_096, 1, 133),
+    (4_096, 1, 146),
     (4_096, 1, 1_000),
     (4_096, 2, 0),
-    (4_096, 3, 133),
+    (4_096, 3, 146),
     (100, 4, 7),
 ];
 
@@ -149,6 +151,40 @@ fn each_failure(rt: HostRuntime) -> Result<(), Fail> {
     fail_in_ways(&rt, rt.alloc(), &subs)
 }
 
+/// Gives a call, flushes twice, and looks each time before where the file goes on. How often a new one was begun, before the first
+/// flush, before the second one, and behind it.
+fn begin_between(alloc: Global, subs: &Subs, from: u64) -> Result<[u64; 3], Fail> {
+    let failing = Failing {
+        from,
+        calls: 1,
+        leaves: 0,
+    };
+    let file = FailingFile::new(alloc, 100, failing);
+    let mut writer = DetailWriter::new(alloc, file, subs, run_at(STARTED));
+    give(&mut writer, subs, 1)?;
+    let _first = writer.follow();
+    let first = writer.file().begun();
+    let _flushed = writer.flush();
+    let _second = writer.follow();
+    let second = writer.file().begun();
+    let _flushed = writer.flush();
+    let _last = writer.follow();
+    Ok([first, second, writer.file().begun()])
+}
+
+/// Where the file has taken a part of what waits, or a sync has failed, no new one is begun until it is on the disk. Calls of the
+/// file: one to begin a new one, two writes, a sync.
+#[test]
+fn begun_between(rt: HostRuntime) -> Result<(), Fail> {
+    let subs = Subs::read(rt.alloc(), THREE_STATIONS)?;
+    let wanted = [[1, 2, 3], [0, 1, 2], [1, 2, 3], [1, 1, 2], [1, 1, 2]];
+    for from in 0..5u64 {
+        let begun = begin_between(rt.alloc(), &subs, from)?;
+        assert_eq!(rt; Some(&begun), wanted.get(from as usize));
+    }
+    Ok(())
+}
+
 /// Gives two calls, and flushes twice. How often the file was called before, after the first time and after the second, and how
 /// often it was cut back.
 fn write_twice(alloc: Global, subs: &Subs, from: u64) -> Result<[u64; 4], Fail> {
@@ -158,7 +194,7 @@ fn write_twice(alloc: Global, subs: &Subs, from: u64) -> Result<[u64; 4], Fail> 
         leaves: 0,
     };
     let file = FailingFile::new(alloc, 4_096, failing);
-    let mut writer = DetailWriter::new(alloc, file, subs, STARTED);
+    let mut writer = DetailWriter::new(alloc, file, subs, run_at(STARTED));
     give(&mut writer, subs, 1)?;
     give(&mut writer, subs, 2)?;
     let before = writer.file().calls();

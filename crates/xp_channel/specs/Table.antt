@@ -36,15 +36,16 @@ cell P3 = columns Nothing Fall Collision Answer Confirm (Error 22) (Error 22) Ex
 cell P4 = columns Nothing Fall (Error 23) (Error 23) Confirm (Error 23) Relayed Nothing Error
 cell P7 = columns Nothing Fall Nothing Nothing Free Free Nothing Nothing ignored
 
--- The next state of a line. For a new call, a collision and an answer the state does not change until the result is
--- known. After an error or an expired call the line has a clear indication to confirm.
+-- The next state of a line, where the exchange does not clear it in turn: a call request leads to p2 (clause 4.1.2), in a
+-- collision by way of p5 (clause 4.1.6), an answer to p4 (clause 4.1.4), and a clear request by way of p6 to p1 (clause
+-- 4.1.7). After an error or an expired call the line has a clear indication to confirm (p7, clause 4.1.8).
 abbrev pub state_after : Channel → Action → Channel
 state_after state Nothing = state
 state_after state Rise = P1
 state_after state Fall = Off
-state_after state NewCall = state
-state_after state Collision = state
-state_after state Answer = state
+state_after state NewCall = P2
+state_after state Collision = P2
+state_after state Answer = P4
 state_after state Confirm = P1
 state_after state Free = P1
 state_after state (Error diagnostic) = P7

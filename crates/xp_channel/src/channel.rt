@@ -1,5 +1,5 @@
 ghost use Rattle.std.specs.Prelude.{◌≡◌};
-ghost use Rattle.xp_channel.specs.Table.{cell, state_after};
+ghost use Rattle.xp_channel.specs.Table.{cell};
 ghost use Rattle.xp_channel.specs.steps.Table.{invalid};
 ghost use Rattle.xp_channel.specs.declared.kind.EventKind.TheVariants.{Clear, Malformed};
 
@@ -26,19 +26,9 @@ pub enum Channel {
 }
 
 impl Channel {
-    /// The action that an event of this kind causes. The line goes to the state that the table gives. For a new call,
-    /// a collision and an answer the state does not change here, because the next state depends on more than the
-    /// line's own state.
-    pub fn on_packet(&mut self, kind: EventKind) -> Action
-        ensures action { result ≡ cell self.old kind }
-        ensures state { self.new ≡ state_after self.old result }
-    {
-        let action = self.action(kind);
-        *self = self.after(action);
-        action
-    }
-
-    fn action(self, kind: EventKind) -> Action
+    /// Returns the action that an event of this kind causes. The state that the line then comes to is that of the
+    /// definition `state_after`: the change that the action makes leads to it, so it is not worked out here.
+    pub fn on_packet(self, kind: EventKind) -> Action
         ensures { result ≡ cell self kind }
     {
         match kind {
@@ -109,21 +99,6 @@ impl Channel {
             Channel::P2 => Action::Error(INVALID_IN_P2),
             Channel::P3 => Action::Error(INVALID_IN_P3),
             Channel::P4 => Action::Error(INVALID_IN_P4),
-        }
-    }
-
-    fn after(self, action: Action) -> Channel
-        ensures { result ≡ state_after self action }
-    {
-        match action {
-            Action::Rise | Action::Confirm | Action::Free => Channel::P1,
-            Action::Fall => Channel::Off,
-            Action::Error(_) | Action::Expired => Channel::P7,
-            Action::Nothing
-            | Action::NewCall
-            | Action::Collision
-            | Action::Answer
-            | Action::Relayed => self,
         }
     }
 }

@@ -2,7 +2,7 @@
 use Rattle.std.specs.Prelude.{ℕ}
 use Rattle.xp_tasks.specs.Failures.{status_of as status_of_task}
 use Rattle.xp_commands.specs.declared.failure.CommandFailure.{CommandFailure}
-use Rattle.xp_commands.specs.declared.failure.CommandFailure.TheVariants.{Address, Arguments, Ask, CallRefused, Question, Refused, Task, Unread}
+use Rattle.xp_commands.specs.declared.failure.CommandFailure.TheVariants.{Address, Arguments, Ask, CallRefused, Explained, Question, Task, Unread}
 
 -- 1 for a call that is refused, 2 for what was asked
 abbrev pub status_of : CommandFailure → ℕ
@@ -10,7 +10,7 @@ status_of (Arguments told) = 2
 status_of (Question fault told) = 2
 status_of CallRefused = 1
 status_of (Task failure) = status_of_task failure
-status_of (Refused failure place) = status_of_task failure
+status_of (Explained failure reason) = status_of_task failure
 status_of Unread = 5
 status_of (Address text) = 5
 status_of (Ask fault) = 5

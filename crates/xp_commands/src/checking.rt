@@ -1,7 +1,7 @@
 //! Checking a subscription file.
 
 use crate::failure::CommandFailure;
-use crate::output::{WatchedWriter, print_text};
+use crate::output::{STANDARD_OUTPUT, WatchedWriter, print_text};
 use std::alloc::AllocGlobal;
 use std::io;
 use xp_arguments::CheckForm;
@@ -27,7 +27,6 @@ fn count_set_up<R: AllocGlobal + Print>(rt: &R, subs: Subs) -> Result<(), Comman
     let mut writer = WatchedWriter::buffered(alloc, io::writer(rt))?;
     match perform(alloc, Task::Check, subs, io::empty(), &mut writer) {
         Ok(()) => Ok(()),
-        Err(failure) if writer.get_ref().explains(failure) => Err(CommandFailure::Unread),
-        Err(failure) => Err(CommandFailure::Task(failure)),
+        Err(failure) => Err(writer.get_ref().explained(alloc, failure, STANDARD_OUTPUT)),
     }
 }

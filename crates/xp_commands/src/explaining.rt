@@ -227,7 +227,7 @@ fn lines_in(
 }
 
 /// Prints an explanation. Where `tells_status`, a refusal fails.
-fn print_explanation<R: Print>(
+fn print_explanation<R: AllocGlobal + Print>(
     rt: &R,
     explanation: &Explanation<'_>,
     tells_status: bool,

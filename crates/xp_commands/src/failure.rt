@@ -29,9 +29,10 @@ pub enum CommandFailure {
     /// The task failed.
     #[error("{0}")]
     Task(TaskFailure),
-    /// The subscription file is refused, and where in it; or a line of the script is, and what was wanted there.
+    /// The task failed, and which, where or why: what in the subscription file is refused, what was wanted at a line of the script, or
+    /// what a file or standard output told.
     #[error("{0}\n{1}")]
-    Refused(TaskFailure, String),
+    Explained(TaskFailure, String),
     /// Nobody reads standard output any more. Nothing is told of it.
     #[error("xp: output")]
     Unread,
@@ -52,7 +53,8 @@ impl CommandFailure {
         match self {
             CommandFailure::CallRefused => 1,
             CommandFailure::Arguments(_) | CommandFailure::Question(_, _) => 2,
-            CommandFailure::Task(failure) | CommandFailure::Refused(failure, _) => failure.status(),
+            CommandFailure::Task(failure) | CommandFailure::Explained(failure, _) =>
+                failure.status(),
             CommandFailure::Unread | CommandFailure::Address(_) | CommandFailure::Ask(_) => 5,
         }
     }
@@ -65,7 +67,7 @@ impl CommandFailure {
             CommandFailure::Unread | CommandFailure::CallRefused => Ok(()),
             CommandFailure::Task(failure) => rt.eprintln(failure),
             CommandFailure::Question(_, _)
-            | CommandFailure::Refused(_, _)
+            | CommandFailure::Explained(_, _)
             | CommandFailure::Address(_)
             | CommandFailure::Ask(_) => rt.eprintln(self),
         }

@@ -17,4 +17,4 @@ pub use explaining::{QuestionFault, explain_call};
 pub use failure::CommandFailure;
 pub use output::print_text;
 pub use replaying::replay_script;
-pub use subscribing::{file_text, named_file, read_subscriptions};
+pub use subscribing::{file_text, named_file, subscriptions_of};

@@ -1,17 +1,20 @@
 //! Standard output, and whether somebody still reads it.
 
 use crate::failure::CommandFailure;
-use std::alloc::{AllocError, Global};
+use std::alloc::{AllocError, AllocGlobal, Global};
 use std::io;
 use std::io::{BufWriter, ErrorKind, Write};
 use xp_exchange::ReplayFault;
 use xp_tasks::TaskFailure;
 
-/// A writer that knows whether a write failed because nobody reads it any more.
+/// What standard output is called where it fails.
+pub(crate) const STANDARD_OUTPUT: &str = "standard output";
+
+/// A writer that knows why its last write failed.
 #[derive(Drop)]
 pub(crate) struct WatchedWriter<W> {
     writer: W,
-    is_unread: bool,
+    fault: Option<ErrorKind>,
 }
 
 impl<W: Write + Drop> WatchedWriter<W> {
@@ -22,18 +25,25 @@ impl<W: Write + Drop> WatchedWriter<W> {
     ) -> Result<BufWriter<WatchedWriter<W>>, AllocError> {
         let watched = WatchedWriter {
             writer,
-            is_unread: false,
+            fault: None,
         };
         BufWriter::new(alloc, watched).map_err(|_| AllocError)
     }
 
-    /// Whether this failure is that nobody reads the writer any more.
-    pub(crate) fn explains(&self, failure: TaskFailure) -> bool {
-        let is_of_output = matches!(
-            failure,
-            TaskFailure::Output | TaskFailure::Replay(ReplayFault::Write)
-        );
-        self.is_unread && is_of_output
+    /// The failure of a command whose task failed so, where it wrote on what has this name: with why the writer failed, or that nobody
+    /// reads it any more.
+    pub(crate) fn explained(
+        &self,
+        alloc: Global,
+        failure: TaskFailure,
+        name: &str,
+    ) -> CommandFailure {
+        match (failure, self.fault) {
+            (TaskFailure::Output | TaskFailure::Replay(ReplayFault::Write), Some(fault)) => {
+                unwritten(alloc, failure, name, fault)
+            }
+            _ => CommandFailure::Task(failure),
+        }
     }
 }
 
@@ -44,7 +54,7 @@ impl<W: Write> Write for WatchedWriter<W> {
         match self.writer.write(octets) {
             Ok(count) => Ok(count),
             Err(error) => {
-                self.is_unread = error.kind() == ErrorKind::BrokenPipe;
+                self.fault = Some(error.kind());
                 Err(error)
             }
         }
@@ -56,10 +66,33 @@ impl<W: Write> Write for WatchedWriter<W> {
 }
 
 /// Prints a text on standard output.
-pub fn print_text<R: Print>(rt: &R, text: &str) -> Result<(), CommandFailure> {
+pub fn print_text<R: AllocGlobal + Print>(rt: &R, text: &str) -> Result<(), CommandFailure> {
     match rt.print(text) {
         Ok(()) => Ok(()),
-        Err(error) if error.kind() == ErrorKind::BrokenPipe => Err(CommandFailure::Unread),
-        Err(_) => Err(CommandFailure::Task(TaskFailure::Output)),
+        Err(error) => Err(unwritten(
+            rt.alloc(),
+            TaskFailure::Output,
+            STANDARD_OUTPUT,
+            error.kind(),
+        )),
+    }
+}
+
+/// The failure of a command of which what has this name took nothing, for this reason.
+fn unwritten(alloc: Global, failure: TaskFailure, name: &str, fault: ErrorKind) -> CommandFailure {
+    match fault {
+        ErrorKind::BrokenPipe => CommandFailure::Unread,
+        _ => with_reason(failure, format!(in alloc; "{name}: {fault}")),
+    }
+}
+
+/// The failure of a command whose task failed so, with this reason if there was memory for its text.
+pub(crate) fn with_reason(
+    failure: TaskFailure,
+    reason: Result<String, AllocError>,
+) -> CommandFailure {
+    match reason {
+        Ok(reason) if !reason.is_empty() => CommandFailure::Explained(failure, reason),
+        _ => CommandFailure::Task(failure),
     }
 }

@@ -1,8 +1,8 @@
 //! Replaying a script.
 
 use crate::failure::CommandFailure;
-use crate::output::WatchedWriter;
-use crate::subscribing::read_subscriptions;
+use crate::output::{STANDARD_OUTPUT, WatchedWriter, with_reason};
+use crate::subscribing::subscriptions_of;
 use std::alloc::{AllocGlobal, Global};
 use std::fs::{File, Files};
 use std::io::{BufReader, ErrorKind, Read, Write};
@@ -20,16 +20,45 @@ pub fn replay_script<R: AllocGlobal + Files<File = File> + Input + Print>(
     form: ReplayForm<'_>,
     file: &str,
 ) -> Result<(), CommandFailure> {
-    let file = fs::read_to_string(rt, file);
-    let subs = read_subscriptions(rt.alloc(), &file)?;
-    match form {
-        ReplayForm::Digits => play_script(rt, &file, subs),
-        ReplayForm::Words => tell_script(rt, Form::Words, &file, subs, io::writer(rt)),
-        ReplayForm::Ladder => tell_script(rt, Form::Ladder, &file, subs, io::writer(rt)),
-        ReplayForm::Capture(path) => match File::create(rt, path) {
-            Ok(capture) => tell_script(rt, Form::Capture, &file, subs, capture),
-            Err(_) => Err(CommandFailure::Task(TaskFailure::Output)),
-        },
+    let alloc = rt.alloc();
+    let text = fs::read_to_string(rt, file);
+    let subs = subscriptions_of(rt, file, &text)?;
+    let told = match form {
+        ReplayForm::Digits => return play_script(rt, &text, subs),
+        ReplayForm::Words => Told::printed(Form::Words),
+        ReplayForm::Ladder => Told::printed(Form::Ladder),
+        ReplayForm::Capture(path) => {
+            let told = Told {
+                form: Form::Capture,
+                name: path,
+            };
+            return match File::create(rt, path) {
+                Ok(capture) => tell_script(rt, told, &text, subs, capture),
+                Err(error) => Err(with_reason(
+                    TaskFailure::Output,
+                    format!(in alloc; "{path}: {error}"),
+                )),
+            };
+        }
+    };
+    tell_script(rt, told, &text, subs, io::writer(rt))
+}
+
+/// How a history is told, and what it is written on.
+#[derive(Clone, Copy)]
+struct Told<'a> {
+    form: Form,
+    /// The name of the file, or that of standard output.
+    name: &'a str,
+}
+
+impl Told<'_> {
+    /// A history that is printed in this form.
+    fn printed(form: Form) -> Told<'static> {
+        Told {
+            form,
+            name: STANDARD_OUTPUT,
+        }
     }
 }
 
@@ -46,15 +75,19 @@ fn play_script<R: AllocGlobal + Input + Print>(
     let mut writer = WatchedWriter::buffered(alloc, io::writer(rt))?;
     match perform(alloc, Task::Replay, subs, &mut lines, &mut writer) {
         Ok(()) => Ok(()),
-        Err(failure) if writer.get_ref().explains(failure) => Err(CommandFailure::Unread),
-        Err(failure) => Err(with_wanted(alloc, failure, file, lines.octets())),
+        Err(failure) => Err(
+            match writer.get_ref().explained(alloc, failure, STANDARD_OUTPUT) {
+                CommandFailure::Task(failure) => with_wanted(alloc, failure, file, lines.octets()),
+                explained => explained,
+            },
+        ),
     }
 }
 
-/// Replays a script from standard input, and tells its history in this form. `file` is the text of the subscription file.
+/// Replays a script from standard input, and tells its history so. `file` is the text of the subscription file.
 fn tell_script<R: AllocGlobal + Input, W: Write + Drop>(
     rt: &R,
-    form: Form,
+    told: Told<'_>,
     file: &io::Result<String>,
     subs: Subs,
     writer: W,
@@ -62,14 +95,16 @@ fn tell_script<R: AllocGlobal + Input, W: Write + Drop>(
     let alloc = rt.alloc();
     let script = whole_script(rt)?;
     let mut writer = WatchedWriter::buffered(alloc, writer)?;
-    match tell(alloc, form, subs, script.as_slice(), &mut writer) {
+    match tell(alloc, told.form, subs, script.as_slice(), &mut writer) {
         Ok(()) => Ok(()),
         Err(fault) => {
             let failure = TaskFailure::Replay(fault);
-            if writer.get_ref().explains(failure) {
-                return Err(CommandFailure::Unread);
-            }
-            Err(with_wanted(alloc, failure, file, &script))
+            Err(
+                match writer.get_ref().explained(alloc, failure, told.name) {
+                    CommandFailure::Task(failure) => with_wanted(alloc, failure, file, &script),
+                    explained => explained,
+                },
+            )
         }
     }
 }
@@ -95,18 +130,8 @@ fn with_wanted(
     let TaskFailure::Replay(ReplayFault::Script(_)) = failure else {
         return CommandFailure::Task(failure);
     };
-    match wanted_among(alloc, file, lines) {
-        Ok(wanted) if !wanted.is_empty() => CommandFailure::Refused(failure, wanted),
-        _ => CommandFailure::Task(failure),
+    match subscriptions(alloc, file) {
+        Ok(subs) => with_reason(failure, wanted_at(alloc, &subs, lines)),
+        Err(_) => CommandFailure::Task(failure),
     }
-}
-
-/// What was wanted at the first faulty line among these, over the subscriptions of this file.
-fn wanted_among(
-    alloc: Global,
-    file: &io::Result<String>,
-    lines: &[u8],
-) -> Result<String, TaskFailure> {
-    let subs = subscriptions(alloc, file)?;
-    Ok(wanted_at(alloc, &subs, lines)?)
 }

@@ -6,8 +6,10 @@ ghost use Rattle.std.specs.Result.{result_map_both};
 ghost use Rattle.xp_tasks.specs.SetUp.{SetsUp};
 
 use crate::failure::CommandFailure;
-use std::alloc::{AllocGlobal, Global};
+use crate::output::with_reason;
+use std::alloc::{AllocError, AllocGlobal, Global};
 use std::fs::{File, Files};
+use std::io::ErrorKind;
 use std::{fs, io};
 use xp_arguments::{FileSource, refused as refused_word};
 use xp_places::place_of;
@@ -44,27 +46,74 @@ pub fn named_file<'a>(
     }
 }
 
-/// The subscriptions that the text of a file sets up.
+/// The subscriptions that a file sets up, of which a word of the command line names this text.
 ///
 /// # Errors
 ///
-/// Those of [`subscriptions`]; `Refused` where the text has a fault whose place is found.
-pub fn read_subscriptions(alloc: Global, text: &io::Result<String>) -> Result<Subs, CommandFailure>
+/// Those of [`subscriptions`], as `Explained` where it is found why the file was not read, or where its text has the fault.
+pub fn subscriptions_of<R: AllocGlobal + Files<File = File>>(
+    rt: &R,
+    word: &str,
+    text: &io::Result<String>,
+) -> Result<Subs, CommandFailure>
     ensures { IfOk result (λ subs. SetsUp (result_map_both string_bytes error_kind text.now) (Ok subs)) }
 {
-    match subscriptions(alloc, text) {
+    match subscriptions(rt.alloc(), text) {
         Ok(subs) => Ok(subs),
-        Err(failure) => Err(refused(alloc, text, failure)),
+        Err(failure) => Err(explained(rt, word, text, failure)),
     }
 }
 
-/// This failure, with the place of the fault where it is found.
-fn refused(alloc: Global, text: &io::Result<String>, failure: TaskFailure) -> CommandFailure {
-    let (Ok(text), TaskFailure::Subscriptions(fault)) = (text, failure) else {
-        return CommandFailure::Task(failure);
-    };
-    match place_of(alloc, text, fault) {
-        Ok(place) if !place.is_empty() => CommandFailure::Refused(failure, place),
+/// This failure, with why the file was not read, or the place of the fault in its text.
+fn explained<R: AllocGlobal + Files<File = File>>(
+    rt: &R,
+    word: &str,
+    text: &io::Result<String>,
+    failure: TaskFailure,
+) -> CommandFailure {
+    match (text, failure) {
+        (Ok(text), TaskFailure::Subscriptions(fault)) => {
+            with_reason(failure, place_of(rt.alloc(), text, fault))
+        }
+        (Err(error), TaskFailure::File) => with_reason(failure, unread(rt, word, error)),
         _ => CommandFailure::Task(failure),
     }
+}
+
+/// Why the file that a word names was not read, such as `/etc/xp/a.toml: No such file or directory (os error 2)`.
+fn unread<R: AllocGlobal + Files<File = File>>(
+    rt: &R,
+    word: &str,
+    error: &io::Error,
+) -> Result<String, AllocError> {
+    let alloc = rt.alloc();
+    let name = match FileSource::of(word) {
+        FileSource::StandardInput if error.kind() == ErrorKind::InvalidData => {
+            return String::from_str(alloc, "standard input: not UTF-8");
+        }
+        FileSource::StandardInput => {
+            return format!(in alloc; "standard input: {error}");
+        }
+        FileSource::Named(name) => name,
+    };
+    match faulty_line(rt, name, error) {
+        Some(line) => format!(in alloc; "{name}: not UTF-8 in line {line}"),
+        None => format!(in alloc; "{name}: {error}"),
+    }
+}
+
+/// The first line of a file that is not UTF-8, where the file was not read for this.
+fn faulty_line<R: AllocGlobal + Files<File = File>>(
+    rt: &R,
+    name: &str,
+    error: &io::Error,
+) -> Option<usize> {
+    if error.kind() != ErrorKind::InvalidData {
+        return None;
+    }
+    let octets = fs::read(rt, name).ok()?;
+    let fault = str::from_utf8(&octets).err()?;
+    let valid = octets.iter().take(fault.valid_up_to());
+    let above = valid.filter(|octet| **octet == b'\n').count();
+    Some(above.saturating_add(1))
 }

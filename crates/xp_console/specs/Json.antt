@@ -12,6 +12,7 @@ use Rattle.xp_console.specs.declared.status.ExchangeStatus.{ExchangeStatus}
 use Rattle.xp_console.specs.declared.status.LineStatus.{LineStatus}
 use Rattle.xp_console.specs.declared.status.LiveCall.{LiveCall}
 use Rattle.xp_console.specs.declared.status.Party.{Party}
+use Rattle.xp_console.specs.declared.status.StationCalls.{StationCalls}
 use Rattle.xp_console.specs.declared.status.Totals.{Totals}
 
 -- a count or a moment
@@ -31,11 +32,14 @@ peer_data (Some peer) = string (socket_text peer)
 -- a line
 abbrev pub line_data : LineStatus → Data
 line_data line =
-    object (member (codes "call") (optional_data line.call)
+    object (member (codes "address") (string (string_bytes line.address))
+    (member (codes "call") (optional_data line.call)
     (member (codes "name") (string (string_bytes line.name))
     (member (codes "peer") (peer_data line.peer)
+    (member (codes "router_unreachable_since") (optional_data line.router_unreachable_since)
     (member (codes "since") (count_data line.since)
-    (member (codes "state") (string (state_text line.state)) no_members)))))
+    (member (codes "state") (string (state_text line.state))
+    (member (codes "station") (string (string_bytes line.station)) no_members))))))))
 
 -- a line's part in a call
 abbrev pub party_data : Party → Data
@@ -87,6 +91,14 @@ ended_data call =
     (member (codes "seconds") (count_data call.seconds)
     (member (codes "segments") (segments_data call.segments_from_caller call.segments_from_called) no_members)))))))))))
 
+-- what was counted of a station
+abbrev pub station_data : StationCalls → Data
+station_data station =
+    object (member (codes "address") (string (string_bytes station.address))
+    (member (codes "from") (count_data station.from)
+    (member (codes "refused") (count_data station.refused)
+    (member (codes "to") (count_data station.to) no_members))))
+
 -- how many call requests were refused with a cause
 abbrev pub refused_data : ℕ × ℕ → Data
 refused_data refused =
@@ -103,12 +115,13 @@ totals_data totals =
     (member (codes "octets_sent") (count_data totals.octets_sent)
     (member (codes "records_waiting") (count_data totals.records_waiting)
     (member (codes "refused") (array (items_of (map refused_data (by_cause totals.refused))))
+    (member (codes "router_failures") (count_data totals.router_failures)
     (member (codes "router_refusals") (array (items_of (map refused_data (by_cause totals.router_refusals))))
     (member (codes "segments_from_called") (count_data totals.segments_from_called)
     (member (codes "segments_from_callers") (count_data totals.segments_from_callers)
-    (member (codes "stalls") (count_data totals.stalls) no_members))))))))))
+    (member (codes "stalls") (count_data totals.stalls) no_members)))))))))))
 
--- the lines, the live calls and the ended calls
+-- the lines, the live calls, the ended calls and the stations
 abbrev pub lines_data : List LineStatus → Data
 lines_data lines = array (items_of (map line_data lines))
 
@@ -118,6 +131,9 @@ calls_data calls = array (items_of (map live_data calls))
 abbrev pub recent_data : List EndedCall → Data
 recent_data calls = array (items_of (map ended_data calls))
 
+abbrev pub stations_data : List StationCalls → Data
+stations_data stations = array (items_of (map station_data stations))
+
 -- one moment of the exchange
 abbrev pub status_data : ExchangeStatus → Data
 status_data status =
@@ -126,7 +142,8 @@ status_data status =
     (member (codes "moment") (count_data status.moment)
     (member (codes "recent") (recent_data status.recent.items)
     (member (codes "started") (count_data status.started)
-    (member (codes "totals") (totals_data status.totals) no_members))))))
+    (member (codes "stations") (stations_data status.stations.items)
+    (member (codes "totals") (totals_data status.totals) no_members)))))))
 
 -- its text, with no space
 unfoldable pub json_text : ExchangeStatus → List ℕ

@@ -1,5 +1,5 @@
 -- The counts in Prometheus' text format.
-use Rattle.std.specs.Prelude.{ℕ, Bool, true, false, codes, count_by, decimal, flat_map, List, [], ◌∷◌, ◌++◌, length}
+use Rattle.std.specs.Prelude.{ℕ, Bool, true, false, codes, count_by, decimal, flat_map, List, [], ◌∷◌, ◌++◌, length, string_bytes}
 use Rattle.xp_console.specs.Refusals.{by_cause}
 use Rattle.xp_console.specs.Words.{cause_text, state_text}
 use Rattle.xp_console.specs.declared.refused.RefusedCalls.{RefusedCalls}
@@ -8,6 +8,7 @@ use Rattle.xp_console.specs.declared.status.LineStatus.{LineStatus}
 use Rattle.xp_console.specs.declared.status.LiveCall.{LiveCall}
 use Rattle.xp_console.specs.declared.status.LineState.{LineState}
 use Rattle.xp_console.specs.declared.status.LineState.TheVariants.{OutOfService, Ready, DteWaiting, DceWaiting, DataTransfer, DceClearIndication}
+use Rattle.xp_console.specs.declared.status.StationCalls.{StationCalls}
 use Rattle.xp_console.specs.declared.status.Totals.{Totals}
 
 -- what a metric is, in front of its samples: what it counts, and whether it only grows (`counter`) or not (`gauge`)
@@ -80,6 +81,45 @@ refused_text totals =
     causes_text (codes "gonukire_refused_total") (codes "Call requests that were refused, by the clearing cause.") totals.refused
     ++ causes_text (codes "gonukire_router_refusals_total") (codes "Calls of routers that no line took, by the clearing cause.") totals.router_refusals
 
+-- connections to routers that could not be made
+unfoldable pub failures_text : Totals → List ℕ
+failures_text totals =
+    single_text (codes "gonukire_router_failures_total") (codes "counter") (codes "Connections to routers that could not be made.") totals.router_failures
+
+-- a sample of the station with this address, and of this direction
+unfoldable pub station_direction_text : List ℕ → List ℕ → List ℕ → ℕ → List ℕ
+station_direction_text name address direction value =
+    name ++ codes "{address=\"" ++ address ++ codes "\",direction=\"" ++ direction ++ codes "\"} "
+    ++ decimal value ++ codes "\n"
+
+-- the calls of a station: `from` those that its lines requested, `to` those that were offered to its lines
+unfoldable pub station_directions_text : List ℕ → ℕ → ℕ → List ℕ
+station_directions_text address from to =
+    station_direction_text (codes "gonukire_station_calls_total") address (codes "from") from
+    ++ station_direction_text (codes "gonukire_station_calls_total") address (codes "to") to
+
+unfoldable pub station_calls_sample : StationCalls → List ℕ
+station_calls_sample station = station_directions_text (string_bytes station.address) station.from station.to
+
+-- the call requests of a station that were refused
+unfoldable pub station_refusals_sample : StationCalls → List ℕ
+station_refusals_sample station =
+    labelled_text (codes "gonukire_station_refusals_total") (codes "address") (string_bytes station.address) station.refused
+
+-- the calls of all stations that have ended, and those of them that were refused
+unfoldable pub station_calls_text : List StationCalls → List ℕ
+station_calls_text stations =
+    head_text (codes "gonukire_station_calls_total") (codes "counter") (codes "Ended calls, by the station that they came from or were offered to.")
+    ++ flat_map station_calls_sample stations
+
+unfoldable pub station_refusals_text : List StationCalls → List ℕ
+station_refusals_text stations =
+    head_text (codes "gonukire_station_refusals_total") (codes "counter") (codes "Call requests that were refused, by the station that they came from.")
+    ++ flat_map station_refusals_sample stations
+
+unfoldable pub stations_text : List StationCalls → List ℕ
+stations_text stations = station_calls_text stations ++ station_refusals_text stations
+
 -- how many there are of two kinds, such as directions
 unfoldable pub directions_text : List ℕ → List ℕ → ℕ → List ℕ → ℕ → List ℕ
 directions_text name one first other second =
@@ -111,5 +151,5 @@ waiting_text totals =
 unfoldable pub metrics_text : ExchangeStatus → List ℕ
 metrics_text status =
     lines_text status.lines.items ++ calls_text status ++ refused_text status.totals
-    ++ segments_text status.totals ++ octets_text status.totals ++ events_text status.totals
+    ++ failures_text status.totals ++ stations_text status.stations.items ++ segments_text status.totals ++ octets_text status.totals ++ events_text status.totals
     ++ waiting_text status.totals

@@ -3,9 +3,9 @@
 ghost use Rattle.std.specs.Prelude.{◌≡◌, IfOk, map, string_bytes};
 ghost use Rattle.serde_json.specs.Data.{array};
 ghost use Rattle.serde_json.specs.View.{items_of, view};
-ghost use Rattle.xp_console.specs.Json.{calls_data, cleared_data, ended_data, json_text, line_data, lines_data, live_data, optional_data, optional_party_data, party_data, peer_data, recent_data, refused_data, segments_data, status_data, totals_data};
+ghost use Rattle.xp_console.specs.Json.{calls_data, cleared_data, ended_data, json_text, line_data, lines_data, live_data, optional_data, optional_party_data, party_data, peer_data, recent_data, refused_data, segments_data, station_data, stations_data, status_data, totals_data};
 
-use crate::status::{EndedCall, ExchangeStatus, LineStatus, LiveCall, Party, Totals};
+use crate::status::{EndedCall, ExchangeStatus, LineStatus, LiveCall, Party, StationCalls, Totals};
 use crate::words::{cause_text, payer_text, state_text};
 use serde_json::{Value, json};
 use std::alloc::{AllocError, Global};
@@ -28,6 +28,7 @@ fn status_value(alloc: Global, status: &ExchangeStatus) -> Result<Value, AllocEr
         "moment": status.moment,
         "recent": recent_value(alloc, &status.recent)?,
         "started": status.started,
+        "stations": stations_value(alloc, &status.stations)?,
         "totals": totals_value(alloc, &status.totals)?,
     })
 }
@@ -46,11 +47,14 @@ fn line_value(alloc: Global, line: &LineStatus) -> Result<Value, AllocError>
     ensures { IfOk result (λ value. view value ≡ line_data line.now) }
 {
     json!(in alloc; {
+        "address": line.address.as_str(),
         "call": optional_value(line.call),
         "name": line.name.as_str(),
         "peer": peer_value(alloc, line.peer)?,
+        "router_unreachable_since": optional_value(line.router_unreachable_since),
         "since": line.since,
         "state": state_text(line.state),
+        "station": line.station.as_str(),
     })
 }
 
@@ -106,6 +110,27 @@ fn ended_value(alloc: Global, call: &EndedCall) -> Result<Value, AllocError>
     })
 }
 
+fn stations_value(alloc: Global, stations: &[StationCalls]) -> Result<Value, AllocError>
+    ensures { IfOk result (λ value. view value ≡ stations_data stations.now) }
+{
+    let mut values = Vec::with_capacity(alloc, stations.len())?;
+    for station in stations {
+        values.push(station_value(alloc, station)?)?;
+    }
+    Ok(Value::Array(values))
+}
+
+fn station_value(alloc: Global, station: &StationCalls) -> Result<Value, AllocError>
+    ensures { IfOk result (λ value. view value ≡ station_data station.now) }
+{
+    json!(in alloc; {
+        "address": station.address.as_str(),
+        "from": station.from,
+        "refused": station.refused,
+        "to": station.to,
+    })
+}
+
 fn totals_value(alloc: Global, totals: &Totals) -> Result<Value, AllocError>
     ensures { IfOk result (λ value. view value ≡ totals_data totals.now) }
 {
@@ -116,6 +141,7 @@ fn totals_value(alloc: Global, totals: &Totals) -> Result<Value, AllocError>
         "octets_sent": totals.octets_sent,
         "records_waiting": totals.records_waiting,
         "refused": causes_value(alloc, &totals.refused.by_cause())?,
+        "router_failures": totals.router_failures,
         "router_refusals": causes_value(alloc, &totals.router_refusals.by_cause())?,
         "segments_from_called": totals.segments_from_called,
         "segments_from_callers": totals.segments_from_callers,

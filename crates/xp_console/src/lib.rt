@@ -16,6 +16,7 @@ mod reply;
 mod requests;
 mod responses;
 mod service;
+mod station_metrics;
 mod status;
 mod table;
 mod words;
@@ -28,5 +29,5 @@ pub use refused::RefusedCalls;
 pub use requests::{Answer, Format, Resource, answer_to};
 pub use service::{ConsoleService, StatusSource};
 pub use status::{
-    EndedCall, ExchangeStatus, LineState, LineStatus, LiveCall, Party, Payer, Totals,
+    EndedCall, ExchangeStatus, LineState, LineStatus, LiveCall, Party, Payer, StationCalls, Totals,
 };

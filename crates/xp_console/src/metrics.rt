@@ -1,9 +1,10 @@
 //! The counts in Prometheus' text format.
 
 ghost use Rattle.std.specs.Prelude.{◌≡◌, ◌++◌, decimal, flat_map, IfOk, OnOk, string_bytes};
-ghost use Rattle.xp_console.specs.Metrics.{calls_text, count_in, directions_text, events_text, head_text, is_same_state, labelled_text, lines_text, live_text, metrics_text, octets_text, cause_sample, causes_text, refused_text, sample_text, segments_text, single_text, state_sample, waiting_text};
+ghost use Rattle.xp_console.specs.Metrics.{calls_text, count_in, directions_text, events_text, failures_text, head_text, is_same_state, labelled_text, lines_text, live_text, metrics_text, octets_text, cause_sample, causes_text, refused_text, sample_text, segments_text, single_text, state_sample, waiting_text};
 
 use crate::refused::RefusedCalls;
+use crate::station_metrics::push_stations;
 use crate::status::{ExchangeStatus, LineState, LineStatus, LiveCall, Totals};
 use crate::words::{cause_text, state_text};
 use itoa::Buffer;
@@ -11,7 +12,7 @@ use std::alloc::{AllocError, Global};
 
 const GAUGE: &str = "gauge";
 
-const COUNTER: &str = "counter";
+pub(crate) const COUNTER: &str = "counter";
 
 const LINES: &str = "gonukire_lines";
 
@@ -41,6 +42,8 @@ pub(crate) fn status_metrics(alloc: Global, status: &ExchangeStatus) -> Result<S
     push_lines(&mut text, &status.lines)?;
     push_calls(&mut text, status)?;
     push_refused(&mut text, &status.totals)?;
+    push_failures(&mut text, &status.totals)?;
+    push_stations(&mut text, &status.stations)?;
     push_segments(&mut text, &status.totals)?;
     push_octets(&mut text, &status.totals)?;
     push_events(&mut text, &status.totals)?;
@@ -132,6 +135,20 @@ fn push_refused(text: &mut String, totals: &Totals) -> Result<(), AllocError>
     push_by_cause(text, REFUSED, help, &totals.refused)?;
     let help = "Calls of routers that no line took, by the clearing cause.";
     push_by_cause(text, ROUTER_REFUSALS, help, &totals.router_refusals)
+}
+
+/// How many connections to routers could not be made.
+#[tactic(auto, unfolding(crate::specs::Metrics::failures_text))]
+fn push_failures(text: &mut String, totals: &Totals) -> Result<(), AllocError>
+    ensures { OnOk result (string_bytes text.new ≡ string_bytes text.old ++ failures_text totals.now) }
+{
+    push_single(
+        text,
+        "gonukire_router_failures_total",
+        COUNTER,
+        "Connections to routers that could not be made.",
+        totals.router_failures,
+    )
 }
 
 /// How many calls were refused, by the clearing cause.
@@ -254,7 +271,12 @@ fn push_single(
 
 /// What a metric is, in front of its samples.
 #[tactic(auto, unfolding(crate::specs::Metrics::head_text))]
-fn push_head(text: &mut String, name: &str, kind: &str, help: &str) -> Result<(), AllocError>
+pub(crate) fn push_head(
+    text: &mut String,
+    name: &str,
+    kind: &str,
+    help: &str,
+) -> Result<(), AllocError>
     ensures { OnOk result (string_bytes text.new ≡ string_bytes text.old ++ head_text name.now kind.now help.now) }
 {
     push_all(
@@ -285,7 +307,7 @@ fn push_sample(text: &mut String, name: &str, value: u64) -> Result<(), AllocErr
 
 /// A sample with a label. Its word has no quote, backslash or line feed, which would have to be escaped.
 #[tactic(auto, unfolding(crate::specs::Metrics::labelled_text))]
-fn push_labelled(
+pub(crate) fn push_labelled(
     text: &mut String,
     name: &str,
     label: &str,
@@ -299,13 +321,13 @@ fn push_labelled(
     text.push_str("\n")
 }
 
-fn push_number(text: &mut String, number: u64) -> Result<(), AllocError>
+pub(crate) fn push_number(text: &mut String, number: u64) -> Result<(), AllocError>
     ensures { OnOk result (string_bytes text.new ≡ string_bytes text.old ++ decimal number) }
 {
     text.push_str(Buffer::new().format(number))
 }
 
-fn push_all(text: &mut String, pieces: &[&str]) -> Result<(), AllocError>
+pub(crate) fn push_all(text: &mut String, pieces: &[&str]) -> Result<(), AllocError>
     ensures { OnOk result (string_bytes text.new ≡ string_bytes text.old ++ flat_map (λ piece. piece.now) pieces.now) }
 {
     for piece in pieces {

@@ -5,6 +5,8 @@ ghost use Rattle.http.specs.Request.{head_of};
 ghost use Rattle.http_server.specs.Response.{IsBlank};
 ghost use Rattle.xp_console.specs.Answers.{Grants, IsTextOf, Responds, Serves, Shows, Stops, Tells, kind_of as kind_in};
 ghost use Rattle.xp_console.specs.Responses.{Says};
+ghost use Rattle.xp_console.specs.declared.requests.Answer.TheVariants.{Granted};
+ghost use Rattle.xp_console.specs.declared.requests.Resource.TheVariants.{Stop};
 ghost use Rattle.xp_console.specs.declared.status.ExchangeStatus.{ExchangeStatus};
 
 use crate::json::status_json;
@@ -22,11 +24,23 @@ use std::net::IpAddr;
 
 /// What the console is over: it shows one moment of the exchange, and stops it.
 pub trait StatusSource {
+    ghost use Rattle.std.specs.declared.net.ip_addr.IpAddr.{IpAddr};
+    ghost use Rattle.http.specs.declared.request.Parts.{Parts};
+    ghost use Rattle.xp_console.specs.Requests.{IsAnswer};
+    ghost use Rattle.xp_console.specs.declared.requests.Answer.TheVariants.{Granted};
+    ghost use Rattle.xp_console.specs.declared.requests.Resource.TheVariants.{Stop};
+
     // From the first state, what is shown may be this, and leaves the second state.
     ghost shows: { Self → ExchangeStatus → Self → Type 0 };
 
     // From the first state, a stop leaves the second.
     ghost stops: { Self → Self → Type 0 };
+
+    // What holds where the source is asked for a stop.
+    ghost may_stop: { Type 0 };
+
+    // It holds where a console grants a stop to a request.
+    ghost granted: { (own : IpAddr) → (head : Parts) → IsAnswer own head (Granted Stop) → may_stop };
 
     /// What the exchange shows of this moment.
     ///
@@ -39,6 +53,7 @@ pub trait StatusSource {
 
     /// Asks the exchange to stop: it ends its live calls, each with its record, and then ends. It does not wait for that.
     fn stop(&mut self)
+        requires { may_stop }
         ensures { stops self.old self.new };
 }
 
@@ -79,7 +94,8 @@ impl<S: StatusSource> Service for ConsoleService<S> {
 
 /// Responds with an answer.
 fn respond<S: StatusSource>(alloc: Global, source: &mut S, answer: Answer, response: &mut Response)
-    requires { IsBlank response.old }
+    requires blank { IsBlank response.old }
+    requires stop { answer ≡ Granted Stop → S.may_stop }
     ensures { Responds S.shows S.stops answer source.old response.new source.new }
 {
     match answer {
@@ -114,7 +130,8 @@ fn grant<S: StatusSource>(
     resource: Resource,
     response: &mut Response,
 )
-    requires { IsBlank response.old }
+    requires blank { IsBlank response.old }
+    requires stop { resource ≡ Stop → S.may_stop }
     ensures { Grants S.shows S.stops resource source.old response.new source.new }
 {
     match resource {
@@ -170,7 +187,8 @@ fn kind_of(format: Format) -> Kind
 
 /// Stops the exchange, once the response stands.
 fn take_stop<S: StatusSource>(source: &mut S, response: &mut Response)
-    requires { IsBlank response.old }
+    requires blank { IsBlank response.old }
+    requires stop { S.may_stop }
     ensures { Stops S.stops source.old response.new source.new }
 {
     match fill(response, StatusCode::ACCEPTED, Kind::Text, b"stopping\n") {

@@ -16,6 +16,8 @@ pub struct ExchangeStatus {
     pub calls: Vec<LiveCall>,
     /// The calls that ended last, at most 100, the latest last.
     pub recent: Vec<EndedCall>,
+    /// The stations, in the order of the subscription file, with what was counted of each since the exchange began to serve.
+    pub stations: Vec<StationCalls>,
     /// What was counted since the exchange began to serve.
     pub totals: Totals,
 }
@@ -24,6 +26,10 @@ pub struct ExchangeStatus {
 #[derive(Drop)]
 pub struct LineStatus {
     pub name: String,
+    /// The address of the line, in digits: its own if it has one, otherwise its station's.
+    pub address: String,
+    /// The address of its station, in digits.
+    pub station: String,
     pub state: LineState,
     /// The far end of the line's connection.
     pub peer: Option<SocketAddr>,
@@ -31,6 +37,21 @@ pub struct LineStatus {
     pub since: u64,
     /// The number of the call that it takes part in.
     pub call: Option<u64>,
+    /// The moment since which no connection to the line's router has been made, where the last try has failed.
+    pub router_unreachable_since: Option<u64>,
+}
+
+/// What was counted of the calls of a station that have ended.
+#[derive(Drop)]
+pub struct StationCalls {
+    /// The address of the station, in digits.
+    pub address: String,
+    /// The calls that its lines requested, with those that were refused.
+    pub from: u64,
+    /// The calls that were offered to its lines.
+    pub to: u64,
+    /// The calls that its lines requested and that were refused.
+    pub refused: u64,
 }
 
 /// The state of a line's logical channel (X.25 Annex B).
@@ -120,6 +141,9 @@ pub struct Totals {
     pub refused: RefusedCalls,
     /// Calls of routers that no line took, by the cause. They are no call requests of a line, and have no number.
     pub router_refusals: RefusedCalls,
+    /// Connections to routers that could not be made.
+    pub router_failures: u64,
+    /// Segments of the calls that have ended.
     pub segments_from_callers: u64,
     pub segments_from_called: u64,
     /// Events of lines.

@@ -1,6 +1,6 @@
-//! One moment of the exchange as text, for a terminal of 80 columns.
+//! One moment of the exchange as text, for a terminal.
 
-use crate::age::Age;
+use crate::age::{Age, DAY, DayTime};
 use crate::status::{EndedCall, ExchangeStatus, LineStatus, LiveCall, Party, Totals};
 use crate::words::state_text;
 use std::alloc::{AllocError, Global};
@@ -23,15 +23,40 @@ pub(crate) fn status_table(alloc: Global, status: &ExchangeStatus) -> Result<Str
 }
 
 fn push_lines(alloc: Global, text: &mut String, status: &ExchangeStatus) -> Result<(), AllocError> {
-    text.push_str("\nline             state                       for     call peer\n")?;
+    text.push_str(
+        "\nline             address         state                       for     call peer\n",
+    )?;
     for line in &status.lines {
-        text.push_str(line_row(alloc, status.moment, line)?.as_str())?;
+        push_line(alloc, text, status.moment, line)?;
     }
     Ok(())
 }
 
-fn line_row(alloc: Global, moment: u64, line: &LineStatus) -> Result<String, AllocError> {
+/// The row of a line. Behind its peer stand its station, where the line has an address of its own, and what is told of its router.
+fn push_line(
+    alloc: Global,
+    text: &mut String,
+    moment: u64,
+    line: &LineStatus,
+) -> Result<(), AllocError> {
+    text.push_str(line_columns(alloc, moment, line)?.as_str())?;
+    match line.peer {
+        Some(peer) => text.push_str(peer.to_string(alloc)?.as_str())?,
+        None => text.push_str(NONE)?,
+    }
+    if line.station.as_str() != line.address.as_str() {
+        text.push_str(", station ")?;
+        text.push_str(line.station.as_str())?;
+    }
+    if let Some(since) = line.router_unreachable_since {
+        text.push_str(unreachable(alloc, moment, since)?.as_str())?;
+    }
+    text.push_str("\n")
+}
+
+fn line_columns(alloc: Global, moment: u64, line: &LineStatus) -> Result<String, AllocError> {
     let name = line.name.as_str();
+    let address = line.address.as_str();
     let state = state_text(line.state);
     let age = Age(moment.saturating_sub(line.since)).to_string(alloc)?;
     let age = age.as_str();
@@ -40,9 +65,18 @@ fn line_row(alloc: Global, moment: u64, line: &LineStatus) -> Result<String, All
         None => String::from_str(alloc, NONE)?,
     };
     let call = call.as_str();
-    match line.peer {
-        Some(peer) => format!(in alloc; "{name:<16} {state:<20} {age:>10} {call:>8} {peer}\n"),
-        None => format!(in alloc; "{name:<16} {state:<20} {age:>10} {call:>8} {NONE}\n"),
+    format!(in alloc; "{name:<16} {address:<15} {state:<20} {age:>10} {call:>8} ")
+}
+
+/// Since when a router has been unreachable, as the time of day (UTC), or for how long, where that is a day or more.
+fn unreachable(alloc: Global, moment: u64, since: u64) -> Result<String, AllocError> {
+    let age = moment.saturating_sub(since);
+    if age < DAY {
+        let since = DayTime(since);
+        format!(in alloc; ", router unreachable since {since}")
+    } else {
+        let age = Age(age);
+        format!(in alloc; ", router unreachable for {age}")
     }
 }
 
@@ -115,10 +149,13 @@ fn push_totals(alloc: Global, text: &mut String, totals: &Totals) -> Result<(), 
         "\ncalls {calls}, refused {refused}, events {events}, stalls {stalls}, records waiting {waiting}\n"
     )?;
     text.push_str(row.as_str())?;
+    let failures = totals.router_failures;
+    let row = format!(in alloc; "failed connections to routers {failures}\n")?;
+    text.push_str(row.as_str())?;
     let from_callers = totals.segments_from_callers;
     let from_called = totals.segments_from_called;
     let row = format!(in alloc;
-        "segments from callers {from_callers}, from called {from_called}\n"
+        "segments of ended calls from callers {from_callers}, from called {from_called}\n"
     )?;
     text.push_str(row.as_str())?;
     let received = totals.octets_received;

@@ -1,7 +1,9 @@
+pub mod Besides
 pub mod Cells
 pub mod Clears
 pub mod Counts
 pub mod Delivered
+pub mod Elsewhere
 pub mod Endings
 pub mod Existence
 pub mod Few
@@ -15,6 +17,8 @@ pub mod Ledger
 pub mod Live
 pub mod Moments
 pub mod Names
+pub mod Observed
+pub mod OtherStates
 pub mod Outcomes
 pub mod RecordCounts
 pub mod Relaying
@@ -23,4 +27,5 @@ pub mod Shapes
 pub mod Showing
 pub mod Sounds
 pub mod Stalls
+pub mod States
 pub mod Worlds

@@ -127,7 +127,7 @@ module _ {A : Type 0} where
     abbrev last : Moment tables grown
     last = here tables before world entry next run step
 
-    connected_here : (number : ℕ) (call : Call) (agreement : Agreement) → changes_of tables before world entry ≡ Connects number call agreement ∷ []
+    pub connected_here : (number : ℕ) (call : Call) (agreement : Agreement) → changes_of tables before world entry ≡ Connects number call agreement ∷ []
         → HasConnected last number × (agreement.connected ≡ entry.event.moment)
     connected_here number call agreement is =
         let from = joined_by number call agreement is in

@@ -1,16 +1,15 @@
 -- Two steps of one event are the same, but for the line that a new call is put to.
-use Rattle.std.proofs.Common.{◌≡◌, ◌∙◌, ℕ, Bool, true, false, Option, Some, None, List, [], refl, ap, sym, subst}
+use Rattle.std.proofs.Common.{◌≡◌, ◌≢◌, ◌∙◌, ℕ, Bool, true, false, Option, Some, None, List, [], refl, ap, sym, subst}
 use Rattle.xp_answer.proofs.Once.{answers_same, incoming_call_same, indications_same}
 use Rattle.xp_answer.specs.Incoming.{IsIncomingCall}
 use Rattle.xp_answer.specs.Setup.{setup_of}
 use Rattle.xp_answer.specs.declared.answer.Answer.{Answer}
 use Rattle.xp_answer.specs.declared.answer.Answer.TheVariants as answered
-use Rattle.xp_answer.specs.declared.setup.Setup.{Setup}
 use Rattle.xp_charge.specs.declared.record.Record.{Record}
 use Rattle.xp_channel.specs.declared.action.Action.{Action}
 use Rattle.xp_channel.specs.declared.action.Action.TheVariants.{NewCall, Collision, Answer as Answers_it, Confirm, Relayed}
 use Rattle.xp_decide.proofs.Once.{decided_same}
-use Rattle.xp_decide.specs.IncomingCalls.{default_window_sizes}
+use Rattle.xp_decide.specs.Decided.{Decided}
 use Rattle.xp_decide.specs.Laws.{IsSameRing}
 use Rattle.xp_decide.specs.declared.verdict.IncomingCall.{IncomingCall}
 use Rattle.xp_decide.specs.declared.verdict.Verdict.TheVariants.{Take, Refuse}
@@ -26,19 +25,19 @@ use Rattle.xp_step.specs.declared.output.Output.{Output}
 use Rattle.xp_step.specs.Acts.{Acts, Answers, CarriesAs, Confirms, IsAnswered, IsPlain, IsRequested, Requests, agreement_of, outputs_of_cancel, outputs_of_clear, outputs_of_answer, outputs_of_error}
 use Rattle.xp_step.specs.RelayedPackets.{RelayedPacket, relayed_by}
 use Rattle.xp_machine.specs.Changes.{Change, all_changed, recorded_by}
-use Rattle.xp_core.specs.Determined.{IsSameButLine, modulus_taken}
-use Rattle.xp_step.specs.Outcomes.{taken_by, with_line, with_usual_windows}
+use Rattle.xp_core.specs.Determined.{IsSameBesides, IsSameButLine, IsTakenByNeither, modulus_taken}
+use Rattle.xp_core.specs.OutputsPerLine.{to_line}
+use Rattle.xp_step.specs.Outcomes.{taken_by, with_line}
 use Rattle.xp_step.specs.Segments.{segments_of}
 use Rattle.xp_step.specs.StepContext.{StepContext, step_context}
 use Rattle.xp_step.specs.Step.{Step}
 use Rattle.xp_step.specs.Effects.{answers, carries, collides, effects_of, requests}
 use Rattle.xp_step.specs.Table.{CallAccepted, CallRequest, ClearRequest, accepted_in, action_at, clear_in, packet_in, request_in}
-use Rattle.xp_step.specs.EventOutputs.{EventOutputs, far_information, outputs_of, outputs_of_refusal, send_far, outputs_of_incoming_call}
-use Rattle.xp_machine.specs.World.{Call, World, call_on}
-
--- the same, whichever line is taken
-abbrev but_line : Outcome → Outcome
-but_line outcome = with_line 0 (with_usual_windows outcome)
+use Rattle.xp_step.specs.EventOutputs.{EventOutputs, far_information, outputs_of, outputs_of_refusal, send_as, send_far, outputs_of_incoming_call}
+use Rattle.xp_machine.specs.Channel.{INITIAL_IDENTIFIER}
+use Rattle.xp_machine.specs.World.{Call, World, call_on, line_states}
+use Rattle.xp_core.proofs.Besides.{besides, but_line, to_others, usual}
+use Rattle.xp_core.proofs.Idle.{taken_ready}
 
 -- what is recorded of an answer, whichever line a call is put to
 answer_recorded : (counted : ℕ → Call → End → ℕ) (moment : ℕ) (world : World) (line : ℕ) (found : Option (ℕ × Call)) (outcome : Outcome)
@@ -61,24 +60,29 @@ carry_recorded counted moment world line found (Connected agreement) = refl
 carry_recorded counted moment world line found (Declined diagnostic) = refl
 carry_recorded counted moment world line found Exceeded = refl
 
--- with windows of the usual size
-abbrev usual : Setup → Setup
-usual setup = record setup { indicated = record setup.indicated { window = default_window_sizes } }
-
 module _ {A : Type 0} where
   -- two outcomes with what they put out: the same, but for the line
-  record IsAlike (tables : Tables) (one : Outcome) (told : EventOutputs A) (other : Outcome) (told' : EventOutputs A) : Type 0 where
+  record IsAlike (tables : Tables) (line : ℕ) (one : Outcome) (told : EventOutputs A) (other : Outcome) (told' : EventOutputs A) : Type 0 where
     outcome : but_line one ≡ but_line other
     windows : modulus_taken tables one ≡ modulus_taken tables other → with_line 0 one ≡ with_line 0 other
     whole : taken_by one ≡ taken_by other → one ≡ other
     put_out : taken_by one ≡ taken_by other → told ≡ told'
+    elsewhere : (l : ℕ) → IsTakenByNeither one other l → to_line l (outputs_of told) ≡ to_line l (outputs_of told')
+    apart : IsTakenByNeither one other line
 
-  -- the same in all
-  same : (tables : Tables) (one other : Outcome) (told told' : EventOutputs A) → one ≡ other → told ≡ told' → IsAlike tables one told other told'
-  same tables one other told told' is also = record { outcome = ap but_line is; windows = λ alike. ap (with_line 0) is; whole = λ line. is; put_out = λ line. also }
+  -- no line is taken, and all is the same
+  same : (tables : Tables) (line : ℕ) (one other : Outcome) (told told' : EventOutputs A) → taken_by one ≡ None → one ≡ other → told ≡ told' → IsAlike tables line one told other told'
+  same tables line one other told told' none is also = record {
+    outcome = ap but_line is;
+    windows = λ alike. ap (with_line 0) is;
+    whole = λ taken. is;
+    put_out = λ taken. also;
+    elsewhere = λ l neither. ap (λ t. to_line l (outputs_of t)) also;
+    apart = (λ taken. absurd (cc), λ taken. let first : taken_by one ≡ taken_by other = ap taken_by is in absurd (cc));
+  }
 
-  plain_alike : (tables : Tables) (this : EventOutputs A) (one other : Outcome) (told told' : EventOutputs A) → IsPlain this one told → IsPlain this other told' → IsAlike tables one told other told'
-  plain_alike tables this one other told told' first second = same tables one other told told' (first.0 ∙ sym second.0) (first.1 ∙ sym second.1)
+  plain_alike : (tables : Tables) (line : ℕ) (this : EventOutputs A) (one other : Outcome) (told told' : EventOutputs A) → IsPlain this one told → IsPlain this other told' → IsAlike tables line one told other told'
+  plain_alike tables line this one other told told' first second = same tables line one other told told' (ap taken_by first.0) (first.0 ∙ sym second.0) (first.1 ∙ sym second.1)
 
   -- ---- a call request
 
@@ -97,7 +101,7 @@ module _ {A : Type 0} where
 
   module _ (tables : Tables) (world : World) (line : ℕ) (far : List (Output A)) (request : CallRequest A) where
     requested_alike : (one other : Outcome) (told told' : EventOutputs A)
-        → IsRequested tables world line far request one told → IsRequested tables world line far request other told' → IsAlike tables one told other told'
+        → IsRequested tables world line far request one told → IsRequested tables world line far request other told' → IsAlike tables line one told other told'
     requested_alike (Put called setup) (Put called' setup') told told' first second =
         let rings : IsSameRing tables first.ring second.ring = decided_same tables _ line request.block (Take first.ring) (Take second.ring) first.decided second.decided in
         let by_line : called ≡ called' → modulus_of tables first.ring.line ≡ modulus_of tables second.ring.line =
@@ -119,6 +123,15 @@ module _ {A : Type 0} where
           put_out = λ taken.
               let at : called ≡ called' = cc in
               first.told_is ∙ ap (λ c. outputs_of_incoming_call world far c first.packet) at ∙ ap (outputs_of_incoming_call world far called') (packets at) ∙ sym second.told_is;
+          elsewhere = λ l neither.
+              let put : (c : ℕ) (packet : Packet A) → c ≢ l → to_line l (outputs_of (outputs_of_incoming_call world far c packet)) ≡ to_line l far =
+              λ c packet other. to_others l far (send_as world c INITIAL_IDENTIFIER packet) other in
+              ap (λ t. to_line l (outputs_of t)) first.told_is ∙ put called first.packet (λ is. neither.0 (ap Some is))
+              ∙ sym (ap (λ t. to_line l (outputs_of t)) second.told_is ∙ put called' second.packet (λ is. neither.1 (ap Some is)));
+          apart =
+              let differ : (ring : IncomingCall A) (c : ℕ) → c ≡ ring.line → Decided tables (line_states world) line request.block (Take ring) → ◌≡◌ {A = Option ℕ} (Some c) (Some line) → ⊥ =
+              λ ring c is decided taken. let this : c ≡ line = cc in (taken_ready tables world line request.block ring decided).differ (sym this ∙ is) in
+              (differ first.ring called first.called_is first.decided, differ second.ring called' second.called_is second.decided);
         }
     requested_alike (Put called setup) (Refused why) told told' first second =
         absurd (decided_same tables _ line request.block (Take first.ring) (Refuse why) first.decided second.decided)
@@ -126,7 +139,7 @@ module _ {A : Type 0} where
         absurd (decided_same tables _ line request.block (Refuse why) (Take second.ring) first.decided second.decided)
     requested_alike (Refused why) (Refused why') told told' first second =
         let is : why ≡ why' = decided_same tables _ line request.block (Refuse why) (Refuse why') first.decided second.decided in
-        same tables (Refused why) (Refused why') told told' (ap Refused is) (first.told_is ∙ ap (outputs_of_refusal world far line request.identifier) is ∙ sym second.told_is)
+        same tables line (Refused why) (Refused why') told told' refl (ap Refused is) (first.told_is ∙ ap (outputs_of_refusal world far line request.identifier) is ∙ sym second.told_is)
     requested_alike (Put called setup) Plain told told' first second = absurd second
     requested_alike (Put called setup) (Connected agreement) told told' first second = absurd second
     requested_alike (Put called setup) (Declined diagnostic) told told' first second = absurd second
@@ -141,8 +154,8 @@ module _ {A : Type 0} where
     requested_alike Exceeded other told told' first second = absurd first
 
   requests_alike : (tables : Tables) (world : World) (line : ℕ) (far : List (Output A)) (asked : Option (CallRequest A)) (one other : Outcome) (told told' : EventOutputs A)
-      → Requests tables world line far asked one told → Requests tables world line far asked other told' → IsAlike tables one told other told'
-  requests_alike tables world line far None one other told told' first second = plain_alike tables _ one other told told' first second
+      → Requests tables world line far asked one told → Requests tables world line far asked other told' → IsAlike tables line one told other told'
+  requests_alike tables world line far None one other told told' first second = plain_alike tables line _ one other told told' first second
   requests_alike tables world line far (Some request) one other told told' first second =
       requested_alike tables world line far request one other told told' first second
 
@@ -150,12 +163,12 @@ module _ {A : Type 0} where
 
   module _ (at : StepContext A) (answer : CallAccepted A) (call : Call) where
     answered_alike : (one other : Outcome) (told told' : EventOutputs A)
-        → IsAnswered at answer call one told → IsAnswered at answer call other told' → IsAlike at.tables one told other told'
+        → IsAnswered at answer call one told → IsAnswered at answer call other told' → IsAlike at.tables at.line one told other told'
     answered_alike (Connected agreement) (Connected agreement') told told' first second =
         let answers : answered.Connected first.connection ≡ answered.Connected second.connection =
         answers_same call.setup (address_of at.tables at.line) call.dialled answer.d answer.block _ _ first.answered second.answered in
         let is : first.connection ≡ second.connection = cc in
-        same at.tables (Connected agreement) (Connected agreement') told told'
+        same at.tables at.line (Connected agreement) (Connected agreement') told told' refl
         (ap Connected (first.agreement_is ∙ ap (agreement_of at.moment) is ∙ sym second.agreement_is))
         (first.told_is ∙ ap (λ c. outputs_of_answer at.world call.caller c.packet) is ∙ sym second.told_is)
     answered_alike (Connected agreement) (Declined diagnostic) told told' first second =
@@ -168,7 +181,7 @@ module _ {A : Type 0} where
         let answers : ◌≡◌ {A = Answer A} (answered.Refused diagnostic) (answered.Refused diagnostic') =
         answers_same call.setup (address_of at.tables at.line) call.dialled answer.d answer.block _ _ first.answered second.answered in
         let is : diagnostic ≡ diagnostic' = cc in
-        same at.tables (Declined diagnostic) (Declined diagnostic') told told' (ap Declined is) (first.told_is ∙ ap (outputs_of_error at) is ∙ sym second.told_is)
+        same at.tables at.line (Declined diagnostic) (Declined diagnostic') told told' refl (ap Declined is) (first.told_is ∙ ap (outputs_of_error at) is ∙ sym second.told_is)
     answered_alike (Connected agreement) Plain told told' first second = absurd second
     answered_alike (Connected agreement) (Put called setup) told told' first second = absurd second
     answered_alike (Connected agreement) (Refused why) told told' first second = absurd second
@@ -183,36 +196,36 @@ module _ {A : Type 0} where
     answered_alike Exceeded other told told' first second = absurd first
 
   answers_alike : (at : StepContext A) (accepted : Option (CallAccepted A)) (found : Option (ℕ × Call)) (one other : Outcome) (told told' : EventOutputs A)
-      → Answers at accepted found one told → Answers at accepted found other told' → IsAlike at.tables one told other told'
-  answers_alike at None found one other told told' first second = plain_alike at.tables _ one other told told' first second
-  answers_alike at (Some answer) None one other told told' first second = plain_alike at.tables _ one other told told' first second
+      → Answers at accepted found one told → Answers at accepted found other told' → IsAlike at.tables at.line one told other told'
+  answers_alike at None found one other told told' first second = plain_alike at.tables at.line _ one other told told' first second
+  answers_alike at (Some answer) None one other told told' first second = plain_alike at.tables at.line _ one other told told' first second
   answers_alike at (Some answer) (Some found) one other told told' first second =
       answered_alike at answer found.1 one other told told' first second
 
   -- ---- a clear request
 
   confirms_alike : (at : StepContext A) (asked : Option (ClearRequest A)) (found : Option (ℕ × Call)) (one other : Outcome) (told told' : EventOutputs A)
-      → Confirms at asked found one told → Confirms at asked found other told' → IsAlike at.tables one told other told'
-  confirms_alike at None found one other told told' first second = plain_alike at.tables _ one other told told' first second
-  confirms_alike at (Some clear) None one other told told' first second = plain_alike at.tables _ one other told told' first second
+      → Confirms at asked found one told → Confirms at asked found other told' → IsAlike at.tables at.line one told other told'
+  confirms_alike at None found one other told told' first second = plain_alike at.tables at.line _ one other told told' first second
+  confirms_alike at (Some clear) None one other told told' first second = plain_alike at.tables at.line _ one other told told' first second
   confirms_alike at (Some clear) (Some found) one other told told' first second =
       let packets : first.packet ≡ second.packet =
       indications_same found.1.setup.fast clear.cause clear.diagnostic clear.block (far_information at (Some found)) first.packet second.packet first.carried second.carried in
-      same at.tables one other told told' (first.plain ∙ sym second.plain)
+      same at.tables at.line one other told told' (ap taken_by first.plain) (first.plain ∙ sym second.plain)
       (first.told_is ∙ ap (λ packet. outputs_of_clear at (Some found) (send_far at.world at.line (Some found) packet)) packets ∙ sym second.told_is)
 
   -- ---- a packet of a line in data transfer
 
   carries_alike : (at : StepContext A) (carried : Option (RelayedPacket A)) (past : Bool) (one other : Outcome) (told told' : EventOutputs A)
-      → CarriesAs at carried past one told → CarriesAs at carried past other told' → IsAlike at.tables one told other told'
-  carries_alike at carried false one other told told' first second = plain_alike at.tables _ one other told told' first second
+      → CarriesAs at carried past one told → CarriesAs at carried past other told' → IsAlike at.tables at.line one told other told'
+  carries_alike at carried false one other told told' first second = plain_alike at.tables at.line _ one other told told' first second
   carries_alike at carried true one other told told' first second =
-      same at.tables one other told told' (first.0 ∙ sym second.0) (first.1 ∙ sym second.1)
+      same at.tables at.line one other told told' (ap taken_by first.0) (first.0 ∙ sym second.0) (first.1 ∙ sym second.1)
 
   -- ---- all cells of the table
 
   acts_alike : (at : StepContext A) (what : What A) (action : Action) (one other : Outcome) (told told' : EventOutputs A)
-      → Acts at what action one told → Acts at what action other told' → IsAlike at.tables one told other told'
+      → Acts at what action one told → Acts at what action other told' → IsAlike at.tables at.line one told other told'
   acts_alike at what NewCall one other told told' first second =
       requests_alike at.tables at.world at.line [] (request_in what) one other told told' first second
   acts_alike at what Collision one other told told' first second =
@@ -223,7 +236,7 @@ module _ {A : Type 0} where
       confirms_alike at (clear_in what) (call_on at.world at.line) one other told told' first second
   acts_alike at what Relayed one other told told' first second =
       carries_alike at (relayed_by at.line (call_on at.world at.line) (packet_in what)) _ one other told told' first second
-  acts_alike at what action one other told told' first second = plain_alike at.tables _ one other told told' first second
+  acts_alike at what action one other told told' first second = plain_alike at.tables at.line _ one other told told' first second
 
   -- ---- what is recorded
 
@@ -259,11 +272,11 @@ module _ {A : Type 0} where
 
   pub steps_same : (tables : Tables) (history : List (Entry A)) (world : World) (one : Entry A) (next : World) (other : Entry A) (next' : World)
       → Step tables history world one next → Step tables history world other next' → one.event ≡ other.event
-      → IsSameButLine tables one next other next'
+      → IsSameButLine tables world one next other next'
   steps_same tables history world one next other next' first second event =
       let D : Event A → Outcome → List Change = λ e o. effects_of (step_context tables history world e.line e.moment) e.what (action_at world e) o in
       let C : Event A → Type 0 = λ e. Acts (step_context tables history world e.line e.moment) e.what (action_at world e) one.outcome first.told in
-      let alike : IsAlike tables one.outcome first.told other.outcome second.told =
+      let alike : IsAlike tables other.event.line one.outcome first.told other.outcome second.told =
       acts_alike (step_context tables history world other.event.line other.event.moment) other.event.what (action_at world other.event) one.outcome other.outcome first.told second.told
       (subst C event first.acts) second.acts in
       let S : Outcome → List Record = λ o. recorded_by (segments_of tables history) other.event.moment world (D other.event o) in
@@ -276,6 +289,13 @@ module _ {A : Type 0} where
         windows = alike.windows;
         records = first.records ∙ ap (λ e. recorded_by (segments_of tables history) e.moment world (D e one.outcome)) event
             ∙ recorded one.outcome ∙ ap S alike.outcome ∙ sym (recorded other.outcome) ∙ sym second.records;
+        told = λ line neither. ap (to_line line) first.outputs ∙ alike.elsewhere line neither ∙ sym (ap (to_line line) second.outputs);
+        besides =
+            let B : World → World → Type 0 = λ w w'. IsSameBesides world.next one.outcome other.outcome w w' in
+            let here : next ≡ all_changed (D other.event one.outcome) world = first.leads ∙ ap (λ e. all_changed (D e one.outcome) world) event in
+            subst (λ w. B w next') (sym here) (subst (λ w. B (all_changed (D other.event one.outcome) world) w) (sym second.leads)
+            (besides (step_context tables history world other.event.line other.event.moment) other.event.what (action_at world other.event) one.outcome other.outcome alike.outcome alike.whole));
+        caller = subst (λ (e : Event A). IsTakenByNeither one.outcome other.outcome e.line) (sym event) alike.apart;
         whole = alike.whole;
         outputs = λ line. first.outputs ∙ ap outputs_of (alike.put_out line) ∙ sym second.outputs;
         world = λ line. first.leads ∙ ap (λ c. all_changed c world) (changes line) ∙ sym second.leads;

@@ -111,7 +111,7 @@ module _ {A : Type 0} where
       new : (number : ℕ) → number ≡ world.next → arrivals tables (before ++ entry ∷ []) number ≡ []
       new number is = later number (omega (arith, is))
 
-  run_unused : (tables : Tables) (history : List (Entry A)) (world : World) → Run tables history world → AreUnused tables history world
+  pub run_unused : (tables : Tables) (history : List (Entry A)) (world : World) → Run tables history world → AreUnused tables history world
   run_unused tables history world run =
       (run_keeps (λ before w. Run tables before w × AreUnused tables before w) tables
       (λ before w entry next old step. (run_push tables [] (opening (line_count tables)) before w entry next old.0 step, unused_next tables before w entry next old.0 step old.1))

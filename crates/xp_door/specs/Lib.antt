@@ -1,4 +1,5 @@
 pub mod Callers
+pub mod Calls
 pub mod Choices
 pub mod Hosts
 pub mod Notices

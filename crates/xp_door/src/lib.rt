@@ -3,14 +3,18 @@
 #![tactic(auto)]
 
 mod callers;
+mod calls;
 mod choosing;
 mod connect_fault;
+mod dialled;
 mod door;
 mod door_bell;
+mod down_reason;
 mod hosts;
 mod locks;
 mod notices;
 mod opening;
+mod packet_fronts;
 mod refused_calls;
 mod router_call;
 mod router_line;
@@ -21,10 +25,13 @@ mod traffic;
 mod wakers;
 mod want;
 
+pub use calls::{AskedCall, CallNotes, ClearedCall, after_received, after_sent, told_of};
 pub use choosing::{Caller, CallerRule, Candidate, Choice, choose, is_router, line_for};
 pub use connect_fault::ConnectFault;
+pub use dialled::Dialled;
 pub use door::{Door, DoorSockets};
 pub use door_bell::DoorBell;
+pub use down_reason::DownReason;
 pub use hosts::is_same_host;
 pub use locks::hold;
 pub use notices::{Notice, Notices};

@@ -4,7 +4,9 @@ ghost use Rattle.std.specs.Prelude.{◌≡◌, ◌<◌, ◌↔◌, ◌∷◌, []
 ghost use Rattle.std.specs.Bool.{OnFalse, OnTrue};
 ghost use Rattle.xp_door.specs.Notices.{line_of};
 
+use crate::calls::ClearedCall;
 use crate::connect_fault::ConnectFault;
+use crate::down_reason::DownReason;
 use crate::locks::hold;
 use crate::tap::Tap;
 use crate::trace::Trace;
@@ -36,13 +38,15 @@ pub enum Notice {
     /// The line has a connection.
     Up { line: LineNo, peer: SocketAddr },
     /// The line has lost its connection, or has closed it.
-    Down { line: LineNo },
+    Down { line: LineNo, reason: DownReason },
     /// The line behind a router has a connection that the exchange has made to the router.
     Connected { line: LineNo, peer: SocketAddr },
     /// The line behind a router has closed its connection, over which no call goes any more. It stays in service.
     Closed { line: LineNo },
     /// The line behind a router could not be connected to it.
     NotConnected { line: LineNo, fault: ConnectFault },
+    /// A call that the line has asked for was refused, or cleared for a fault.
+    CallCleared { line: LineNo, call: ClearedCall },
     /// The line's port can take no connections, for want of descriptors or of memory.
     PortFailing { line: LineNo },
     /// The line's port takes connections again.
@@ -78,10 +82,11 @@ impl Notice {
             | Notice::MoreRefused { line, .. }
             | Notice::Replaced { line, .. }
             | Notice::Up { line, .. }
-            | Notice::Down { line }
+            | Notice::Down { line, .. }
             | Notice::Connected { line, .. }
             | Notice::Closed { line }
             | Notice::NotConnected { line, .. }
+            | Notice::CallCleared { line, .. }
             | Notice::PortFailing { line }
             | Notice::PortWorks { line } => Some(*line),
             Notice::NoRouter { .. }
@@ -113,10 +118,11 @@ impl fmt::Display for Notice {
             Notice::MoreRefused { count, .. } => write!(f, "{count} more connections refused"),
             Notice::Replaced { peer, .. } => write!(f, "replaced by a connection from {peer}"),
             Notice::Up { peer, .. } => write!(f, "up from {peer}"),
-            Notice::Down { .. } => f.write_str("down"),
+            Notice::Down { reason, .. } => write!(f, "down: {reason}"),
             Notice::Connected { peer, .. } => write!(f, "connected to {peer}"),
             Notice::Closed { .. } => f.write_str("connection closed"),
             Notice::NotConnected { fault, .. } => write!(f, "no connection to the router: {fault}"),
+            Notice::CallCleared { call, .. } => write!(f, "{call}"),
             Notice::PortFailing { .. } | Notice::DoorFailing => {
                 f.write_str("port fails: no connection can be accepted")
             }

@@ -11,7 +11,7 @@ use Rattle.std.proofs.lemmas.Bool.{and_parts, cases_Bool, leb-true, eq-eqb, eqb-
 use Rattle.std.proofs.lemmas.Str.Parse.{IsNumeralModel, numerals_by_value, tells_all_ascii_digits, parse_digits}
 use Rattle.std.proofs.lemmas.Str.Pattern.{IsSplitOnceResult, split_parts}
 use Rattle.xp_file.specs.Routers.{RouterData, IsPort, IsRouter, registered_port, colon, opening_bracket, closing_bracket, has_port_digits, valid_port, port_spelled, behind, parted, port_behind, router_at, in_brackets, without_brackets, router_spelled}
-use Rattle.xp_file.specs.Sources.{is_source}
+use Rattle.xp_file.specs.Sources.{is_ip_address}
 use Rattle.xp_file.proofs.Choices.{none_is_some}
 
 -- a text around the first octet of a code
@@ -114,7 +114,7 @@ port_behind_form (octet ∷ octets) port e =
 
 router_form : (address : List ℕ) (port : ℕ) (router : RouterData) → IsPort port → router_at address port ≡ Some router → IsRouter router
 router_form address port router valid e =
-    let (passed, made) = if_some (is_source address) (Some (let r : RouterData = record { address = address; port = port } in r)) router e in
+    let (passed, made) = if_some (is_ip_address address) (Some (let r : RouterData = record { address = address; port = port } in r)) router e in
     let this : record { address = address; port = port } ≡ router = cc in
     rw (← this) (record { spelled = passed; port = valid })
 

@@ -3,7 +3,7 @@ use Rattle.std.specs.Prelude.{ℕ, ◌≤◌, List, [], ◌∷◌, Bool, ◌&&�
 use Rattle.std.specs.Char.{is_ascii_digit}
 use Rattle.std.specs.List.{list_all}
 use Rattle.std.specs.Str.Parse.{digits_value}
-use Rattle.xp_file.specs.Sources.{is_source}
+use Rattle.xp_file.specs.Sources.{is_ip_address}
 
 pub record RouterData : Type 0 where
   pub address : List ℕ
@@ -15,7 +15,7 @@ IsPort port = (1 ≤ port) × (port ≤ 65_535)
 
 -- the address has the form of one, and the port is valid
 pub record IsRouter (router : RouterData) : Type 0 where
-  pub spelled : IsTrue (is_source router.address)
+  pub spelled : IsTrue (is_ip_address router.address)
   pub port : IsPort router.port
 
 -- the TCP port that is registered for XOT, which stands for one that is not written
@@ -55,7 +55,7 @@ parted code (octet ∷ octets) =
 
 -- a router at an address that has the form of one
 abbrev pub router_at : List ℕ → ℕ → Option RouterData
-router_at address port = if is_source address then Some (record { address = address; port = port }) else None
+router_at address port = if is_ip_address address then Some (record { address = address; port = port }) else None
 
 -- what stands behind a closing bracket: nothing, or `:PORT`
 abbrev pub port_behind : List ℕ → Option ℕ

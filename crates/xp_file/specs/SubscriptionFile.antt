@@ -22,7 +22,7 @@ use Rattle.xp_file.specs.Reading.{◌>>=◌, number_in, line_name_in, group_name
 
 -- the keys that each table may have
 abbrev pub top_keys : List Key
-top_keys = keys.SegmentLimit ∷ keys.Journal ∷ keys.Host ∷ keys.XotPort ∷ keys.Station ∷ []
+top_keys = keys.SegmentLimit ∷ keys.Journal ∷ keys.Host ∷ keys.XotPort ∷ keys.Name ∷ keys.Station ∷ []
 
 abbrev pub station_keys : List Key
 station_keys =
@@ -155,6 +155,8 @@ pub record FileData : Type 0 where
   pub journal : ℕ
   pub host : List ℕ
   pub xot_port : ℕ
+  -- the name of the exchange
+  pub name : Option (List ℕ)
   pub stations : List StationData
 
 -- The file. Reads its top keys, checks for keys that are not listed, then reads the stations in order.
@@ -164,9 +166,10 @@ file_of table = do
   journal ← defaulted (number_in 4 10000000) no_journal_limit keys.Journal table
   host ← defaulted as_str (codes "127.0.0.1") keys.Host table
   xot_port ← defaulted (number_in 1 65535) registered_port keys.XotPort table
+  name ← optional group_name_in keys.Name table
   tables ← required some_tables_in keys.Station table
   stations ← checked (has_only top_keys table) (faults.Field keys.Other) (each entry_of tables)
-  Ok (record { segment_limit = segment_limit; journal = journal; host = host; xot_port = xot_port; stations = stations })
+  Ok (record { segment_limit = segment_limit; journal = journal; host = host; xot_port = xot_port; name = name; stations = stations })
 
 -- the file that a text contains
 abbrev pub file_in : List ℕ → Result FileData SubscriptionFault

@@ -18,6 +18,7 @@ use crate::field::{
 };
 use crate::key::Key;
 use crate::line::lines;
+use crate::listed_keys::{GROUP_KEYS, LINE_KEYS, REDIRECT_KEYS, STATION_KEYS, TOP_KEYS};
 use crate::name::Name;
 use crate::router::REGISTERED_PORT;
 use crate::tables::{each, examine, some_tables_at, tables_at};
@@ -38,6 +39,8 @@ pub struct SubscriptionFile {
     pub host: String,
     /// The port at which it listens for XOT routers, 1 to 65,535, if a line is behind one.
     pub xot_port: u16,
+    /// The name of the exchange, if the file gives it one.
+    pub name: Option<Name>,
     /// The stations in the order of the file, at least one.
     pub stations: Vec<StationEntry>,
 }
@@ -53,6 +56,7 @@ impl Model for SubscriptionFile {
       journal = file.journal;
       host = string_bytes file.host;
       xot_port = file.xot_port;
+      name = file.name;
       stations = file.stations.items;
     } };
 }
@@ -75,47 +79,6 @@ const DEFAULT_HOST: &str = "127.0.0.1";
 
 /// The greatest index of a group: four digits (X.25 clause 6.14.6).
 const MAX_INDEX: u16 = 9_999;
-
-const TOP_KEYS: [Key; 5] = [
-    Key::SegmentLimit,
-    Key::Journal,
-    Key::Host,
-    Key::XotPort,
-    Key::Station,
-];
-
-const STATION_KEYS: [Key; 12] = [
-    Key::Address,
-    Key::Line,
-    Key::OutgoingBarred,
-    Key::IncomingBarred,
-    Key::ReverseCharging,
-    Key::FastSelect,
-    Key::OutgoingAccess,
-    Key::IncomingAccess,
-    Key::Preferential,
-    Key::DefaultCaller,
-    Key::Group,
-    Key::Redirect,
-];
-
-const LINE_KEYS: [Key; 6] = [
-    Key::Name,
-    Key::Port,
-    Key::Router,
-    Key::Address,
-    Key::Modulus,
-    Key::From,
-];
-
-const GROUP_KEYS: [Key; 4] = [
-    Key::Name,
-    Key::Index,
-    Key::OutgoingBarred,
-    Key::IncomingBarred,
-];
-
-const REDIRECT_KEYS: [Key; 4] = [Key::To, Key::Systematic, Key::Busy, Key::OutOfOrder];
 
 #[tactic(auto, unfolding(crate::specs::SubscriptionFile::facilities_of))]
 fn facilities(table: &Table) -> Result<Facilities, SubscriptionFault>
@@ -282,6 +245,7 @@ fn read_table(alloc: Global, table: &Table) -> Result<SubscriptionFile, Subscrip
     let journal = journal(table)?;
     let host = host(alloc, table)?;
     let xot_port = xot_port(table)?;
+    let name = exchange_name(table)?;
     let tables = some_tables_at(alloc, table, Key::Station)?;
     if !has_only(table, &TOP_KEYS) {
         return Err(SubscriptionFault::Field(Key::Other));
@@ -292,6 +256,7 @@ fn read_table(alloc: Global, table: &Table) -> Result<SubscriptionFile, Subscrip
         journal,
         host,
         xot_port,
+        name,
         stations,
     })
 }
@@ -323,6 +288,12 @@ fn xot_port(table: &Table) -> Result<u16, SubscriptionFault>
     ensures { result ≡ defaulted (number_in 1 65535) registered_port keys.XotPort (table_view table.now) }
 {
     defaulted(table, Key::XotPort, REGISTERED_PORT, port)
+}
+
+fn exchange_name(table: &Table) -> Result<Option<Name>, SubscriptionFault>
+    ensures { result ≡ optional group_name_in keys.Name (table_view table.now) }
+{
+    optional(table, Key::Name, group_name)
 }
 
 fn host(alloc: Global, table: &Table) -> Result<String, SubscriptionFault>

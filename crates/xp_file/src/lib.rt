@@ -8,6 +8,7 @@ mod field;
 mod file;
 mod key;
 mod line;
+mod listed_keys;
 mod name;
 mod router;
 mod sources;
@@ -17,6 +18,7 @@ pub use entry::{Access, Facilities, GroupEntry, LineEntry, Redirection, StationE
 pub use fault::SubscriptionFault;
 pub use file::SubscriptionFile;
 pub use key::Key;
+pub use listed_keys::{GROUP_KEYS, LINE_KEYS, REDIRECT_KEYS, STATION_KEYS, TOP_KEYS};
 pub use name::Name;
 pub use router::RouterAddress;
 pub use sources::Sources;

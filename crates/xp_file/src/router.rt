@@ -3,9 +3,9 @@ ghost use Rattle.std.specs.Char.{is_ascii_digit};
 ghost use Rattle.std.specs.List.{list_all};
 ghost use Rattle.std.specs.Prelude.{◌≡◌, option_map, if◌then◌else◌};
 ghost use Rattle.xp_file.specs.Routers.{RouterData, has_port_digits, port_spelled, behind, parted, port_behind, router_at, in_brackets, without_brackets, router_spelled, colon, opening_bracket, closing_bracket};
-ghost use Rattle.xp_file.specs.Sources.{is_source};
+ghost use Rattle.xp_file.specs.Sources.{is_ip_address};
 
-use crate::sources::{MOST_CHARACTERS, is_source};
+use crate::sources::{MOST_CHARACTERS, is_ip_address};
 use arrayvec::ArrayString;
 use std::fmt;
 use std::marker::Model;
@@ -94,9 +94,9 @@ impl Model for AddressText {
 
 impl AddressText {
     fn new(text: &str) -> Option<AddressText>
-        ensures { result ≡ (if is_source text.now then Some text.now else None) }
+        ensures { result ≡ (if is_ip_address text.now then Some text.now else None) }
     {
-        if !is_source(text) {
+        if !is_ip_address(text) {
             return None;
         }
         let text = ArrayString::from(text).ok()?;

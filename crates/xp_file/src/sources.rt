@@ -1,16 +1,16 @@
 ghost use Rattle.std.specs.Prelude.{◌≡◌, ◌<◌, ◌≤◌, ◌==◌, [], ◌∷◌, ◌++◌, length, slice_get, option_copied, IfSome, IfNone, IsTrue, false};
 ghost use Rattle.std.specs.List.{list_all};
-ghost use Rattle.xp_file.specs.Sources.{is_source, is_source_letter};
+ghost use Rattle.xp_file.specs.Sources.{is_ip_address, is_ip_letter, is_source, is_source_letter};
 
 use arrayvec::{ArrayString, ArrayVec};
 use std::fmt;
 use std::marker::Model;
 
-/// The most characters of an address.
+/// The most characters of an address or a network.
 pub(crate) const MOST_CHARACTERS: usize = 45;
 
-/// The addresses from which the connections of a line may come, as texts: at most 8. There are none where any address
-/// may.
+/// The addresses and networks from which the connections of a line may come, as texts: at most 8. There are none where any
+/// address may.
 #[derive(Drop)]
 pub struct Sources {
     texts: ArrayVec<ArrayString<MOST_CHARACTERS>, 8>,
@@ -26,10 +26,10 @@ impl Model for Sources {
 }
 
 impl Sources {
-    /// The most addresses of a line.
+    /// The most of them for a line.
     pub(crate) const MOST: usize = 8;
 
-    /// No addresses.
+    /// None.
     pub(crate) fn new() -> Sources
         ensures { result ≡ [] }
     {
@@ -38,7 +38,7 @@ impl Sources {
         }
     }
 
-    /// Adds an address at the end. Returns `None` if the text does not have the form of one.
+    /// Adds one at the end. Returns `None` if the text does not have the form of an address or a network.
     pub(crate) fn push(&mut self, text: &str) -> Option<()>
         requires { length self.old < 8 }
         ensures added { IfSome result (λ _. IsTrue (is_source text.now) × (self.new ≡ self.old ++ text.now ∷ [])) }
@@ -51,7 +51,7 @@ impl Sources {
         Some(())
     }
 
-    /// The number of addresses, 0 to 8.
+    /// How many there are, 0 to 8.
     pub fn len(&self) -> usize
         ensures count { result ≡ length self.now }
         ensures most { result ≤ 8 }
@@ -59,14 +59,14 @@ impl Sources {
         self.texts.len()
     }
 
-    /// Whether there are no addresses, so that connections may come from any.
+    /// Whether there are none, so that connections may come from any address.
     pub fn is_empty(&self) -> bool
         ensures { result ≡ (length self.now == 0) }
     {
         self.texts.is_empty()
     }
 
-    /// The address at this place, from 0, in the order of the file. Returns `None` behind the last one.
+    /// The one at this place, from 0, in the order of the file. Returns `None` behind the last one.
     pub fn get(&self, place: usize) -> Option<&str>
         ensures { option_copied result ≡ slice_get self.now place }
     {
@@ -85,6 +85,25 @@ impl Sources {
 }
 
 /// Whether a text has the form of an IPv4 or IPv6 address.
+pub(crate) fn is_ip_address(text: &str) -> bool
+    ensures { result ≡ is_ip_address text.now }
+{
+    matches!(text.len(), 2..=MOST_CHARACTERS) && are_ip_letters(text.as_bytes())
+}
+
+fn are_ip_letters(octets: &[u8]) -> bool
+    ensures { result ≡ list_all is_ip_letter octets.now }
+{
+    octets.iter().all(|octet| is_ip_letter(*octet))
+}
+
+fn is_ip_letter(octet: u8) -> bool
+    ensures { result ≡ is_ip_letter octet }
+{
+    matches!(octet, b'0'..=b':' | b'a'..=b'f' | b'A'..=b'F' | b'.')
+}
+
+/// Whether a text has the form of an address, or of a network such as `10.0.0.0/8`.
 pub(crate) fn is_source(text: &str) -> bool
     ensures { result ≡ is_source text.now }
 {
@@ -100,7 +119,7 @@ fn are_source_letters(octets: &[u8]) -> bool
 fn is_source_letter(octet: u8) -> bool
     ensures { result ≡ is_source_letter octet }
 {
-    matches!(octet, b'0'..=b':' | b'a'..=b'f' | b'A'..=b'F' | b'.')
+    is_ip_letter(octet) || octet == b'/'
 }
 
 impl PartialEq for Sources {

@@ -2,6 +2,7 @@
 use Rattle.std.proofs.Common.{◌≡◌, ℕ, List, [], Option, None, Some, Result, Ok, IfSome, ap, flat_map, refl, subst, sym, ◌∙◌}
 use Rattle.xp_cdr.specs.Details.{detail_text}
 use Rattle.xp_cdr.specs.Ledger.{IsUnfinished}
+use Rattle.xp_cdr.specs.declared.run.ExchangeRun.{ExchangeRun}
 use Rattle.xp_keeping.proofs.Flushed.{flushed}
 use Rattle.xp_keeping.specs.Details.{Keeping}
 use Rattle.xp_keeping.specs.Doubt.{AreDoubted, IsToldBy, WritesDoubted}
@@ -10,16 +11,16 @@ use Rattle.xp_keeping.specs.Queued.{Queued}
 use Rattle.xp_keeping.specs.declared.keep_fault.KeepFault.{KeepFault}
 use Rattle.xp_subs.specs.Tables.{Tables}
 
-module _ (tables : Tables) (started : ℕ) (queued : Queued Keeping) (old new : Option (List ℕ)) (result : Result (Unit {0}) KeepFault) where
+module _ (tables : Tables) (run : ExchangeRun) (queued : Queued Keeping) (old new : Option (List ℕ)) (result : Result (Unit {0}) KeepFault) where
   -- the thread gave its keeper back
-  pub lacking_written : (keeping : Keeping) (lines : List ℕ) → Some keeping ≡ queued.last → IfSome queued.last (IsToldBy tables started)
-      → IsUnfinished keeping.ledger lines → Prints old new lines result → WritesDoubted tables started queued old new result
+  pub lacking_written : (keeping : Keeping) (lines : List ℕ) → Some keeping ≡ queued.last → IfSome queued.last (IsToldBy tables run)
+      → IsUnfinished keeping.ledger lines → Prints old new lines result → WritesDoubted tables run queued old new result
   lacking_written keeping lines is told lacks written =
-      let by : IsToldBy tables started keeping = subst (λ last. IfSome last (IsToldBy tables started)) (sym is) told in
-      let text : lines ≡ flat_map (detail_text tables started) lacks.rest =
+      let by : IsToldBy tables run keeping = subst (λ last. IfSome last (IsToldBy tables run)) (sym is) told in
+      let text : lines ≡ flat_map (detail_text tables run) lacks.rest =
       lacks.lines_are
-      ∙ ap (λ subs. flat_map (detail_text subs keeping.ledger.started) lacks.rest) by.0
-      ∙ ap (λ moment. flat_map (detail_text tables moment) lacks.rest) by.1 in
+      ∙ ap (λ subs. flat_map (detail_text subs keeping.ledger.run) lacks.rest) by.0
+      ∙ ap (λ one. flat_map (detail_text tables one) lacks.rest) by.1 in
       record {
         records = lacks.rest;
         doubted = subst (λ last. AreDoubted last queued.left lacks.rest) is
@@ -28,7 +29,7 @@ module _ (tables : Tables) (started : ℕ) (queued : Queued Keeping) (old new : 
       }
 
   -- the thread was given up
-  pub left_written : queued.last ≡ None → Prints old new (flat_map (detail_text tables started) queued.left) result → WritesDoubted tables started queued old new result
+  pub left_written : queued.last ≡ None → Prints old new (flat_map (detail_text tables run) queued.left) result → WritesDoubted tables run queued old new result
   left_written none written = record {
     records = queued.left;
     doubted = subst (λ last. AreDoubted last queued.left queued.left) (sym none) refl;
@@ -36,10 +37,10 @@ module _ (tables : Tables) (started : ℕ) (queued : Queued Keeping) (old new : 
   }
 
 -- behind it the output is flushed
-pub doubted_flushed : (tables : Tables) (started : ℕ) (queued : Queued Keeping) (old between new : Option (List ℕ)) (result : Result (Unit {0}) KeepFault)
-    → WritesDoubted tables started queued old between (Ok tt) → Prints between new [] result → WritesDoubted tables started queued old new result
-doubted_flushed tables started queued old between new result writes more = record {
+pub doubted_flushed : (tables : Tables) (run : ExchangeRun) (queued : Queued Keeping) (old between new : Option (List ℕ)) (result : Result (Unit {0}) KeepFault)
+    → WritesDoubted tables run queued old between (Ok tt) → Prints between new [] result → WritesDoubted tables run queued old new result
+doubted_flushed tables run queued old between new result writes more = record {
   records = writes.records;
   doubted = writes.doubted;
-  written = flushed old between new (flat_map (detail_text tables started) writes.records) result writes.written more;
+  written = flushed old between new (flat_map (detail_text tables run) writes.records) result writes.written more;
 }

@@ -1,4 +1,5 @@
 mod Doubted
+pub mod EndedLemmas
 pub mod Flushed
 pub mod Fronts
 mod Printed

@@ -46,7 +46,7 @@ details_send F L file log file_may log_may =
           search (sendable, clock.the_field_send) depth 9,
           (
             search (sendable, operator.the_field_send) depth 9,
-            (search parts depth 20, (search parts depth 20, (search parts depth 20, (past.the_send _, tt)))),
+            (search parts depth 20, (search parts depth 20, (search parts depth 20, (search parts depth 20, (past.the_send _, tt))))),
           ),
         ),
       ),

@@ -1,7 +1,8 @@
 -- What is kept of charging records in a file of call detail records (`AreKept`).
 use Rattle.std.specs.Prelude.{◌≡◌, ℕ, ◌<◌, ◌≤◌, List, [], ◌++◌, Bool, false, Result, Ok, Err, length}
 use Rattle.xp_cdr.specs.Ledger.{HasAll, IsWhole, Ledger, details_text, opening}
-use Rattle.xp_charge.specs.declared.record.Record.{Record}
+use Rattle.xp_cdr.specs.declared.ended.EndedCall.{EndedCall}
+use Rattle.xp_cdr.specs.declared.run.ExchangeRun.{ExchangeRun}
 use Rattle.xp_keeping.specs.declared.keep_fault.KeepFault.{KeepFault}
 use Rattle.xp_keeping.specs.declared.keep_fault.KeepFault.TheVariants.{Memory, Output, Details}
 use Rattle.xp_subs.specs.Tables.{Tables}
@@ -10,25 +11,25 @@ use Rattle.xp_subs.specs.Tables.{Tables}
 pub record Keeping : Type 0 where
   -- the subscriptions that name the lines
   pub subs : Tables
-  -- all records that it was given
-  pub given : List Record
+  -- all calls that it was given
+  pub given : List EndedCall
   -- those of them that were given to the writer of the file, and what the file has taken
   pub ledger : Ledger
   -- whether memory was wanting
   pub is_short : Bool
 
--- a keeper that was given no record yet, of a run that began at `started`
-abbrev pub first_keeping : Tables → ℕ → Keeping
-first_keeping tables started = record { subs = tables; given = []; ledger = opening tables started; is_short = false }
+-- a keeper that was given no record yet, of this run
+abbrev pub first_keeping : Tables → ExchangeRun → Keeping
+first_keeping tables run = record { subs = tables; given = []; ledger = opening tables run; is_short = false }
 
 -- a front of these records
-abbrev pub IsFirstOf : List Record → List Record → Type 0
-IsFirstOf front records = (rest : List Record) × (records ≡ front ++ rest)
+abbrev pub IsFirstOf : List EndedCall → List EndedCall → Type 0
+IsFirstOf front records = (rest : List EndedCall) × (records ≡ front ++ rest)
 
 -- Of all records of a run: the file has the call detail records of all, each once and in order, and has them on the disk. Or it
 -- failed: then it has a front of their text, and what is behind that waits. Or memory was wanting: then a front of them was given to
 -- the writer of the file. No other fault is told.
-abbrev pub AreKept : Keeping → List Record → Result (Unit {0}) KeepFault → Type 0
+abbrev pub AreKept : Keeping → List EndedCall → Result (Unit {0}) KeepFault → Type 0
 AreKept keeping records (Ok done) = (keeping.ledger.given ≡ records) × HasAll keeping.ledger
 AreKept keeping records (Err Details) = (keeping.ledger.given ≡ records) × IsWhole keeping.ledger × (0 < length keeping.ledger.waiting)
 AreKept keeping records (Err Output) = ⊥
@@ -36,12 +37,12 @@ AreKept keeping records (Err Memory) = IsFirstOf keeping.ledger.given records ×
 
 -- The file has the call detail records of the first so many records on the disk, each once and in order, perhaps of more.
 pub record HasKept (keeping : Keeping) (count : ℕ) : Type 0 where
-  pub kept : List Record
-  pub rest : List Record
+  pub kept : List EndedCall
+  pub rest : List EndedCall
   pub given_are : keeping.given ≡ kept ++ rest
   pub within : count ≤ length kept
   pub synced_is : keeping.ledger.synced ≡ details_text keeping.ledger kept
 
 -- what stays the same of a keeper
 abbrev pub GoesOnAs : Keeping → Keeping → Type 0
-GoesOnAs old new = (new.subs ≡ old.subs) × (new.ledger.subs ≡ old.ledger.subs) × (new.ledger.started ≡ old.ledger.started)
+GoesOnAs old new = (new.subs ≡ old.subs) × (new.ledger.subs ≡ old.ledger.subs) × (new.ledger.run ≡ old.ledger.run)

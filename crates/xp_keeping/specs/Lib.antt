@@ -1,5 +1,6 @@
 pub mod Details
 pub mod Doubt
+pub mod Kept
 pub mod Printing
 pub mod Queued
 pub mod steps

@@ -1,35 +1,38 @@
 -- What is kept of charging records by a keeper on a thread of its own (`AreKeptBeside`).
 use Rattle.std.specs.Prelude.{◌≡◌, List, [], ◌++◌, Bool, true, false, Option, None, Some, Result, Err}
-use Rattle.xp_charge.specs.declared.record.Record.{Record}
+use Rattle.xp_cdr.specs.declared.ended.EndedBy.{EndedBy}
+use Rattle.xp_cdr.specs.declared.ended.EndedBy.TheVariants.{Call}
+use Rattle.xp_cdr.specs.declared.ended.EndedCall.{EndedCall}
 use Rattle.xp_keeping.specs.Details.{IsFirstOf}
 use Rattle.xp_keeping.specs.declared.keep_fault.KeepFault.{KeepFault}
 use Rattle.xp_keeping.specs.declared.keep_fault.KeepFault.TheVariants.{Memory}
 use Rattle.xp_subs.specs.Tables.{Tables}
 
 -- the end of a list of records
-abbrev pub IsLastOf : List Record → List Record → Type 0
-IsLastOf end records = (front : List Record) × (records ≡ front ++ end)
+abbrev pub IsLastOf : List EndedCall → List EndedCall → Type 0
+IsLastOf end records = (front : List EndedCall) × (records ≡ front ++ end)
 
 -- a keeper on a thread of its own
 pub record Queued (K : Type 0) : Type 0 where
   -- the subscriptions that name the lines
   pub subs : Tables
-  -- all records that were handed to it
-  pub given : List Record
+  -- all calls that were handed to it, each with by what it ended, and by what those end that follow
+  pub given : List EndedCall
+  pub ended_by : EndedBy
   -- whether memory was wanting for one of them: that one and those behind it did not go to the thread
   pub is_short : Bool
   -- the keeper as the thread began with it, and as the thread gave it back, if it has
   pub first : K
   pub last : Option K
   -- the records that the thread has not told as kept
-  pub left : List Record
+  pub left : List EndedCall
   -- what is told where the thread gives nothing back
   pub fault : KeepFault
 
 -- a keeper whose thread has just begun
 abbrev pub first_queued : {K : Type 0} → Tables → K → KeepFault → Queued K
 first_queued tables keeper fault =
-    record { subs = tables; given = []; is_short = false; first = keeper; last = None; left = []; fault = fault }
+    record { subs = tables; given = []; ended_by = Call; is_short = false; first = keeper; last = None; left = []; fault = fault }
 
 -- what stays the same of a keeper on a thread of its own
 abbrev pub KeepsBeside : {K : Type 0} → Queued K → Queued K → Type 0
@@ -41,10 +44,10 @@ told true outcome = Err Memory
 told false outcome = outcome
 
 -- `kept` is what the keeper keeps of records, and `keeps` what stays the same of it.
-module _ {K : Type 0} (kept : K → List Record → Result (Unit {0}) KeepFault → Type 0) (keeps : K → K → Type 0) where
+module _ {K : Type 0} (kept : K → List EndedCall → Result (Unit {0}) KeepFault → Type 0) (keeps : K → K → Type 0) where
   -- The thread gave its keeper back. It has kept all records, or a front of them where memory was wanting, and what came of that is told.
-  pub record AreKeptBy (queued : Queued K) (records : List Record) (result : Result (Unit {0}) KeepFault) (keeper : K) : Type 0 where
-    pub front : List Record
+  pub record AreKeptBy (queued : Queued K) (records : List EndedCall) (result : Result (Unit {0}) KeepFault) (keeper : K) : Type 0 where
+    pub front : List EndedCall
     pub first : IsFirstOf front records
     pub all : queued.is_short ≡ false → front ≡ records
     pub outcome : Result (Unit {0}) KeepFault
@@ -54,17 +57,17 @@ module _ {K : Type 0} (kept : K → List Record → Result (Unit {0}) KeepFault 
 
   -- The thread was given up. All records went to it, or a front of them where memory was wanting, and what it has not told as kept is
   -- the end of these.
-  pub record AreLeft (queued : Queued K) (records : List Record) (result : Result (Unit {0}) KeepFault) : Type 0 where
-    pub front : List Record
+  pub record AreLeft (queued : Queued K) (records : List EndedCall) (result : Result (Unit {0}) KeepFault) : Type 0 where
+    pub front : List EndedCall
     pub first : IsFirstOf front records
     pub all : queued.is_short ≡ false → front ≡ records
     pub last : IsLastOf queued.left front
     pub told_is : result ≡ told queued.is_short (Err queued.fault)
 
-  abbrev pub AreKeptOrLeft : Option K → Queued K → List Record → Result (Unit {0}) KeepFault → Type 0
+  abbrev pub AreKeptOrLeft : Option K → Queued K → List EndedCall → Result (Unit {0}) KeepFault → Type 0
   AreKeptOrLeft None queued records result = AreLeft queued records result
   AreKeptOrLeft (Some keeper) queued records result = AreKeptBy queued records result keeper
 
   -- What is kept of all records of a run.
-  abbrev pub AreKeptBeside : Queued K → List Record → Result (Unit {0}) KeepFault → Type 0
+  abbrev pub AreKeptBeside : Queued K → List EndedCall → Result (Unit {0}) KeepFault → Type 0
   AreKeptBeside queued records result = AreKeptOrLeft queued.last queued records result

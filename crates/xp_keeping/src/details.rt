@@ -7,29 +7,27 @@ ghost use Rattle.xp_keeping.specs.Details.{AreKept, GoesOnAs, first_keeping};
 ghost use Rattle.xp_keeping.specs.steps.Details.{Gives, PutsOnDisk};
 ghost use Rattle.xp_subs.specs.Tables.{line_count};
 
+use crate::call_keeper::{CallKeeper, count_on};
 use crate::keep_fault::KeepFault;
-use crate::keeping::{CountedKeeper, RecordKeeper, count_on};
 use crate::operator_log::OperatorLog;
 use log::Log;
 use std::alloc::Global;
 use std::marker::Model;
-use xp_cdr::{DetailWriter, RecordFile};
-use xp_charge::Record;
+use xp_cdr::{DetailWriter, EndedCall, ExchangeRun, Place, RecordFile};
 use xp_clock::WallClock;
-use xp_lines::{Received, RecordSink};
 use xp_past::Past;
+use xp_sink::Received;
 use xp_subs::Subs;
-use xp_view::ExchangeView;
 
 /// With so many call detail records that the file has not taken, serving stops.
 const MOST_WAITING: usize = 100_000;
 
-/// After so many seconds a write that failed is tried again.
+/// After so many seconds a write that failed is tried again, and so is the beginning of a new file.
 const SECONDS_TO_RETRY: u64 = 1;
 
 /// Writes call detail records to a file, and waits until they are on the disk. Where the file fails, they wait in order, and are
-/// offered to it again each second. Once memory was wanting, it takes no more records. It has no other output than the file and the
-/// log.
+/// offered to it again each second. Where the file is moved or removed, it goes on in a new one at its path. Once memory was wanting,
+/// it takes no more records. It has no other output than the file and the log.
 #[derive(Drop)]
 pub struct DetailKeeper<F: RecordFile, L: Log> {
     /// The subscriptions, from which the lines have their names and addresses.
@@ -39,12 +37,14 @@ pub struct DetailKeeper<F: RecordFile, L: Log> {
     log: OperatorLog<L>,
     /// From which second on the file is tried again, where its last write failed.
     retry_at: Option<u64>,
+    /// From which second on a new file is begun where the file was moved or removed, where the last could not be begun.
+    begin_at: Option<u64>,
     /// Whether memory was wanting.
     is_short: bool,
-    /// How many records were given to the writer of the file.
+    /// How many calls were given to the writer of the file.
     count: usize,
-    /// All records that it was given.
-    given: Past<Record>,
+    /// All calls that it was given.
+    given: Past<EndedCall>,
 }
 
 impl<F: RecordFile, L: Log> Model for DetailKeeper<F, L> {
@@ -60,26 +60,27 @@ impl<F: RecordFile, L: Log> Model for DetailKeeper<F, L> {
 }
 
 impl<F: RecordFile, L: Log> DetailKeeper<F, L> {
-    /// The keeper that writes to a file that has just been opened, for a run that began at `started`, in seconds since 1970.
+    /// The keeper that writes to a file that has just been opened, for this run.
     pub fn new(
         alloc: Global,
         file: F,
         subs: Subs,
-        started: u64,
+        run: ExchangeRun,
         clock: WallClock,
         log: OperatorLog<L>,
     ) -> DetailKeeper<F, L>
         requires taken { F.taken file ≡ [] }
         requires synced { F.synced file ≡ [] }
         requires failures { F.failures file ≡ 0 }
-        ensures { result ≡ first_keeping subs started }
+        ensures { result ≡ first_keeping subs run }
     {
         DetailKeeper {
-            writer: DetailWriter::new(alloc, file, &subs, started),
+            writer: DetailWriter::new(alloc, file, &subs, run),
             subs,
             clock,
             log,
             retry_at: None,
+            begin_at: None,
             is_short: false,
             count: 0,
             given: Past::new(),
@@ -94,22 +95,49 @@ impl<F: RecordFile, L: Log> DetailKeeper<F, L> {
         self.writer.unfinished_lines()
     }
 
-    /// Gives further records to the writer of the file, unless memory was wanting before.
-    fn give(&mut self, records: &[Record])
-        requires { All (HasLines (line_count self.old.subs)) records.now }
-        ensures given { self.new.given ≡ self.old.given ++ records.now }
+    /// Gives further calls to the writer of the file, unless memory was wanting before.
+    fn give(&mut self, calls: &[EndedCall])
+        requires { All (λ call. HasLines (line_count self.old.subs) call.charging) calls.now }
+        ensures given { self.new.given ≡ self.old.given ++ calls.now }
         ensures keeps { GoesOnAs self.old self.new }
     {
         let was_short = self.is_short;
-        self.is_short = give_more(was_short, &mut self.writer, &self.subs, records);
-        self.given.extend(records);
-        self.count = count_on(self.count, records, !self.is_short);
+        self.is_short = give_more(was_short, &mut self.writer, &self.subs, calls);
+        self.given.extend(calls);
+        self.count = count_on(self.count, calls, !self.is_short);
         if self.is_short && !was_short {
             let now = self.clock.now();
             self.log.error(
                 now,
                 "memory is wanting for call detail records: serving stops",
             );
+        }
+    }
+
+    /// Goes on in a new file where the file was moved or removed, and tells that, unless none could be begun within this second.
+    fn follow(&mut self)
+        ensures given { self.new.given ≡ self.old.given }
+        ensures keeps { GoesOnAs self.old self.new }
+    {
+        let now = self.clock.now();
+        if self.begin_at.is_some_and(|at| now < at) {
+            return;
+        }
+        match self.writer.follow() {
+            Ok(Place::Same) => self.begin_at = None,
+            Ok(Place::Begun) => {
+                self.begin_at = None;
+                self.log.warn(
+                    now,
+                    "cdr: the file was moved or removed: a new one is begun at its path",
+                );
+            }
+            Err(fault) => {
+                if self.begin_at.is_none() {
+                    self.log.error(now, format_args!("cdr: a new file can't be begun: {fault}"));
+                }
+                self.begin_at = Some(now.saturating_add(SECONDS_TO_RETRY));
+            }
         }
     }
 
@@ -141,17 +169,15 @@ impl<F: RecordFile, L: Log> DetailKeeper<F, L> {
         }
     }
 
-    /// Keeps the records that are left as the run ends, and offers once more what the file has not taken.
+    /// Offers once more what the file has not taken, as the run ends.
     ///
     /// # Errors
     ///
     /// `Memory`, or `Details` where the file failed and does not have all of them on the disk.
-    pub fn keep_rest(&mut self, rest: &[Record]) -> Result<(), KeepFault>
-        requires { All (HasLines (line_count self.old.subs)) rest.now }
-        ensures kept { AreKept self.new (self.old.given ++ rest.now) result }
+    fn keep_rest(&mut self) -> Result<(), KeepFault>
+        ensures kept { AreKept self.new self.old.given result }
         ensures keeps { GoesOnAs self.old self.new }
     {
-        self.give(rest);
         let is_on_disk = put_on_disk(&mut self.writer);
         if self.is_short {
             return Err(KeepFault::Memory);
@@ -174,21 +200,21 @@ impl<F: RecordFile, L: Log> DetailKeeper<F, L> {
     }
 }
 
-/// Gives further records to the writer of a file, unless memory was wanting before. Returns whether memory is wanting.
+/// Gives further calls to the writer of a file, unless memory was wanting before. Returns whether memory is wanting.
 fn give_more<F: RecordFile>(
     is_short: bool,
     writer: &mut DetailWriter<F>,
     subs: &Subs,
-    records: &[Record],
+    calls: &[EndedCall],
 ) -> bool
     requires subs { subs.now ≡ writer.old.subs }
-    requires lines { All (HasLines (line_count subs.now)) records.now }
-    ensures { Gives is_short writer.old records.now result writer.new }
+    requires lines { All (λ call. HasLines (line_count subs.now) call.charging) calls.now }
+    ensures { Gives is_short writer.old calls.now result writer.new }
 {
     if is_short {
         return true;
     }
-    writer.give(subs, records).is_err()
+    writer.give(subs, calls).is_err()
 }
 
 /// Puts what waits on the disk. Returns whether nothing waits any more.
@@ -204,67 +230,44 @@ fn put_on_disk<F: RecordFile>(writer: &mut DetailWriter<F>) -> bool
     }
 }
 
-impl<F: RecordFile, L: Log + Drop> RecordSink for DetailKeeper<F, L> {
+impl<F: RecordFile, L: Log + Drop> CallKeeper for DetailKeeper<F, L> {
     ghost use Rattle.std.specs.Prelude.{◌≡◌};
     ghost use Rattle.std.proofs.Common.{refl, ◌∙◌};
-    ghost use Rattle.xp_keeping.specs.Details.{GoesOnAs};
+    ghost use Rattle.xp_keeping.specs.Details.{AreKept, GoesOnAs, HasKept};
     ghost use Rattle.xp_subs.specs.Tables.{line_count};
 
-    ghost received = { λ k. k.given };
+    ghost given = { λ k. k.given };
 
     ghost lines = { λ k. line_count k.subs };
 
     ghost keeps = { GoesOnAs };
 
-    fn receive(&mut self, records: Vec<Record>) -> Received {
-        self.give(&records);
+    ghost kept = { AreKept };
+
+    ghost has_kept = { HasKept };
+
+    fn keep(&mut self, calls: Vec<EndedCall>) -> Received {
+        self.give(&calls);
+        self.follow();
         self.offer();
         self.flow()
     }
 
     fn tick(&mut self) -> Received {
+        self.follow();
         self.offer();
         self.flow()
     }
 
-    fn wants_look(&self) -> bool {
-        false
+    fn finish(&mut self) -> Result<(), KeepFault> {
+        self.keep_rest()
     }
-
-    fn see(&mut self, _view: ExchangeView) {}
-
-    ghost keeps_itself = { λ k. (refl, refl, refl) };
-
-    ghost keeps_on = { λ k l m first second. (second.0 ∙ first.0, second.1 ∙ first.1, second.2 ∙ first.2) };
-}
-
-impl<F: RecordFile, L: Log + Drop> RecordKeeper for DetailKeeper<F, L> {
-    ghost use Rattle.std.proofs.Common.{refl};
-    ghost use Rattle.xp_keeping.specs.Details.{AreKept};
-
-    ghost named_by = { λ k. k.subs };
-
-    ghost kept = { AreKept };
-
-    ghost has_lines = { λ k. refl };
-
-    ghost keeps_names = { λ k l same. same.0 };
-
-    fn waiting(&self) -> usize {
-        self.writer.waiting_records()
-    }
-
-    fn finish(&mut self, rest: &[Record]) -> Result<(), KeepFault> {
-        self.keep_rest(rest)
-    }
-}
-
-impl<F: RecordFile, L: Log + Drop> CountedKeeper for DetailKeeper<F, L> {
-    ghost use Rattle.xp_keeping.specs.Details.{HasKept};
-
-    ghost has_kept = { HasKept };
 
     fn count_kept(&self) -> usize {
         self.count.saturating_sub(self.writer.waiting_records())
     }
+
+    ghost keeps_itself = { λ k. (refl, refl, refl) };
+
+    ghost keeps_on = { λ k l m first second. (second.0 ∙ first.0, second.1 ∙ first.1, second.2 ∙ first.2) };
 }

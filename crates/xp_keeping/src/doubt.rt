@@ -13,12 +13,11 @@ use std::alloc::Global;
 use std::io::Write;
 use std::sync::Wait;
 use std::thread::Threads;
-use xp_cdr::RecordFile;
+use xp_cdr::{ExchangeRun, RecordFile};
 use xp_exchange::write_out;
 use xp_subs::Subs;
 
-/// Writes the call detail records of the records in doubt on the output, of a run that began at `started`, in seconds since 1970, and
-/// flushes the output. The thread of the keeper writes nothing there, also where it was given up and goes on.
+/// Writes the call detail records of the records in doubt on the output, of this run, and flushes the output. The thread of the keeper writes nothing there, also where it was given up and goes on.
 ///
 /// # Errors
 ///
@@ -26,14 +25,14 @@ use xp_subs::Subs;
 pub fn write_doubted<F: RecordFile, L: Log + Drop, R: Threads + Wait + Copy, W: Write>(
     alloc: Global,
     subs: &Subs,
-    started: u64,
+    run: &ExchangeRun,
     keeper: &QueuedKeeper<DetailKeeper<F, L>, R>,
     output: &mut W,
 ) -> Result<(), KeepFault>
-    requires { IfSome keeper.now.last (IsToldBy subs.now started) }
-    ensures { WritesDoubted subs.now started keeper.now (W.contents output.old) (W.contents output.new) result }
+    requires { IfSome keeper.now.last (IsToldBy subs.now run.now) }
+    ensures { WritesDoubted subs.now run.now keeper.now (W.contents output.old) (W.contents output.new) result }
 {
-    match write_unflushed(alloc, subs, started, keeper, output) {
+    match write_unflushed(alloc, subs, run, keeper, output) {
         Ok(()) => flush(output),
         Err(fault) => Err(fault),
     }
@@ -43,16 +42,16 @@ pub fn write_doubted<F: RecordFile, L: Log + Drop, R: Threads + Wait + Copy, W: 
 fn write_unflushed<F: RecordFile, L: Log + Drop, R: Threads + Wait + Copy, W: Write>(
     alloc: Global,
     subs: &Subs,
-    started: u64,
+    run: &ExchangeRun,
     keeper: &QueuedKeeper<DetailKeeper<F, L>, R>,
     output: &mut W,
 ) -> Result<(), KeepFault>
-    requires { IfSome keeper.now.last (IsToldBy subs.now started) }
-    ensures { WritesDoubted subs.now started keeper.now (W.contents output.old) (W.contents output.new) result }
+    requires { IfSome keeper.now.last (IsToldBy subs.now run.now) }
+    ensures { WritesDoubted subs.now run.now keeper.now (W.contents output.old) (W.contents output.new) result }
 {
     match keeper.last() {
         Some(last) => write_lines(last.unfinished_lines(), output),
-        None => write_left(alloc, subs, started, keeper.left(), output),
+        None => write_left(alloc, subs, run, keeper.left(), output),
     }
 }
 

@@ -12,12 +12,11 @@ use crate::record_thread::has_lines;
 use std::alloc::Global;
 use std::collections::VecDeque;
 use std::io::Write;
-use xp_cdr::write_detail;
-use xp_charge::Record;
+use xp_cdr::{EndedCall, ExchangeRun, write_detail};
 use xp_exchange::write_out;
 use xp_subs::Subs;
 
-/// Writes the call detail records of these records, in order, of a run that began at `started`, in seconds since 1970.
+/// Writes the call detail records of these calls, in order, of this run.
 ///
 /// # Errors
 ///
@@ -25,65 +24,65 @@ use xp_subs::Subs;
 pub(crate) fn write_left<W: Write>(
     alloc: Global,
     subs: &Subs,
-    started: u64,
-    left: &VecDeque<Record>,
+    run: &ExchangeRun,
+    left: &VecDeque<EndedCall>,
     output: &mut W,
 ) -> Result<(), KeepFault>
-    ensures { Prints (W.contents output.old) (W.contents output.new) (flat_map (detail_text subs.now started) left.now.items) result }
+    ensures { Prints (W.contents output.old) (W.contents output.new) (flat_map (detail_text subs.now run.now) left.now.items) result }
 {
     let (first, second) = left.as_slices();
-    let so_far = write_slice(alloc, subs, started, first, output);
-    write_on(so_far, alloc, subs, started, second, output)
+    let so_far = write_slice(alloc, subs, run, first, output);
+    write_on(so_far, alloc, subs, run, second, output)
 }
 
-/// Writes the call detail records of these records, unless there was a fault before.
+/// Writes the call detail records of these calls, unless there was a fault before.
 fn write_on<W: Write>(
     before: Result<(), KeepFault>,
     alloc: Global,
     subs: &Subs,
-    started: u64,
-    left: &[Record],
+    run: &ExchangeRun,
+    left: &[EndedCall],
     output: &mut W,
 ) -> Result<(), KeepFault>
-    ensures { PrintsOn before (W.contents output.old) (W.contents output.new) (flat_map (detail_text subs.now started) left.now) result }
+    ensures { PrintsOn before (W.contents output.old) (W.contents output.new) (flat_map (detail_text subs.now run.now) left.now) result }
 {
     match before {
-        Ok(()) => write_slice(alloc, subs, started, left, output),
+        Ok(()) => write_slice(alloc, subs, run, left, output),
         Err(fault) => Err(fault),
     }
 }
 
-/// Writes the call detail records of these records.
+/// Writes the call detail records of these calls.
 fn write_slice<W: Write>(
     alloc: Global,
     subs: &Subs,
-    started: u64,
-    left: &[Record],
+    run: &ExchangeRun,
+    left: &[EndedCall],
     output: &mut W,
 ) -> Result<(), KeepFault>
-    ensures { Prints (W.contents output.old) (W.contents output.new) (flat_map (detail_text subs.now started) left.now) result }
+    ensures { Prints (W.contents output.old) (W.contents output.new) (flat_map (detail_text subs.now run.now) left.now) result }
 {
-    for ended in left {
-        write_one(alloc, subs, started, ended, output)?;
+    for call in left {
+        write_one(alloc, subs, run, call, output)?;
     }
     Ok(())
 }
 
-/// Writes the call detail record of this record.
+/// Writes the call detail record of this call.
 fn write_one<W: Write>(
     alloc: Global,
     subs: &Subs,
-    started: u64,
-    ended: &Record,
+    run: &ExchangeRun,
+    call: &EndedCall,
     output: &mut W,
 ) -> Result<(), KeepFault>
-    ensures { Prints (W.contents output.old) (W.contents output.new) (detail_text subs.now started ended.now) result }
+    ensures { Prints (W.contents output.old) (W.contents output.new) (detail_text subs.now run.now call.now) result }
 {
-    if !has_lines(subs.counts().lines, ended) {
+    if !has_lines(subs.counts().lines, &call.charging) {
         return Err(KeepFault::Details);
     }
     let mut text = Vec::new(alloc);
-    write_detail(alloc, subs, started, ended, &mut text)?;
+    write_detail(alloc, subs, run, call, &mut text)?;
     match write_out(output, &text) {
         Ok(()) => Ok(()),
         Err(_) => Err(KeepFault::Output),

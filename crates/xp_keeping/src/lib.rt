@@ -1,6 +1,7 @@
 //! Keeping the charging records of a run: in a file of call detail records, or printed, on a thread of its own.
 #![tactic(auto)]
 
+mod call_keeper;
 mod details;
 mod doubt;
 mod keep_fault;
@@ -15,10 +16,11 @@ mod record_thread;
 mod signal;
 mod starting;
 
+pub use call_keeper::CallKeeper;
 pub use details::DetailKeeper;
 pub use doubt::write_doubted;
 pub use keep_fault::KeepFault;
-pub use keeping::{CountedKeeper, RecordKeeper};
+pub use keeping::RecordKeeper;
 pub use operator_log::OperatorLog;
 pub use output::{PatientOutput, StandardOutput};
 pub use printing::RecordPrinter;

@@ -3,22 +3,22 @@
 ghost use Rattle.std.specs.Prelude.{◌≡◌, ◌++◌, [], All, Ok, flat_map};
 ghost use Rattle.xp_charge.specs.Lines.{HasLines};
 ghost use Rattle.xp_charge.specs.Text.{record_text};
-ghost use Rattle.xp_keeping.specs.Printing.{IsPrinted, Prints};
+ghost use Rattle.xp_keeping.specs.Printing.{IsPrinted, Prints, printed_text};
 ghost use Rattle.xp_keeping.specs.steps.Printing.{PrintsOn};
 ghost use Rattle.xp_subs.specs.Tables.{line_count};
 
+use crate::call_keeper::{CallKeeper, count_on};
 use crate::keep_fault::KeepFault;
-use crate::keeping::{CountedKeeper, RecordKeeper, count_on};
 use std::alloc::Global;
 use std::io::Write;
 use std::marker::Model;
 use std::snapshot::Snapshot;
+use xp_cdr::EndedCall;
 use xp_charge::Record;
 use xp_exchange::write_out;
-use xp_lines::{Received, RecordSink};
 use xp_past::Past;
+use xp_sink::Received;
 use xp_subs::Subs;
-use xp_view::ExchangeView;
 
 /// Writes charging records, each as one line. Once memory was wanting or the writer failed, it writes nothing more.
 #[derive(Drop)]
@@ -34,8 +34,8 @@ pub struct RecordPrinter<W: Write> {
     count: usize,
     /// The writer as it was given.
     first: Snapshot<W>,
-    /// All records that it was given.
-    given: Past<Record>,
+    /// All calls that it was given.
+    given: Past<EndedCall>,
 }
 
 impl<W: Write> Model for RecordPrinter<W> {
@@ -64,22 +64,22 @@ impl<W: Write> RecordPrinter<W> {
         }
     }
 
-    /// Writes further records, and flushes the writer.
-    pub fn print(&mut self, records: &[Record])
-        requires { All (HasLines (line_count self.old.subs)) records.now }
-        ensures given { self.new.given ≡ self.old.given ++ records.now }
+    /// Writes the records of further calls, and flushes the writer.
+    pub fn print(&mut self, calls: &[EndedCall])
+        requires { All (λ call. HasLines (line_count self.old.subs) call.charging) calls.now }
+        ensures given { self.new.given ≡ self.old.given ++ calls.now }
         ensures subs { self.new.subs ≡ self.old.subs }
         ensures before { self.new.before ≡ self.old.before }
     {
         self.outcome = print_more(
             self.outcome,
             &self.subs,
-            records,
+            calls,
             &mut self.text,
             &mut self.writer,
         );
-        self.given.extend(records);
-        self.count = count_on(self.count, records, self.outcome.is_ok());
+        self.given.extend(calls);
+        self.count = count_on(self.count, calls, self.outcome.is_ok());
     }
 
     /// Returns what came of all records: their text was written, or a front of it.
@@ -111,19 +111,24 @@ impl<W: Write> RecordPrinter<W> {
     }
 }
 
-impl<W: Write + Drop> RecordSink for RecordPrinter<W> {
-    ghost use Rattle.std.specs.Prelude.{◌≡◌};
+impl<W: Write + Drop> CallKeeper for RecordPrinter<W> {
+    ghost use Rattle.std.specs.Prelude.{◌≡◌, flat_map};
     ghost use Rattle.std.proofs.Common.{refl, ◌∙◌};
+    ghost use Rattle.xp_keeping.specs.Printing.{HasPrinted, Prints, printed_text};
     ghost use Rattle.xp_subs.specs.Tables.{line_count};
 
-    ghost received = { λ p. p.given };
+    ghost given = { λ p. p.given };
 
     ghost lines = { λ p. line_count p.subs };
 
     ghost keeps = { λ p q. (q.subs ≡ p.subs) × (q.before ≡ p.before) };
 
-    fn receive(&mut self, records: Vec<Record>) -> Received {
-        self.print(&records);
+    ghost kept = { λ p calls result. Prints p.before p.contents (flat_map (printed_text p.subs) calls) result };
+
+    ghost has_kept = { HasPrinted };
+
+    fn keep(&mut self, calls: Vec<EndedCall>) -> Received {
+        self.print(&calls);
         match self.outcome() {
             Ok(()) => Received::GoesOn,
             Err(_) => Received::Stops,
@@ -134,84 +139,52 @@ impl<W: Write + Drop> RecordSink for RecordPrinter<W> {
         Received::GoesOn
     }
 
-    fn wants_look(&self) -> bool {
-        false
+    fn finish(&mut self) -> Result<(), KeepFault> {
+        self.outcome()
     }
 
-    fn see(&mut self, _view: ExchangeView) {}
+    fn count_kept(&self) -> usize {
+        self.count
+    }
 
     ghost keeps_itself = { λ p. (refl, refl) };
 
     ghost keeps_on = { λ p q r first second. (second.0 ∙ first.0, second.1 ∙ first.1) };
 }
 
-impl<W: Write + Drop> RecordKeeper for RecordPrinter<W> {
-    ghost use Rattle.std.specs.Prelude.{flat_map};
-    ghost use Rattle.std.proofs.Common.{refl};
-    ghost use Rattle.xp_charge.specs.Text.{record_text};
-    ghost use Rattle.xp_keeping.specs.Printing.{Prints};
-
-    ghost named_by = { λ p. p.subs };
-
-    ghost kept = { λ p records result. Prints p.before p.contents (flat_map (record_text p.subs) records) result };
-
-    ghost has_lines = { λ p. refl };
-
-    ghost keeps_names = { λ p q same. same.0 };
-
-    fn waiting(&self) -> usize {
-        0
-    }
-
-    fn finish(&mut self, rest: &[Record]) -> Result<(), KeepFault> {
-        self.print(rest);
-        self.outcome()
-    }
-}
-
-impl<W: Write + Drop> CountedKeeper for RecordPrinter<W> {
-    ghost use Rattle.xp_keeping.specs.Printing.{HasPrinted};
-
-    ghost has_kept = { HasPrinted };
-
-    fn count_kept(&self) -> usize {
-        self.count
-    }
-}
-
-/// Writes the lines of further records, unless there was a fault before.
+/// Writes the lines of further calls, unless there was a fault before.
 fn print_more<W: Write>(
     before: Result<(), KeepFault>,
     subs: &Subs,
-    records: &[Record],
+    calls: &[EndedCall],
     text: &mut Vec<u8>,
     writer: &mut W,
 ) -> Result<(), KeepFault>
-    requires { All (HasLines (line_count subs.now)) records.now }
-    ensures { PrintsOn before (W.contents writer.old) (W.contents writer.new) (flat_map (record_text subs.now) records.now) result }
+    requires { All (λ call. HasLines (line_count subs.now) call.charging) calls.now }
+    ensures { PrintsOn before (W.contents writer.old) (W.contents writer.new) (flat_map (printed_text subs.now) calls.now) result }
 {
     match before {
-        Ok(()) => print_records(subs, records, text, writer),
+        Ok(()) => print_records(subs, calls, text, writer),
         Err(fault) => Err(fault),
     }
 }
 
-/// Writes the lines of charging records, in order, and flushes the writer.
+/// Writes the lines of the charging records of calls, in order, and flushes the writer.
 ///
 /// # Errors
 ///
 /// `Memory`, `Output`. Then a front of them is written.
 fn print_records<W: Write>(
     subs: &Subs,
-    records: &[Record],
+    calls: &[EndedCall],
     text: &mut Vec<u8>,
     writer: &mut W,
 ) -> Result<(), KeepFault>
-    requires lines { All (HasLines (line_count subs.now)) records.now }
-    ensures { Prints (W.contents writer.old) (W.contents writer.new) (flat_map (record_text subs.now) records.now) result }
+    requires lines { All (λ call. HasLines (line_count subs.now) call.charging) calls.now }
+    ensures { Prints (W.contents writer.old) (W.contents writer.new) (flat_map (printed_text subs.now) calls.now) result }
 {
-    for ended in records {
-        print_record(subs, ended, text, writer)?;
+    for call in calls {
+        print_record(subs, &call.charging, text, writer)?;
     }
     match writer.flush() {
         Ok(()) => Ok(()),

@@ -1,13 +1,15 @@
 //! Keeping charging records on a thread of its own.
 
-ghost use Rattle.std.specs.Prelude.{◌≡◌, ◌↔◌, ◌++◌, ◌∷◌, [], IfOk, None, option_copied, true};
+ghost use Rattle.std.specs.Prelude.{◌≡◌, ◌↔◌, ◌++◌, ◌∷◌, [], IfOk, None, map, option_copied, true};
+ghost use Rattle.xp_cdr.specs.Ended.{ended_as};
 ghost use Rattle.xp_keeping.specs.Queued.{AreKeptBeside, KeepsBeside, first_queued};
 ghost use Rattle.xp_keeping.specs.steps.Queued.{Adds, GoesOnBeside};
 ghost use Rattle.xp_keeping.specs.steps.Thread.{IsGivenBack};
 ghost use Rattle.xp_subs.specs.Tables.{line_count};
 
+use crate::call_keeper::CallKeeper;
 use crate::keep_fault::KeepFault;
-use crate::keeping::{CountedKeeper, RecordKeeper};
+use crate::keeping::RecordKeeper;
 use crate::record_queue::RecordQueue;
 use crate::record_thread::{GivesBack, ThreadEnd, keep_records};
 use crate::signal::KeepingSignal;
@@ -18,9 +20,10 @@ use std::snapshot::Snapshot;
 use std::sync::{Arc, Wait};
 use std::thread;
 use std::thread::{PromisedHandle, Threads};
+use xp_cdr::{EndedBy, EndedCall};
 use xp_charge::Record;
-use xp_lines::{Received, RecordSink};
 use xp_past::Past;
+use xp_sink::{Received, RecordSink};
 use xp_subs::Subs;
 use xp_view::ExchangeView;
 
@@ -34,7 +37,7 @@ const MOST_LOOKS: usize = 1_000;
 /// Hands charging records to a keeper on a thread of its own, so that nothing waits for it: neither for a file that takes nothing,
 /// nor for an output that nobody reads. A copy of each record stays here until the keeper has kept it.
 #[derive(Drop)]
-pub struct QueuedKeeper<K: RecordKeeper, R: Threads + Wait> {
+pub struct QueuedKeeper<K: CallKeeper, R: Threads + Wait> {
     rt: R,
     /// The subscriptions, by which the records name lines.
     subs: Snapshot<Subs>,
@@ -48,26 +51,25 @@ pub struct QueuedKeeper<K: RecordKeeper, R: Threads + Wait> {
     fault: KeepFault,
     /// Whether memory was wanting for a record.
     is_short: bool,
+    /// By what the calls end whose records are received.
+    ended_by: EndedBy,
     first: Snapshot<K>,
-    given: Past<Record>,
+    given: Past<EndedCall>,
 }
 
-impl<K: RecordKeeper, R: Threads + Wait> Model for QueuedKeeper<K, R> {
+impl<K: CallKeeper, R: Threads + Wait> Model for QueuedKeeper<K, R> {
     ghost use Rattle.std.specs.Prelude.{◌≡◌, IfSome};
     ghost use Rattle.xp_keeping.specs.Queued.{Queued};
     ghost use Rattle.xp_keeping.specs.steps.Queued.{IsHandedOn};
 
     ghost Value = { Queued K };
 
-    ghost view = { λ k. record { subs = k.subs.value; given = k.given.items; is_short = k.is_short; first = k.first.value; last = k.last; left = k.queue.left; fault = k.fault } };
+    ghost view = { λ k. record { subs = k.subs.value; given = k.given.items; ended_by = k.ended_by; is_short = k.is_short; first = k.first.value; last = k.last; left = k.queue.left; fault = k.fault } };
 
     ghost invariant = { λ k. IsHandedOn k.queue.all k.given.items k.is_short × IfSome k.thread (λ handle. (handle.promise.first.value ≡ k.first.value) × (handle.promise.records.value.queue ≡ k.queue.queue)) };
 }
 
-impl<K: CountedKeeper + Send + 'static, R: Threads + Wait + Copy + Send + 'static> QueuedKeeper<
-    K,
-    R,
-> {
+impl<K: CallKeeper + Send + 'static, R: Threads + Wait + Copy + Send + 'static> QueuedKeeper<K, R> {
     /// Starts the thread of a keeper that was given no record yet. Where it does not end in time, `fault` is told.
     ///
     /// # Errors
@@ -81,7 +83,7 @@ impl<K: CountedKeeper + Send + 'static, R: Threads + Wait + Copy + Send + 'stati
         fault: KeepFault,
     ) -> Result<QueuedKeeper<K, R>, AllocError>
         requires lines { K.lines keeper ≡ line_count subs.now }
-        requires received { K.received keeper ≡ [] }
+        requires received { K.given keeper ≡ [] }
         ensures { IfOk result (λ queued. queued ≡ first_queued subs.now keeper fault) }
     {
         let (queue, records) = RecordQueue::new(alloc)?;
@@ -95,7 +97,7 @@ impl<K: CountedKeeper + Send + 'static, R: Threads + Wait + Copy + Send + 'stati
         };
         let run = move || -> ThreadEnd<K>
             requires lines { K.lines keeper ≡ lines }
-            requires received { K.received keeper ≡ [] }
+            requires received { K.given keeper ≡ [] }
             requires taken { records.taken ≡ [] }
             ensures { IsGivenBack K.kept K.keeps keeper records.queue result.keeper result.records result.outcome }
         { keep_records(&rt, alloc, lines, keeper, records, &theirs) };
@@ -109,15 +111,16 @@ impl<K: CountedKeeper + Send + 'static, R: Threads + Wait + Copy + Send + 'stati
             last: None,
             fault,
             is_short: false,
+            ended_by: EndedBy::Call,
             first,
             given: Past::new(),
         })
     }
 }
 
-impl<K: RecordKeeper, R: Threads + Wait + Copy> QueuedKeeper<K, R> {
+impl<K: CallKeeper, R: Threads + Wait + Copy> QueuedKeeper<K, R> {
     /// The records that the thread has not told as kept, the last of all. Where it was given up, nobody knows whether they are kept.
-    pub fn left(&self) -> &VecDeque<Record>
+    pub fn left(&self) -> &VecDeque<EndedCall>
         ensures { result.now.items ≡ self.now.left }
     {
         self.queue.left()
@@ -139,7 +142,7 @@ impl<K: RecordKeeper, R: Threads + Wait + Copy> QueuedKeeper<K, R> {
 
     /// Hands over these records, unless memory was wanting before.
     fn hand_over(&mut self, records: &[Record])
-        ensures given { self.new.given ≡ self.old.given ++ records.now }
+        ensures given { self.new.given ≡ self.old.given ++ map (ended_as self.old.ended_by) records.now }
         ensures goes_on { GoesOnBeside self.old self.new }
     {
         for ended in records {
@@ -149,11 +152,15 @@ impl<K: RecordKeeper, R: Threads + Wait + Copy> QueuedKeeper<K, R> {
 
     /// Hands over this record, unless memory was wanting before.
     fn hand_over_one(&mut self, ended: &Record)
-        ensures given { self.new.given ≡ self.old.given ++ ended.now ∷ [] }
+        ensures given { self.new.given ≡ self.old.given ++ ended_as self.old.ended_by ended.now ∷ [] }
         ensures goes_on { GoesOnBeside self.old self.new }
     {
-        self.is_short = add(self.is_short, &mut self.queue, ended.copy());
-        self.given.push(ended);
+        let call = EndedCall {
+            charging: ended.copy(),
+            ended_by: self.ended_by,
+        };
+        self.given.push(&call);
+        self.is_short = add(self.is_short, &mut self.queue, call);
     }
 
     /// Puts into the queue what it has room for, lets go what is kept, and tells whether serving is to go on.
@@ -247,24 +254,26 @@ impl<K: RecordKeeper, R: Threads + Wait + Copy> QueuedKeeper<K, R> {
 }
 
 /// Adds a record to the queue, unless memory was wanting before. Returns whether memory is wanting.
-fn add(is_short: bool, queue: &mut RecordQueue, ended: Record) -> bool
+fn add(is_short: bool, queue: &mut RecordQueue, ended: EndedCall) -> bool
     ensures { Adds is_short queue.old ended result queue.new }
 {
     is_short || queue.add(ended).is_err()
 }
 
-impl<K: RecordKeeper, R: Threads + Wait + Copy + Drop> RecordSink for QueuedKeeper<K, R> {
+impl<K: CallKeeper, R: Threads + Wait + Copy + Drop> RecordSink for QueuedKeeper<K, R> {
     ghost use Rattle.std.specs.Prelude.{◌≡◌};
     ghost use Rattle.std.proofs.Common.{refl, ◌∙◌};
+    ghost use Rattle.xp_cdr.specs.Ended.{charging_records};
     ghost use Rattle.xp_keeping.specs.Queued.{KeepsBeside};
     ghost use Rattle.xp_subs.specs.Tables.{line_count};
 
-    ghost received = { λ k. k.given };
+    ghost received = { λ k. charging_records k.given };
 
     ghost lines = { λ k. line_count k.subs };
 
     ghost keeps = { KeepsBeside };
 
+    #[tactic(auto, using(crate::proofs::EndedLemmas::records_more))]
     fn receive(&mut self, records: Vec<Record>) -> Received {
         self.hand_over(&records);
         self.pass_on()
@@ -285,24 +294,33 @@ impl<K: RecordKeeper, R: Threads + Wait + Copy + Drop> RecordSink for QueuedKeep
     ghost keeps_on = { λ k l m first second. (second.0 ∙ first.0, second.1 ∙ first.1, second.2 ∙ first.2) };
 }
 
-impl<K: RecordKeeper, R: Threads + Wait + Copy + Drop> RecordKeeper for QueuedKeeper<K, R> {
+impl<K: CallKeeper, R: Threads + Wait + Copy + Drop> RecordKeeper for QueuedKeeper<K, R> {
     ghost use Rattle.std.proofs.Common.{refl};
     ghost use Rattle.xp_keeping.specs.Queued.{AreKeptBeside};
 
     ghost named_by = { λ k. k.subs };
 
-    ghost kept = { λ k records result. AreKeptBeside K.kept K.keeps k records result };
+    ghost calls = { λ k. k.given };
+
+    ghost kept = { λ k calls result. AreKeptBeside K.kept K.keeps k calls result };
 
     ghost has_lines = { λ k. refl };
 
     ghost keeps_names = { λ k l same. same.0 };
 
+    ghost are_received = { λ k. refl };
+
     fn waiting(&self) -> usize {
         self.queue.count()
     }
 
+    fn stop(&mut self) {
+        self.ended_by = EndedBy::Stop;
+    }
+
     fn finish(&mut self, rest: &[Record]) -> Result<(), KeepFault> {
         self.last = None;
+        self.ended_by = EndedBy::Stop;
         self.hand_over(rest);
         if self.has_ended() {
             self.end()

@@ -9,7 +9,7 @@ use std::alloc::{AllocError, Global};
 use std::collections::VecDeque;
 use std::marker::Model;
 use std::sync::Wait;
-use xp_charge::Record;
+use xp_cdr::EndedCall;
 use xp_outbox::{PutEnd, TakeEnd, count_untaken, outbox};
 use xp_past::Past;
 
@@ -21,14 +21,14 @@ const ROOM: usize = 1_024;
 /// here.
 #[derive(Drop)]
 pub(crate) struct RecordQueue {
-    put: PutEnd<Record, Global>,
+    put: PutEnd<EndedCall, Global>,
     /// The last of the records, in order: those that are not known to be kept.
-    left: VecDeque<Record>,
+    left: VecDeque<EndedCall>,
     /// How many of them were put into the queue.
     sent: usize,
     /// How many records before them are kept.
     kept: usize,
-    gone: Past<Record>,
+    gone: Past<EndedCall>,
 }
 
 impl Model for RecordQueue {
@@ -48,7 +48,9 @@ impl RecordQueue {
     /// # Errors
     ///
     /// `AllocError` if an allocation fails.
-    pub(crate) fn new(alloc: Global) -> Result<(RecordQueue, TakeEnd<Record, Global>), AllocError>
+    pub(crate) fn new(
+        alloc: Global,
+    ) -> Result<(RecordQueue, TakeEnd<EndedCall, Global>), AllocError>
         ensures one { IfOk result (λ ends. ends.0.queue ≡ ends.1.queue) }
         ensures empty { IfOk result (λ ends. (ends.0.all ≡ []) × (ends.0.left ≡ []) × (ends.1.taken ≡ [])) }
     {
@@ -68,7 +70,7 @@ impl RecordQueue {
     /// # Errors
     ///
     /// Memory is wanting. Then nothing has changed.
-    pub(crate) fn add(&mut self, ended: Record) -> Result<(), AllocError>
+    pub(crate) fn add(&mut self, ended: EndedCall) -> Result<(), AllocError>
         ensures queue { self.new.queue ≡ self.old.queue }
         ensures ok { OnOk result (self.new.all ≡ self.old.all ++ ended ∷ []) }
         ensures err { OnErr result (self.new.all ≡ self.old.all) }
@@ -138,7 +140,7 @@ impl RecordQueue {
     }
 
     /// The records that are not known to be kept: the last of all.
-    pub(crate) fn left(&self) -> &VecDeque<Record>
+    pub(crate) fn left(&self) -> &VecDeque<EndedCall>
         ensures left { result.now.items ≡ self.now.left }
         ensures last { IsLastOf self.now.left self.now.all }
     {
@@ -156,7 +158,7 @@ impl RecordQueue {
     }
 
     /// Whether the other end has taken all records. It is then given back with the queue.
-    pub(crate) fn has_all<R: Wait>(&mut self, rt: &R, taken: TakeEnd<Record, Global>) -> bool
+    pub(crate) fn has_all<R: Wait>(&mut self, rt: &R, taken: TakeEnd<EndedCall, Global>) -> bool
         requires { taken.queue ≡ self.old.queue }
         ensures stays { StaysWith self.old self.new }
         ensures all { result ≡ true → taken.taken ≡ self.old.all }

@@ -4,40 +4,41 @@ ghost use Rattle.std.specs.Prelude.{◌≡◌, ◌≤◌, ◌++◌, [], All, IfO
 ghost use Rattle.xp_charge.specs.Lines.{HasLines};
 ghost use Rattle.xp_keeping.specs.steps.Thread.{IsGivenBack};
 
+use crate::call_keeper::CallKeeper;
 use crate::keep_fault::KeepFault;
-use crate::keeping::{CountedKeeper, RecordKeeper};
 use crate::signal::KeepingSignal;
 use std::alloc::Global;
 use std::snapshot::Snapshot;
 use std::sync::Wait;
 use std::thread::Promise;
+use xp_cdr::EndedCall;
 use xp_charge::Record;
-use xp_lines::Received;
 use xp_outbox::TakeEnd;
+use xp_sink::Received;
 
 /// How many records are given to the keeper at a time, at most.
 const MOST_AT_ONCE: usize = 256;
 
 /// What the thread gives back as it ends.
 #[derive(Drop)]
-pub(crate) struct ThreadEnd<K: RecordKeeper> {
+pub(crate) struct ThreadEnd<K: CallKeeper> {
     pub(crate) keeper: K,
     /// The end of the queue from which it took the records.
-    pub(crate) records: TakeEnd<Record, Global>,
+    pub(crate) records: TakeEnd<EndedCall, Global>,
     /// What came of keeping them. `None` where one of them named a line that there is not.
     pub(crate) outcome: Option<Result<(), KeepFault>>,
 }
 
 /// The promise of a thread that it gives the keeper back, which has kept all that the thread took from the queue.
 #[derive(Drop)]
-pub(crate) struct GivesBack<K: RecordKeeper> {
+pub(crate) struct GivesBack<K: CallKeeper> {
     /// The keeper that the thread began with.
     pub(crate) first: Snapshot<K>,
     /// The end of the queue, before anything was taken.
-    pub(crate) records: Snapshot<TakeEnd<Record, Global>>,
+    pub(crate) records: Snapshot<TakeEnd<EndedCall, Global>>,
 }
 
-impl<K: RecordKeeper> Promise<ThreadEnd<K>> for GivesBack<K> {
+impl<K: CallKeeper> Promise<ThreadEnd<K>> for GivesBack<K> {
     ghost use Rattle.xp_keeping.specs.steps.Thread.{IsGivenBack};
 
     ghost kept_by = { λ promise end. IsGivenBack K.kept K.keeps promise.first.value promise.records.value.queue end.keeper end.records end.outcome };
@@ -56,16 +57,16 @@ struct Look {
 }
 
 /// Gives the records that come through the queue to the keeper, until no further one is handed over, and lets it finish.
-pub(crate) fn keep_records<K: CountedKeeper, R: Wait>(
+pub(crate) fn keep_records<K: CallKeeper, R: Wait>(
     rt: &R,
     alloc: Global,
     lines: usize,
     keeper: K,
-    records: TakeEnd<Record, Global>,
+    records: TakeEnd<EndedCall, Global>,
     signal: &KeepingSignal,
 ) -> ThreadEnd<K>
     requires lines { K.lines keeper ≡ lines }
-    requires received { K.received keeper ≡ [] }
+    requires received { K.given keeper ≡ [] }
     requires taken { records.taken ≡ [] }
     ensures { IsGivenBack K.kept K.keeps keeper records.queue result.keeper result.records result.outcome }
 {
@@ -93,17 +94,17 @@ pub(crate) fn keep_records<K: CountedKeeper, R: Wait>(
 }
 
 /// Lets the keeper finish.
-fn finish<K: RecordKeeper>(
+fn finish<K: CallKeeper>(
     keeper: K,
-    records: TakeEnd<Record, Global>,
+    records: TakeEnd<EndedCall, Global>,
     signal: &KeepingSignal,
 ) -> ThreadEnd<K>
-    requires { K.received keeper ≡ records.taken }
+    requires { K.given keeper ≡ records.taken }
     ensures queue { result.records ≡ records }
     ensures kept { IsGivenBack K.kept K.keeps keeper records.queue result.keeper result.records result.outcome }
 {
     let mut keeper = keeper;
-    let outcome = Some(keeper.finish(&[]));
+    let outcome = Some(keeper.finish());
     signal.tell_end();
     ThreadEnd {
         keeper,
@@ -113,7 +114,7 @@ fn finish<K: RecordKeeper>(
 }
 
 /// Tells how many records are kept, and whether the keeper asks for a stop.
-fn tell<K: CountedKeeper>(signal: &KeepingSignal, keeper: &K, received: Received) {
+fn tell<K: CallKeeper>(signal: &KeepingSignal, keeper: &K, received: Received) {
     signal.tell_kept(keeper);
     match received {
         Received::GoesOn => {}
@@ -127,18 +128,18 @@ fn tell<K: CountedKeeper>(signal: &KeepingSignal, keeper: &K, received: Received
 /// # Errors
 ///
 /// A record names a line that there is not. It and those taken with it are then lost.
-fn keep_some<K: RecordKeeper, R: Wait>(
+fn keep_some<K: CallKeeper, R: Wait>(
     rt: &R,
     alloc: Global,
     lines: usize,
     keeper: &mut K,
-    records: &mut TakeEnd<Record, Global>,
+    records: &mut TakeEnd<EndedCall, Global>,
 ) -> Result<Look, NoSuchLine>
     requires lines { K.lines keeper.old ≡ lines }
     ensures lines { K.lines keeper.new ≡ lines }
     ensures keeps { K.keeps keeper.old keeper.new }
     ensures queue { records.new.queue ≡ records.old.queue }
-    ensures received { OnOk result (K.received keeper.old ≡ records.old.taken → K.received keeper.new ≡ records.new.taken) }
+    ensures received { OnOk result (K.given keeper.old ≡ records.old.taken → K.given keeper.new ≡ records.new.taken) }
 {
     let Ok(room) = Vec::with_capacity(alloc, MOST_AT_ONCE) else {
         let received = keeper.tick();
@@ -149,7 +150,7 @@ fn keep_some<K: RecordKeeper, R: Wait>(
     let received = if count == 0 {
         keeper.tick()
     } else {
-        keeper.receive(batch)
+        keeper.keep(batch)
     };
     Ok(Look { count, received })
 }
@@ -162,21 +163,21 @@ fn keep_some<K: RecordKeeper, R: Wait>(
 fn take_batch<R: Wait>(
     rt: &R,
     lines: usize,
-    records: &mut TakeEnd<Record, Global>,
-    room: Vec<Record>,
-) -> Result<Vec<Record>, NoSuchLine>
+    records: &mut TakeEnd<EndedCall, Global>,
+    room: Vec<EndedCall>,
+) -> Result<Vec<EndedCall>, NoSuchLine>
     requires none { room.items ≡ [] }
     requires room { 256 ≤ vec_capacity room }
     ensures queue { records.new.queue ≡ records.old.queue }
     ensures taken { IfOk result (λ batch. records.new.taken ≡ records.old.taken ++ batch.items) }
-    ensures lines { IfOk result (λ batch. All (HasLines lines) batch.items) }
+    ensures lines { IfOk result (λ batch. All (λ call. HasLines lines call.charging) batch.items) }
 {
     let mut batch = room;
     for _place in 0..MOST_AT_ONCE {
         let Some(ended) = records.take(rt) else {
             break;
         };
-        if !has_lines(lines, &ended) {
+        if !has_lines(lines, &ended.charging) {
             return Err(NoSuchLine);
         }
         batch.push_reserved(ended);

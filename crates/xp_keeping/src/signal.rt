@@ -1,6 +1,6 @@
 //! What the thread that keeps charging records and the thread that hands them to it tell each other.
 
-use crate::keeping::CountedKeeper;
+use crate::call_keeper::CallKeeper;
 use std::sync::Wait;
 use std::sync::atomic::Ordering::SeqCst;
 use std::sync::atomic::{AtomicBool, AtomicUsize};
@@ -60,7 +60,7 @@ impl KeepingSignal {
     }
 
     /// Tells how many records this keeper has kept.
-    pub(crate) fn tell_kept<K: CountedKeeper>(&self, keeper: &K) {
+    pub(crate) fn tell_kept<K: CallKeeper>(&self, keeper: &K) {
         self.kept.store(keeper.count_kept(), SeqCst);
     }
 

@@ -9,7 +9,7 @@ use Rattle.xp_step.specs.declared.event.What.{What}
 use Rattle.xp_step.specs.declared.event.What.TheVariants.{Up, Down}
 use Rattle.xp_lock.specs.Passes.{Pass, own_entries}
 use Rattle.xp_lines.specs.AddUp.{Brings, LinksAddUp}
-use Rattle.xp_lines.specs.Pairs.{AreEach}
+use Rattle.xp_links.specs.Pairs.{AreEach}
 use Rattle.xp_lines.specs.Offers.{Gains, happened, on_line}
 use Rattle.xp_lines.specs.Sessions.{AreSessions, ComesUp, Drops, Goes, IsAnyLink, IsSession, PastSession, left_at_last}
 use Rattle.xp_lines.specs.Together.{IsLeftSo, Left}

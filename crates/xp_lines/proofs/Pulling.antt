@@ -11,7 +11,7 @@ use Rattle.xp_lines.specs.Gates.{IsAllOffered, Refused, WaitsForGate}
 use Rattle.xp_lines.specs.FrameEvents.{AreReadAs}
 use Rattle.xp_lines.specs.Offers.{Offers}
 use Rattle.xp_lines.specs.steps.Offers.{goes_on}
-use Rattle.xp_lines.specs.Reads.{Completes, Reads, stays}
+use Rattle.xp_lines.specs.Reads.{Completes, Reads, keeps, stays}
 use Rattle.xp_lines.specs.steps.Reads.{Pulls, outcome_after, outcome_at, is_lost, pull_by}
 use Rattle.xp_lines.specs.declared.offering.Stop.{Stop}
 use Rattle.xp_lines.specs.declared.offering.Stop.TheVariants as stops
@@ -29,7 +29,7 @@ pulls_none held pull never = record {
   fed = [];
   lost = [];
   pulled_are = refl;
-  none_lost = λ _. refl;
+  none_lost = λ _. inl refl;
   packets = [];
   completes = completes_nothing held.rest;
   waiting = sym (append-nil held.waiting);
@@ -54,7 +54,7 @@ pulls_taken old piece pull new takes sound never = record {
   fed = piece;
   lost = [];
   pulled_are = sym (append-nil piece);
-  none_lost = λ _. refl;
+  none_lost = λ _. inl refl;
   packets = takes.packets;
   completes = record { whole = takes.stream.whole; each = takes.stream.each; partial = λ _. takes.stream.partial };
   waiting = takes.waiting;
@@ -79,19 +79,72 @@ pulls_lost old piece new same = subst (Pulls old piece pulls.Lost) (sym same) (r
   still = λ is. absurd (let both : pulls.Lost ≡ pulls.Nothing = is in cc);
 })
 
+pulls_behind : (old : DeframerState) (piece : List ℕ) (new : DeframerState) → old.failed ≡ true → new ≡ old → Pulls old piece pulls.Over new
+pulls_behind old piece new failed same = subst (Pulls old piece pulls.Over) (sym same) (record {
+  fed = [];
+  lost = piece;
+  pulled_are = refl;
+  none_lost = λ _. inr (failed, refl);
+  packets = [];
+  completes = completes_nothing old.rest;
+  waiting = sym (append-nil old.waiting);
+  sound = λ is. absurd (over_came is);
+  still = λ is. absurd (over_nothing is);
+})
+
 pub pulls_fed : (old : DeframerState) (piece : List ℕ) (answer : Result (Unit {0}) FrameFault) (new : DeframerState) → Feeds old piece answer new → Pulls old piece (pull_by answer) new
 pulls_fed old piece (Ok done) new feeds =
     pulls_taken old piece pulls.Came new feeds.2 (λ _. feeds.3) (λ is. let both : pulls.Came ≡ pulls.Nothing = is in cc)
 pulls_fed old piece (Err (faults.Version v)) new feeds = pulls_bad old piece new feeds.2
 pulls_fed old piece (Err (faults.Length n)) new feeds = pulls_bad old piece new feeds.2
-pulls_fed old piece (Err faults.Failed) new feeds = pulls_lost old piece new feeds.1
+pulls_fed old piece (Err faults.Failed) new feeds = pulls_behind old piece new feeds.0 feeds.1
 pulls_fed old piece (Err faults.Memory) new feeds = pulls_lost old piece new feeds.1
 
-stays_at : (stop : Stop) → stays (outcome_at stop) ≡ goes_on (Some stop)
-stays_at stops.Held = refl
-stays_at stops.Memory = refl
-stays_at stops.Halted = refl
-stays_at stops.Journal = refl
+keeps_at : (stop : Stop) → keeps (outcome_at stop) ≡ goes_on (Some stop)
+keeps_at stops.Held = refl
+keeps_at stops.Memory = refl
+keeps_at stops.Halted = refl
+keeps_at stops.Journal = refl
+
+-- where the link stays, nothing that came is lost
+pub stays_keeps : (outcome : ReadOutcome) → stays outcome ≡ true → keeps outcome ≡ true
+stays_keeps outcomes.Open is = refl
+stays_keeps outcomes.Over is = refl
+stays_keeps outcomes.Lost is = is
+stays_keeps outcomes.Halted is = is
+stays_keeps outcomes.Journal is = is
+
+-- where something that came may be lost, the link does not stay
+pub lost_leaves : (outcome : ReadOutcome) → keeps outcome ≡ false → stays outcome ≡ false
+lost_leaves outcomes.Open is = absurd (let both : true ≡ false = is in cc)
+lost_leaves outcomes.Over is = refl
+lost_leaves outcomes.Lost is = refl
+lost_leaves outcomes.Halted is = refl
+lost_leaves outcomes.Journal is = refl
+
+-- where nothing that came is lost, the pull and the offering lost nothing
+keeps_after : (pull : Pull) (stop : Option Stop) → keeps (outcome_after pull stop) ≡ true → (is_lost pull ≡ false) × (goes_on stop ≡ true)
+keeps_after pull (Some stops.Halted) is = absurd (let both : false ≡ true = is in cc)
+keeps_after pull (Some stops.Journal) is = absurd (let both : false ≡ true = is in cc)
+keeps_after pull (Some stops.Memory) is = absurd (let both : false ≡ true = is in cc)
+keeps_after pulls.Came None is = (refl, refl)
+keeps_after pulls.Nothing None is = (refl, refl)
+keeps_after pulls.Over None is = (refl, refl)
+keeps_after pulls.Lost None is = absurd (let both : false ≡ true = is in cc)
+keeps_after pulls.Came (Some stops.Held) is = (refl, refl)
+keeps_after pulls.Nothing (Some stops.Held) is = (refl, refl)
+keeps_after pulls.Over (Some stops.Held) is = (refl, refl)
+keeps_after pulls.Lost (Some stops.Held) is = absurd (let both : false ≡ true = is in cc)
+
+-- a pull by which octets came, or none were there, lost none
+none_lost_by : (old : DeframerState) (pulled : List ℕ) (pull : Pull) (new : DeframerState) → (taken : Pulls old pulled pull new) → is_lost pull ≡ false → (pull ≡ pulls.Came) ⊎ (pull ≡ pulls.Nothing) → taken.lost ≡ []
+none_lost_by old pulled pull new taken kept came = elim (taken.none_lost kept) [
+  | inl none ↦ none
+  | inr behind ↦ elim came [
+    | inl is ↦ absurd (over_came (sym behind.1 ∙ is))
+    | inr is ↦ absurd (over_nothing (sym behind.1 ∙ is))
+  ]
+]
 
 -- where the link stays, nothing was lost, the offering lost nothing, and octets came or none were there
 stays_after : (pull : Pull) (stop : Option Stop) → stays (outcome_after pull stop) ≡ true → (is_lost pull ≡ false) × (goes_on stop ≡ true) × ((pull ≡ pulls.Came) ⊎ (pull ≡ pulls.Nothing))
@@ -126,19 +179,20 @@ module _ {A : Type 0} where
     lost = [];
     pulled_are = refl;
     none_lost = λ _. refl;
+    lost_behind = λ _. inl refl;
     packets = [];
     completes = subst (Completes old.rest [] []) (sym rest) (completes_nothing old.rest);
     sound = λ _ none. subst HasNoBadHeader (sym rest) none;
     offers =
-        subst (λ on. Offers modulus held (old.waiting ++ []) whats on left new.waiting) (sym (stays_at stop))
+        subst (λ on. Offers modulus held (old.waiting ++ []) whats on left new.waiting) (sym (keeps_at stop))
         (subst (λ frames. Offers modulus held frames whats (goes_on (Some stop)) left new.waiting) (sym (append-nil old.waiting)) offers);
   }
 
   -- all that waited was offered, a piece was pulled, and what it completed was offered
   pub reads_both : (modulus other : Modulus) (held : Option (What A)) (old : DeframerState) (whats : List (What A)) (left : Option (What A)) (before : DeframerState) (pulled : List ℕ) (pull : Pull) (after : DeframerState) (others : List (What A)) (stop : Option Stop) (last : Option (What A)) (new : DeframerState)
-      → Offers modulus held old.waiting whats true left before.waiting → left ≡ None → before.waiting ≡ [] → before.rest ≡ old.rest → Pulls before pulled pull after
+      → Offers modulus held old.waiting whats true left before.waiting → left ≡ None → before.waiting ≡ [] → before.rest ≡ old.rest → before.failed ≡ old.failed → Pulls before pulled pull after
       → other ≡ modulus → Offers other left after.waiting others (goes_on stop) last new.waiting → new.rest ≡ after.rest → Reads modulus held old pulled (whats ++ others) (outcome_after pull stop) last new
-  reads_both modulus other held old whats left before pulled pull after others stop last new first none empty rest pulls same second_by kept =
+  reads_both modulus other held old whats left before pulled pull after others stop last new first none empty rest failed pulls same second_by kept =
       let second : Offers modulus left after.waiting others (goes_on stop) last new.waiting =
       subst (λ m. Offers m left after.waiting others (goes_on stop) last new.waiting) same second_by in
       let waits : after.waiting ≡ pulls.packets = pulls.waiting ∙ ap (λ xs. xs ++ pulls.packets) empty in
@@ -151,7 +205,11 @@ module _ {A : Type 0} where
         fed = pulls.fed;
         lost = pulls.lost;
         pulled_are = pulls.pulled_are;
-        none_lost = λ is. pulls.none_lost (stays_after pull stop is).0;
+        none_lost = λ is. let at = stays_after pull stop is in none_lost_by before pulled pull after pulls at.0 at.2;
+        lost_behind = λ is. elim (pulls.none_lost (keeps_after pull stop is).0) [
+          | inl nothing ↦ inl nothing
+          | inr behind ↦ inr (sym failed ∙ behind.0)
+        ];
         packets = pulls.packets;
         completes =
             subst (λ xs. Completes xs pulls.fed pulls.packets new.rest) rest
@@ -171,24 +229,24 @@ module _ {A : Type 0} where
           in_order =
               sym (append_assoc (option_to_list held) first.read second.read) ∙ ap (λ xs. xs ++ second.read) first_order
               ∙ ap (λ xs. whats ++ xs) second_order ∙ sym (append_assoc whats others second.unoffered);
-          kept = λ is. second.kept (stays_after pull stop is).1;
+          kept = λ is. second.kept (keeps_after pull stop is).1;
         };
       }
 
 module _ {A G : Type 0} (answers : G → Bool → G → Type 0) (held : Option (What A)) (waiting : List (List ℕ)) (gate : G) where
-  -- the offering stopped, and the link stays only where that was for the gate
+  -- the offering stopped, and nothing is lost only where that was for the gate
   pub left_at_gate : (found : Option Stop) (stop : Stop) (outcome : ReadOutcome) → outcome ≡ outcome_at stop → found ≡ Some stop → (found ≡ Some stops.Held → Refused answers gate)
-      → outcome ≡ outcomes.Open → WaitsForGate answers held waiting gate
-  left_at_gate found stops.Held outcome heard_is is refused stays = inr (refused is)
-  left_at_gate found stops.Memory outcome heard_is is refused stays = absurd (let both : outcomes.Over ≡ outcomes.Open = sym heard_is ∙ stays in cc)
-  left_at_gate found stops.Halted outcome heard_is is refused stays = absurd (let both : outcomes.Halted ≡ outcomes.Open = sym heard_is ∙ stays in cc)
-  left_at_gate found stops.Journal outcome heard_is is refused stays = absurd (let both : outcomes.Journal ≡ outcomes.Open = sym heard_is ∙ stays in cc)
+      → keeps outcome ≡ true → WaitsForGate answers held waiting gate
+  left_at_gate found stops.Held outcome heard_is is refused kept = inr (refused is)
+  left_at_gate found stops.Memory outcome heard_is is refused kept = absurd (let both : false ≡ true = ap keeps (sym heard_is) ∙ kept in cc)
+  left_at_gate found stops.Halted outcome heard_is is refused kept = absurd (let both : false ≡ true = ap keeps (sym heard_is) ∙ kept in cc)
+  left_at_gate found stops.Journal outcome heard_is is refused kept = absurd (let both : false ≡ true = ap keeps (sym heard_is) ∙ kept in cc)
 
-  -- the link stays only where all that came was offered, or the gate said no
+  -- nothing is lost only where all that came was offered, or the gate said no
   pub left_by_gate : (pull : Pull) (stop : Option Stop) (outcome : ReadOutcome) → outcome ≡ outcome_after pull stop → (stop ≡ None → IsAllOffered held waiting) → (stop ≡ Some stops.Held → Refused answers gate)
-      → outcome ≡ outcomes.Open → WaitsForGate answers held waiting gate
-  left_by_gate pull None outcome heard_is all refused stays = inl (all refl)
-  left_by_gate pull (Some stops.Held) outcome heard_is all refused stays = inr (refused refl)
-  left_by_gate pull (Some stops.Memory) outcome heard_is all refused stays = absurd (let both : outcomes.Over ≡ outcomes.Open = sym heard_is ∙ stays in cc)
-  left_by_gate pull (Some stops.Halted) outcome heard_is all refused stays = absurd (let both : outcomes.Halted ≡ outcomes.Open = sym heard_is ∙ stays in cc)
-  left_by_gate pull (Some stops.Journal) outcome heard_is all refused stays = absurd (let both : outcomes.Journal ≡ outcomes.Open = sym heard_is ∙ stays in cc)
+      → keeps outcome ≡ true → WaitsForGate answers held waiting gate
+  left_by_gate pull None outcome heard_is all refused kept = inl (all refl)
+  left_by_gate pull (Some stops.Held) outcome heard_is all refused kept = inr (refused refl)
+  left_by_gate pull (Some stops.Memory) outcome heard_is all refused kept = absurd (let both : false ≡ true = ap keeps (sym heard_is) ∙ kept in cc)
+  left_by_gate pull (Some stops.Halted) outcome heard_is all refused kept = absurd (let both : false ≡ true = ap keeps (sym heard_is) ∙ kept in cc)
+  left_by_gate pull (Some stops.Journal) outcome heard_is all refused kept = absurd (let both : false ≡ true = ap keeps (sym heard_is) ∙ kept in cc)

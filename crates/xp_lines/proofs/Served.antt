@@ -6,7 +6,7 @@ use Rattle.std.specs.declared.thread.PromisedHandle.{PromisedHandle}
 use Rattle.std.specs.declared.vec.Vec.{Vec}
 use Rattle.xp_subs.specs.Tables.{Tables}
 use Rattle.xp_lock.specs.Passes.{Pass}
-use Rattle.xp_lines.specs.Pairs.{AreEach}
+use Rattle.xp_links.specs.Pairs.{AreEach}
 use Rattle.xp_lines.specs.Sessions.{IsLineDown, IsLineServed}
 use Rattle.xp_lines.specs.steps.Serving.{EndsSo}
 use Rattle.xp_lines.specs.steps.Threads.{Adds, begun_lines, lines_of}

@@ -1,5 +1,5 @@
 -- The links of a line, one after the other, turn by turn.
-use Rattle.std.proofs.Common.{◌≡◌, ◌⊎◌, ℕ, List, [], ◌∷◌, ◌++◌, refl, sym, ap, ◌∙◌, append_assoc, append-nil, subst, Option, None, Some, Result, Ok, Err, inl, inr}
+use Rattle.std.proofs.Common.{◌≡◌, ◌⊎◌, ℕ, List, [], ◌∷◌, ◌++◌, refl, sym, ap, ◌∙◌, append_assoc, append-nil, subst, Option, None, Some, Bool, Result, Ok, Err, inl, inr}
 use Rattle.std.specs.List.{AllByRecursion}
 use Rattle.xp_packets.specs.declared.modulus.Modulus.{Modulus}
 use Rattle.xp_subs.specs.Tables.{Tables, modulus_of}
@@ -113,10 +113,10 @@ module _ {A : Type 0} where
   -- one turn more
   turns_more : (modulus : Modulus) (connection : ℕ) (came : Left A) (turns : List (Left A)) (last left : Left A)
       → AreTurns modulus connection came.pass came.seen turns → last_of came turns ≡ last → GoesOn last.after
-      → (now : ℕ) × IsTurn modulus now connection last.pass last.seen left.after left.pass left.seen
+      → (now : ℕ) × (wanting : Bool) × IsTurn modulus now connection last.pass last.seen left.after wanting left.pass left.seen
       → AreTurns modulus connection came.pass came.seen (turns ++ left ∷ [])
   turns_more modulus connection came [] last left are is goes turn =
-      (subst (λ (l : Left A). (now : ℕ) × IsTurn modulus now connection l.pass l.seen left.after left.pass left.seen) (sym is) turn, none_follows A left.after, tt)
+      (subst (λ (l : Left A). (now : ℕ) × (wanting : Bool) × IsTurn modulus now connection l.pass l.seen left.after wanting left.pass left.seen) (sym is) turn, none_follows A left.after, tt)
   turns_more modulus connection came (first ∷ []) last left are is goes turn =
       (are.0, goes_follow first.after (left ∷ []) (subst (λ (l : Left A). GoesOn l.after) (sym is) goes), turns_more modulus connection first [] last left tt is goes turn)
   turns_more modulus connection came (first ∷ second ∷ turns) last left are is goes turn =
@@ -211,7 +211,7 @@ module _ {A : Type 0} (subs : Tables) (of_link : Option (List ℕ) → Option (L
   }
 
   module _ (first : Pass A) (connection : ℕ) (pass : Pass A) (seen : Seen A) (new : Pass A) (on : IsOn subs of_link GoesOn first (Some (connection, seen)) pass)
-      (after : TurnOutcome) (now : ℕ) (new_seen : Seen A) (is_turn : IsTurn (modulus_of subs pass.line) now connection pass seen after new new_seen)
+      (after : TurnOutcome) (now : ℕ) (wanting : Bool) (new_seen : Seen A) (is_turn : IsTurn (modulus_of subs pass.line) now connection pass seen after wanting new new_seen)
       (moved : of_link new_seen.pushed new_seen.pulled) (line : new.line ≡ pass.line) where
     this : Left A
     this = record { after = after; pass = new; seen = new_seen }
@@ -223,7 +223,7 @@ module _ {A : Type 0} (subs : Tables) (of_link : Option (List ℕ) → Option (L
     unfolding this came
     more =
         turns_more (modulus_of subs on.between.line) connection came on.rest.turns (record { after = on.rest.after; pass = pass; seen = seen }) this on.rest.are_turns on.rest.last on.rest.may_be
-        (now, subst (λ l. IsTurn (modulus_of subs l) now connection pass seen after new new_seen) on.rest.line is_turn)
+        (now, wanting, subst (λ l. IsTurn (modulus_of subs l) now connection pass seen after wanting new new_seen) on.rest.line is_turn)
 
     all_moved : AllByRecursion (λ left. of_link left.seen.pushed left.seen.pulled) (on.rest.turns ++ this ∷ [])
     unfolding this
@@ -276,23 +276,23 @@ module _ {A : Type 0} (subs : Tables) (of_link : Option (List ℕ) → Option (L
 
   turned : (first : Pass A) (connection : ℕ) (pass : Pass A) (seen : Seen A) (left : Option (Here A)) (end : Option EndReason) (new : Pass A)
       → IsOn subs of_link GoesOn first (Some (connection, seen)) pass
-      → (after : TurnOutcome) (now : ℕ) (new_seen : Seen A) → IsTurn (modulus_of subs pass.line) now connection pass seen after new new_seen
+      → (after : TurnOutcome) (now : ℕ) (wanting : Bool) (new_seen : Seen A) → IsTurn (modulus_of subs pass.line) now connection pass seen after wanting new new_seen
       → of_link new_seen.pushed new_seen.pulled → new.line ≡ pass.line → Leaves after (connection, new_seen) left end → OnAfter first left end new
-  turned first connection pass seen left end new on Linked now new_seen is moved line leaves =
+  turned first connection pass seen left end new on Linked now wanting new_seen is moved line leaves =
       subst (λ l. OnAfter first l end new) (sym leaves)
-      (still_open first connection pass seen new on Linked now new_seen is moved line IsThere tt, λ _. still_open first connection pass seen new on Linked now new_seen is moved line GoesOn tt)
-  turned first connection pass seen left end new on DownOwed now new_seen is moved line leaves =
+      (still_open first connection pass seen new on Linked now wanting new_seen is moved line IsThere tt, λ _. still_open first connection pass seen new on Linked now wanting new_seen is moved line GoesOn tt)
+  turned first connection pass seen left end new on DownOwed now wanting new_seen is moved line leaves =
       subst (λ l. OnAfter first l end new) (sym leaves)
-      (still_open first connection pass seen new on DownOwed now new_seen is moved line IsThere tt, λ _. still_open first connection pass seen new on DownOwed now new_seen is moved line GoesOn tt)
-  turned first connection pass seen left end new on Dropped now new_seen is moved line leaves =
-      let on_now = went first connection pass seen new on Dropped now new_seen is moved line refl in
+      (still_open first connection pass seen new on DownOwed now wanting new_seen is moved line IsThere tt, λ _. still_open first connection pass seen new on DownOwed now wanting new_seen is moved line GoesOn tt)
+  turned first connection pass seen left end new on Dropped now wanting new_seen is moved line leaves =
+      let on_now = went first connection pass seen new on Dropped now wanting new_seen is moved line refl in
       subst (λ l. OnAfter first l end new) (sym leaves) (on_there first None new on_now, λ _. on_now)
-  turned first connection pass seen left end new on Halted now new_seen is moved line leaves =
+  turned first connection pass seen left end new on Halted now wanting new_seen is moved line leaves =
       subst (λ l. OnAfter first l end new) (sym leaves.0)
-      (still_open first connection pass seen new on Halted now new_seen is moved line IsThere tt, λ none. absurd (leaves.1 none))
-  turned first connection pass seen left end new on Journal now new_seen is moved line leaves =
+      (still_open first connection pass seen new on Halted now wanting new_seen is moved line IsThere tt, λ none. absurd (leaves.1 none))
+  turned first connection pass seen left end new on Journal now wanting new_seen is moved line leaves =
       subst (λ l. OnAfter first l end new) (sym leaves.0)
-      (still_open first connection pass seen new on Journal now new_seen is moved line IsThere tt, λ none. absurd (leaves.1 none))
+      (still_open first connection pass seen new on Journal now wanting new_seen is moved line IsThere tt, λ none. absurd (leaves.1 none))
 
   -- one turn more
   pub on_more : (first : Pass A) (link : Option (Here A)) (pass : Pass A) (left : Option (Here A)) (end : Option EndReason) (new : Pass A)
@@ -300,7 +300,7 @@ module _ {A : Type 0} (subs : Tables) (of_link : Option (List ℕ) → Option (L
   on_more first None pass left end new on steps =
       let on_now = connected first pass left end new on steps in (on_there first left new on_now, λ _. on_now)
   on_more first (Some (connection, seen)) pass left end new on steps =
-      turned first connection pass seen left end new on steps.after steps.now steps.new_seen steps.is_turn steps.moved steps.line steps.leaves
+      turned first connection pass seen left end new on steps.after steps.now steps.wanting steps.new_seen steps.is_turn steps.moved steps.line steps.leaves
 
   -- the links of a line that has ended, all of them gone where it was stopped
   abbrev pub EndsWith : Pass A → EndReason → Pass A → Type 0

@@ -25,7 +25,7 @@ use Rattle.xp_lines.specs.declared.turning.TurnOutcome.{TurnOutcome}
 use Rattle.xp_lines.specs.declared.turning.TurnOutcome.TheVariants.{Linked, Dropped, DownOwed, Halted, Journal}
 use Rattle.xp_lines.proofs.Expiring.{calls_both, expiries_both, lapses_few, no_expiries, rung_few}
 use Rattle.xp_lines.proofs.Octets.{appends_both, appends_nothing}
-use Rattle.xp_lines.proofs.Pulling.{completes_nothing, read_both}
+use Rattle.xp_lines.proofs.Pulling.{completes_nothing, read_both, stays_keeps}
 use Rattle.xp_lines.proofs.Written.{none_closes_both}
 use Rattle.xp_lines.proofs.Sums.{HasNoExpiry, all_without, none_behind, none_both, none_front, none_left, none_of_read}
 
@@ -180,7 +180,7 @@ module _ {A : Type 0} where
                 ∙ sym (map-append (on_line old.line) t.whats gained) ∙ ap (map (on_line old.line)) (sym (append-nil (t.whats ++ gained)));
             none_closes = λ is. none_closes_both connection t.items w.items (t.none_closes refl) (works.none_closes is);
             sound = λ is. r.sound is (t.sound refl);
-            kept = λ is. (works.none_unsent is, r.none_lost is, refl, (o.kept is).0, (o.kept is).1, refl);
+            kept = λ is. let on = stays_keeps outcome is in (works.none_unsent on, r.none_lost is, refl, (o.kept on).0, (o.kept on).1, refl);
           },
           refl,
         )
@@ -279,29 +279,30 @@ module _ {A : Type 0} where
         (subst (λ p. Together modulus connection old came true p (record seen { held = left })) (sym follows.1)
         (subst (λ h. Together modulus connection old came true pass (record seen { held = h })) (sym follows.2) t))
     next_by_heard outcomes.Over pass seen after new_pass left t opened follows = next_by_down false pass seen after new_pass left t opened follows
+    next_by_heard outcomes.Lost pass seen after new_pass left t opened follows = next_by_down false pass seen after new_pass left t opened follows
     next_by_heard outcomes.Halted pass seen after new_pass left t opened follows =
         subst (λ a. Next a new_pass (record seen { held = left })) (sym follows.0) (nothing_offered false pass seen new_pass left t opened follows.1)
     next_by_heard outcomes.Journal pass seen after new_pass left t opened follows =
         subst (λ a. Next a new_pass (record seen { held = left })) (sym follows.0) (nothing_offered false pass seen new_pass left t opened follows.1)
 
-    next_by_work : (now : ℕ) (pass : Pass A) (seen : Seen A) (after : TurnOutcome) (new_pass : Pass A) (new : Seen A)
-        → Together modulus connection old came true pass seen → Worked modulus now connection pass seen after new_pass new → Next after new_pass new
-    next_by_work now pass seen after new_pass new t worked =
+    next_by_work : (now : ℕ) (pass : Pass A) (seen : Seen A) (after : TurnOutcome) (wanting : Bool) (new_pass : Pass A) (new : Seen A)
+        → Together modulus connection old came true pass seen → Worked modulus now connection pass seen after wanting new_pass new → Next after new_pass new
+    next_by_work now pass seen after wanting new_pass new t worked =
         let next = worked_on now pass seen worked.outcome worked.worked_pass worked.worked t worked.works in
         subst (Next after new_pass) (sym worked.rest)
         (next_by_heard worked.outcome worked.worked_pass worked.worked after new_pass new.held next.0 next.1 worked.follows)
 
-    next_linked : (owed : Bool) (now : ℕ) (pass : Pass A) (seen : Seen A) (after : TurnOutcome) (new_pass : Pass A) (new : Seen A)
-        → Together modulus connection old came true pass seen → IsTurnBy owed modulus now connection pass seen after new_pass new → Next after new_pass new
-    next_linked true now pass seen after new_pass new t turn =
+    next_linked : (owed : Bool) (now : ℕ) (pass : Pass A) (seen : Seen A) (after : TurnOutcome) (wanting : Bool) (new_pass : Pass A) (new : Seen A)
+        → Together modulus connection old came true pass seen → IsTurnBy owed modulus now connection pass seen after wanting new_pass new → Next after new_pass new
+    next_linked true now pass seen after wanting new_pass new t turn =
         subst (Next after new_pass) (sym turn.1) (next_by_down true pass seen after new_pass new.held t (t.kept refl).5 turn.0)
-    next_linked false now pass seen after new_pass new t turn = next_by_work now pass seen after new_pass new t turn
+    next_linked false now pass seen after wanting new_pass new t turn = next_by_work now pass seen after wanting new_pass new t turn
 
-    next_owed : (now : ℕ) (pass : Pass A) (seen : Seen A) (after : TurnOutcome) (new_pass : Pass A) (new : Seen A)
-        → Next DownOwed pass seen → IsTurnBy (is_owed seen.held) modulus now connection pass seen after new_pass new → Next after new_pass new
-    next_owed now pass seen after new_pass new (t, opened, held) turn =
-        let owed : IsTurnBy true modulus now connection pass seen after new_pass new =
-        subst (λ o. IsTurnBy o modulus now connection pass seen after new_pass new) (ap is_owed held) turn in
+    next_owed : (now : ℕ) (pass : Pass A) (seen : Seen A) (after : TurnOutcome) (wanting : Bool) (new_pass : Pass A) (new : Seen A)
+        → Next DownOwed pass seen → IsTurnBy (is_owed seen.held) modulus now connection pass seen after wanting new_pass new → Next after new_pass new
+    next_owed now pass seen after wanting new_pass new (t, opened, held) turn =
+        let owed : IsTurnBy true modulus now connection pass seen after wanting new_pass new =
+        subst (λ o. IsTurnBy o modulus now connection pass seen after wanting new_pass new) (ap is_owed held) turn in
         subst (Next after new_pass) (sym owed.1) (next_by_down false pass seen after new_pass new.held t opened owed.0)
 
     pub together_of : (after : TurnOutcome) (pass : Pass A) (seen : Seen A) → Next after pass seen → Together modulus connection old came (is_linked after) pass seen
@@ -327,9 +328,9 @@ module _ {A : Type 0} where
         → IsLeft (last_of (record { after = after; pass = pass; seen = seen }) turns)
     turns_from after pass seen [] next may are = next
     turns_from Linked pass seen (left ∷ turns) next may are =
-        turns_from left.after left.pass left.seen turns (next_linked (is_owed seen.held) are.0.0 pass seen left.after left.pass left.seen next are.0.1) are.1 are.2
+        turns_from left.after left.pass left.seen turns (next_linked (is_owed seen.held) are.0.0 pass seen left.after are.0.1 left.pass left.seen next are.0.2) are.1 are.2
     turns_from DownOwed pass seen (left ∷ turns) next may are =
-        turns_from left.after left.pass left.seen turns (next_owed are.0.0 pass seen left.after left.pass left.seen next are.0.1) are.1 are.2
+        turns_from left.after left.pass left.seen turns (next_owed are.0.0 pass seen left.after are.0.1 left.pass left.seen next are.0.2) are.1 are.2
     turns_from Dropped pass seen (left ∷ turns) next may are = absurd (let none : left ∷ turns ≡ [] = may in cc)
     turns_from Halted pass seen (left ∷ turns) next may are = absurd (let none : left ∷ turns ≡ [] = may in cc)
     turns_from Journal pass seen (left ∷ turns) next may are = absurd (let none : left ∷ turns ≡ [] = may in cc)

@@ -11,7 +11,7 @@ use Rattle.xp_lock.specs.declared.receipt.Receipt.{Receipt}
 use Rattle.xp_lines.specs.steps.Ended.{is_lost}
 use Rattle.xp_lines.specs.steps.Offering.{IsRefusal, Tells}
 use Rattle.xp_lines.specs.Offers.{Gains}
-use Rattle.xp_lines.specs.Reads.{Reads, stays}
+use Rattle.xp_lines.specs.Reads.{Reads, is_wanting, keeps, stays}
 use Rattle.xp_lines.specs.steps.Reads.{outcome_at}
 use Rattle.xp_lines.specs.AnswerTimer.{Expires, answered, expiry, has_any, has_expired, since_after_all}
 use Rattle.xp_lines.specs.Turns.{Downs, Follows, ReadsAndExpires, IsTurn, IsTurnBy, Seen, WritesAndReads, is_owed}
@@ -27,17 +27,17 @@ use Rattle.xp_lines.specs.declared.turning.TurnOutcome.{TurnOutcome}
 use Rattle.xp_lines.specs.declared.turning.TurnOutcome.TheVariants as afters
 use Rattle.xp_lines.proofs.Octets.{appends_nothing}
 use Rattle.xp_lines.proofs.Offered.{gains_both, gains_nothing}
-use Rattle.xp_lines.proofs.Pulling.{completes_nothing}
+use Rattle.xp_lines.proofs.Pulling.{completes_nothing, lost_leaves, stays_keeps}
 use Rattle.xp_lines.proofs.Written.{WrittenOut}
 
-refusal_leaves : (stop : Stop) → IsRefusal stop → stays (outcome_at stop) ≡ false
-refusal_leaves stops.Held never = absurd never
-refusal_leaves stops.Memory is = refl
-refusal_leaves stops.Halted is = refl
-refusal_leaves stops.Journal is = refl
+refusal_loses : (stop : Stop) → IsRefusal stop → keeps (outcome_at stop) ≡ false
+refusal_loses stops.Held never = absurd never
+refusal_loses stops.Memory is = refl
+refusal_loses stops.Halted is = refl
+refusal_loses stops.Journal is = refl
 
-pub refused_leaves : (ended : ReadOutcome) (stop : Stop) → IsRefusal stop → ended ≡ outcome_at stop → stays ended ≡ false
-refused_leaves ended stop refused is = ap stays is ∙ refusal_leaves stop refused
+pub refused_loses : (ended : ReadOutcome) (stop : Stop) → IsRefusal stop → ended ≡ outcome_at stop → keeps ended ≡ false
+refused_loses ended stop refused is = ap keeps is ∙ refusal_loses stop refused
 
 module _ {A : Type 0} where
   reads_nothing : (modulus : Modulus) (held : Option (What A)) (frames : DeframerState) (outcome : ReadOutcome) → Reads modulus held frames [] [] outcome held frames
@@ -46,6 +46,7 @@ module _ {A : Type 0} where
     lost = [];
     pulled_are = refl;
     none_lost = λ _. refl;
+    lost_behind = λ _. inl refl;
     packets = [];
     completes = completes_nothing frames.rest;
     sound = λ _ none. none;
@@ -73,17 +74,18 @@ module _ {A : Type 0} where
     lapses = subst (λ s. Expires {A = A} s now (answered false since) [] left_since) (sym leaves) refl;
   }
 
-  -- where the link stays no longer, less is said of what was read
+  -- where something may be lost, less is said of what was read
   reads_less : (modulus : Modulus) (held : Option (What A)) (old : DeframerState) (pulled : List ℕ) (whats : List (What A)) (outcome ended : ReadOutcome) (left : Option (What A)) (new : DeframerState)
-      → Reads modulus held old pulled whats outcome left new → stays ended ≡ false → Reads modulus held old pulled whats ended left new
-  reads_less modulus held old pulled whats outcome ended left new reads leaves = record {
+      → Reads modulus held old pulled whats outcome left new → keeps ended ≡ false → Reads modulus held old pulled whats ended left new
+  reads_less modulus held old pulled whats outcome ended left new reads loses = record {
     fed = reads.fed;
     lost = reads.lost;
     pulled_are = reads.pulled_are;
-    none_lost = λ is. absurd (let both : false ≡ true = sym leaves ∙ is in cc);
+    none_lost = λ is. absurd (let both : false ≡ true = sym loses ∙ stays_keeps ended is in cc);
+    lost_behind = λ is. absurd (let both : false ≡ true = sym loses ∙ is in cc);
     packets = reads.packets;
     completes = reads.completes;
-    sound = λ is. absurd (let both : false ≡ true = sym leaves ∙ is in cc);
+    sound = λ is. absurd (let both : false ≡ true = sym loses ∙ stays_keeps ended is in cc);
     offers = record {
       packets = reads.offers.packets;
       unread = reads.offers.unread;
@@ -92,15 +94,15 @@ module _ {A : Type 0} where
       read_as = reads.offers.read_as;
       unoffered = reads.offers.unoffered;
       in_order = reads.offers.in_order;
-      kept = λ is. absurd (let both : false ≡ true = sym leaves ∙ is in cc);
+      kept = λ is. absurd (let both : false ≡ true = sym loses ∙ is in cc);
     };
   }
 
   reads_ended : (modulus : Modulus) (held : Option (What A)) (old : DeframerState) (pulled : List ℕ) (whats : List (What A)) (outcome ended : ReadOutcome) (left : Option (What A)) (new : DeframerState)
-      → Reads modulus held old pulled whats outcome left new → (ended ≡ outcome) ⊎ (stays ended ≡ false) → Reads modulus held old pulled whats ended left new
+      → Reads modulus held old pulled whats outcome left new → (ended ≡ outcome) ⊎ (keeps ended ≡ false) → Reads modulus held old pulled whats ended left new
   reads_ended modulus held old pulled whats outcome ended left new reads ends = elim ends [
     | inl same ↦ subst (λ h. Reads modulus held old pulled whats h left new) (sym same) reads
-    | inr leaves ↦ reads_less modulus held old pulled whats outcome ended left new reads leaves
+    | inr loses ↦ reads_less modulus held old pulled whats outcome ended left new reads loses
   ]
 
   -- octets were read, and then an expiry told
@@ -108,7 +110,7 @@ module _ {A : Type 0} where
       → (pulled : List ℕ) × Appends before after pulled × (whats : List (What A)) × Gains old whats between × Reads modulus held frames pulled whats outcome left left_frames × (offered ≡ has_any whats)
       → asked ≡ record timer { since = answered offered timer.since }
       → (expired : List (What A)) × Gains between expired new × Expires (stays ended) asked.now asked.since expired left_since
-      → (ended ≡ outcome) ⊎ (stays ended ≡ false)
+      → (ended ≡ outcome) ⊎ (keeps ended ≡ false)
       → ReadsAndExpires modulus timer.now old held frames before timer.since ended new left left_frames after left_since
   hears_both modulus old held frames before timer asked between offered outcome ended new left left_frames after left_since (pulled, pulls, whats, gains, reads, sent) answer (expired, gained, lapses) ends = record {
     pulled = pulled;
@@ -154,17 +156,17 @@ module _ {A : Type 0} where
       → (expired : List (What A)) × Gains old expired new × Expires (stays ended) now since expired after
   lapses_refused old new now since after ended stop refused same is =
       subst (λ p. (expired : List (What A)) × Gains old expired p × Expires (stays ended) now since expired after) (sym same)
-      (lapses_gone now old since ended after (refused_leaves ended stop refused is))
+      (lapses_gone now old since ended after (lost_leaves ended (refused_loses ended stop refused is)))
 
   -- the line was not read, since its link goes or nothing is taken any more
   pub works_silent : (modulus : Modulus) (connection : ℕ) (old_pass : Pass A) (old : Seen A) (between : Pass A) (left : List ℕ) (pushed pulled : Option (List ℕ)) (timer later : AnswerTimer) (ended : Ended) (outcome : ReadOutcome)
-      → WrittenOut modulus connection old_pass old.unwritten old.pushed timer ended between left pushed later → pulled ≡ old.pulled → stays outcome ≡ false
+      → WrittenOut modulus connection old_pass old.unwritten old.pushed timer ended between left pushed later → pulled ≡ old.pulled → stays outcome ≡ false → (keeps outcome ≡ true → is_lost ended ≡ false)
       → WritesAndReads modulus timer.now connection old_pass old outcome between (record old { unwritten = left; pushed = pushed; pulled = pulled; unanswered_since = later.since })
-  works_silent modulus connection old_pass old between left pushed pulled timer later ended outcome (unsent, writes, _, _) same leaves = record {
+  works_silent modulus connection old_pass old between left pushed pulled timer later ended outcome (unsent, writes, none_lost, _) same leaves kept = record {
     between = between;
     unsent = unsent;
     writes = writes;
-    none_unsent = λ is. absurd (let both : false ≡ true = sym leaves ∙ is in cc);
+    none_unsent = λ is. (none_lost (kept is)).0;
     none_closes = λ is. absurd (let both : false ≡ true = sym leaves ∙ is in cc);
     since = None;
     since_is = λ is. absurd (let both : false ≡ true = sym leaves ∙ is in cc);
@@ -206,6 +208,7 @@ module _ {A : Type 0} where
   follows_line : (outcome : ReadOutcome) (old : Pass A) (held : Option (What A)) (after : TurnOutcome) (new : Pass A) (left : Option (What A)) → Follows outcome old held after new left → new.line ≡ old.line
   follows_line outcomes.Open old held after new left follows = ap (λ p. p.line) follows.1
   follows_line outcomes.Over old held after new left follows = downs_line old after new left follows
+  follows_line outcomes.Lost old held after new left follows = downs_line old after new left follows
   follows_line outcomes.Halted old held after new left follows = ap (λ p. p.line) follows.1
   follows_line outcomes.Journal old held after new left follows = ap (λ p. p.line) follows.1
 
@@ -219,15 +222,24 @@ module _ {A : Type 0} where
       follows_line outcome worked_pass worked.held after new_pass held follows ∙ works.hears.gains.line ∙ works.writes.took.line
 
   -- where the Down is owed
-  pub turn_owed : (modulus : Modulus) (now connection : ℕ) (old_pass : Pass A) (old : Seen A) (after : TurnOutcome) (new_pass : Pass A) (held : Option (What A)) → is_owed old.held ≡ true
-      → Downs old_pass after new_pass held → IsTurn modulus now connection old_pass old after new_pass (record old { held = held })
-  turn_owed modulus now connection old_pass old after new_pass held owed downs =
-      subst (λ o. IsTurnBy o modulus now connection old_pass old after new_pass (record old { held = held })) (sym owed) (downs, refl)
+  pub turn_owed : (modulus : Modulus) (now connection : ℕ) (old_pass : Pass A) (old : Seen A) (after : TurnOutcome) (wanting : Bool) (new_pass : Pass A) (held : Option (What A)) → is_owed old.held ≡ true
+      → Downs old_pass after new_pass held → IsTurn modulus now connection old_pass old after wanting new_pass (record old { held = held })
+  turn_owed modulus now connection old_pass old after wanting new_pass held owed downs =
+      subst (λ o. IsTurnBy o modulus now connection old_pass old after wanting new_pass (record old { held = held })) (sym owed) (downs, refl)
 
   -- where it is not
-  pub turn_worked : (modulus : Modulus) (now connection : ℕ) (old_pass : Pass A) (old : Seen A) (outcome : ReadOutcome) (worked_pass : Pass A) (worked : Seen A) (after : TurnOutcome) (new_pass : Pass A) (held : Option (What A)) → is_owed old.held ≡ false
-      → WritesAndReads modulus now connection old_pass old outcome worked_pass worked → Follows outcome worked_pass worked.held after new_pass held
-      → IsTurn modulus now connection old_pass old after new_pass (record worked { held = held })
-  turn_worked modulus now connection old_pass old outcome worked_pass worked after new_pass held not_owed works follows =
-      subst (λ o. IsTurnBy o modulus now connection old_pass old after new_pass (record worked { held = held })) (sym not_owed)
-      (record { outcome = outcome; worked_pass = worked_pass; worked = worked; works = works; follows = follows; rest = refl })
+  pub turn_worked : (modulus : Modulus) (now connection : ℕ) (old_pass : Pass A) (old : Seen A) (outcome : ReadOutcome) (worked_pass : Pass A) (worked : Seen A) (after : TurnOutcome) (wanting : Bool) (new_pass : Pass A) (held : Option (What A)) → is_owed old.held ≡ false
+      → WritesAndReads modulus now connection old_pass old outcome worked_pass worked → (is_wanting outcome ≡ true → wanting ≡ true) → Follows outcome worked_pass worked.held after new_pass held
+      → IsTurn modulus now connection old_pass old after wanting new_pass (record worked { held = held })
+  turn_worked modulus now connection old_pass old outcome worked_pass worked after wanting new_pass held not_owed works says follows =
+      subst (λ o. IsTurnBy o modulus now connection old_pass old after wanting new_pass (record worked { held = held })) (sym not_owed)
+      (record { outcome = outcome; worked_pass = worked_pass; worked = worked; works = works; says = says; follows = follows; rest = refl })
+
+  -- the link went, and memory was not wanting
+  pub gone_kept : (outcome : ReadOutcome) (old : Pass A) (held : Option (What A)) (after : TurnOutcome) (wanting : Bool) (new : Pass A) (left : Option (What A)) → Follows outcome old held after new left
+      → (is_wanting outcome ≡ true → wanting ≡ true) → after ≡ afters.Dropped → wanting ≡ false → keeps outcome ≡ true
+  gone_kept outcomes.Open old held after wanting new left follows says dropped enough = refl
+  gone_kept outcomes.Over old held after wanting new left follows says dropped enough = refl
+  gone_kept outcomes.Lost old held after wanting new left follows says dropped enough = absurd (let both : false ≡ true = sym enough ∙ says refl in cc)
+  gone_kept outcomes.Halted old held after wanting new left follows says dropped enough = absurd (let both : afters.Halted ≡ afters.Dropped = sym follows.0 ∙ dropped in cc)
+  gone_kept outcomes.Journal old held after wanting new left follows says dropped enough = absurd (let both : afters.Journal ≡ afters.Dropped = sym follows.0 ∙ dropped in cc)

@@ -7,7 +7,7 @@ use Rattle.xp_step.specs.declared.event.What.{What}
 use Rattle.xp_step.specs.declared.event.What.TheVariants.{Up}
 use Rattle.xp_lock.specs.Passes.{Pass, own_entries}
 use Rattle.xp_lines.specs.Offers.{happened, on_line}
-use Rattle.xp_lines.specs.Pairs.{AreEach}
+use Rattle.xp_links.specs.Pairs.{AreEach}
 use Rattle.xp_lines.specs.Sessions.{AreSessions, IsAnyLink, PastSession, left_at_last}
 use Rattle.xp_lines.specs.Together.{IsClosing, IsLeftSo}
 

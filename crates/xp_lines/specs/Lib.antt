@@ -1,11 +1,9 @@
 pub mod AddUp
 pub mod AnswerTimer
-pub mod Counts
 pub mod Flow
 pub mod FrameEvents
 pub mod Gates
 pub mod Offers
-pub mod Pairs
 pub mod Reads
 pub mod Recorded
 pub mod Sessions

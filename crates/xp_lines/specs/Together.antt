@@ -51,7 +51,7 @@ module _ {A : Type 0} where
   abbrev pub AreTurns : Modulus → ℕ → Pass A → Seen A → List (Left A) → Type 0
   AreTurns modulus connection pass seen [] = Unit {0}
   AreTurns modulus connection pass seen (left ∷ turns) =
-      ((now : ℕ) × IsTurn modulus now connection pass seen left.after left.pass left.seen) × MayFollow left.after turns × AreTurns modulus connection left.pass left.seen turns
+      ((now : ℕ) × (wanting : Bool) × IsTurn modulus now connection pass seen left.after wanting left.pass left.seen) × MayFollow left.after turns × AreTurns modulus connection left.pass left.seen turns
 
   -- how the last turn left the line; without a turn, how the line was at first
   abbrev pub last_of : Left A → List (Left A) → Left A

@@ -8,7 +8,7 @@ use Rattle.xp_step.specs.declared.event.What.TheVariants.{Down}
 use Rattle.xp_lock.specs.Passes.{Pass}
 use Rattle.xp_lines.specs.FrameEvents.{is_down}
 use Rattle.xp_lines.specs.Offers.{Gains}
-use Rattle.xp_lines.specs.Reads.{Reads, stays}
+use Rattle.xp_lines.specs.Reads.{Reads, is_wanting, keeps, stays}
 use Rattle.xp_lines.specs.AnswerTimer.{Expires, answered, has_any, since_after_all}
 use Rattle.xp_lines.specs.Wire.{NoneCloses, Writes}
 use Rattle.xp_lines.specs.declared.reading.ReadOutcome.{ReadOutcome}
@@ -34,8 +34,7 @@ module _ {A : Type 0} where
   is_owed (Some what) = is_down what
   is_owed None = false
 
-  -- Octets were pulled and their packets offered, and then the expiry of an incoming call that was not answered in time. While
-  -- the link stays nothing is lost.
+  -- Octets were pulled and their packets offered, and then the expiry of an incoming call that was not answered in time.
   pub record ReadsAndExpires (modulus : Modulus) (now : ℕ) (old : Pass A) (held : Option (What A)) (frames : DeframerState) (before : Option (List ℕ)) (since : Option ℕ) (outcome : ReadOutcome) (new : Pass A) (left_held : Option (What A)) (left_frames : DeframerState) (after : Option (List ℕ)) (left_since : Option ℕ) : Type 0 where
     pub pulled : List ℕ
     pub pulls : Appends before after pulled
@@ -45,13 +44,13 @@ module _ {A : Type 0} where
     pub reads : Reads modulus held frames pulled whats outcome left_held left_frames
     pub lapses : Expires (stays outcome) now (answered (has_any whats) since) expired left_since
 
-  -- Outputs were taken and written, and then octets were read. While the link stays nothing is lost, and no output that was taken
-  -- closes the connection.
+  -- Outputs were taken and written, and then octets were read. Octets of outputs are lost only where memory was wanting, or the
+  -- exchange takes no more. While the link stays, no output that was taken closes the connection.
   pub record WritesAndReads (modulus : Modulus) (now connection : ℕ) (old_pass : Pass A) (old : Seen A) (outcome : ReadOutcome) (new_pass : Pass A) (new : Seen A) : Type 0 where
     pub between : Pass A
     pub unsent : List ℕ
     pub writes : Writes modulus connection old_pass old.unwritten old.pushed between new.unwritten new.pushed unsent
-    pub none_unsent : stays outcome ≡ true → unsent ≡ []
+    pub none_unsent : keeps outcome ≡ true → unsent ≡ []
     pub none_closes : stays outcome ≡ true → NoneCloses connection writes.items
     pub since : Option ℕ
     pub since_is : stays outcome ≡ true → since ≡ since_after_all now connection old.unanswered_since writes.items
@@ -69,24 +68,26 @@ module _ {A : Type 0} where
   abbrev pub Follows : ReadOutcome → Pass A → Option (What A) → TurnOutcome → Pass A → Option (What A) → Type 0
   Follows outcomes.Open old held after new left = (after ≡ Linked) × (new ≡ old) × (left ≡ held)
   Follows outcomes.Over old held after new left = Downs old after new left
+  Follows outcomes.Lost old held after new left = Downs old after new left
   Follows outcomes.Halted old held after new left = (after ≡ Halted) × (new ≡ old) × (left ≡ held)
   Follows outcomes.Journal old held after new left = (after ≡ Journal) × (new ≡ old) × (left ≡ held)
 
-  -- The line wrote and read, and then its link stays or goes.
-  pub record Worked (modulus : Modulus) (now connection : ℕ) (old_pass : Pass A) (old : Seen A) (after : TurnOutcome) (new_pass : Pass A) (new : Seen A) : Type 0 where
+  -- The line wrote and read, and then its link stays or goes. The turn says so where memory was wanting.
+  pub record Worked (modulus : Modulus) (now connection : ℕ) (old_pass : Pass A) (old : Seen A) (after : TurnOutcome) (wanting : Bool) (new_pass : Pass A) (new : Seen A) : Type 0 where
     pub outcome : ReadOutcome
     pub worked_pass : Pass A
     pub worked : Seen A
     pub works : WritesAndReads modulus now connection old_pass old outcome worked_pass worked
+    pub says : is_wanting outcome ≡ true → wanting ≡ true
     pub follows : Follows outcome worked_pass worked.held after new_pass new.held
     pub rest : new ≡ record worked { held = new.held }
 
   -- Where a Down waits, the turn offers the Down alone. Else it writes and reads.
-  abbrev pub IsTurnBy : Bool → Modulus → ℕ → ℕ → Pass A → Seen A → TurnOutcome → Pass A → Seen A → Type 0
-  IsTurnBy true modulus now connection old_pass old after new_pass new =
+  abbrev pub IsTurnBy : Bool → Modulus → ℕ → ℕ → Pass A → Seen A → TurnOutcome → Bool → Pass A → Seen A → Type 0
+  IsTurnBy true modulus now connection old_pass old after wanting new_pass new =
       Downs old_pass after new_pass new.held × (new ≡ record old { held = new.held })
-  IsTurnBy false modulus now connection old_pass old after new_pass new = Worked modulus now connection old_pass old after new_pass new
+  IsTurnBy false modulus now connection old_pass old after wanting new_pass new = Worked modulus now connection old_pass old after wanting new_pass new
 
-  -- one turn of a line of this modulus, at the time that the clock gave, in seconds
-  abbrev pub IsTurn : Modulus → ℕ → ℕ → Pass A → Seen A → TurnOutcome → Pass A → Seen A → Type 0
-  IsTurn modulus now connection old_pass old after new_pass new = IsTurnBy (is_owed old.held) modulus now connection old_pass old after new_pass new
+  -- one turn of a line of this modulus, at the time that the clock gave, in seconds, and whether it says that memory was wanting
+  abbrev pub IsTurn : Modulus → ℕ → ℕ → Pass A → Seen A → TurnOutcome → Bool → Pass A → Seen A → Type 0
+  IsTurn modulus now connection old_pass old after wanting new_pass new = IsTurnBy (is_owed old.held) modulus now connection old_pass old after wanting new_pass new

@@ -8,7 +8,6 @@ ghost use Rattle.xp_lines.specs.steps.Serving.{GoesOnTo, WritesOn};
 use crate::answer_timer::AnswerTimer;
 use crate::line::EndReason;
 use crate::line_state::{LineState, Unwritten};
-use crate::link::{Clock, Link};
 use crate::offering::{Stop, offer};
 use crate::session::Session;
 use crate::signals::Signals;
@@ -16,6 +15,7 @@ use crate::waiting::Waiting;
 use crate::writing::{Ended, write_out};
 use std::alloc::{Allocator, Global};
 use std::sync::Wait;
+use xp_links::{Clock, Link};
 use xp_lock::{Exchange, LinePass};
 use xp_seats::Name;
 

@@ -7,10 +7,10 @@ ghost use Rattle.xp_lines.specs.steps.Serving.{EndsSo};
 ghost use Rattle.xp_lines.specs.steps.Threads.{Adds};
 
 use crate::line::LineEnd;
-use crate::link::{Clock, Gate, Port};
 use crate::served_line::ServedLine;
 use std::alloc::Global;
 use std::vec::IntoIter;
+use xp_links::{Clock, Gate, Port};
 use xp_seats::Name;
 
 /// Adds how these lines ended.

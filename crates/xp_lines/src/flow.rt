@@ -5,8 +5,8 @@ ghost use Rattle.std.specs.Io.KnownBytes.{Appends};
 ghost use Rattle.std.specs.Vec.{vec_len};
 ghost use Rattle.xp_lines.specs.Flow.{Leaves};
 
-use crate::link::{Link, Pushed};
 use std::alloc::Allocator;
+use xp_links::{Link, Pushed};
 
 /// Whether a link took all octets.
 #[derive(Clone, Copy, PartialEq)]

@@ -6,11 +6,11 @@ ghost use Rattle.xp_lines.specs.Offers.{Offers};
 ghost use Rattle.xp_lines.specs.steps.Offers.{goes_on};
 ghost use Rattle.xp_lines.specs.steps.Offering.{NextIs};
 
-use crate::link::Gate;
 use crate::offering::Stop;
 use crate::waiting::Waiting;
 use std::alloc::{AllocError, Allocator};
 use xp_frames::Deframer;
+use xp_links::Gate;
 use xp_packets::Modulus;
 use xp_subs::LineNo;
 

@@ -3,10 +3,10 @@
 ghost use Rattle.std.specs.Prelude.{◌≡◌, ◌+◌, ◌≤◌, ◌++◌, [], length, map, vec_capacity, vec_len};
 ghost use Rattle.std.specs.Vec.Iter.{into_iter_items, into_iter_len};
 
-use crate::link::{Clock, Gate, Poller, Port};
 use crate::served_line::{LineInputs, ServedLine};
 use std::alloc::{AllocError, Global};
 use std::vec::IntoIter;
+use xp_links::{Clock, Gate, Poller, Port};
 use xp_seats::Name;
 
 /// The lines with these inputs, which have had no turn, where there is room for them.

@@ -4,7 +4,7 @@
 //! packets from the connection and offers them to the exchange, and it writes to the connection the packets that the exchange puts
 //! out to the line. [`serve_all`] starts the threads, and [`turn`] is one turn of a line
 //! on a connection, which is called a link here. The thread that calls [`serve_all`] hands the charging records to a
-//! [`RecordSink`] as calls end. Where the sink asks for a stop, each line offers the Down of its link, writes what still waits
+//! [`xp_sink::RecordSink`] as calls end. Where the sink asks for a stop, each line offers the Down of its link, writes what still waits
 //! for the link, and ends.
 #![tactic(auto)]
 
@@ -17,7 +17,6 @@ mod groups;
 mod laws;
 mod line;
 mod line_state;
-mod link;
 mod offering;
 mod reading;
 mod recording;
@@ -33,8 +32,6 @@ mod writing;
 pub use flow::{Flow, push_rest};
 pub use laws::{links_add_up, turns_add_up};
 pub use line::{EndReason, LineEnd};
-pub use link::{Arrived, Clock, Gate, Link, Patience, Poller, Port, Pulled, Pushed};
-pub use recording::{Received, RecordSink};
 pub use served_line::LineInputs;
 pub use session::Session;
 pub use signals::Signals;

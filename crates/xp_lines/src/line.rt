@@ -4,7 +4,6 @@ ghost use Rattle.std.specs.Prelude.{◌≡◌, None};
 ghost use Rattle.xp_lines.specs.Sessions.{AreMoved, Drops};
 ghost use Rattle.xp_lines.specs.steps.Sessions.{Connects, Steps, TurnsOn, here, seen_on};
 
-use crate::link::{Arrived, Clock, Gate, Link, Port};
 use crate::offering::{Stop, offer};
 use crate::session::Session;
 use crate::turning::{TurnOutcome, turn};
@@ -12,6 +11,7 @@ use crate::waiting::Waiting;
 use std::alloc::{Allocator, Global};
 use std::sync::Wait;
 use xp_frames::Deframer;
+use xp_links::{Arrived, Clock, Gate, Link, Port};
 use xp_lock::{Exchange, LinePass};
 use xp_seats::Name;
 

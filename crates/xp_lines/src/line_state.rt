@@ -1,8 +1,8 @@
 //! Whether a line goes on, and with what.
 
 use crate::line::EndReason;
-use crate::link::Link;
 use crate::session::Session;
+use xp_links::Link;
 
 /// What still waits for a link whose Down the exchange has accepted.
 #[derive(Drop)]

@@ -11,11 +11,11 @@ ghost use Rattle.xp_lines.specs.steps.Offering.{IsRefusal, TakesFront, Tells, ev
 ghost use Rattle.xp_lines.specs.AnswerTimer.{has_any};
 
 use crate::gathering::gather;
-use crate::link::{Clock, Gate};
 use crate::waiting::Waiting;
 use std::alloc::Allocator;
 use std::sync::Wait;
 use xp_frames::Deframer;
+use xp_links::{Clock, Gate};
 use xp_lock::{Exchange, ExchangeGuard, LinePass, OfferFault, Receipt};
 use xp_seats::Name;
 use xp_step::Event;

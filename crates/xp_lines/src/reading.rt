@@ -1,21 +1,21 @@
 //! The reading of a turn: octets from the line's link become packets, which the thread offers to the exchange.
 
-ghost use Rattle.std.specs.Prelude.{◌≡◌, ◌||◌, ℕ, List};
+ghost use Rattle.std.specs.Prelude.{◌≡◌, ◌||◌, ℕ, List, true};
 ghost use Rattle.std.specs.Io.KnownBytes.{Appends};
 ghost use Rattle.xp_step.specs.declared.event.What.{What as Happening};
 ghost use Rattle.xp_subs.specs.Tables.{modulus_of};
 ghost use Rattle.xp_lines.specs.Gates.{WaitsForGate};
 ghost use Rattle.xp_lines.specs.Offers.{Gains};
 ghost use Rattle.xp_lines.specs.AnswerTimer.{has_any};
-ghost use Rattle.xp_lines.specs.Reads.{Reads, stays};
+ghost use Rattle.xp_lines.specs.Reads.{Reads, keeps, stays};
 ghost use Rattle.xp_lines.specs.steps.Reads.{Pulls, outcome_after, outcome_at, pull_by};
 
-use crate::link::{Clock, Gate, Link, Pulled};
 use crate::offering::{Offered, Stop, offer_waiting};
 use crate::waiting::Waiting;
 use std::alloc::Allocator;
 use std::sync::Wait;
 use xp_frames::{Deframer, FrameFault};
+use xp_links::{Clock, Gate, Link, Pulled};
 use xp_lock::{Exchange, LinePass};
 use xp_seats::Name;
 
@@ -27,8 +27,10 @@ const PIECE: usize = 4096;
 pub enum ReadOutcome {
     /// All octets that came are read. A packet waits only where the gate did not let it go.
     Open,
-    /// The link has ended, is broken or sent a bad frame header, or an allocation failed.
+    /// The link has ended, is broken or sent a bad frame header. Nothing that came before that is lost.
     Over,
+    /// An allocation failed. Octets that came, or packets that waited, may be lost.
+    Lost,
     /// The exchange is halted.
     Halted,
     /// The exchange's journal is full.
@@ -62,7 +64,7 @@ pub enum Pull {
     Came,
     /// No octets have come yet.
     Nothing,
-    /// The link has ended, is broken or sent a bad frame header. The frames before that are there.
+    /// The link has ended, is broken or sent a bad frame header, now or before. The frames before that are there.
     Over,
     /// An allocation failed, and the octets that came are lost.
     Lost,
@@ -98,7 +100,7 @@ fn pull_by(answer: Result<(), FrameFault>) -> Pull
         Ok(()) => Pull::Came,
         Err(FrameFault::Version(_)) => Pull::Over,
         Err(FrameFault::Length(_)) => Pull::Over,
-        Err(FrameFault::Failed) => Pull::Lost,
+        Err(FrameFault::Failed) => Pull::Over,
         Err(FrameFault::Memory) => Pull::Lost,
     }
 }
@@ -119,7 +121,7 @@ pub fn read_in<N: Name, L: Link, C: Clock, G: Gate, A: Allocator + Copy, R: Wait
 ) -> Taken
     ensures reads { (pulled : List ℕ) × Appends (L.pulled link.old) (L.pulled link.new) pulled × (whats : List (Happening A)) × Gains pass.old whats pass.new × Reads (modulus_of N.subs pass.old.line) waiting.old frames.old pulled whats result.outcome waiting.new frames.new × (result.offered ≡ has_any whats) }
     ensures pushed { L.pushed link.new ≡ L.pushed link.old }
-    ensures left { result.outcome ≡ ReadOutcome.Open → WaitsForGate G.answers waiting.new frames.new.waiting gate.new }
+    ensures left { keeps result.outcome ≡ true → WaitsForGate G.answers waiting.new frames.new.waiting gate.new }
 {
     let first = offer_waiting(
         rt, alloc, exchange, pass, frames, waiting, clock, moment, gate,
@@ -153,7 +155,7 @@ pub fn outcome_at(stop: Stop) -> ReadOutcome
 {
     match stop {
         Stop::Held => ReadOutcome::Open,
-        Stop::Memory => ReadOutcome::Over,
+        Stop::Memory => ReadOutcome::Lost,
         Stop::Halted => ReadOutcome::Halted,
         Stop::Journal => ReadOutcome::Journal,
     }
@@ -167,7 +169,8 @@ fn both(first: Offered, pull: Pull, second: Offered) -> Taken
     let outcome = match (second.stop, pull) {
         (Some(Stop::Halted), _) => ReadOutcome::Halted,
         (Some(Stop::Journal), _) => ReadOutcome::Journal,
-        (Some(Stop::Memory), _) | (_, Pull::Over | Pull::Lost) => ReadOutcome::Over,
+        (Some(Stop::Memory), _) | (_, Pull::Lost) => ReadOutcome::Lost,
+        (None | Some(Stop::Held), Pull::Over) => ReadOutcome::Over,
         (None | Some(Stop::Held), Pull::Came | Pull::Nothing) => ReadOutcome::Open,
     };
     let offered = first.moved || second.moved;

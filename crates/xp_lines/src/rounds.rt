@@ -3,11 +3,11 @@
 ghost use Rattle.std.specs.Prelude.{◌≡◌};
 
 use crate::line::EndReason;
-use crate::link::{Clock, Gate, Patience, Poller, Port};
 use crate::served_line::ServedLine;
 use crate::signals::Signals;
 use std::alloc::Global;
 use std::sync::Wait;
+use xp_links::{Clock, Gate, Patience, Poller, Port};
 use xp_lock::Exchange;
 use xp_seats::Name;
 

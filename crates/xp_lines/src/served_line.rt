@@ -7,13 +7,13 @@ ghost use Rattle.xp_lines.specs.steps.Serving.{EndsSo, GoesOnTo, IsWhy, StaysSo}
 use crate::closing::{close, stop, write_rest};
 use crate::line::{EndReason, LineEnd, halt_at, have_turn};
 use crate::line_state::LineState;
-use crate::link::{Clock, Gate, Link, Port};
 use crate::session::Session;
 use crate::signals::Signals;
 use std::alloc::Global;
 use std::marker::Model;
 use std::mem;
 use std::sync::Wait;
+use xp_links::{Clock, Gate, Link, Port};
 use xp_lock::{Exchange, LinePass};
 use xp_past::Past;
 use xp_seats::Name;

@@ -1,9 +1,9 @@
 //! The state of a line with its link.
 
-use crate::link::Link;
 use crate::waiting::Waiting;
 use std::alloc::{Allocator, Global};
 use xp_frames::Deframer;
+use xp_links::Link;
 
 /// The state of a line with its link, from the link's Up to its Down.
 #[derive(Drop)]

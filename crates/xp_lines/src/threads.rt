@@ -2,7 +2,7 @@
 
 ghost use Rattle.std.specs.Prelude.{◌≡◌, IfErr, IfOk, [], ◌++◌, length, map, vec_len, vec_capacity, ◌+◌, ◌≤◌};
 ghost use Rattle.std.specs.Vec.Iter.{into_iter_items, into_iter_len};
-ghost use Rattle.xp_lines.specs.Pairs.{AreEach};
+ghost use Rattle.xp_links.specs.Pairs.{AreEach};
 ghost use Rattle.xp_lines.specs.Recorded.{HandsOn};
 ghost use Rattle.xp_lines.specs.Sessions.{AreMoved, IsLineDown, IsLineServed};
 ghost use Rattle.xp_lines.specs.steps.Serving.{EndsSo};
@@ -12,8 +12,7 @@ ghost use Rattle.xp_subs.specs.Tables.{line_count};
 use crate::ends::{add_ends, add_unstarted};
 use crate::groups::{ThreadGroup, fill, groups_of, served_of};
 use crate::line::{EndReason, LineEnd};
-use crate::link::{Clock, Gate, Poller, Port};
-use crate::recording::{RecordSink, keep_recording};
+use crate::recording::keep_recording;
 use crate::rounds::serve_lines;
 use crate::served_line::{LineInputs, ServedLine};
 use crate::signals::Signals;
@@ -23,8 +22,10 @@ use std::sync::Wait;
 use std::thread;
 use std::thread::{Promise, PromisedHandle, Scope, Threads};
 use std::vec::IntoIter;
+use xp_links::{Clock, Gate, Poller, Port};
 use xp_lock::Exchange;
 use xp_seats::{Name, Recorder};
+use xp_sink::RecordSink;
 
 /// What is left as all lines have ended.
 #[derive(Drop)]

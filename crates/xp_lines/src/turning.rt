@@ -1,17 +1,16 @@
 //! One turn of a line on its link: it writes, reads, and lets the link go where it is over.
 
-ghost use Rattle.std.specs.Prelude.{◌≡◌, ◌⊎◌, ℕ, List, Some, false};
+ghost use Rattle.std.specs.Prelude.{◌≡◌, ◌⊎◌, ℕ, List, Some, false, true};
 ghost use Rattle.xp_step.specs.declared.event.What.{What as Happening};
 ghost use Rattle.xp_step.specs.declared.event.What.TheVariants.{Down as WentDown};
 ghost use Rattle.xp_subs.specs.Tables.{modulus_of};
-ghost use Rattle.xp_lines.specs.Gates.{WaitsForGate};
+ghost use Rattle.xp_lines.specs.Gates.{IsLeftBehind, WaitsForGate};
 ghost use Rattle.xp_lines.specs.Offers.{Gains};
-ghost use Rattle.xp_lines.specs.Reads.{stays};
+ghost use Rattle.xp_lines.specs.Reads.{is_wanting, keeps, stays};
 ghost use Rattle.xp_lines.specs.AnswerTimer.{Expires};
 ghost use Rattle.xp_lines.specs.Turns.{Downs, Follows, ReadsAndExpires, IsTurn, WritesAndReads, is_owed};
 
 use crate::answer_timer::AnswerTimer;
-use crate::link::{Clock, Gate, Link};
 use crate::offering::{Stop, offer};
 use crate::reading::{ReadOutcome, Taken, outcome_at, read_in, stays};
 use crate::session::Session;
@@ -20,6 +19,7 @@ use crate::writing::{Ended, write_out};
 use std::alloc::Allocator;
 use std::sync::Wait;
 use xp_frames::Deframer;
+use xp_links::{Clock, Gate, Link};
 use xp_lock::{Exchange, LinePass};
 use xp_seats::Name;
 
@@ -43,6 +43,9 @@ pub enum TurnOutcome {
 pub struct Turned {
     /// How the turn left the line.
     pub after: TurnOutcome,
+    /// Whether an allocation failed. Only then, and where the exchange takes nothing any more, may octets that came and outputs
+    /// that were taken be lost.
+    pub wanting: bool,
     /// How many charging records there were after the last event that the exchange accepted; 0 if it accepted none.
     pub records: u64,
 }
@@ -55,7 +58,8 @@ pub struct Turned {
 /// - Where an output closed the connection, the link is over or sent a bad frame header, or an allocation failed, it offers the
 ///   link's Down.
 ///
-/// Where a Down from an earlier turn waits, it offers that alone. A turn that read nothing and emptied the outbox lets time pass.
+/// Where the link goes and no allocation failed, each packet that came was offered, except behind one that the gate kept back. Octets behind a
+/// bad header are lost. Where a Down from an earlier turn waits, it offers that alone. A turn that read nothing and emptied the outbox lets time pass.
 pub fn turn<N: Name, L: Link, C: Clock, G: Gate, A: Allocator + Copy, R: Wait>(
     rt: &R,
     exchange: &Exchange<N, A>,
@@ -64,9 +68,10 @@ pub fn turn<N: Name, L: Link, C: Clock, G: Gate, A: Allocator + Copy, R: Wait>(
     clock: &mut C,
     gate: &mut G,
 ) -> Turned
-    ensures turn { (now : ℕ) × ((told : C) × C.tells clock.old now told) × IsTurn (modulus_of N.subs pass.old.line) now session.old.connection pass.old (record { held = session.old.waiting; frames = session.old.frames; unwritten = session.old.unwritten.items; pushed = L.pushed session.old.link; pulled = L.pulled session.old.link; unanswered_since = session.old.unanswered_since }) result.after pass.new (record { held = session.new.waiting; frames = session.new.frames; unwritten = session.new.unwritten.items; pushed = L.pushed session.new.link; pulled = L.pulled session.new.link; unanswered_since = session.new.unanswered_since }) }
+    ensures turn { (now : ℕ) × ((told : C) × C.tells clock.old now told) × IsTurn (modulus_of N.subs pass.old.line) now session.old.connection pass.old (record { held = session.old.waiting; frames = session.old.frames; unwritten = session.old.unwritten.items; pushed = L.pushed session.old.link; pulled = L.pulled session.old.link; unanswered_since = session.old.unanswered_since }) result.after result.wanting pass.new (record { held = session.new.waiting; frames = session.new.frames; unwritten = session.new.unwritten.items; pushed = L.pushed session.new.link; pulled = L.pulled session.new.link; unanswered_since = session.new.unanswered_since }) }
     ensures connection { session.new.connection ≡ session.old.connection }
     ensures left { result.after ≡ TurnOutcome.Linked → WaitsForGate G.answers session.new.waiting session.new.frames.waiting gate.new }
+    ensures gone { result.after ≡ TurnOutcome.Dropped → result.wanting ≡ false → is_owed session.old.waiting ≡ false → IsLeftBehind G.answers session.old.waiting session.old.frames session.new.waiting session.new.frames gate.new }
     ensures line { pass.new.line ≡ pass.old.line }
 {
     let Session {
@@ -112,7 +117,9 @@ fn finish<N: Name, C: Clock, A: Allocator + Copy, R: Wait>(
     waiting: &mut Option<Waiting<A>>,
     taken: Taken,
 ) -> Turned
-    ensures { Follows taken.outcome pass.old waiting.old result.after pass.new waiting.new }
+    ensures follows { Follows taken.outcome pass.old waiting.old result.after pass.new waiting.new }
+    ensures says { is_wanting taken.outcome ≡ true → result.wanting ≡ true }
+    ensures still { result.after ≡ TurnOutcome.Dropped → waiting.new ≡ waiting.old }
 {
     match taken.outcome {
         ReadOutcome::Open => {
@@ -122,6 +129,10 @@ fn finish<N: Name, C: Clock, A: Allocator + Copy, R: Wait>(
             ended(TurnOutcome::Linked, taken.records)
         }
         ReadOutcome::Over => go_down(rt, exchange, pass, clock, moment, waiting, taken.records),
+        ReadOutcome::Lost => {
+            let down = go_down(rt, exchange, pass, clock, moment, waiting, taken.records);
+            for_memory(down.after, down.records)
+        }
         ReadOutcome::Halted => ended(TurnOutcome::Halted, taken.records),
         ReadOutcome::Journal => ended(TurnOutcome::Journal, taken.records),
     }
@@ -131,7 +142,23 @@ fn finish<N: Name, C: Clock, A: Allocator + Copy, R: Wait>(
 fn ended(after: TurnOutcome, records: u64) -> Turned
     ensures { result.after ≡ after }
 {
-    Turned { after, records }
+    Turned {
+        after,
+        wanting: false,
+        records,
+    }
+}
+
+/// The result of a turn in which an allocation failed.
+fn for_memory(after: TurnOutcome, records: u64) -> Turned
+    ensures after { result.after ≡ after }
+    ensures says { result.wanting ≡ true }
+{
+    Turned {
+        after,
+        wanting: true,
+        records,
+    }
 }
 
 /// Whether the link went and the exchange has not accepted that yet.
@@ -154,7 +181,8 @@ pub fn go_down<N: Name, C: Clock, A: Allocator + Copy, R: Wait>(
     waiting: &mut Option<Waiting<A>>,
     records: u64,
 ) -> Turned
-    ensures { Downs pass.old result.after pass.new waiting.new }
+    ensures downs { Downs pass.old result.after pass.new waiting.new }
+    ensures still { result.after ≡ TurnOutcome.Dropped → waiting.new ≡ waiting.old }
 {
     match offer(rt, exchange, pass, clock, moment, Waiting::down()) {
         Ok(done) => ended(TurnOutcome::Dropped, done.records() as u64),
@@ -162,7 +190,7 @@ pub fn go_down<N: Name, C: Clock, A: Allocator + Copy, R: Wait>(
         Err(Stop::Journal) => ended(TurnOutcome::Journal, records),
         Err(Stop::Memory | Stop::Held) => {
             owe_down(waiting);
-            ended(TurnOutcome::DownOwed, records)
+            for_memory(TurnOutcome::DownOwed, records)
         }
     }
 }
@@ -190,6 +218,7 @@ fn write_and_read<N: Name, L: Link, C: Clock, G: Gate, A: Allocator + Copy, R: W
 ) -> Taken
     ensures works { WritesAndReads (modulus_of N.subs pass.old.line) timer.old.now connection pass.old (record { held = waiting.old; frames = frames.old; unwritten = unwritten.old.items; pushed = L.pushed link.old; pulled = L.pulled link.old; unanswered_since = timer.old.since }) result.outcome pass.new (record { held = waiting.new; frames = frames.new; unwritten = unwritten.new.items; pushed = L.pushed link.new; pulled = L.pulled link.new; unanswered_since = timer.new.since }) }
     ensures left { result.outcome ≡ ReadOutcome.Open → WaitsForGate G.answers waiting.new frames.new.waiting gate.new }
+    ensures gone { keeps result.outcome ≡ true → IsLeftBehind G.answers waiting.old frames.old waiting.new frames.new gate.new }
 {
     let halted = exchange.halted();
     let written = write_out(rt, exchange, pass, connection, link, unwritten, timer);
@@ -199,7 +228,7 @@ fn write_and_read<N: Name, L: Link, C: Clock, G: Gate, A: Allocator + Copy, R: W
     match written.ended {
         Ended::Open => {}
         Ended::Over => return nothing_read(ReadOutcome::Over),
-        Ended::Lost => return nothing_read(ReadOutcome::Over),
+        Ended::Lost => return nothing_read(ReadOutcome::Lost),
     }
     let alloc = *unwritten.allocator();
     let taken = read_and_expire(
@@ -223,7 +252,7 @@ fn read_and_expire<N: Name, L: Link, C: Clock, G: Gate, A: Allocator + Copy, R: 
 ) -> Taken
     ensures hears { ReadsAndExpires (modulus_of N.subs pass.old.line) timer.old.now pass.old waiting.old frames.old (L.pulled link.old) timer.old.since result.outcome pass.new waiting.new frames.new (L.pulled link.new) timer.new.since }
     ensures pushed { L.pushed link.new ≡ L.pushed link.old }
-    ensures left { result.outcome ≡ ReadOutcome.Open → WaitsForGate G.answers waiting.new frames.new.waiting gate.new }
+    ensures left { keeps result.outcome ≡ true → WaitsForGate G.answers waiting.new frames.new.waiting gate.new }
 {
     let taken = read_in(
         rt, alloc, exchange, pass, link, frames, waiting, clock, timer.now, gate,
@@ -266,7 +295,7 @@ fn expire_late<N: Name, C: Clock, A: Allocator + Copy, R: Wait>(
     taken: Taken,
 ) -> Taken
     ensures lapses { (expired : List (Happening A)) × Gains pass.old expired pass.new × Expires (stays result.outcome) timer.old.now timer.old.since expired timer.new.since }
-    ensures ends { (result.outcome ≡ taken.outcome) ⊎ (stays result.outcome ≡ false) }
+    ensures ends { (result.outcome ≡ taken.outcome) ⊎ (keeps result.outcome ≡ false) }
 {
     if !stays(taken.outcome) {
         return taken;

@@ -11,10 +11,10 @@ ghost use Rattle.xp_lines.specs.AnswerTimer.{since_after_put, since_after_all};
 
 use crate::answer_timer::AnswerTimer;
 use crate::flow::{Flow, push_rest};
-use crate::link::Link;
 use std::alloc::{AllocError, Allocator};
 use std::sync::Wait;
 use xp_frames::write_frame;
+use xp_links::Link;
 use xp_lock::{Exchange, LinePass};
 use xp_packets::{Modulus, Packet, encode};
 use xp_seats::Name;

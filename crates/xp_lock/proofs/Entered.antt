@@ -30,6 +30,7 @@ use Rattle.xp_lock.specs.Outgoing.{put_out_to, to_line}
 use Rattle.xp_lock.specs.steps.Stalling.{CanEnter, HasEntered, HasStalled, with_outboxes}
 use Rattle.xp_lock.specs.CoreWithOutboxes.{IsGiven, CoreWithOutboxes, Takes, is_up}
 use Rattle.xp_lock.proofs.GivenLines.{given_more, given_none, is_from}
+use Rattle.xp_lock.proofs.Histories.{forced_taken}
 use Rattle.xp_lock.proofs.Touches.{Touches, touches}
 use Rattle.xp_lock.proofs.Trio.{goes_to, trio, trio_few}
 
@@ -228,4 +229,5 @@ module _ {A : Type 0} (old mid : Exchange A) (event : Event A) (entry : Entry A)
             let all = length-append old.history (entry ∷ stalled.stalls) in
             let same = ap (λ t. t.journal) (stalled.subs ∙ step.subs) in
             omega (arith, places, stalls, long, all, same);
+        forced = forced_taken (with_outboxes old outboxes) event done (with_outboxes new after) taken can.kind can.kept.forced;
       }

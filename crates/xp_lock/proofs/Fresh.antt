@@ -10,7 +10,7 @@ use Rattle.xp_core.specs.Records.{records_of}
 use Rattle.xp_step.specs.Worlds.{world_after}
 use Rattle.xp_machine.specs.World.{World, line_at}
 use Rattle.xp_lock.specs.declared.receipt.Receipt.{Receipt}
-use Rattle.xp_lock.specs.Forced.{Stalls}
+use Rattle.xp_lock.specs.Forced.{AreAt, Forces, Stalls}
 use Rattle.xp_seats.specs.Handed.{handed, is_stall}
 use Rattle.xp_lock.specs.Passes.{AreStalls, GainsEvent, IsLegal, Pass}
 use Rattle.xp_lock.specs.CoreWithOutboxes.{CoreWithOutboxes, Takes}
@@ -72,6 +72,12 @@ module _ {A : Type 0} where
         → after.line ≡ pass.line → after.taken ≡ pass.taken → after.seen ≡ new.history → GainsEvent subs pass event done after
     freshened pass after subs same kind own front all legal line taken seen =
         let own_entry = handed_own pass.line takes.entry takes.stalls stalls_are (ap (λ e. e.line) takes.event_is ∙ own) (ap (λ e. is_stall e.what) takes.event_is ∙ kind) in
+        let past = pass.seen ++ front.0 in
+        let Between : Tables → List (Entry A) → World → Type 0 = λ t xs w. Forces t xs (world_after t xs) takes.known takes.entry takes.stalls w in
+        let last : world_after new.subs new.history ≡ world_after subs after.seen = (λ i. world_after (same i) (sym seen i)) in
+        let began : old.subs ≡ subs = sym takes.subs ∙ same in
+        let forced : Between subs past (world_after subs after.seen) = subst (Between subs past) last
+        (subst (λ xs. Between subs xs (world_after new.subs new.history)) front.1 (subst (λ t. Between t old.history (world_after new.subs new.history)) began takes.forces)) in
         let Of : Tables → List (Entry A) → Type 0 = λ t xs. IsLegal t xs in
         record {
           line = line;
@@ -82,6 +88,9 @@ module _ {A : Type 0} where
           stalls = takes.stalls;
           are_stalls = are_stalls takes.stalls stalls_are;
           few = takes.few;
+          known = takes.known;
+          forces = forced;
+          moments = subst (λ m. AreAt m takes.stalls) (ap (λ e. e.moment) takes.event_is) takes.forces.moments;
           seen = seen ∙ takes.history ∙ ap (λ xs. xs ++ takes.entry ∷ takes.stalls) front.1;
           own_entries_are =
               ap (λ l. handed l after.seen) line ∙ ap (handed pass.line) (seen ∙ takes.history)

@@ -3,6 +3,7 @@ pub mod Counted
 pub mod Entered
 pub mod Fresh
 pub mod GivenLines
+pub mod Histories
 pub mod Looping
 pub mod Opened
 pub mod Putting

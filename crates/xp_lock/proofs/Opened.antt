@@ -12,8 +12,9 @@ use Rattle.xp_machine.specs.World.{off_line, opening, state_at}
 use Rattle.xp_lock.specs.Outboxes.{CAPACITY, no_outbox}
 use Rattle.xp_lock.specs.steps.Outboxes.{OutboxesMatch}
 use Rattle.xp_lock.specs.Opening.{AreFirst, first_pass}
-use Rattle.xp_lock.specs.steps.Opening.{AreNew}
+use Rattle.xp_lock.specs.steps.Opening.{AreNew, IsUnused}
 use Rattle.xp_lock.specs.Passes.{Pass}
+use Rattle.xp_lock.proofs.Histories.{none_forced}
 
 all_off : (count line : ℕ) → is_off (state_at (opening count) line) ≡ true
 all_off count line = elim (cases_lt line count) [
@@ -41,11 +42,12 @@ module _ {A : Type 0} where
     put = λ line within. All-get_or (λ (box : Putting (Outgoing A)). box.put ≡ []) outboxes line no_outbox within new.put;
     places = λ line on. absurd (true≢false (sym (all_off (line_count subs) line) ∙ on));
     few = omega arith;
+    forced = none_forced subs;
   }
 
   pub new_push : (lines : ℕ) (outboxes : List (Putting (Outgoing A))) (ends : List (Taking (Outgoing A))) (box : Putting (Outgoing A)) (end : Taking (Outgoing A))
-      → AreNew lines outboxes ends → box.queue ≡ end.queue → box.capacity ≡ CAPACITY → box.put ≡ [] → end.taken ≡ [] → AreNew (lines + 1) (outboxes ++ box ∷ []) (ends ++ end ∷ [])
-  new_push lines outboxes ends box end new tied capacity put taken =
+      → AreNew lines outboxes ends → box.queue ≡ end.queue → box.capacity ≡ CAPACITY → box.put ≡ [] → IsUnused end → AreNew (lines + 1) (outboxes ++ box ∷ []) (ends ++ end ∷ [])
+  new_push lines outboxes ends box end new tied capacity put unused =
       let one = length-append outboxes (box ∷ []) in
       let other = length-append ends (end ∷ []) in
       let was = new.box_count in
@@ -56,7 +58,7 @@ module _ {A : Type 0} where
         queues = map-append (λ (e : Taking (Outgoing A)). e.queue) ends (end ∷ []) ∙ (λ i. new.queues i ++ sym tied i ∷ []) ∙ sym (map-append (λ (b : Putting (Outgoing A)). b.queue) outboxes (box ∷ []));
         capacities = All-push (λ (b : Putting (Outgoing A)). b.capacity ≡ CAPACITY) outboxes box new.capacities capacity;
         put = All-push (λ (b : Putting (Outgoing A)). b.put ≡ []) outboxes box new.put put;
-        taken = All-push (λ (e : Taking (Outgoing A)). e.taken ≡ []) ends end new.taken taken;
+        unused = All-push (IsUnused {A = A}) ends end new.unused unused;
       }
 
   get_push : (xs : List (Pass A)) (x : Pass A) (k : ℕ) → k < length xs → slice_get (xs ++ x ∷ []) k ≡ slice_get xs k

@@ -63,6 +63,7 @@ module _ {A : Type 0} where
         put = λ other within. (alike up line outboxes after looks other).put ∙ kept.put other (omega (arith, within, same));
         places = λ other on. let was : 24 ≤ (outbox_at outboxes other).free = kept.places other on in let more = (alike up line outboxes after looks other).free in omega (arith, was, more);
         few = kept.few;
+        forced = kept.forced;
       }
 
   -- what a take does since the look, it does since before

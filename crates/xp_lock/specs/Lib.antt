@@ -3,6 +3,7 @@ pub mod CoreWithOutboxes
 pub mod Faults
 pub mod Forced
 pub mod Given
+pub mod Histories
 pub mod Opening
 pub mod Outboxes
 pub mod Outgoing

@@ -9,6 +9,7 @@ use Rattle.xp_step.specs.Run.{Run}
 use Rattle.xp_step.specs.Worlds.{world_after}
 use Rattle.xp_machine.specs.World.{line_at}
 use Rattle.xp_lock.specs.declared.receipt.Receipt.{Receipt}
+use Rattle.xp_lock.specs.Forced.{AreAt, Forces}
 use Rattle.xp_lock.specs.Given.{AreGiven}
 use Rattle.xp_seats.specs.Handed.{handed, is_stall}
 
@@ -33,8 +34,8 @@ module _ {A : Type 0} where
   abbrev pub AreStalls : List (Entry A) → Type 0
   AreStalls entries = All (λ entry. is_stall entry.event.what ≡ true) entries
 
-  -- What the line has seen grows by the entries of others, then the event's entry and the stalls that it forced. None but the
-  -- event's entry is one of the line's own
+  -- What the line has seen grows by the entries of others, then the event's entry and the stalls that it forced, at its moment.
+  -- None but the event's entry is one of the line's own
   pub record GainsEvent (subs : Tables) (old : Pass A) (event : Event A) (done : Receipt) (new : Pass A) : Type 0 where
     pub line : new.line ≡ old.line
     pub taken : new.taken ≡ old.taken
@@ -44,6 +45,10 @@ module _ {A : Type 0} where
     pub stalls : List (Entry A)
     pub are_stalls : AreStalls stalls
     pub few : length stalls ≤ 3
+    -- by line: how many places of its outbox were known to be free before the event
+    pub known : ℕ → ℕ
+    pub forces : Forces subs (old.seen ++ between) (world_after subs (old.seen ++ between)) known entry stalls (world_after subs new.seen)
+    pub moments : AreAt event.moment stalls
     pub seen : new.seen ≡ (old.seen ++ between) ++ entry ∷ stalls
     pub own_entries_are : own_entries new ≡ own_entries old ++ entry ∷ []
     pub legal : IsLegal subs new.seen

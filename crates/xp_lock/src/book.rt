@@ -16,6 +16,7 @@ ghost use Rattle.xp_machine.specs.View.{view_of};
 ghost use Rattle.xp_machine.specs.World.{line_at};
 ghost use Rattle.xp_core.specs.Writable.{AreWritable};
 ghost use Rattle.xp_lock.specs.Closing.{taken_by};
+ghost use Rattle.xp_lock.specs.Histories.{AreForced};
 ghost use Rattle.xp_lock.specs.steps.Closing.{AreWithin};
 ghost use Rattle.xp_lock.specs.Outgoing.{put_out_to};
 
@@ -38,17 +39,19 @@ impl<A: Allocator> Model for Book<A> {
 
     ghost Value = { Closed A };
 
+    ghost use Rattle.xp_lock.specs.Histories.{AreForced};
     ghost use Rattle.xp_lock.specs.steps.Closing.{AreWithin};
 
     ghost view = { λ b. record { subs = b.core.subs; history = b.core.history; given = b.core.given; taken = b.taken.items } };
 
-    ghost invariant = { λ b. AreWithin b.taken.items b.core.history };
+    ghost invariant = { λ b. AreWithin b.taken.items b.core.history × AreForced b.core.subs b.core.history };
 }
 
 impl<A: Allocator> Book<A> {
     /// The book of this core, with the counts of the outputs that the lines took, by line.
     pub(crate) fn new(core: Core<A>, taken: Vec<u64, A>) -> Book<A>
-        requires { AreWithin taken.items core.history }
+        requires within { AreWithin taken.items core.history }
+        requires forced { AreForced core.subs core.history }
         ensures { result ≡ record { subs = core.subs; history = core.history; given = core.given; taken = taken.items } }
     {
         Book { core, taken }
@@ -57,7 +60,9 @@ impl<A: Allocator> Book<A> {
     /// Returns how many entries the history has. It is a run of the exchange machine that leads to the last state. Each packet
     /// that an entry puts out can be encoded by the modulus of its line, and each line that an entry names is one of the
     /// subscriptions. Closed user groups let the stations of each live call, and of each line that a call was ever put to,
-    /// be joined. The sizes of each live call are in their ranges, and what a connected call accepts arrives.
+    /// be joined. The sizes of each live call are in their ranges, and what a connected call accepts arrives. The history is one
+    /// event after the other, each with the stalls that it forced: three at most, each at its moment and of a line in service
+    /// that the event, or a stall before, put something out to.
     pub fn count(&self) -> u64
         ensures count { result ≡ length self.now.history }
         ensures run { Run self.now.subs self.now.history (world_after self.now.subs self.now.history) }
@@ -66,6 +71,7 @@ impl<A: Allocator> Book<A> {
         ensures joined { AreJoined self.now.subs self.now.history (world_after self.now.subs self.now.history) }
         ensures terms { AllHaveTerms self.now.subs (world_after self.now.subs self.now.history) }
         ensures delivered { AreDelivered self.now.subs self.now.history (world_after self.now.subs self.now.history) }
+        ensures forced { AreForced self.now.subs self.now.history }
     {
         self.core.count()
     }

@@ -1,6 +1,6 @@
 //! The serial exchange with the outboxes of its lines. It enters one event at a time, with the stalls that the event forces.
 
-ghost use Rattle.std.specs.Prelude.{◌≡◌, ◌+◌, ◌<◌, ◌++◌, true, false, [], All, IfOk, IfErr, OnErr, OnOk};
+ghost use Rattle.std.specs.Prelude.{◌≡◌, ◌+◌, ◌<◌, ◌++◌, true, false, [], All, IfOk, IfErr, OnErr, OnOk, Some, map, slice_get};
 ghost use Rattle.xp_charge.specs.Lines.{HasLines as NamesLines};
 ghost use Rattle.xp_subs.specs.Tables.{line_count};
 ghost use Rattle.xp_step.specs.Exchange.{IsReadable};
@@ -8,11 +8,12 @@ ghost use Rattle.xp_core.specs.Records.{records_of};
 ghost use Rattle.xp_lock.specs.Outboxes.{HaveCapacity};
 ghost use Rattle.xp_lock.specs.steps.Outboxes.{OutboxesMatch};
 ghost use Rattle.xp_seats.specs.Handed.{is_stall};
+ghost use Rattle.xp_lock.specs.Outgoing.{put_out_to};
 ghost use Rattle.xp_lock.specs.CoreWithOutboxes.{Refuses, Takes, is_up};
 
 use crate::entering::enter;
 use crate::fault::OfferFault;
-use crate::outboxes::{OutboxPutEnd, has_room};
+use crate::outboxes::{OutboxPutEnd, OutboxTakeEnd, has_room, tell_put};
 use crate::receipt::Receipt;
 use std::alloc::{AllocError, Allocator};
 use std::marker::Model;
@@ -20,6 +21,7 @@ use std::sync::Wait;
 use xp_charge::Record;
 use xp_core::Core;
 use xp_step::{Event, What};
+use xp_subs::LineNo;
 
 /// How many places of the history must be left: one for the event, and three for the stalls that it may force.
 const PLACES_FOR_AN_EVENT: u64 = 4;
@@ -112,6 +114,15 @@ impl<A: Allocator + Copy> CoreWithOutboxes<A> {
         ensures err { OnErr result (self.new ≡ self.old) }
     {
         self.core.take_records()
+    }
+
+    /// Tells the take end of a line's outbox what was put into the outbox: all that the history puts out to the line.
+    pub fn tell(&mut self, line: LineNo, end: &mut OutboxTakeEnd<A>)
+        requires queue { slice_get (map (λ b. b.queue) self.old.outboxes) line ≡ Some end.old.queue }
+        ensures same { self.new ≡ self.old }
+        ensures told { end.new ≡ record end.old { owed = put_out_to line self.old.history } }
+    {
+        tell_put(&mut self.outboxes, line, end);
     }
 
     /// Returns the serial exchange.

@@ -1,6 +1,7 @@
 //! The exchange that threads share.
 
 ghost use Rattle.std.specs.Prelude.{◌≡◌, [], ◌∷◌, ◌++◌, false, All, IfErr, IfNone, IfOk, IfSome, OnErr, OnOk, length, replicate};
+ghost use mathlib.Core.List.{IsPrefix};
 ghost use Rattle.xp_charge.specs.Lines.{HasLines as NamesLines};
 ghost use Rattle.xp_subs.specs.Tables.{line_count};
 ghost use Rattle.xp_step.specs.Exchange.{IsReadable};
@@ -9,6 +10,7 @@ ghost use Rattle.xp_step.specs.Worlds.{world_after};
 ghost use Rattle.xp_lock.specs.Closing.{AreCounted, PassesMatch, HasAll, IsMissing, NoneTwice, all_handed, handed_together, own_entries_together};
 ghost use Rattle.xp_lock.specs.Faults.{event_in};
 ghost use Rattle.xp_seats.specs.Handed.{is_stall};
+ghost use Rattle.xp_lock.specs.Outgoing.{put_out_to};
 ghost use Rattle.xp_lock.specs.Passes.{GainsEvent, IsLegal};
 ghost use Rattle.xp_seats.specs.Views.{StartsWith};
 ghost use Rattle.xp_view.specs.Views.{Shows};
@@ -125,10 +127,12 @@ impl<N: Name, A: Allocator + Copy> Exchange<N, A> {
         ExchangeGuard::new(self.lock.lock(rt), &self.history_length)
     }
 
-    /// Takes the oldest output from the outbox of the pass's line, or returns `None` where it finds none. It takes no lock.
+    /// Takes the oldest output from the outbox of the pass's line, or returns `None` where it finds none. Then the line has taken
+    /// all that the history it has seen puts out to it. It takes no lock.
     pub fn next_out<R: Wait>(&self, rt: &R, pass: &mut LinePass<N, A>) -> Option<Outgoing<A>>
         ensures item { IfSome result (λ item. pass.new ≡ record pass.old { taken = pass.old.taken ++ item ∷ [] }) }
         ensures none { IfNone result (pass.new ≡ pass.old) }
+        ensures all { IfNone result (IsPrefix (put_out_to pass.old.line pass.old.seen) pass.old.taken) }
     {
         pass.next_out(rt)
     }

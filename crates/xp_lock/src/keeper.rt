@@ -76,7 +76,8 @@ impl<N: Name, A: Allocator + Copy> Keeper<N, A> {
     }
 
     /// Enters one event of the pass's line with the stalls that the event forces, and puts their outputs into the outboxes.
-    /// The pass then has seen the whole history. The outbox of each line has 64 places.
+    /// The pass then has seen the whole history, and its outbox knows what was put into it. The outbox of each line has 64
+    /// places.
     ///
     /// # Errors
     ///
@@ -107,12 +108,13 @@ impl<N: Name, A: Allocator + Copy> Keeper<N, A> {
         ensures pass { OnErr result (pass.new ≡ pass.old) }
         ensures capacities { HaveCapacity (line_count N.subs) self.new.outboxes }
     {
-        let _line = pass.line;
+        let line = pass.line;
         let before = self.core_with_outboxes.core().count();
         let done = self.core_with_outboxes.take(rt, event)?;
         let core = self.core_with_outboxes.core();
         let _legal = core.count();
         history_length.refresh(&mut self.history_seat, &mut pass.history_seat, core, before);
+        self.core_with_outboxes.tell(line, &mut pass.outbox);
         Ok(done)
     }
 

@@ -1,6 +1,6 @@
 //! The put ends of the lines' outboxes: what puts outputs into them, and what looks at their free places.
 
-ghost use Rattle.std.specs.Prelude.{◌≡◌, ◌<◌, ◌≤◌, true, false, [], ◌∷◌, length, slice_set};
+ghost use Rattle.std.specs.Prelude.{◌≡◌, ◌<◌, ◌≤◌, true, false, [], ◌∷◌, Some, length, map, slice_get, slice_set};
 ghost use Rattle.xp_lock.specs.Given.{AreApart};
 ghost use Rattle.xp_lock.specs.steps.Given.{AddFew, AreAdded};
 ghost use Rattle.xp_lock.specs.Outboxes.{IsLookedAt, LooksIf, PLACES_KEPT, outbox_at};
@@ -11,7 +11,7 @@ use std::alloc::Allocator;
 use std::sync::Wait;
 use std::thread;
 use xp_core::Core;
-use xp_outbox::PutEnd;
+use xp_outbox::{PutEnd, TakeEnd};
 use xp_step::{Outgoing, Output, Outputs};
 use xp_subs::LineNo;
 
@@ -20,6 +20,9 @@ pub const LEAST_PLACES: usize = 24;
 
 /// The end of a line's outbox into which the exchange puts outputs.
 pub type OutboxPutEnd<A> = PutEnd<Outgoing<A>, A>;
+
+/// The end of a line's outbox from which the line takes outputs.
+pub type OutboxTakeEnd<A> = TakeEnd<Outgoing<A>, A>;
 
 /// Puts an output into the outbox of its line.
 fn put_one<A: Allocator, R: Wait>(rt: &R, outboxes: &mut Vec<OutboxPutEnd<A>, A>, output: Output<A>)
@@ -67,6 +70,22 @@ pub fn put_out<A: Allocator + Copy, R: Wait>(
 {
     add_lines(given, outputs.as_slice());
     core.keep_memory(put_all(rt, outboxes, outputs));
+}
+
+/// Tells the take end of a line's outbox what was put into the outbox.
+pub fn tell_put<A: Allocator>(
+    outboxes: &mut Vec<OutboxPutEnd<A>, A>,
+    line: LineNo,
+    taken: &mut OutboxTakeEnd<A>,
+)
+    requires queue { slice_get (map (λ b. b.queue) outboxes.old.items) line ≡ Some taken.old.queue }
+    ensures outboxes { outboxes.new.items ≡ outboxes.old.items }
+    ensures there { line < length outboxes.old.items }
+    ensures told { taken.new ≡ record taken.old { owed = (outbox_at outboxes.old.items line).put } }
+{
+    let at = line as usize;
+    let end = &mut outboxes[at];
+    end.tell(taken);
 }
 
 /// Whether an event of this line may be entered. An event that is no Up always may. For an Up it looks at the free places

@@ -3,13 +3,12 @@
 ghost use Rattle.std.specs.Prelude.{◌≡◌, IfOk};
 ghost use Rattle.xp_lock.specs.steps.Opening.{AreNew};
 
-use crate::outboxes::OutboxPutEnd;
+use crate::outboxes::{OutboxPutEnd, OutboxTakeEnd};
 use std::alloc::{AllocError, Allocator, Global};
 use std::marker::Model;
 use xp_core::Core;
-use xp_outbox::{TakeEnd, outbox};
+use xp_outbox::outbox;
 use xp_seats::{HistoryLength, HistorySeat};
-use xp_step::Outgoing;
 use xp_subs::Subs;
 
 /// How many items an outbox has room for.
@@ -23,7 +22,7 @@ pub struct PreparedExchange<A: Allocator = Global> {
     pub(crate) history_seat: HistorySeat<A>,
     pub(crate) recorder_seat: HistorySeat<A>,
     pub(crate) outboxes: Vec<OutboxPutEnd<A>, A>,
-    pub(crate) ends: Vec<TakeEnd<Outgoing<A>, A>, A>,
+    pub(crate) ends: Vec<OutboxTakeEnd<A>, A>,
     pub(crate) taken: Vec<u64, A>,
     pub(crate) lines: usize,
 }
@@ -36,11 +35,12 @@ impl<A: Allocator> Model for PreparedExchange<A> {
     ghost Value = { Prepared };
 
     ghost use Rattle.xp_lock.specs.steps.Outboxes.{OutboxesMatch};
+    ghost use Rattle.xp_lock.specs.steps.Opening.{IsUnused};
     ghost use Rattle.xp_seats.specs.Views.{keeping, recording};
 
     ghost view = { λ b. record { subs = b.core.subs; history_length = b.history_length; queues = map (λ box. box.queue) b.outboxes.items } };
 
-    ghost invariant = { λ b. (b.core.history ≡ []) × (b.core.given ≡ []) × (b.history_seat ≡ record { history_length = b.history_length; knows = keeping 0 [] [] }) × (b.recorder_seat ≡ record { history_length = b.history_length; knows = recording [] }) × OutboxesMatch b.core.subs [] b.outboxes.items × (map (λ end. end.queue) b.ends.items ≡ map (λ box. box.queue) b.outboxes.items) × All (λ end. end.taken ≡ []) b.ends.items × (b.lines ≡ line_count b.core.subs) × (line_count b.core.subs ≤ 512) × (length b.ends.items ≡ line_count b.core.subs) × (b.taken.items ≡ replicate (line_count b.core.subs) 0) };
+    ghost invariant = { λ b. (b.core.history ≡ []) × (b.core.given ≡ []) × (b.history_seat ≡ record { history_length = b.history_length; knows = keeping 0 [] [] }) × (b.recorder_seat ≡ record { history_length = b.history_length; knows = recording [] }) × OutboxesMatch b.core.subs [] b.outboxes.items × (map (λ end. end.queue) b.ends.items ≡ map (λ box. box.queue) b.outboxes.items) × All IsUnused b.ends.items × (b.lines ≡ line_count b.core.subs) × (line_count b.core.subs ≤ 512) × (length b.ends.items ≡ line_count b.core.subs) × (b.taken.items ≡ replicate (line_count b.core.subs) 0) };
 }
 
 /// Makes the parts of an exchange of these subscriptions: an exchange with an empty history, and an empty outbox with 64
@@ -70,7 +70,7 @@ pub fn prepare<A: Allocator + Copy>(alloc: A, subs: Subs) -> Result<PreparedExch
 }
 
 /// The put ends and the take ends of the outboxes, by line.
-type Ends<A> = (Vec<OutboxPutEnd<A>, A>, Vec<TakeEnd<Outgoing<A>, A>, A>);
+type Ends<A> = (Vec<OutboxPutEnd<A>, A>, Vec<OutboxTakeEnd<A>, A>);
 
 /// Makes so many outboxes of 64 places, and returns their put ends and their take ends.
 fn new_outboxes<A: Allocator + Copy>(alloc: A, lines: usize) -> Result<Ends<A>, AllocError>

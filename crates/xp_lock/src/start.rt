@@ -3,18 +3,18 @@
 ghost use Rattle.std.specs.Prelude.{◌≡◌, ◌≤◌, [], All, IfOk, OnOk, length, map};
 ghost use Rattle.xp_subs.specs.Tables.{line_count};
 ghost use Rattle.xp_lock.specs.Opening.{AreFirst};
+ghost use Rattle.xp_lock.specs.steps.Opening.{IsUnused};
 ghost use Rattle.xp_seats.specs.Views.{keeping};
 
 use crate::core_with_outboxes::CoreWithOutboxes;
 use crate::exchange::Exchange;
 use crate::keeper::Keeper;
+use crate::outboxes::OutboxTakeEnd;
 use crate::pass::LinePass;
 use crate::prepared::PreparedExchange;
 use std::alloc::{AllocError, Allocator};
 use std::marker::PhantomData;
-use xp_outbox::TakeEnd;
 use xp_seats::{HistoryLength, HistorySeat, Name, Recorder};
-use xp_step::Outgoing;
 use xp_subs::{LineNo, Subs};
 
 /// An exchange, the passes of its lines, and its recorder.
@@ -61,13 +61,13 @@ fn first_passes<N: Name, A: Allocator>(
     subs: &Subs,
     history_length: &HistoryLength<A>,
     keeper: &mut HistorySeat<A>,
-    ends: Vec<TakeEnd<Outgoing<A>, A>, A>,
+    ends: Vec<OutboxTakeEnd<A>, A>,
 ) -> Result<Vec<LinePass<N, A>, A>, AllocError>
     requires subs { subs.now ≡ N.subs }
     requires history_length { history_length.now ≡ N.history_length }
     requires keeper { keeper.old ≡ record { history_length = N.history_length; knows = keeping 0 [] [] } }
     requires queues { map (λ end. end.queue) ends.items ≡ N.queues }
-    requires taken { All (λ end. end.taken ≡ []) ends.items }
+    requires unused { All IsUnused ends.items }
     requires count { length ends.items ≡ line_count N.subs }
     requires few { line_count N.subs ≤ 512 }
     ensures keeper { OnOk result (keeper.new ≡ record { history_length = N.history_length; knows = keeping (line_count N.subs) [] [] }) }

@@ -6,7 +6,7 @@ use Rattle.xp_facilities.specs.Limits.{largest_duration}
 use Rattle.xp_facilities.specs.declared.charging_information.ChargingInformation.{ChargingInformation}
 use Rattle.xp_packets.specs.declared.end.End.{End}
 use Rattle.xp_packets.specs.declared.end.End.TheVariants.{Caller, Called}
-use Rattle.xp_relay.specs.Runs.{same_end}
+use Rattle.xp_relay.specs.Contents.{same_end}
 use Rattle.xp_machine.specs.declared.agreement.Agreement.{Agreement}
 use Rattle.xp_machine.specs.World.{Call}
 

@@ -5,8 +5,9 @@ use Rattle.std.proofs.lemmas.List.{map_push, take_more}
 use Rattle.std.proofs.lemmas.Option.{slice_get_within}
 use Rattle.xp_console.specs.declared.status.LineStatus.{LineStatus}
 use Rattle.xp_observer.specs.declared.lines.NamedLine.{NamedLine}
-use Rattle.xp_observer.specs.Shown.{IsShownAs}
+use Rattle.xp_observer.specs.Shown.{IsShownAs, LineNames, names_at, names_in}
 use Rattle.xp_observer.specs.steps.Shown.{AreShownSoFar}
+use Rattle.xp_subs.specs.Tables.{Tables}
 use Rattle.xp_subs.specs.declared.line.Line.{Line}
 use Rattle.xp_view.specs.declared.view.LineWithCall.{LineWithCall}
 
@@ -24,7 +25,7 @@ get_last (y ∷ ys) x (suc k) is = get_last ys x k (omega (arith, is))
 one_at : {X : Type 0} (xs : List X) (k : ℕ) (x y : X) → slice_get xs k ≡ Some x → slice_get xs k ≡ Some y → y ≡ x
 one_at xs k x y first second = cc
 
-pub one_more : (names : List (List ℕ)) (seen : List LineWithCall) (count : ℕ) (shown : List LineStatus) (name : List ℕ) (view : LineWithCall) (status : LineStatus)
+pub one_more : (names : List LineNames) (seen : List LineWithCall) (count : ℕ) (shown : List LineStatus) (name : LineNames) (view : LineWithCall) (status : LineStatus)
     → AreShownSoFar names seen count shown → slice_get names count ≡ Some name → slice_get seen count ≡ Some view → IsShownAs name view.line status
     → AreShownSoFar names seen (count + 1) (shown ++ status ∷ [])
 one_more names seen count shown name view status so_far named viewed is =
@@ -45,13 +46,13 @@ one_more names seen count shown name view status so_far named viewed is =
       ];
     }
 
--- one name more
-pub one_name_more : (shown : List NamedLine) (lines : List Line) (place : ℕ) (line : NamedLine) (default : Line) → place < length lines
-    → map (λ line. line.name) shown ≡ map (λ line. line.name) (take place lines) → line.name ≡ (get_or lines place default).name
-    → map (λ line. line.name) (shown ++ line ∷ []) ≡ map (λ line. line.name) (take (place + 1) lines)
-one_name_more shown lines place line default within same name =
-    map_push (λ (line : NamedLine). line.name) shown line
-    ∙ ap (λ names. names ++ line.name ∷ []) same
-    ∙ ap (λ name. map (λ (line : Line). line.name) (take place lines) ++ name ∷ []) name
-    ∙ sym (map_push (λ (line : Line). line.name) (take place lines) (get_or lines place default))
-    ∙ ap (map (λ (line : Line). line.name)) (sym (take_more lines place default within))
+-- one line's names more
+pub one_name_more : (tables : Tables) (shown : List NamedLine) (lines : List Line) (place : ℕ) (line : NamedLine) (default : Line) → place < length lines
+    → map names_in shown ≡ map (names_at tables) (take place lines) → names_in line ≡ names_at tables (get_or lines place default)
+    → map names_in (shown ++ line ∷ []) ≡ map (names_at tables) (take (place + 1) lines)
+one_name_more tables shown lines place line default within same name =
+    map_push names_in shown line
+    ∙ ap (λ names. names ++ names_in line ∷ []) same
+    ∙ ap (λ name. map (names_at tables) (take place lines) ++ name ∷ []) name
+    ∙ sym (map_push (names_at tables) (take place lines) (get_or lines place default))
+    ∙ ap (map (names_at tables)) (sym (take_more lines place default within))

@@ -1,17 +1,41 @@
 -- What is shown of the lines of an exchange.
-use Rattle.std.specs.Prelude.{◌≡◌, ℕ, List, Some, length, map, min, slice_get, string_bytes}
+use Rattle.std.specs.Prelude.{◌≡◌, ℕ, List, Some, length, map, min, slice_get, string_bytes, unwrap_or}
+use Rattle.std.specs.declared.alloc.Global.{Global as Alloc}
 use Rattle.xp_channel.specs.declared.channel.Channel.{Channel}
 use Rattle.xp_channel.specs.declared.channel.Channel.TheVariants.{Off, P1, P2, P3, P4, P7}
+use Rattle.xp_console.specs.declared.status.ExchangeStatus.{ExchangeStatus}
 use Rattle.xp_console.specs.declared.status.LineState.{LineState}
 use Rattle.xp_console.specs.declared.status.LineState.TheVariants.{OutOfService, Ready, DteWaiting, DceWaiting, DataTransfer, DceClearIndication}
 use Rattle.xp_console.specs.declared.status.LineStatus.{LineStatus}
 use Rattle.xp_machine.specs.declared.view.LineView.{LineView}
-use Rattle.xp_subs.specs.Tables.{Tables}
+use Rattle.xp_observer.specs.declared.lines.NamedLine.{NamedLine}
+use Rattle.xp_packets.specs.Digits.{text_of}
+use Rattle.xp_subs.specs.Tables.{Tables, station_at}
+use Rattle.xp_subs.specs.declared.line.Line.{Line}
+use Rattle.xp_view.specs.declared.view.ExchangeView.{ExchangeView}
 use Rattle.xp_view.specs.declared.view.LineWithCall.{LineWithCall}
 
--- the names of the lines, in order
-abbrev pub names_of : Tables → List (List ℕ)
-names_of tables = map (λ line. line.name) tables.lines
+-- how a line is named: its name, the digits of its address, and those of its station's
+pub record LineNames : Type 0 where
+  pub name : List ℕ
+  pub address : List ℕ
+  pub station : List ℕ
+
+-- a line's address is its own if it has one, otherwise its station's
+abbrev pub names_at : Tables → Line → LineNames
+names_at tables line = record {
+  name = line.name;
+  address = unwrap_or line.address (station_at tables line.station).address;
+  station = (station_at tables line.station).address;
+}
+
+-- how the lines are named, in order
+abbrev pub names_of : Tables → List LineNames
+names_of tables = map (names_at tables) tables.lines
+
+-- how a line is named that is kept
+abbrev pub names_in : NamedLine → LineNames
+names_in line = record { name = line.name; address = line.address; station = line.station }
 
 -- the state of a logical channel, in the words of X.25 Annex B
 abbrev pub state_of : Channel → LineState
@@ -22,14 +46,22 @@ state_of P3 = DceWaiting
 state_of P4 = DataTransfer
 state_of P7 = DceClearIndication
 
--- a line of this name is shown in the state and the call in which it is seen
-pub record IsShownAs (name : List ℕ) (seen : LineView) (shown : LineStatus) : Type 0 where
-  pub name_is : string_bytes shown.name ≡ name
+-- a line is shown by its name and addresses, in the state and the call in which it is seen
+pub record IsShownAs (names : LineNames) (seen : LineView) (shown : LineStatus) : Type 0 where
+  pub name_is : string_bytes shown.name ≡ names.name
+  pub address_is : string_bytes shown.address ≡ text_of names.address
+  pub station_is : string_bytes shown.station ≡ text_of names.station
   pub state_is : shown.state ≡ state_of seen.channel
   pub call_is : shown.call ≡ seen.call
 
--- lines of these names are shown as they are seen, in order: as many as have a name and are seen
-pub record AreShown (names : List (List ℕ)) (seen : List LineWithCall) (shown : List LineStatus) : Type 0 where
+-- lines that are named so are shown as they are seen, in order: as many as have names and are seen
+pub record AreShown (names : List LineNames) (seen : List LineWithCall) (shown : List LineStatus) : Type 0 where
   pub count : length shown ≡ min (length names) (length seen)
-  pub each : (line : ℕ) (name : List ℕ) (view : LineWithCall) (status : LineStatus) → slice_get names line ≡ Some name
+  pub each : (line : ℕ) (name : LineNames) (view : LineWithCall) (status : LineStatus) → slice_get names line ≡ Some name
       → slice_get seen line ≡ Some view → slice_get shown line ≡ Some status → IsShownAs name view.line status
+
+-- this status shows lines that are named so as they are seen in this view, and as many events and stalls as that has
+pub record IsStatusOf (names : List LineNames) (view : ExchangeView Alloc) (status : ExchangeStatus) : Type 0 where
+  pub lines_are : AreShown names view.lines.items status.lines.items
+  pub events_are : status.totals.events ≡ view.entries
+  pub stalls_are : status.totals.stalls ≡ view.stalls

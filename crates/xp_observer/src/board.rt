@@ -1,10 +1,11 @@
 //! What the console and the thread that sees the exchange tell each other.
 
-ghost use Rattle.std.specs.Prelude.{⊤};
+ghost use Rattle.std.specs.Prelude.{◌≡◌, IfSome, true};
 
 use std::alloc::{AllocError, Global};
-use std::sync::atomic::AtomicBool;
+use std::marker::{Brand, Model, PhantomData};
 use std::sync::atomic::Ordering::SeqCst;
+use std::sync::atomic::{AtomicBool, AtomicIn, Rule};
 use std::sync::{Arc, Mutex, Wait};
 use std::thread::Parker;
 use std::time::Duration;
@@ -16,22 +17,109 @@ const MOST_LOOKS: u32 = 40;
 /// For how long it waits between two looks at most, in milliseconds.
 const PATIENCE: u64 = 50;
 
+/// Names a board by what may be shown on it, and by what holds where it may ask for a stop. Its two ends are proved for every such
+/// name, so one shows nothing that the other did not put, and the other is asked for no stop that the first was not asked for.
+pub trait BoardName {
+    ghost use Rattle.std.specs.declared.net.ip_addr.IpAddr.{IpAddr};
+    ghost use Rattle.http.specs.declared.request.Parts.{Parts};
+    ghost use Rattle.xp_console.specs.Requests.{IsAnswer};
+    ghost use Rattle.xp_console.specs.declared.requests.Answer.TheVariants.{Granted};
+    ghost use Rattle.xp_console.specs.declared.requests.Resource.TheVariants.{Stop};
+    ghost use Rattle.xp_console.specs.declared.status.ExchangeStatus.{ExchangeStatus};
+
+    // What holds of each status that is put on the board.
+    ghost may_show: { ExchangeStatus → Type 0 };
+
+    // What holds where the board asks for a stop.
+    ghost may_stop: { Type 0 };
+
+    // It holds where a console grants a stop to a request.
+    ghost granted: { (own : IpAddr) → (head : Parts) → IsAnswer own head (Granted Stop) → may_stop };
+}
+
+impl BoardName for Brand {
+    ghost use Rattle.std.specs.Prelude.{⊤};
+
+    ghost may_show = { λ _. ⊤ };
+
+    ghost may_stop = { ⊤ };
+
+    ghost granted = { λ _ _ _. tt };
+}
+
+/// The rule of the word that asks for a stop: it is 1 only where one may be asked for.
+struct StopWord<B: BoardName> {
+    board: PhantomData<B>,
+}
+
+impl<B: BoardName> Rule for StopWord<B> {
+    ghost use Rattle.std.specs.Prelude.{◌≡◌};
+
+    ghost invariant = { λ word. word ≡ 1 → B.may_stop };
+}
+
+/// A status that was put on a board.
+#[derive(Drop)]
+struct PutStatus<B: BoardName> {
+    status: ExchangeStatus,
+    board: PhantomData<B>,
+}
+
+impl<B: BoardName> Model for PutStatus<B> {
+    ghost use Rattle.xp_console.specs.declared.status.ExchangeStatus.{ExchangeStatus};
+
+    ghost Value = { ExchangeStatus };
+
+    ghost view = { λ put. put.status };
+
+    ghost invariant = { λ put. B.may_show put.status };
+}
+
+impl<B: BoardName> PutStatus<B> {
+    fn new(status: ExchangeStatus) -> PutStatus<B>
+        requires { B.may_show status }
+        ensures { result ≡ status }
+    {
+        PutStatus {
+            status,
+            board: PhantomData,
+        }
+    }
+
+    fn into_status(self) -> ExchangeStatus
+        ensures same { result ≡ self }
+        ensures may_show { B.may_show result }
+    {
+        let PutStatus { status, board: _ } = self;
+        status
+    }
+}
+
+/// The status, as one that was put on a board, if there is one.
+fn put_status<B: BoardName>(status: Option<ExchangeStatus>) -> Option<PutStatus<B>>
+    requires { IfSome status B.may_show }
+{
+    let status = status?;
+    Some(PutStatus::new(status))
+}
+
 /// Where the console asks for a status, or for a stop, and a status is put for it.
 #[derive(Drop)]
-pub struct StatusBoard {
+pub struct StatusBoard<B: BoardName> {
     is_wanted: AtomicBool,
-    is_to_stop: AtomicBool,
-    status: Mutex<Option<ExchangeStatus>>,
+    /// 1 where a stop is asked for.
+    stop: AtomicIn<StopWord<B>>,
+    status: Mutex<Option<PutStatus<B>>>,
     /// What the console's thread waits on.
     parker: Parker,
 }
 
-impl StatusBoard {
+impl<B: BoardName> StatusBoard<B> {
     /// A board on which nothing is asked for.
-    pub fn new() -> StatusBoard {
+    pub fn new() -> StatusBoard<B> {
         StatusBoard {
             is_wanted: AtomicBool::new(false),
-            is_to_stop: AtomicBool::new(false),
+            stop: AtomicIn::new(0),
             status: Mutex::new(None),
             parker: Parker::new(),
         }
@@ -43,8 +131,11 @@ impl StatusBoard {
     }
 
     /// Puts a status for the console, or that none could be made. None is asked for any more.
-    pub fn put(&self, status: Option<ExchangeStatus>) {
+    pub fn put(&self, status: Option<ExchangeStatus>)
+        requires { IfSome status B.may_show }
+    {
         self.is_wanted.store(false, SeqCst);
+        let status = put_status(status);
         if let Some(mut place) = self.status.try_lock() {
             *place = status;
         }
@@ -52,13 +143,25 @@ impl StatusBoard {
     }
 
     /// Whether the exchange is to stop.
-    pub fn is_asked_to_stop(&self) -> bool {
-        self.is_to_stop.load(SeqCst)
+    pub fn is_asked_to_stop(&self) -> bool
+        ensures { result ≡ true → B.may_stop }
+    {
+        self.stop.load(SeqCst) == 1
+    }
+
+    /// Asks for a stop.
+    fn ask_to_stop(&self)
+        requires { B.may_stop }
+    {
+        self.stop.store(1, SeqCst);
     }
 
     /// Takes the status that was put last.
-    fn take(&self) -> Option<ExchangeStatus> {
-        self.status.try_lock()?.take()
+    fn take(&self) -> Option<ExchangeStatus>
+        ensures { IfSome result B.may_show }
+    {
+        let put = self.status.try_lock()?.take()?;
+        Some(put.into_status())
     }
 
     /// Asks for a status of this moment: one of before is dropped.
@@ -74,32 +177,36 @@ impl StatusBoard {
     }
 }
 
-impl Default for StatusBoard {
-    fn default() -> StatusBoard {
+impl<B: BoardName> Default for StatusBoard<B> {
+    fn default() -> StatusBoard<B> {
         StatusBoard::new()
     }
 }
 
 /// The console's end of a board.
 #[derive(Drop)]
-pub struct BoardSource<'a, R: Wait> {
+pub struct BoardSource<'a, R: Wait, B: BoardName> {
     rt: &'a R,
-    board: Arc<StatusBoard>,
+    board: Arc<StatusBoard<B>>,
 }
 
-impl<'a, R: Wait> BoardSource<'a, R> {
+impl<'a, R: Wait, B: BoardName> BoardSource<'a, R, B> {
     /// The source over a board.
-    pub fn new(rt: &'a R, board: Arc<StatusBoard>) -> BoardSource<'a, R> {
+    pub fn new(rt: &'a R, board: Arc<StatusBoard<B>>) -> BoardSource<'a, R, B> {
         BoardSource { rt, board }
     }
 }
 
-impl<R: Wait> StatusSource for BoardSource<'_, R> {
-    ghost use Rattle.std.specs.Prelude.{⊤};
+impl<R: Wait, B: BoardName> StatusSource for BoardSource<'_, R, B> {
+    ghost use Rattle.std.specs.Prelude.{◌≡◌};
 
-    ghost shows = { λ _ _ _. ⊤ };
+    ghost shows = { λ old status new. B.may_show status × (new ≡ old) };
 
-    ghost stops = { λ _ _. ⊤ };
+    ghost stops = { λ old new. new ≡ old };
+
+    ghost may_stop = { B.may_stop };
+
+    ghost granted = { B.granted };
 
     /// Asks for a status, and waits for it, for two seconds at most.
     fn status(&mut self, _alloc: Global) -> Result<ExchangeStatus, AllocError> {
@@ -114,6 +221,6 @@ impl<R: Wait> StatusSource for BoardSource<'_, R> {
     }
 
     fn stop(&mut self) {
-        self.board.is_to_stop.store(true, SeqCst);
+        self.board.ask_to_stop();
     }
 }

@@ -7,6 +7,8 @@ mod ended;
 mod lines;
 mod notes;
 mod observer;
+mod routers;
+mod stations;
 
-pub use board::{BoardSource, StatusBoard};
+pub use board::{BoardName, BoardSource, StatusBoard};
 pub use observer::{Observer, Traffic};

@@ -1,7 +1,7 @@
 //! What is shown of a line.
 
 ghost use Rattle.std.specs.Prelude.{◌≡◌, IfOk};
-ghost use Rattle.xp_observer.specs.Shown.{IsShownAs, state_of};
+ghost use Rattle.xp_observer.specs.Shown.{IsShownAs, names_in, state_of};
 
 use std::alloc::{AllocError, Global};
 use std::net::SocketAddr;
@@ -11,11 +11,12 @@ use xp_file::Name;
 use xp_machine::LineView;
 use xp_packets::Digits;
 
-/// The name and the address of a line.
+/// The name and the address of a line, and the address of its station.
 #[derive(Drop)]
 pub(crate) struct NamedLine {
     pub(crate) name: Name,
     pub(crate) address: Digits,
+    pub(crate) station: Digits,
 }
 
 /// What is known of a line besides what the exchange shows.
@@ -56,16 +57,20 @@ impl NamedLine {
         &self,
         alloc: Global,
         notes: LineNotes,
+        router_unreachable_since: Option<u64>,
         seen: LineView,
     ) -> Result<LineStatus, AllocError>
-        ensures { IfOk result (IsShownAs self.now.name seen) }
+        ensures { IfOk result (IsShownAs (names_in self.now) seen) }
     {
         Ok(LineStatus {
             name: String::from_str(alloc, self.name.as_str())?,
+            address: self.address.to_string(alloc)?,
+            station: self.station.to_string(alloc)?,
             state: state_of(seen.channel),
             peer: notes.peer,
             since: notes.since,
             call: seen.call,
+            router_unreachable_since,
         })
     }
 

@@ -1,21 +1,25 @@
 //! What is kept of an exchange besides what it shows of itself.
 
 use crate::lines::LineNotes;
+use crate::routers::Routers;
+use crate::stations::Stations;
 use std::alloc::{AllocError, Global};
 use std::collections::VecDeque;
 use std::net::SocketAddr;
 use xp_charge::Record;
 use xp_console::RefusedCalls;
-use xp_subs::LineNo;
+use xp_subs::{LineNo, Subs};
 use xp_view::ExchangeView;
 
 /// How many records of ended calls are kept.
 const MOST_RECORDS: usize = 100;
 
-/// The peers of the lines, the last records, and sums over all of them.
+/// The peers and the routers of the lines, the last records, and sums over all of them.
 #[derive(Drop)]
 pub(crate) struct Notes {
     lines: Vec<LineNotes>,
+    pub(crate) routers: Routers,
+    pub(crate) stations: Stations,
     /// The records of the calls that ended last, the latest last.
     pub(crate) records: VecDeque<Record>,
     /// How many calls have ended.
@@ -29,15 +33,17 @@ pub(crate) struct Notes {
 }
 
 impl Notes {
-    /// No notes yet of so many lines.
-    pub(crate) fn new(alloc: Global, lines: usize, started: u64) -> Result<Notes, AllocError> {
-        let mut notes = Vec::with_capacity(alloc, lines)?;
-        for _line in 0..lines {
-            notes.push(LineNotes::new(started))?;
-        }
+    /// No notes yet of the lines of these subscriptions.
+    pub(crate) fn new(alloc: Global, subs: &Subs, started: u64) -> Result<Notes, AllocError> {
+        let lines = notes_of_lines(alloc, subs.counts().lines, started)?;
+        let routers = Routers::new(alloc, subs)?;
+        let stations = Stations::new(alloc, subs)?;
+        let records = VecDeque::with_capacity(alloc, MOST_RECORDS)?;
         Ok(Notes {
-            lines: notes,
-            records: VecDeque::with_capacity(alloc, MOST_RECORDS)?,
+            lines,
+            routers,
+            stations,
+            records,
             ended: 0,
             refused: RefusedCalls::default(),
             router_refusals: RefusedCalls::default(),
@@ -86,10 +92,20 @@ impl Notes {
         if record.called.is_none() {
             self.refused.count(record.cause);
         }
+        self.stations.count(record);
         if self.records.len() >= MOST_RECORDS {
             self.records.pop_front();
         }
         // There is room for them all.
         let _ = self.records.push_back(record.copy());
     }
+}
+
+/// No notes yet of so many lines.
+fn notes_of_lines(alloc: Global, lines: usize, started: u64) -> Result<Vec<LineNotes>, AllocError> {
+    let mut notes = Vec::with_capacity(alloc, lines)?;
+    for _line in 0..lines {
+        notes.push(LineNotes::new(started))?;
+    }
+    Ok(notes)
 }

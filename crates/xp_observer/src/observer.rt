@@ -1,7 +1,7 @@
 //! What is kept to show an operator the exchange.
 
 ghost use Rattle.std.specs.Prelude.{◌≡◌, IfOk, map};
-ghost use Rattle.xp_observer.specs.Shown.{AreShown, names_of};
+ghost use Rattle.xp_observer.specs.Shown.{AreShown, IsStatusOf, names_in, names_of};
 
 use crate::calls::live_calls;
 use crate::ended::ended_call;
@@ -22,8 +22,8 @@ pub struct Traffic {
     pub sent: u64,
 }
 
-/// What is kept to show an operator the exchange: the names of its lines, and notes of their peers, the last records, and sums over
-/// all of them. Contracts see it as the names of the lines.
+/// What is kept to show an operator the exchange: the names and addresses of its lines, and notes of their peers and routers, the last
+/// records, and sums over all of them. Contracts see it as the names and addresses of the lines.
 #[derive(Drop)]
 pub struct Observer {
     /// The moment at which the exchange began to serve, in seconds since 1970.
@@ -33,11 +33,12 @@ pub struct Observer {
 }
 
 impl Model for Observer {
-    ghost use Rattle.std.specs.Prelude.{List, ℕ, map};
+    ghost use Rattle.std.specs.Prelude.{List, map};
+    ghost use Rattle.xp_observer.specs.Shown.{LineNames, names_in};
 
-    ghost Value = { List (List ℕ) };
+    ghost Value = { List LineNames };
 
-    ghost view = { λ observer. map (λ line. line.name) observer.lines.items };
+    ghost view = { λ observer. map names_in observer.lines.items };
 }
 
 impl Observer {
@@ -50,7 +51,7 @@ impl Observer {
         ensures { IfOk result (λ observer. observer ≡ names_of subs.now) }
     {
         let lines = named_lines(alloc, subs)?;
-        let notes = Notes::new(alloc, lines.len(), started)?;
+        let notes = Notes::new(alloc, subs, started)?;
         Ok(Observer {
             started,
             lines,
@@ -70,6 +71,21 @@ impl Observer {
         ensures { self.new ≡ self.old }
     {
         self.notes.set_peer(line, None);
+    }
+
+    /// Takes note that a line behind a router has a connection that was made to the router, which is this peer.
+    pub fn router_connected(&mut self, line: LineNo, peer: SocketAddr)
+        ensures { self.new ≡ self.old }
+    {
+        self.notes.routers.connected(line);
+        self.notes.set_peer(line, Some(peer));
+    }
+
+    /// Takes note that no connection to the router of a line could be made, at this moment in seconds since 1970.
+    pub fn router_failed(&mut self, line: LineNo, now: u64)
+        ensures { self.new ≡ self.old }
+    {
+        self.notes.routers.failed(line, now);
     }
 
     /// Takes note that a call of a router was refused with this cause, since no line took it.
@@ -101,9 +117,9 @@ impl Observer {
         traffic: Traffic,
     ) -> Result<ExchangeStatus, AllocError>
         ensures same { self.new ≡ self.old }
-        ensures lines { IfOk result (λ status. AreShown self.old view.now.lines.items status.lines.items) }
+        ensures shows { IfOk result (IsStatusOf self.old view.now) }
         ensures moment { IfOk result (λ status. status.moment ≡ now) }
-        ensures counts { IfOk result (λ status. (status.totals.events ≡ view.now.entries) × (status.totals.stalls ≡ view.now.stalls) × (status.totals.records_waiting ≡ waiting)) }
+        ensures waiting { IfOk result (λ status. status.totals.records_waiting ≡ waiting) }
     {
         self.notes.see(now, view);
         let calls = live_calls(alloc, &self.lines, view, now)?;
@@ -114,6 +130,7 @@ impl Observer {
             lines: line_statuses(alloc, &self.lines, &self.notes, view)?,
             calls,
             recent: recent_calls(alloc, &self.lines, &self.notes)?,
+            stations: self.notes.stations.calls(alloc)?,
             totals,
         })
     }
@@ -121,7 +138,7 @@ impl Observer {
 
 /// The lines of these subscriptions, in order.
 fn named_lines(alloc: Global, subs: &Subs) -> Result<Vec<NamedLine>, AllocError>
-    ensures { IfOk result (λ lines. map (λ line. line.name) lines.items ≡ names_of subs.now) }
+    ensures { IfOk result (λ lines. map names_in lines.items ≡ names_of subs.now) }
 {
     let count = subs.counts().lines;
     let mut lines = Vec::with_capacity(alloc, count)?;
@@ -131,6 +148,7 @@ fn named_lines(alloc: Global, subs: &Subs) -> Result<Vec<NamedLine>, AllocError>
         let named = NamedLine {
             name: line.name.copy(),
             address: subs.address_of(number).copy(),
+            station: subs.station(line.station).address.copy(),
         };
         lines.push(named)?;
     }
@@ -144,13 +162,20 @@ fn line_statuses(
     notes: &Notes,
     view: &ExchangeView,
 ) -> Result<Vec<LineStatus>, AllocError>
-    ensures { IfOk result (λ statuses. AreShown (map (λ line. line.name) lines.now) view.now.lines.items statuses.items) }
+    ensures { IfOk result (λ statuses. AreShown (map names_in lines.now) view.now.lines.items statuses.items) }
 {
     let count = lines.len().min(view.lines.len());
     let mut statuses = Vec::with_capacity(alloc, count)?;
     for place in 0..count {
         let seen = view.lines[place].line;
-        statuses.push(lines[place].status(alloc, notes.of_line(place), seen)?)?;
+        let router_unreachable_since = notes.routers.unreachable_since(place);
+        let status = lines[place].status(
+            alloc,
+            notes.of_line(place),
+            router_unreachable_since,
+            seen,
+        )?;
+        statuses.push(status)?;
     }
     Ok(statuses)
 }
@@ -184,6 +209,7 @@ fn totals_of(
         calls: notes.ended.saturating_add(live as u64),
         refused: notes.refused,
         router_refusals: notes.router_refusals,
+        router_failures: notes.routers.failures,
         segments_from_callers: notes.from_callers,
         segments_from_called: notes.from_called,
         events: view.entries,

@@ -11,8 +11,10 @@ pub record Putting (T : Type 0) : Type 0 where
   pub put : List T
   pub free : ℕ
 
--- the take end: the name of its queue, how many items the queue has room for, and all items that were taken
+-- the take end: the name of its queue, how many items the queue has room for, all items that were taken, and all items that
+-- were put when the put end last told this end of them
 pub record Taking (T : Type 0) : Type 0 where
   pub queue : TableId
   pub capacity : ℕ
   pub taken : List T
+  pub owed : List T

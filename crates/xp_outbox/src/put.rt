@@ -1,6 +1,6 @@
 ghost use Rattle.std.specs.Prelude.{◌≡◌, ◌+◌, ◌-◌, ◌<◌, ◌≤◌, [], ◌∷◌, ◌++◌, IfOk, length};
 
-use crate::rule::{EndView, Ends, Looks, Puts, Queue};
+use crate::rule::{EndView, Ends, Looks, Puts, Queue, TakingPart};
 use crate::take::TakeEnd;
 use crossbeam_queue::Pass;
 use std::alloc::{AllocError, Allocator};
@@ -42,7 +42,7 @@ pub fn outbox<T: Drop, A: Allocator + Copy>(
 ) -> Result<(PutEnd<T, A>, TakeEnd<T, A>), AllocError>
     requires { 0 < capacity }
     ensures one { IfOk result (λ ends. (ends.0.queue ≡ ends.1.queue) × (ends.1.capacity ≡ capacity)) }
-    ensures empty { IfOk result (λ ends. (ends.0.put ≡ []) × (ends.1.taken ≡ [])) }
+    ensures empty { IfOk result (λ ends. (ends.0.put ≡ []) × (ends.1.taken ≡ []) × (ends.1.owed ≡ [])) }
     ensures free { IfOk result (λ ends. (ends.0.capacity ≡ capacity) × (ends.0.free ≡ capacity)) }
 {
     let (queue, mut pass) = Queue::ruled(alloc, capacity)?;
@@ -93,5 +93,16 @@ impl<T: Drop, A: Allocator> PutEnd<T, A> {
             thread::yield_now();
         }
         self.free -= 1;
+    }
+
+    /// Tells the take end of the same outbox which items were put so far.
+    pub fn tell(&mut self, end: &mut TakeEnd<T, A>)
+        requires { self.old.queue ≡ end.old.queue }
+        ensures same { self.new ≡ self.old }
+        ensures told { end.new ≡ record end.old { owed = self.old.put } }
+    {
+        let taking = self.queue.another::<TakingPart>(&mut end.pass);
+        self.queue.absorb::<Ends>(&mut self.pass, taking);
+        end.pass = self.queue.another::<Ends>(&mut self.pass);
     }
 }

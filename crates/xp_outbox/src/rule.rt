@@ -4,13 +4,15 @@ use crossbeam_queue::RuledArrayQueue;
 use crossbeam_queue::protocol::{Join, Lesson, Outcome, Protocol, Split};
 use std::collections::LinkedList;
 
-/// What an end of an outbox knows: whether it puts, whether it takes, all items that it put, and all items that it took.
-/// Contracts alone speak of it. The program makes no value of it.
+/// What an end of an outbox knows: whether it puts, whether it takes, all items that it put, all items that it took, and,
+/// of the end that takes, the items of which it was told that they were put. Contracts alone speak of it. The program makes
+/// no value of it.
 pub struct EndView<T> {
     pub puts: bool,
     pub takes: bool,
     pub put: LinkedList<T>,
     pub taken: LinkedList<T>,
+    pub owed: LinkedList<T>,
 }
 
 /// The rule of an outbox.
@@ -25,7 +27,8 @@ impl<T> Protocol<T, EndView<T>> for InOrder {
     ghost first = { whole [] [] };
 }
 
-/// The two ends of one outbox: split at first, and joined at last.
+/// The two ends of one outbox. They are split at first, joined at last, and joined and split as the take end is told what
+/// was put.
 pub struct Ends;
 
 impl<T> Split<EndView<T>> for Ends {
@@ -33,7 +36,7 @@ impl<T> Split<EndView<T>> for Ends {
 
     ghost left = { λ v. putter v.put };
 
-    ghost right = { λ v. taker v.taken };
+    ghost right = { λ v. taker v.taken v.put };
 }
 
 impl<T> Join<EndView<T>> for Ends {
@@ -42,6 +45,17 @@ impl<T> Join<EndView<T>> for Ends {
     ghost both = { λ v w. whole v.put w.taken };
 
     ghost spent = { spent };
+}
+
+/// The part of the take end goes to another pass.
+pub struct TakingPart;
+
+impl<T> Split<EndView<T>> for TakingPart {
+    ghost use Rattle.xp_outbox.specs.steps.Rule.{spent, taker};
+
+    ghost left = { λ _. spent };
+
+    ghost right = { λ v. taker v.taken v.owed };
 }
 
 /// An item is put.
@@ -61,7 +75,7 @@ impl<T> Outcome<T, EndView<T>> for Takes {
     ghost use Rattle.std.specs.Prelude.{◌≡◌, [], ◌∷◌, ◌++◌};
     ghost use Rattle.xp_outbox.specs.steps.Rule.{taker};
 
-    ghost then = { λ v x w. w ≡ taker (v.taken ++ x ∷ []) };
+    ghost then = { λ v x w. w ≡ taker (v.taken ++ x ∷ []) v.owed };
 }
 
 /// A look at how many items the outbox holds. The put end learns that it holds no more than were put.
@@ -77,8 +91,12 @@ impl<T> Lesson<T, EndView<T>> for Puts {
     ghost fact = { λ _ _. Unit {0} };
 }
 
+/// A take that finds no item. The take end then took all items of which it was told that they were put.
 impl<T> Lesson<T, EndView<T>> for Takes {
-    ghost fact = { λ _ _. Unit {0} };
+    ghost use Rattle.std.specs.Prelude.{◌≡◌, length};
+    ghost use mathlib.Core.List.{IsPrefix};
+
+    ghost fact = { λ v items. length items ≡ 0 → IsPrefix v.owed v.taken };
 }
 
 /// A look at the items that an outbox holds once its ends are joined: those that were put and not taken.

@@ -3,6 +3,8 @@
 
 mod alone;
 mod default_callers;
+mod file_line;
+mod indexes;
 mod place;
 mod refused;
 mod twice;

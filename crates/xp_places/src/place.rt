@@ -29,6 +29,22 @@ impl<'a> Place<'a> {
         }
     }
 
+    /// The number of the station, from 1 on. `None` at the top of the file.
+    pub(crate) fn station(&self) -> Option<usize> {
+        match *self {
+            Place::Top(_) => None,
+            Place::Station(number, _)
+            | Place::Line(number, _, _, _)
+            | Place::Group(number, _, _, _)
+            | Place::Redirection(number, _, _) => Some(number),
+        }
+    }
+
+    /// The name of the table, where it has one.
+    pub(crate) fn name(&self) -> Option<&'a str> {
+        self.value("name")?.as_str()
+    }
+
     /// The value of a key of the table, if it has that key.
     pub(crate) fn value(&self, key: &str) -> Option<&'a Value> {
         self.table().get(key)

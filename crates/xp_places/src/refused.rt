@@ -2,16 +2,19 @@
 
 use crate::alone::{array, refused_part};
 use crate::default_callers::rivals;
+use crate::file_line::line_of_key;
+use crate::indexes::faulty_index;
 use crate::place::Place;
 use crate::twice::twice_used;
 use crate::wanted::{keys_at, wanted};
 use std::alloc::{AllocError, Global};
 use std::fmt::Write;
-use toml::Table;
+use toml::{Table, Value};
 use xp_file::{Key, SubscriptionFault};
 
 /// Where the text of a subscription file has this fault, and what is wanted there, as one line without its end:
-/// `at station 2 (address 2080020), line 1 (name b1): a number from 1 to 65535 is wanted, found "x"`. Empty where no place is found.
+/// `at station 2 (address 2080020), line 1 (name b1), in line 7 of the file: a number from 1 to 65535 is wanted, found "x"`. The line of
+/// the file is told of a value where one line alone has it. Empty where no place is found.
 ///
 /// The place is that of the first station, and of its first line, group or redirection, that is refused for this fault where it
 /// stands alone in a file. Of what is used twice both places are told. No contract says what the text tells.
@@ -22,7 +25,7 @@ use xp_file::{Key, SubscriptionFault};
 pub fn place_of(alloc: Global, text: &str, fault: SubscriptionFault) -> Result<String, AllocError> {
     let mut told = String::new(alloc);
     match toml::table_from_str(alloc, text) {
-        Ok(file) => push_place(alloc, &mut told, &file, fault)?,
+        Ok(file) => push_place(alloc, &mut told, text, &file, fault)?,
         Err(error) if error.is_memory() => return Err(AllocError),
         Err(error) => push_syntax(&mut told, text, &error)?,
     }
@@ -42,6 +45,7 @@ fn push_syntax(told: &mut String, text: &str, error: &toml::de::Error) -> Result
 fn push_place(
     alloc: Global,
     told: &mut String,
+    text: &str,
     file: &Table,
     fault: SubscriptionFault,
 ) -> Result<(), AllocError> {
@@ -51,13 +55,10 @@ fn push_place(
         SubscriptionFault::TwiceUsed(key) => push_twice(alloc, told, file, key),
         SubscriptionFault::Field(key) => {
             let place = refused_part(alloc, file, fault)?.unwrap_or(Place::Top(file));
-            push_field(told, place, key)
+            push_field(alloc, told, text, file, place, key)
         }
         SubscriptionFault::Index => match refused_part(alloc, file, fault)? {
-            Some(place) => write!(
-                told,
-                "at {place}: an index or a group stands there twice, or `preferential` is none of its indexes"
-            ),
+            Some(place) => write!(told, "at {place}: {}", faulty_index(place)),
             None => Ok(()),
         },
         SubscriptionFault::Limit(key) => {
@@ -90,18 +91,47 @@ fn push_rivals(alloc: Global, told: &mut String, file: &Table) -> Result<(), All
     }
 }
 
-fn push_field(told: &mut String, place: Place<'_>, key: Key) -> Result<(), AllocError> {
-    write!(told, "at {place}: ")?;
+fn push_field(
+    alloc: Global,
+    told: &mut String,
+    text: &str,
+    file: &Table,
+    place: Place<'_>,
+    key: Key,
+) -> Result<(), AllocError> {
+    write!(told, "at {place}")?;
     match place.value(key.name()) {
         _ if key == Key::Other => push_unknown(told, place),
-        Some(value) => write!(told, "{} is wanted, found {value}", wanted(place, key)),
-        None => write!(told, "`{key}` is missing"),
+        Some(value) => {
+            if let Some(line) = line_of_key(alloc, text, file, place, key.name(), value)? {
+                write!(told, ", in line {line} of the file")?;
+            }
+            push_wanted(told, place, key, value)
+        }
+        None => write!(told, ": `{key}` is missing"),
+    }
+}
+
+/// What is wanted of a key, and what was found. Digits without quotation marks are a number, which is what is mistaken most often.
+fn push_wanted(
+    told: &mut String,
+    place: Place<'_>,
+    key: Key,
+    value: &Value,
+) -> Result<(), AllocError> {
+    let wanted = wanted(place, key);
+    match (key, value) {
+        (Key::Address | Key::To, Value::Integer(_)) => write!(
+            told,
+            ": {wanted}, in quotation marks, is wanted, found {value}"
+        ),
+        _ => write!(told, ": {wanted} is wanted, found {value}"),
     }
 }
 
 /// The keys that the table at this place may not have.
 fn push_unknown(told: &mut String, place: Place<'_>) -> Result<(), AllocError> {
-    told.push_str("there is no such key:")?;
+    told.push_str(": there is no such key:")?;
     for (key, _) in place.table().iter() {
         if !keys_at(place)
             .iter()

@@ -1,48 +1,7 @@
 //! What the keys of a subscription file want, and where they may stand.
 
 use crate::place::Place;
-use xp_file::Key;
-
-const TOP_KEYS: [Key; 5] = [
-    Key::SegmentLimit,
-    Key::Journal,
-    Key::Host,
-    Key::XotPort,
-    Key::Station,
-];
-
-const STATION_KEYS: [Key; 12] = [
-    Key::Address,
-    Key::Line,
-    Key::OutgoingBarred,
-    Key::IncomingBarred,
-    Key::ReverseCharging,
-    Key::FastSelect,
-    Key::OutgoingAccess,
-    Key::IncomingAccess,
-    Key::Preferential,
-    Key::DefaultCaller,
-    Key::Group,
-    Key::Redirect,
-];
-
-const LINE_KEYS: [Key; 6] = [
-    Key::Name,
-    Key::Port,
-    Key::Router,
-    Key::Address,
-    Key::Modulus,
-    Key::From,
-];
-
-const GROUP_KEYS: [Key; 4] = [
-    Key::Name,
-    Key::Index,
-    Key::OutgoingBarred,
-    Key::IncomingBarred,
-];
-
-const REDIRECTION_KEYS: [Key; 4] = [Key::To, Key::Systematic, Key::Busy, Key::OutOfOrder];
+use xp_file::{GROUP_KEYS, Key, LINE_KEYS, REDIRECT_KEYS, STATION_KEYS, TOP_KEYS};
 
 /// The keys that the table at this place may have.
 pub(crate) fn keys_at(place: Place<'_>) -> &'static [Key] {
@@ -51,7 +10,7 @@ pub(crate) fn keys_at(place: Place<'_>) -> &'static [Key] {
         Place::Station(_, _) => &STATION_KEYS,
         Place::Line(_, _, _, _) => &LINE_KEYS,
         Place::Group(_, _, _, _) => &GROUP_KEYS,
-        Place::Redirection(_, _, _) => &REDIRECTION_KEYS,
+        Place::Redirection(_, _, _) => &REDIRECT_KEYS,
     }
 }
 
@@ -68,12 +27,12 @@ pub(crate) fn wanted(place: Place<'_>, key: Key) -> &'static str {
         Key::Address | Key::To => "a text of 1 to 15 digits",
         Key::Preferential | Key::Index => "a number from 0 to 9999",
         Key::Name => match place {
-            Place::Group(_, _, _, _) => "a text of 1 to 16 letters and digits",
+            Place::Top(_) | Place::Group(_, _, _, _) => "a text of 1 to 16 letters and digits",
             _ => "a text of 1 to 16 of a to z and 0 to 9",
         },
         Key::Router => "an address with or without a port, and no `port` beside it,",
         Key::Modulus => "8 or 128",
-        Key::From => "a text with an address, or an array of 1 to 8 such texts,",
+        Key::From => "a text with an address or a network, or an array of 1 to 8 such texts,",
         Key::OutgoingBarred
         | Key::IncomingBarred
         | Key::ReverseCharging

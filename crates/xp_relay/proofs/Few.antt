@@ -19,7 +19,8 @@ use Rattle.xp_relay.specs.Judgement.{is_awaited, most_octets}
 use Rattle.xp_relay.specs.Runs.{Arrival, run, turn_on}
 use Rattle.xp_relay.specs.Terms.{IsWithinTerms}
 use Rattle.xp_relay.specs.Turns.{Turn, accepting, acknowledged_to, acknowledging, data_as, failing, flow, flow_as, held_interrupt, indicating, interrupts, interrupting, is_idle, is_news, is_put_out, resetting, settled, settling, flow_notice, not_ready_notice, turn_of, unchanged, with_data}
-use Rattle.xp_relay.proofs.Deliveries.{everything_is_delivered, judged_by, room_of, sound_run}
+use Rattle.xp_relay.proofs.Deliveries.{judged_by, room_of, sound_run}
+use Rattle.xp_relay.proofs.Observations.{everything_is_delivered}
 
 length-interrupts : (A : Type 0) (side : End) (octets : Option (List ℕ)) → length (interrupts {A = A} side octets) ≤ 1
 length-interrupts A side None = omega arith

@@ -8,6 +8,11 @@ pub mod Takes
 pub mod Readiness
 pub mod Owing
 pub mod Deliveries
+pub mod Tellings
+pub mod TellingTurns
+pub mod TellingPackets
+pub mod Observing
+pub mod Observations
 pub mod Bounds
 pub mod Few
 pub mod Extends

@@ -13,7 +13,7 @@ use Rattle.xp_relay.specs.declared.judged.Judged.TheVariants.{Accept, Discard, R
 use Rattle.xp_relay.specs.declared.moves.Move.{Move}
 use Rattle.xp_relay.specs.Direction.{Direction, acknowledged_count, far, is_open, put_all, received_number, release}
 use Rattle.xp_relay.specs.Judgement.{judgement}
-use Rattle.xp_relay.specs.Runs.{is_indicated, is_of_reset, is_reset, resets, same_end}
+use Rattle.xp_relay.specs.Contents.{is_indicated, is_of_reset, is_reset, resets, same_end}
 use Rattle.xp_relay.specs.Turns.{Turn, accepting, acknowledged_to, acknowledging, data_as, failing, flow_as, flow_notice, held_interrupt, indicating, indication, interrupting, interrupts, is_idle, is_news, is_put_out, not_ready_notice, resetting, settled, settling, turn_of, unchanged, with_data}
 use Rattle.xp_relay.proofs.Runs.{far_is_other, other_is_far, quiet-append, quiet_not_ready, quiet_telling, same_self}
 use Rattle.xp_relay.proofs.Takes.{after_release, before_release, quiet_interrupts}
@@ -36,7 +36,7 @@ module _ {A : Type 0} where
   reset_is _ e = refl
 
   -- moves without a reset bring no reset indication
-  none_indicated : (end : End) (made : List (Move A)) → resets made ≡ false → is_indicated end made ≡ false
+  pub none_indicated : (end : End) (made : List (Move A)) → resets made ≡ false → is_indicated end made ≡ false
   none_indicated end [] e = refl
   none_indicated end (m ∷ rest) e =
       let parts = or_parts (is_of_reset m.packet) (resets rest) e in
@@ -58,7 +58,7 @@ module _ {A : Type 0} where
   owe_unchanged : (here : End) (s r : Direction A) → BothOwe here s r false (unchanged s r)
   owe_unchanged here s r = owe_still here s r (unchanged s r) refl refl refl
 
-  release-owes : (d : Direction A) → (release d).owes ≡ d.owes
+  pub release-owes : (d : Direction A) → (release d).owes ≡ d.owes
   release-owes d = cond_both (is_open d) (put_all d) d (λ x. x.owes ≡ d.owes) (λ _. refl) (λ _. refl)
 
   -- the far end owes a reset confirmation: it is sent an indication now, or owed one before

@@ -14,7 +14,7 @@ use Rattle.xp_relay.specs.declared.judged.Judged.TheVariants.{Accept, Discard, R
 use Rattle.xp_relay.specs.declared.moves.Move.{Move}
 use Rattle.xp_relay.specs.Direction.{Direction, acknowledged_count, emptied, far, is_open, put_all, received_number, release}
 use Rattle.xp_relay.specs.Judgement.{judgement}
-use Rattle.xp_relay.specs.Runs.{ready_after, resets}
+use Rattle.xp_relay.specs.Contents.{ready_after, resets}
 use Rattle.xp_relay.specs.Turns.{Turn, accepting, acknowledged_to, acknowledging, data_as, failing, flow_as, flow_notice, held_interrupt, interrupting, interrupts, is_idle, is_news, is_put_out, not_ready_notice, resetting, settled, settling, turn_of, unchanged, with_data}
 use Rattle.xp_relay.proofs.Runs.{IsQuiet, quiet-append, quiet_not_ready, quiet_telling}
 use Rattle.xp_relay.proofs.Takes.{after_release, before_release, quiet_interrupts}
@@ -40,7 +40,7 @@ module _ {A : Type 0} where
       (λ _. record { all = λ _. refl })
       (λ closed. record { all = λ opened. let never : true ≡ false = sym opened ∙ closed in cc })
 
-  release-ready : (d : Direction A) → (release d).ready ≡ d.ready
+  pub release-ready : (d : Direction A) → (release d).ready ≡ d.ready
   release-ready d = cond_both (is_open d) (put_all d) d (λ x. x.ready ≡ d.ready) (λ _. refl) (λ _. refl)
 
   -- the call is not reset, and the receiver is ready as it said

@@ -7,8 +7,8 @@ use Rattle.xp_packets.specs.declared.end.End.TheVariants.{Caller, Called}
 use Rattle.xp_relay.specs.declared.data.Data.{Data}
 use Rattle.xp_relay.specs.declared.moves.Move.{Move}
 use Rattle.xp_relay.specs.Direction.{Direction, far, is_open, numbered, released, to}
-use Rattle.xp_relay.specs.Runs.{data_in, data_to, is_of_reset, resets, same_end, with_numbers}
-use Rattle.xp_relay.specs.Turns.{flow_packet, flow_notice, not_ready_notice}
+use Rattle.xp_relay.specs.Contents.{data_in, data_to, is_of_reset, resets, same_end, with_numbers}
+use Rattle.xp_relay.specs.Turns.{flow_packet, flow_notice, indicating, indication, not_ready_notice}
 
 pub same_self : (e : End) → same_end e e ≡ true
 same_self Caller = refl
@@ -92,3 +92,8 @@ module _ {A : Type 0} where
   pub others-released : (e side : End) (pr : ℕ) (d : Direction A) → same_end e side ≡ false → data_to e (released side pr d) ≡ []
   others-released e side pr d other =
       cond_both (is_open d) _ _ (λ made. data_to e made ≡ []) (λ _. data_to-others e side (numbers d.terms.receiver) pr d.put (drop d.put d.accepted) other) (λ _. refl)
+
+  -- a reset indication carries no data
+  pub no_data_indicated : (e here : End) (cause diagnostic : ℕ) (s : Direction A) → data_to e (indicating here cause diagnostic s) ≡ []
+  no_data_indicated e here cause diagnostic s =
+      cond_both s.owes [] (indication (far here) cause diagnostic ∷ []) (λ made. data_to e made ≡ []) (λ _. refl) (λ _. refl)

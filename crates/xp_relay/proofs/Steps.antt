@@ -7,7 +7,7 @@ use Rattle.xp_packets.specs.declared.end.End.{End}
 use Rattle.xp_relay.specs.declared.data.Data.{Data}
 use Rattle.xp_relay.specs.declared.moves.Move.{Move}
 use Rattle.xp_relay.specs.Direction.{Direction, IsSound, emptied, far, is_open, numbered, put_all, release, released}
-use Rattle.xp_relay.specs.Runs.{data_to, resets, with_numbers}
+use Rattle.xp_relay.specs.Contents.{data_to, resets, with_numbers}
 use Rattle.xp_relay.specs.Turns.{Turn}
 use Rattle.xp_relay.proofs.Runs.{data_to-numbered, with_numbers-append}
 
@@ -17,12 +17,12 @@ module _ {A : Type 0} where
   put_of d = with_numbers (numbers d.terms.receiver) 0 (take d.put d.accepted)
 
   -- A direction before and after moves. The packets `new` are accepted from its sender, and its receiver gets the data
-  -- in the moves; a reset empties both.
+  -- in the moves; a reset empties both, before that data.
   pub record GoesOn (d next : Direction A) (receiver : End) (new : List (Data A)) (made : List (Move A)) : Type 0 where
     pub terms : next.terms ≡ d.terms
     pub sound : IsSound next
     pub accepted : next.accepted ≡ cond (resets made) [] (d.accepted ++ new)
-    pub put : put_of next ≡ cond (resets made) [] (put_of d ++ data_to receiver made)
+    pub put : put_of next ≡ cond (resets made) [] (put_of d) ++ data_to receiver made
 
   -- both directions before and after a turn
   pub record TakesOn (s r : Direction A) (here : End) (new : List (Data A)) (turn : Turn A) : Type 0 where
@@ -32,12 +32,12 @@ module _ {A : Type 0} where
   pub sound_emptied : (owes : Bool) (d : Direction A) → IsSound d → IsSound (emptied owes d)
   sound_emptied owes d h = record { terms = h.terms; acknowledged = omega arith; put = omega arith; window = omega arith }
 
-  pub goes_empty : (owes : Bool) (d : Direction A) (receiver : End) (new : List (Data A)) (made : List (Move A)) → IsSound d → resets made ≡ true → GoesOn d (emptied owes d) receiver new made
-  goes_empty owes d receiver new made h e = record {
+  pub goes_empty : (owes : Bool) (d : Direction A) (receiver : End) (new : List (Data A)) (made : List (Move A)) → IsSound d → resets made ≡ true → data_to receiver made ≡ [] → GoesOn d (emptied owes d) receiver new made
+  goes_empty owes d receiver new made h e none = record {
     terms = refl;
     sound = sound_emptied owes d h;
     accepted = sym (cond-true (resets made) [] (d.accepted ++ new) e);
-    put = sym (cond-true (resets made) [] (put_of d ++ data_to receiver made) e);
+    put = sym (ap (λ xs. xs ++ data_to receiver made) (cond-true (resets made) [] (put_of d) e) ∙ none);
   }
 
   -- nothing is accepted, and the receiver gets nothing
@@ -51,7 +51,7 @@ module _ {A : Type 0} where
         same
         ∙ sym (append-nil (put_of d))
         ∙ ap (λ others. put_of d ++ others) (sym none)
-        ∙ sym (cond-false (resets made) [] (put_of d ++ data_to receiver made) unreset);
+        ∙ ap (λ xs. xs ++ data_to receiver made) (sym (cond-false (resets made) [] (put_of d) unreset));
   }
 
   pub sound_release : (d : Direction A) → IsSound d → IsSound (release d)
@@ -100,5 +100,5 @@ module _ {A : Type 0} where
         release-front more receiver pr sound
         ∙ ap (λ others. others ++ data_to receiver (released receiver pr more)) put
         ∙ ap (λ others. put_of d ++ others) (sym out)
-        ∙ sym (cond-false (resets made) [] (put_of d ++ data_to receiver made) unreset);
+        ∙ ap (λ xs. xs ++ data_to receiver made) (sym (cond-false (resets made) [] (put_of d) unreset));
   }

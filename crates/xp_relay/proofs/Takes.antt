@@ -2,15 +2,17 @@
 use Rattle.std.proofs.Common.{◌≡◌, ℕ, suc, zero, ◌+◌, ◌-◌, ◌%◌, ◌<◌, ◌≤◌, Bool, true, false, not, ◌&&◌, ◌==◌, List, [], ◌∷◌, ◌++◌, length, take, Option, Some, None, refl, sym, ap, ◌∙◌, inl, inr, arith}
 use Rattle.std.proofs.lemmas.Bool.{cases_Bool, cond-true, cond-false}
 use Rattle.std.proofs.lemmas.List.{append-nil, length-append, take-append-le}
+use Rattle.xp_causes.specs.Indicated.{indicated_cause}
+use Rattle.xp_causes.specs.declared.resetting_cause.TheConstants.{REMOTE_PROCEDURE_ERROR}
 use Rattle.xp_packets.specs.Numbers.{numbers}
 use Rattle.xp_packets.specs.declared.end.End.{End}
 use Rattle.xp_relay.specs.declared.data.Data.{Data}
 use Rattle.xp_relay.specs.declared.data.Interruption.{Interruption}
 use Rattle.xp_relay.specs.declared.moves.Move.{Move}
 use Rattle.xp_relay.specs.Direction.{Direction, IsSound, far, first_count, is_open, received_number, released, acknowledged_count}
-use Rattle.xp_relay.specs.Runs.{data_to, resets, with_numbers}
+use Rattle.xp_relay.specs.Contents.{data_to, resets, with_numbers}
 use Rattle.xp_relay.specs.Turns.{accepting, acknowledged_to, acknowledging, failing, is_news, held_interrupt, interrupts, resetting, settled, settling, flow_notice, not_ready_notice, unchanged, with_data}
-use Rattle.xp_relay.proofs.Runs.{IsQuiet, data_to-append, far_is_other, other_is_far, others-released, quiet-append, quiet_none, quiet_not_ready, quiet_telling, resets-append, resets-released}
+use Rattle.xp_relay.proofs.Runs.{IsQuiet, data_to-append, no_data_indicated, far_is_other, other_is_far, others-released, quiet-append, quiet_none, quiet_not_ready, quiet_telling, resets-append, resets-released}
 use Rattle.xp_relay.proofs.Steps.{TakesOn, goes_empty, goes_release, goes_still}
 
 -- a number stands for a count in the range that is searched
@@ -51,14 +53,14 @@ module _ {A : Type 0} where
 
   pub takes_failing : (s r : Direction A) (here : End) (diagnostic : ℕ) (new : List (Data A)) → IsSound s → IsSound r → TakesOn s r here new (failing here diagnostic s r)
   takes_failing s r here diagnostic new hs hr = record {
-    sent = goes_empty true s (far here) new (failing here diagnostic s r).moves hs refl;
-    received = goes_empty true r here [] (failing here diagnostic s r).moves hr refl;
+    sent = goes_empty true s (far here) new (failing here diagnostic s r).moves hs refl (no_data_indicated (far here) here REMOTE_PROCEDURE_ERROR diagnostic s);
+    received = goes_empty true r here [] (failing here diagnostic s r).moves hr refl (no_data_indicated here here REMOTE_PROCEDURE_ERROR diagnostic s);
   }
 
   pub takes_resetting : (s r : Direction A) (here : End) (cause diagnostic : ℕ) → IsSound s → IsSound r → TakesOn s r here [] (resetting here cause diagnostic s r)
   takes_resetting s r here cause diagnostic hs hr = record {
-    sent = goes_empty true s (far here) [] (resetting here cause diagnostic s r).moves hs refl;
-    received = goes_empty false r here [] (resetting here cause diagnostic s r).moves hr refl;
+    sent = goes_empty true s (far here) [] (resetting here cause diagnostic s r).moves hs refl (no_data_indicated (far here) here (indicated_cause cause) diagnostic s);
+    received = goes_empty false r here [] (resetting here cause diagnostic s r).moves hr refl (no_data_indicated here here (indicated_cause cause) diagnostic s);
   }
 
   -- what is released to one end, before and after quiet moves

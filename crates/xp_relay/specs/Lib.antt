@@ -1,8 +1,10 @@
 pub mod Bounds
+pub mod Contents
 pub mod Coupled
 pub mod Direction
 pub mod Encodable
 pub mod Judgement
+pub mod Observed
 pub mod Runs
 pub mod StoredDirection
 pub mod Terms

@@ -15,7 +15,7 @@ pub use data::{Data, Interruption};
 pub use judged::Judged;
 pub use laws::{
     a_turn_puts_out_few, every_packet_put_out_can_be_encoded, everything_is_delivered,
-    received_number_stands_for_the_count,
+    interrupts_are_delivered, received_number_stands_for_the_count, senders_are_told,
 };
 pub use moves::{Move, Moves};
 pub use relay::Relay;

@@ -2,7 +2,9 @@
 use Rattle.std.proofs.Common.{◌≡◌, ◌≢◌, ◌⊎◌, ℕ, List, [], ◌++◌, Bool, true, false, Option, Some, None, IfSome, Result, Ok, Err, ap, append-nil, append_assoc, flat_map, inl, inr, refl, subst, sym, true≢false, ◌∙◌}
 use Rattle.std.specs.Io.KnownBytes.{Appends}
 use Rattle.xp_cdr.specs.Details.{detail_text}
-use Rattle.xp_charge.specs.declared.record.Record.{Record}
+use Rattle.xp_cdr.specs.Ended.{charging_records}
+use Rattle.xp_cdr.specs.declared.ended.EndedCall.{EndedCall}
+use Rattle.xp_cdr.specs.declared.run.ExchangeRun.{ExchangeRun}
 use Rattle.xp_core.specs.Records.{records_of}
 use Rattle.xp_exchange.proofs.Bytes.{appends_nothing}
 use Rattle.xp_keeping.specs.Details.{AreKept, GoesOnAs, IsFirstOf, Keeping, first_keeping}
@@ -12,15 +14,15 @@ use Rattle.xp_keeping.specs.Queued.{AreKeptOrLeft, IsLastOf, Queued, told as tol
 use Rattle.xp_keeping.specs.declared.keep_fault.KeepFault.{KeepFault}
 use Rattle.xp_keeping.specs.declared.keep_fault.KeepFault.TheVariants as faults
 use Rattle.xp_serve.specs.Ends.{failure_by}
-use Rattle.xp_serve.specs.Failures.{failure_to_keep}
+use Rattle.xp_listening.specs.Failures.{failure_to_keep}
 use Rattle.xp_serve.specs.LeftAlone.{LeavesAlone, ServesIntoFile, says_all_kept}
 use Rattle.xp_serve.specs.Served.{IsServed}
 use Rattle.xp_serve.specs.Serving.{IsUnserved, outcome, told}
 use Rattle.xp_serve.specs.declared.ends.EarlyEnd.{EarlyEnd}
 use Rattle.xp_serve.specs.declared.ends.EarlyEndCause.{EarlyEndCause}
 use Rattle.xp_serve.specs.declared.ends.EarlyEndCause.TheVariants as causes
-use Rattle.xp_serve.specs.declared.failure.ServeFailure.{ServeFailure}
-use Rattle.xp_serve.specs.declared.failure.ServeFailure.TheVariants.{Memory, Output, Details}
+use Rattle.xp_listening.specs.declared.failure.ServeFailure.{ServeFailure}
+use Rattle.xp_listening.specs.declared.failure.ServeFailure.TheVariants.{Memory, Output, Details}
 use Rattle.xp_serve.specs.declared.served.Served.{Served}
 use Rattle.xp_serve.specs.steps.LeftAlone.{failure_beside, told_beside}
 use Rattle.xp_subs.specs.Tables.{Tables}
@@ -109,31 +111,31 @@ came_otherwise false came fault same other = λ wants. other (cc)
 
 -- what the writer of the file was given
 
-given_first : (keeping : Keeping) (front : List Record) (came : Result (Unit {0}) KeepFault) → AreKept keeping front came → IsFirstOf keeping.ledger.given front
+given_first : (keeping : Keeping) (front : List EndedCall) (came : Result (Unit {0}) KeepFault) → AreKept keeping front came → IsFirstOf keeping.ledger.given front
 given_first keeping front (Ok done) kept = ([], sym kept.0 ∙ sym (append-nil keeping.ledger.given))
 given_first keeping front (Err faults.Details) kept = ([], sym kept.0 ∙ sym (append-nil keeping.ledger.given))
 given_first keeping front (Err faults.Output) kept = absurd kept
 given_first keeping front (Err faults.Memory) kept = kept.0
 
-given_all : (keeping : Keeping) (front : List Record) (came : Result (Unit {0}) KeepFault) → AreKept keeping front came → came ≢ Err faults.Memory
+given_all : (keeping : Keeping) (front : List EndedCall) (came : Result (Unit {0}) KeepFault) → AreKept keeping front came → came ≢ Err faults.Memory
     → keeping.ledger.given ≡ front
 given_all keeping front (Ok done) kept other = kept.0
 given_all keeping front (Err faults.Details) kept other = kept.0
 given_all keeping front (Err faults.Output) kept other = absurd kept
 given_all keeping front (Err faults.Memory) kept other = absurd (other refl)
 
-first_of_first : (one front records : List Record) → IsFirstOf one front → IsFirstOf front records → IsFirstOf one records
+first_of_first : (one front records : List EndedCall) → IsFirstOf one front → IsFirstOf front records → IsFirstOf one records
 first_of_first one front records first second =
     (first.0 ++ second.0, second.1 ∙ ap (λ both. both ++ second.0) first.1 ∙ append_assoc one first.0 second.0)
 
 -- The records that memory was found for, where keeping all of them came to a fault, and those in doubt are the last of these.
-record Found (last : Option Keeping) (left records : List Record) (fault : KeepFault) : Type 0 where
-  pub found : List Record
+record Found (last : Option Keeping) (left records : List EndedCall) (fault : KeepFault) : Type 0 where
+  pub found : List EndedCall
   pub first : IsFirstOf found records
   pub all : fault ≢ faults.Memory → found ≡ records
-  pub last_of : (doubted : List Record) → AreDoubted last left doubted → IsLastOf doubted found
+  pub last_of : (doubted : List EndedCall) → AreDoubted last left doubted → IsLastOf doubted found
 
-module _ (tables : Tables) (started : ℕ) (after : Queued Keeping) (records : List Record) where
+module _ (tables : Tables) (run : ExchangeRun) (after : Queued Keeping) (records : List EndedCall) where
   found_in : (last : Option Keeping) (fault : KeepFault) → AreKeptOrLeft AreKept GoesOnAs last after records (Err fault) → Found last after.left records fault
   found_in None fault left = record {
     found = left.front;
@@ -158,22 +160,22 @@ module _ (tables : Tables) (started : ℕ) (after : Queued Keeping) (records : L
       record { before = keeping.ledger.given; given_are = sym (append-nil keeping.ledger.given); synced_is = kept.1.synced ∙ kept.1.taken }
 
   -- the keeper that came back tells by the subscriptions of the run, and its beginning
-  told_by_last : (last : Option Keeping) (came : Result (Unit {0}) KeepFault) → after.first ≡ first_keeping tables started
-      → AreKeptOrLeft AreKept GoesOnAs last after records came → IfSome last (IsToldBy tables started)
+  told_by_last : (last : Option Keeping) (came : Result (Unit {0}) KeepFault) → after.first ≡ first_keeping tables run
+      → AreKeptOrLeft AreKept GoesOnAs last after records came → IfSome last (IsToldBy tables run)
   told_by_last None came first are = tt
   told_by_last (Some keeping) came first by = (
     by.keeps_on.1 ∙ ap (λ (begun : Keeping). begun.ledger.subs) first,
-    by.keeps_on.2 ∙ ap (λ (begun : Keeping). begun.ledger.started) first,
+    by.keeps_on.2 ∙ ap (λ (begun : Keeping). begun.ledger.run) first,
   )
 
-  module _ (served : Served) (is : IsServed tables served) (are_all : records ≡ records_of served.book.history) where
+  module _ (served : Served) (is : IsServed tables served) (are_all : charging_records records ≡ records_of served.book.history) where
     -- all are kept, and nothing is written
     kept_alone : (came : Result (Unit {0}) KeepFault) (contents : Option (List ℕ)) (result : Result (Unit {0}) ServeFailure)
         → AreKeptOrLeft AreKept GoesOnAs after.last after records came → result ≡ told served.book.subs served.early_end came
-        → says_all_kept result ≡ true → LeavesAlone tables started after contents contents result
+        → says_all_kept result ≡ true → LeavesAlone tables run after contents contents result
     kept_alone (Err fault) contents result kept told_is says = absurd (true≢false (sym says ∙ ap says_all_kept told_is ∙ fault_says fault))
     kept_alone (Ok done) contents result kept told_is says = record {
-      records = records;
+      calls = records;
       of_run = inr (served, is, are_all);
       found = records;
       first = ([], sym (append-nil records));
@@ -189,17 +191,17 @@ module _ (tables : Tables) (started : ℕ) (after : Queued Keeping) (records : L
     -- some are in doubt, and are written
     written_alone : (came : Result (Unit {0}) KeepFault) (before contents : Option (List ℕ)) (result : Result (Unit {0}) ServeFailure) (written : Result (Unit {0}) KeepFault)
         → AreKeptOrLeft AreKept GoesOnAs after.last after records came → result ≡ told served.book.subs served.early_end came
-        → says_all_kept result ≡ false → WritesDoubted tables started after before contents written
-        → LeavesAlone tables started after before contents (told_beside result written)
+        → says_all_kept result ≡ false → WritesDoubted tables run after before contents written
+        → LeavesAlone tables run after before contents (told_beside result written)
     written_alone (Ok done) before contents result written kept told_is says writes =
         absurd (true≢false (sym (end_says served.book.subs served.early_end) ∙ sym (ap says_all_kept told_is) ∙ says))
     written_alone (Err fault) before contents result written kept told_is says writes =
-        let text = flat_map (detail_text tables started) writes.records in
+        let text = flat_map (detail_text tables run) writes.records in
         let in_all = found_in after.last fault kept in
         let wants : fault ≡ faults.Memory → told_beside result written ≡ Err Memory =
         λ short. ap (λ came. told_beside came written) (told_is ∙ ap (λ kept_as. failed (failure_to_keep kept_as)) short) ∙ short_beside written in
         record {
-          records = records;
+          calls = records;
           of_run = inr (served, is, are_all);
           found = in_all.found;
           first = in_all.first;
@@ -212,16 +214,16 @@ module _ (tables : Tables) (started : ℕ) (after : Queued Keeping) (records : L
           whole = all_written before contents text result written writes.written;
         }
 
-module _ (tables : Tables) (started : ℕ) (after : Queued Keeping) (result : Result (Unit {0}) ServeFailure) where
-  pub told_by : ServesIntoFile tables started after result → IfSome after.last (IsToldBy tables started)
-  told_by (inl unserved) = subst (λ (queued : Queued Keeping). IfSome queued.last (IsToldBy tables started)) (sym unserved.0) tt
+module _ (tables : Tables) (run : ExchangeRun) (after : Queued Keeping) (result : Result (Unit {0}) ServeFailure) where
+  pub told_by : ServesIntoFile tables run after result → IfSome after.last (IsToldBy tables run)
+  told_by (inl unserved) = subst (λ (queued : Queued Keeping). IfSome queued.last (IsToldBy tables run)) (sym unserved.0) tt
   told_by (inr served) =
-      told_by_last tables started after (records_of served.0.book.history) after.last served.2.keeping served.2.keeps_on.1 served.2.kept_is
+      told_by_last tables run after served.2.kept_is.0 after.last served.2.keeping served.2.keeps_on.1 served.2.kept_is.2
 
-  pub nothing_written : (contents : Option (List ℕ)) → ServesIntoFile tables started after result → says_all_kept result ≡ true
-      → LeavesAlone tables started after contents contents result
+  pub nothing_written : (contents : Option (List ℕ)) → ServesIntoFile tables run after result → says_all_kept result ≡ true
+      → LeavesAlone tables run after contents contents result
   nothing_written contents (inl unserved) says = record {
-    records = [];
+    calls = [];
     of_run = inl (refl, unserved.1);
     found = [];
     first = ([], refl);
@@ -234,18 +236,18 @@ module _ (tables : Tables) (started : ℕ) (after : Queued Keeping) (result : Re
     whole = λ no_memory no_output. appends_nothing contents;
   }
   nothing_written contents (inr served) says =
-      kept_alone tables started after (records_of served.0.book.history) served.0 served.1 refl served.2.keeping contents result served.2.kept_is served.2.told_is says
+      kept_alone tables run after served.2.kept_is.0 served.0 served.1 served.2.kept_is.1 served.2.keeping contents result served.2.kept_is.2 served.2.told_is says
 
-  pub doubted_written : (before contents : Option (List ℕ)) (written : Result (Unit {0}) KeepFault) → ServesIntoFile tables started after result
-      → says_all_kept result ≡ false → WritesDoubted tables started after before contents written
-      → LeavesAlone tables started after before contents (told_beside result written)
+  pub doubted_written : (before contents : Option (List ℕ)) (written : Result (Unit {0}) KeepFault) → ServesIntoFile tables run after result
+      → says_all_kept result ≡ false → WritesDoubted tables run after before contents written
+      → LeavesAlone tables run after before contents (told_beside result written)
   doubted_written before contents written (inl unserved) says writes =
       let short : result ≡ Err Memory = unserved_short tables result unserved.1 says in
       let is_short : told_beside result written ≡ Err Memory = ap (λ came. told_beside came written) short ∙ short_beside written in
       let no_records : writes.records ≡ [] =
       subst (λ (queued : Queued Keeping). AreDoubted queued.last queued.left writes.records) unserved.0 writes.doubted in
       record {
-        records = [];
+        calls = [];
         of_run = inl (refl, subst (IsUnserved tables) (sym is_short) tt);
         found = [];
         first = ([], refl);
@@ -254,9 +256,9 @@ module _ (tables : Tables) (started : ℕ) (after : Queued Keeping) (result : Re
         in_doubt = writes.doubted;
         last = ([], sym no_records);
         none = λ all. no_records;
-        front = front_of_all before contents (flat_map (detail_text tables started) writes.records) written writes.written;
-        whole = all_written before contents (flat_map (detail_text tables started) writes.records) result written writes.written;
+        front = front_of_all before contents (flat_map (detail_text tables run) writes.records) written writes.written;
+        whole = all_written before contents (flat_map (detail_text tables run) writes.records) result written writes.written;
       }
   doubted_written before contents written (inr served) says writes =
-      written_alone tables started after (records_of served.0.book.history) served.0 served.1 refl served.2.keeping before contents result written
-      served.2.kept_is served.2.told_is says writes
+      written_alone tables run after served.2.kept_is.0 served.0 served.1 served.2.kept_is.1 served.2.keeping before contents result written
+      served.2.kept_is.2 served.2.told_is says writes

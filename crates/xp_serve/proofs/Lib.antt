@@ -1,5 +1,3 @@
-mod Accesses
-mod Addresses
 mod EarlyEnds
 mod LeftAlone
 mod OfKeeper

@@ -1,12 +1,12 @@
 -- What serving comes to for a keeper beside which something is looked at.
 use Rattle.std.proofs.Common.{List, Result, ap, inl, inr}
-use Rattle.xp_charge.specs.declared.record.Record.{Record}
+use Rattle.xp_cdr.specs.declared.ended.EndedCall.{EndedCall}
 use Rattle.xp_keeping.specs.declared.keep_fault.KeepFault.{KeepFault}
 use Rattle.xp_serve.specs.Serving.{Serves}
-use Rattle.xp_serve.specs.declared.failure.ServeFailure.{ServeFailure}
+use Rattle.xp_listening.specs.declared.failure.ServeFailure.{ServeFailure}
 use Rattle.xp_subs.specs.Tables.{Tables}
 
-pub serves_keeper : {A K : Type 0} (before after : A) (keeper : A → K) (kept : K → List Record → Result (Unit {0}) KeepFault → Type 0) (keeps : K → K → Type 0)
+pub serves_keeper : {A K : Type 0} (before after : A) (keeper : A → K) (kept : K → List EndedCall → Result (Unit {0}) KeepFault → Type 0) (keeps : K → K → Type 0)
     (tables : Tables) (result : Result (Unit {0}) ServeFailure)
     → Serves (λ one. kept (keeper one)) (λ one other. keeps (keeper one) (keeper other)) tables before after result
     → Serves kept keeps tables (keeper before) (keeper after) result

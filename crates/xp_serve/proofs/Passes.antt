@@ -8,7 +8,7 @@ use Rattle.xp_lock.specs.Opening.{AreFirst, first_pass}
 use Rattle.xp_lock.specs.Passes.{Pass}
 use Rattle.xp_subs.specs.Tables.{Tables, line_count}
 use Rattle.std.specs.List.{AllByRecursion}
-use Rattle.xp_lines.specs.Pairs.{AreEach}
+use Rattle.xp_links.specs.Pairs.{AreEach}
 use Rattle.xp_lines.specs.Sessions.{IsAnyLink, IsLineDown, IsLineServed}
 use Rattle.xp_lines.specs.declared.line.EndReason.{EndReason}
 use Rattle.xp_lines.specs.declared.line.EndReason.TheVariants.{Stopped}

@@ -1,18 +1,18 @@
 -- What is told of what was served.
 use Rattle.std.proofs.Common.{◌≡◌, ◌↔◌, ℕ, ◌<◌, List, IfSome, Option, Some, None, Result, Err, Ok, ap, inl, inr, length, subst, sym, zero-add, ◌∙◌}
 use Rattle.std.specs.declared.net.ip_addr.IpAddr.{IpAddr}
-use Rattle.xp_charge.specs.declared.record.Record.{Record}
+use Rattle.xp_cdr.specs.declared.ended.EndedCall.{EndedCall}
 use Rattle.xp_serve.proofs.EarlyEnds.{early_within}
 use Rattle.xp_serve.specs.Ends.{failure_by}
-use Rattle.xp_serve.specs.Failures.{failure_to_keep}
-use Rattle.xp_serve.specs.Hosts.{IsHost, IsNoHost}
+use Rattle.xp_listening.specs.Failures.{failure_to_keep}
+use Rattle.xp_listening.specs.Hosts.{IsHost, IsNoHost}
 use Rattle.xp_serve.specs.Served.{IsServed}
 use Rattle.xp_serve.specs.Serving.{Serves, outcome, told}
 use Rattle.xp_serve.specs.declared.ends.EarlyEndCause.{EarlyEndCause}
 use Rattle.xp_serve.specs.declared.ends.EarlyEndCause.TheVariants as causes
 use Rattle.xp_serve.specs.declared.ends.EarlyEnd.{EarlyEnd}
-use Rattle.xp_serve.specs.declared.failure.ServeFailure.{ServeFailure}
-use Rattle.xp_serve.specs.declared.failure.ServeFailure.TheVariants.{Host, Memory}
+use Rattle.xp_listening.specs.declared.failure.ServeFailure.{ServeFailure}
+use Rattle.xp_listening.specs.declared.failure.ServeFailure.TheVariants.{Host, Memory}
 use Rattle.xp_keeping.specs.declared.keep_fault.KeepFault.{KeepFault}
 use Rattle.xp_keeping.specs.declared.keep_fault.KeepFault.TheVariants as faults
 use Rattle.xp_serve.specs.declared.served.Served.{Served}
@@ -46,7 +46,7 @@ no_host_told : (tables : Tables) (early_end : Option EarlyEnd) (keeping : Result
 no_host_told tables early_end (Ok done) same = no_host_ended tables early_end same
 no_host_told tables early_end (Err fault) same = no_host_kept fault same
 
-module _ {K : Type 0} (kept : K → List Record → Result (Unit {0}) KeepFault → Type 0) (keeps : K → K → Type 0) where
+module _ {K : Type 0} (kept : K → List EndedCall → Result (Unit {0}) KeepFault → Type 0) (keeps : K → K → Type 0) where
   -- no line was served for want of memory
   pub wants_memory : (tables : Tables) (before after : K) → after ≡ before → Serves kept keeps tables before after (Err Memory)
   wants_memory tables before after same = inl (same, tt)

@@ -3,12 +3,12 @@ use Rattle.std.specs.Prelude.{ℕ, suc, List, [], ◌∷◌, Option, None, Some}
 use Rattle.xp_lines.specs.declared.line.EndReason.{EndReason}
 use Rattle.xp_lines.specs.declared.line.EndReason.TheVariants as why
 use Rattle.xp_subs.specs.Tables.{Tables}
-use Rattle.xp_serve.specs.Failures.{name_at}
+use Rattle.xp_listening.specs.Failures.{name_at}
 use Rattle.xp_serve.specs.declared.ends.EarlyEndCause.{EarlyEndCause}
 use Rattle.xp_serve.specs.declared.ends.EarlyEndCause.TheVariants as causes
 use Rattle.xp_serve.specs.declared.ends.EarlyEnd.{EarlyEnd}
-use Rattle.xp_serve.specs.declared.failure.ServeFailure.{ServeFailure}
-use Rattle.xp_serve.specs.declared.failure.ServeFailure.TheVariants.{Port, Journal, Thread}
+use Rattle.xp_listening.specs.declared.failure.ServeFailure.{ServeFailure}
+use Rattle.xp_listening.specs.declared.failure.ServeFailure.TheVariants.{Port, Journal, Thread}
 
 -- what ended a line before its time, if anything did
 abbrev pub early_end_cause : EndReason → Option EarlyEndCause

@@ -5,7 +5,7 @@ use Rattle.std.specs.declared.alloc.Global.{Global as Alloc}
 use Rattle.xp_lock.specs.Closing.{AreCounted, PassesMatch, all_handed, own_entries_together}
 use Rattle.xp_lock.specs.Opening.{first_pass}
 use Rattle.xp_lock.specs.Passes.{IsLegal, Pass}
-use Rattle.xp_lines.specs.Pairs.{AreEach}
+use Rattle.xp_links.specs.Pairs.{AreEach}
 use Rattle.xp_lines.specs.Sessions.{IsAnyLink, IsLineDown, IsLineServed}
 use Rattle.xp_lines.specs.declared.line.EndReason.{EndReason}
 use Rattle.xp_lines.specs.declared.line.EndReason.TheVariants.{Stopped}

@@ -1,6 +1,7 @@
 //! What goes on beside the lines while they are served.
 
-ghost use Rattle.std.specs.Prelude.{◌≡◌, []};
+ghost use Rattle.std.specs.Prelude.{◌≡◌, ℕ, []};
+ghost use Rattle.xp_sink.specs.Seen.{IsSeen};
 ghost use Rattle.xp_serve.specs.Serving.{Serves};
 
 use crate::serving::{ServeEnd, serve};
@@ -11,7 +12,7 @@ use std::thread::Threads;
 use xp_charge::Record;
 use xp_keeping::{KeepFault, RecordKeeper};
 use xp_limits::Limits;
-use xp_lines::{Received, RecordSink};
+use xp_sink::{Received, RecordSink};
 use xp_subs::Subs;
 use xp_tcp::Notices;
 use xp_view::ExchangeView;
@@ -28,7 +29,8 @@ pub trait Watch: Drop {
     fn wants_look(&self) -> bool;
 
     /// Takes what can be seen of the exchange, and how many records wait to be kept.
-    fn see(&mut self, view: &ExchangeView, waiting: usize);
+    fn see(&mut self, view: &ExchangeView, waiting: usize)
+        requires seen { (lines : ℕ) × IsSeen lines view.now };
 
     /// Looks for the last time: all lines have ended.
     fn end(&mut self);
@@ -41,6 +43,21 @@ pub struct Attending<K: RecordKeeper, W: Watch> {
     pub watch: W,
 }
 
+impl<K: RecordKeeper, W: Watch> Attending<K, W> {
+    /// Tells the keeper where serving stops, and passes that on.
+    fn pass_on(&mut self, received: Received) -> Received
+        ensures received { K.received self.new.keeper ≡ K.received self.old.keeper }
+        ensures lines { K.lines self.new.keeper ≡ K.lines self.old.keeper }
+        ensures keeps { K.keeps self.old.keeper self.new.keeper }
+    {
+        match received {
+            Received::GoesOn => {}
+            Received::Stops => self.keeper.stop(),
+        }
+        received
+    }
+}
+
 impl<K: RecordKeeper, W: Watch> RecordSink for Attending<K, W> {
     ghost received = { λ a. K.received a.keeper };
 
@@ -50,13 +67,17 @@ impl<K: RecordKeeper, W: Watch> RecordSink for Attending<K, W> {
 
     fn receive(&mut self, records: Vec<Record>) -> Received {
         self.watch.note_ended(&records);
-        self.keeper.receive(records)
+        let received = self.keeper.receive(records);
+        self.pass_on(received)
     }
 
     fn tick(&mut self) -> Received {
         match self.keeper.tick() {
-            Received::GoesOn => self.watch.look(),
-            Received::Stops => Received::Stops,
+            Received::GoesOn => {
+                let received = self.watch.look();
+                self.pass_on(received)
+            }
+            Received::Stops => self.pass_on(Received::Stops),
         }
     }
 
@@ -76,14 +97,22 @@ impl<K: RecordKeeper, W: Watch> RecordSink for Attending<K, W> {
 impl<K: RecordKeeper, W: Watch> RecordKeeper for Attending<K, W> {
     ghost named_by = { λ a. K.named_by a.keeper };
 
-    ghost kept = { λ a records result. K.kept a.keeper records result };
+    ghost calls = { λ a. K.calls a.keeper };
+
+    ghost kept = { λ a calls result. K.kept a.keeper calls result };
 
     ghost has_lines = { λ a. K.has_lines a.keeper };
 
     ghost keeps_names = { λ a b same. K.keeps_names a.keeper b.keeper same };
 
+    ghost are_received = { λ a. K.are_received a.keeper };
+
     fn waiting(&self) -> usize {
         self.keeper.waiting()
+    }
+
+    fn stop(&mut self) {
+        self.keeper.stop();
     }
 
     fn finish(&mut self, rest: &[Record]) -> Result<(), KeepFault> {

@@ -1,7 +1,7 @@
 //! The threads of all lines, and that of the door for routers beside them.
 
 ghost use Rattle.std.specs.Prelude.{◌≡◌, IfErr, IfOk, map};
-ghost use Rattle.xp_lines.specs.Pairs.{AreEach};
+ghost use Rattle.xp_links.specs.Pairs.{AreEach};
 ghost use Rattle.xp_lines.specs.Recorded.{HandsOn};
 ghost use Rattle.xp_lines.specs.Sessions.{AreMoved, IsLineDown, IsLineServed};
 ghost use Rattle.xp_subs.specs.Tables.{line_count};
@@ -12,12 +12,11 @@ use std::sync::Wait;
 use std::thread;
 use std::thread::{JoinHandle, Scope, Threads};
 use xp_limits::Limits;
-use xp_lines::{
-    Clock, EndReason, Gate, LineInputs, LinesServed, Link, Poller, Port, RecordSink, ServeFault,
-    serve_all,
-};
+use xp_lines::{EndReason, LineInputs, LinesServed, ServeFault, serve_all};
+use xp_links::{Clock, Gate, Link, Poller, Port};
 use xp_lock::Exchange;
 use xp_seats::{Name, Recorder};
+use xp_sink::RecordSink;
 use xp_tcp::Door;
 
 /// Serves all lines by [`serve_all`]. Where there is a door, it takes the connections of routers meanwhile, on a thread of its own.

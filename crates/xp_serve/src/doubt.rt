@@ -4,19 +4,19 @@ ghost use Rattle.std.specs.Prelude.{◌≡◌};
 ghost use Rattle.xp_serve.specs.LeftAlone.{LeavesAlone, ServesIntoFile, says_all_kept};
 ghost use Rattle.xp_serve.specs.steps.LeftAlone.{failure_beside, told_beside};
 
-use crate::failure::ServeFailure;
 use crate::serving::ServeEnd;
 use log::Log;
 use std::alloc::Global;
 use std::io::Write;
 use std::sync::Wait;
 use std::thread::Threads;
-use xp_cdr::RecordFile;
+use xp_cdr::{ExchangeRun, RecordFile};
 use xp_keeping::{DetailKeeper, KeepFault, QueuedKeeper, write_doubted};
+use xp_listening::ServeFailure;
 use xp_subs::Subs;
 
 /// Writes the call detail records of the records in doubt on the output, if any are, and nothing else, and tells what serving came
-/// to. The run began at `started`, in seconds since 1970.
+/// to. The records are told as those of this run.
 ///
 /// # Errors
 ///
@@ -25,18 +25,18 @@ use xp_subs::Subs;
 pub fn settle<F: RecordFile, L: Log + Drop, R: Threads + Wait + Copy + Drop, W: Write>(
     alloc: Global,
     subs: &Subs,
-    started: u64,
+    run: &ExchangeRun,
     end: ServeEnd<QueuedKeeper<DetailKeeper<F, L>, R>>,
     output: &mut W,
 ) -> Result<(), ServeFailure>
-    requires { ServesIntoFile subs.now started end.keeper end.outcome }
-    ensures { LeavesAlone subs.now started end.keeper (W.contents output.old) (W.contents output.new) result }
+    requires { ServesIntoFile subs.now run.now end.keeper end.outcome }
+    ensures { LeavesAlone subs.now run.now end.keeper (W.contents output.old) (W.contents output.new) result }
 {
     let ServeEnd { keeper, outcome } = end;
     if says_all_kept(&outcome) {
         return outcome;
     }
-    let written = write_doubted(alloc, subs, started, &keeper, output);
+    let written = write_doubted(alloc, subs, run, &keeper, output);
     told_beside(outcome, written)
 }
 

@@ -4,8 +4,8 @@ ghost use Rattle.std.specs.Prelude.{◌≡◌, ◌+◌, ◌≤◌, ◌<◌, [], 
 ghost use Rattle.xp_serve.specs.Ends.{failure_of, early_end_cause, first_early_end};
 ghost use Rattle.xp_subs.specs.Tables.{line_count};
 
-use crate::failure::ServeFailure;
 use xp_lines::{EndReason, LineEnd};
+use xp_listening::ServeFailure;
 use xp_lock::LinePass;
 use xp_seats::Name;
 use xp_subs::{LineNo, Subs};

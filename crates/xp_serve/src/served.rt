@@ -1,8 +1,9 @@
 //! What the threads of the lines leave once all have ended.
 
 use crate::ends::EarlyEnd;
-use xp_lines::{EndReason, RecordSink};
+use xp_lines::EndReason;
 use xp_lock::Book;
+use xp_sink::RecordSink;
 
 /// What the threads of the lines leave once all have ended.
 #[derive(Drop)]

@@ -1,18 +1,15 @@
 //! The exchange that is served: its lines' ports, threads and records.
 
 ghost use Rattle.std.specs.Prelude.{◌≡◌, ◌<◌, ◌≤◌, ◌++◌, ◌↔◌, [], Err, IfErr, IfOk, IfSome, length, map, vec_capacity, vec_len};
-ghost use Rattle.xp_serve.specs.Hosts.{IsNoHost};
+ghost use Rattle.xp_listening.specs.Hosts.{IsNoHost};
 ghost use Rattle.xp_serve.specs.Served.{IsServed};
 ghost use Rattle.xp_serve.specs.Serving.{Serves, Tells};
-ghost use Rattle.xp_serve.specs.declared.failure.ServeFailure.TheVariants.{Host as NoHost};
+ghost use Rattle.xp_listening.specs.declared.failure.ServeFailure.TheVariants.{Host as NoHost};
 ghost use Rattle.xp_serve.specs.steps.Serving.{AreReady, WereServed, WereStopped};
 ghost use Rattle.xp_subs.specs.Tables.{line_count};
 
 use crate::beside_door::serve_with_door;
 use crate::ends::{end_reasons_of, first_early_end, passes_of};
-use crate::failure::ServeFailure;
-use crate::host::host_address;
-use crate::listening::listen_all;
 use crate::served::{NotServed, Recorded, Served};
 use crate::telling::tell;
 use std::alloc::{AllocError, Global};
@@ -24,9 +21,11 @@ use std::thread;
 use std::thread::Threads;
 use xp_keeping::RecordKeeper;
 use xp_limits::Limits;
-use xp_lines::{EndReason, LineInputs, LinesServed, RecordSink};
+use xp_lines::{EndReason, LineInputs, LinesServed};
+use xp_listening::{ServeFailure, host_address, listen_all};
 use xp_lock::{Exchange, LinePass, PreparedExchange, prepare};
 use xp_seats::{Name, Recorder};
+use xp_sink::RecordSink;
 use xp_subs::Subs;
 use xp_tcp::{Door, Ends, LinePort, Notices, OpenGate, Sockets, TcpClock, TcpPoller};
 

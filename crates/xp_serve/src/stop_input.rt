@@ -8,23 +8,68 @@ use std::io::ErrorKind;
 /// The descriptor of standard input.
 const STANDARD_INPUT: i32 = 0;
 
-/// How many octets are read and dropped at once.
+/// How many octets are read at once.
 const PIECE: usize = 512;
 
+/// A signal of whose coming the launcher tells before it closes the pipe, by a line with the rest of its name.
+#[derive(Clone, Copy, PartialEq, Eq)]
+enum Signal {
+    Interrupt,
+    Terminate,
+    HangUp,
+}
+
+impl Signal {
+    /// The signal of which these octets tell, if they do.
+    fn in_octets(octets: &[u8]) -> Option<Signal> {
+        if octets.starts_with(b"INT") {
+            Some(Signal::Interrupt)
+        } else if octets.starts_with(b"TERM") {
+            Some(Signal::Terminate)
+        } else if octets.starts_with(b"HUP") {
+            Some(Signal::HangUp)
+        } else {
+            None
+        }
+    }
+}
+
 /// Standard input, as a pipe that whoever started the program holds open. Where it ends, serving is to stop: the pipe was closed,
-/// or who held it has ended.
+/// or who held it has ended. The launcher tells of a signal through it.
 #[derive(Clone, Copy, Default)]
 pub struct StopInput {
     has_ended: bool,
+    /// The signal that the launcher has told of.
+    signal: Option<Signal>,
 }
 
 impl StopInput {
-    /// Whether standard input has ended. It does not wait. Octets that came are dropped.
+    /// Whether standard input has ended. It does not wait. What came is dropped, but for the name of a signal.
     pub fn has_ended(&mut self) -> bool {
         if !self.has_ended && has_something() {
-            self.has_ended = is_at_end();
+            self.read();
         }
         self.has_ended
+    }
+
+    /// Why serving is to stop, once standard input has ended.
+    pub fn reason(&self) -> &'static str {
+        match self.signal {
+            Some(Signal::Interrupt) => "SIGINT",
+            Some(Signal::Terminate) => "SIGTERM",
+            Some(Signal::HangUp) => "SIGHUP",
+            None => "standard input has ended",
+        }
+    }
+
+    /// Reads once. It is at its end where there was nothing more, or the input is broken.
+    fn read(&mut self) {
+        let mut octets = [0; PIECE];
+        match libc::read(STANDARD_INPUT, &mut octets) {
+            0 => self.has_ended = true,
+            count if count > 0 => self.signal = Signal::in_octets(&octets).or(self.signal),
+            _ => self.has_ended = is_broken(),
+        }
     }
 }
 
@@ -38,15 +83,10 @@ fn has_something() -> bool {
     poll(&mut ready, 0) > 0
 }
 
-/// Reads once, and drops what came. Whether there was nothing more, or the input is broken.
-fn is_at_end() -> bool {
-    let mut dropped = [0; PIECE];
-    match libc::read(STANDARD_INPUT, &mut dropped) {
-        0 => true,
-        count if count > 0 => false,
-        _ => !matches!(
-            io::Error::from_raw_os_error(os::errno()).kind(),
-            ErrorKind::Interrupted | ErrorKind::WouldBlock
-        ),
-    }
+/// Whether a read that failed says that the input is broken.
+fn is_broken() -> bool {
+    !matches!(
+        io::Error::from_raw_os_error(os::errno()).kind(),
+        ErrorKind::Interrupted | ErrorKind::WouldBlock
+    )
 }

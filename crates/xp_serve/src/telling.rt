@@ -4,9 +4,9 @@ ghost use Rattle.std.specs.Prelude.{◌≡◌, ◌<◌, IfSome};
 ghost use Rattle.xp_serve.specs.Serving.{Tells};
 ghost use Rattle.xp_subs.specs.Tables.{line_count};
 
-use crate::failure::ServeFailure;
 use crate::served::Served;
 use xp_keeping::RecordKeeper;
+use xp_listening::ServeFailure;
 
 /// Keeps the charging records that were not handed over while the lines were served, and tells the lowest line that ended
 /// before its time.

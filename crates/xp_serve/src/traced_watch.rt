@@ -1,10 +1,10 @@
 //! A watch, beside which what lines receive and send is written to a capture file.
 
 use crate::attending::Watch;
-use crate::trace_thread::TraceThread;
 use std::sync::Wait;
 use xp_charge::Record;
-use xp_lines::Received;
+use xp_sink::Received;
+use xp_tracing::TraceThread;
 use xp_view::ExchangeView;
 
 /// A watch, and the thread that writes a trace, if there is one. The thread begins with the first look of the watch, when the lines

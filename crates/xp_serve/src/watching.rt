@@ -11,7 +11,7 @@ use xp_charge::Record;
 use xp_clock::WallClock;
 use xp_file::Name;
 use xp_keeping::OperatorLog;
-use xp_lines::Received;
+use xp_sink::Received;
 use xp_subs::{LineNo, Subs};
 use xp_tcp::{Notice, Notices};
 use xp_view::ExchangeView;
@@ -28,6 +28,8 @@ pub struct OperatorWatch<L: Log, F: ConsoleFeed> {
     /// The input whose end asks serving to stop, if there is one.
     stop: Option<StopInput>,
     console: F,
+    /// What is told before all else, once the lines are served.
+    opening: Option<String>,
     /// Whether the stop was told.
     is_told: bool,
     clock: WallClock,
@@ -55,10 +57,24 @@ impl<L: Log + Drop, F: ConsoleFeed> OperatorWatch<L, F> {
             notices,
             stop,
             console,
+            opening: None,
             is_told: false,
             clock,
             log,
         })
+    }
+
+    /// The same watch, which tells this before all else, once the lines are served.
+    pub fn with_opening(mut self, opening: String) -> OperatorWatch<L, F> {
+        self.opening = Some(opening);
+        self
+    }
+
+    /// Tells what is to be told before all else, if that was not told yet.
+    fn tell_opening(&mut self, now: u64) {
+        if let Some(opening) = self.opening.take() {
+            self.log.info(now, opening);
+        }
     }
 
     /// Tells the notices that wait.
@@ -115,17 +131,15 @@ impl<L: Log + Drop, F: ConsoleFeed> OperatorWatch<L, F> {
         if self.console.is_asked_to_stop() {
             return Some("the console was asked to");
         }
-        let ended = match &mut self.stop {
-            Some(input) => input.has_ended(),
-            None => false,
-        };
-        ended.then_some("standard input has ended")
+        let input = self.stop.as_mut()?;
+        input.has_ended().then_some(input.reason())
     }
 }
 
 impl<L: Log + Drop, F: ConsoleFeed> Watch for OperatorWatch<L, F> {
     fn look(&mut self) -> Received {
         let now = self.clock.now();
+        self.tell_opening(now);
         self.tell_notices(now);
         if self.is_asked_to_stop(now) {
             Received::Stops

@@ -22,14 +22,21 @@ impl StatusSource for PaperSource {
 
     ghost stops = { λ _ _. ⊤ };
 
+    ghost may_stop = { ⊤ };
+
+    ghost granted = { λ _ _ _. tt };
+
     fn status(&mut self, alloc: Global) -> Result<ExchangeStatus, AllocError> {
         let mut lines = Vec::with_capacity(alloc, 1)?;
         lines.push(LineStatus {
             name: String::from_str(alloc, "b1")?,
+            address: String::from_str(alloc, "2080032")?,
+            station: String::from_str(alloc, "2080030")?,
             state: LineState::OutOfService,
             peer: None,
             since: 1_000_000,
             call: None,
+            router_unreachable_since: Some(1_007_383),
         })?;
         Ok(ExchangeStatus {
             started: 1_000_000,
@@ -37,6 +44,7 @@ impl StatusSource for PaperSource {
             lines,
             calls: Vec::new(alloc),
             recent: Vec::new(alloc),
+            stations: Vec::new(alloc),
             totals: totals(),
         })
     }
@@ -52,6 +60,7 @@ fn totals() -> Totals {
             ..RefusedCalls::default()
         },
         router_refusals: RefusedCalls::default(),
+        router_failures: 9,
         segments_from_callers: 500,
         segments_from_called: 600,
         events: 4_000,
@@ -84,15 +93,16 @@ fn answered<R: AllocGlobal + RandomSource>(rt: &R, request: &[u8]) -> io::Result
 
 const TABLE: &[u8] = b"serving for 1d 2:03:04
 
-line             state                       for     call peer
-b1               out of service       1d 2:03:04        - -
+line             address         state                       for     call peer
+b1               2080032         out of service       1d 2:03:04        - -, station 2080030, router unreachable for 1d 0:00:01
 
    call caller           called                  for  from caller  from called
 
   ended caller           called                  for  from caller  from called cause
 
 calls 7, refused 1, events 4000, stalls 2, records waiting 3
-segments from callers 500, from called 600
+failed connections to routers 9
+segments of ended calls from callers 500, from called 600
 octets received 70000, sent 80000
 ";
 

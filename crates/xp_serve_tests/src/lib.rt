@@ -1,17 +1,17 @@
 //! Tests of what no run of the program shows: addresses of other machines, notices for which there is no room, records and traces on
-//! writers that fail, a link without a call, the age of days.
+//! writers that fail, a link without a call, the age of days, what is shown of a view that is made by hand.
 #![tactic(auto)]
 
 #[cfg(test)]
 mod admissions;
-#[cfg(test)]
-mod choices;
 #[cfg(test)]
 mod console;
 #[cfg(test)]
 mod links;
 #[cfg(test)]
 mod notices;
+#[cfg(test)]
+mod observed;
 #[cfg(test)]
 mod paper;
 #[cfg(test)]

@@ -6,7 +6,7 @@ use std::num::NonZeroUsize;
 use std::sync::Arc;
 use std::test::Fail;
 use xp_clock::Start;
-use xp_lines::{Arrived, Link, Port, Pushed};
+use xp_links::{Arrived, Link, Port, Pushed};
 use xp_packets::{Digits, Modulus};
 use xp_tcp::{Caller, Ends, Notices, Sockets};
 

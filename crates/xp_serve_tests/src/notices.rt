@@ -3,25 +3,33 @@
 use std::net::{Ipv4Addr, SocketAddr, SocketAddrV4};
 use std::test::Fail;
 use xp_clock::Start;
-use xp_tcp::{Notice, Notices};
+use xp_tcp::{DownReason, Notice, Notices};
 
 /// How many notices wait at most.
 const ROOM: u16 = 1_024;
+
+/// A notice of a line.
+fn down(line: u16) -> Notice {
+    Notice::Down {
+        line,
+        reason: DownReason::Closed,
+    }
+}
 
 /// Those for which there is no room are counted, and those that wait come in the order in which they were told.
 #[test]
 fn more_notices_than_there_is_room_for(rt: HostRuntime) -> Result<(), Fail> {
     let notices = Notices::new(rt.alloc(), Start::read())?;
     for line in 0..ROOM + 3 {
-        notices.tell(Notice::Down { line });
+        notices.tell(down(line));
     }
     assert_eq!(rt; (notices.take_lost(), notices.take_lost()), (3, 0));
     for line in 0..ROOM {
-        assert_eq!(rt; notices.take(), Some(Notice::Down { line }));
+        assert_eq!(rt; notices.take(), Some(down(line)));
     }
     assert_eq!(rt; notices.take(), None);
-    notices.tell(Notice::Down { line: 7 });
-    assert_eq!(rt; notices.take(), Some(Notice::Down { line: 7 }));
+    notices.tell(down(7));
+    assert_eq!(rt; notices.take(), Some(down(7)));
     assert_eq!(rt; notices.take_lost(), 0);
     Ok(())
 }
@@ -34,5 +42,7 @@ fn text_of_a_notice(rt: HostRuntime) -> Result<(), Fail> {
     assert_eq!(rt; notice.line(), Some(7));
     let text = format!(in rt.alloc(); "{notice}")?;
     assert_eq!(rt; text.as_str(), "up from 10.0.0.9:40000");
+    let text = format!(in rt.alloc(); "{}", down(7))?;
+    assert_eq!(rt; text.as_str(), "down: closed by the peer");
     Ok(())
 }

@@ -7,6 +7,7 @@ ghost use Rattle.xp_subs.specs.Tables.{line_count};
 use crate::paper::Paper;
 use std::alloc::Global;
 use std::test::Fail;
+use xp_cdr::{EndedBy, EndedCall};
 use xp_charge::Record;
 use xp_keeping::{KeepFault, RecordPrinter};
 use xp_packets::{Digits, End};
@@ -25,12 +26,12 @@ const PRINTED: [(usize, Result<(), KeepFault>); 3] = [
 ];
 
 /// A call from a1 to b1.
-fn call(subs: &Subs, number: u64) -> Option<Record>
-    ensures { IfSome result (HasLines (line_count subs.now)) }
+fn call(subs: &Subs, number: u64) -> Option<EndedCall>
+    ensures { IfSome result (λ call. HasLines (line_count subs.now) call.charging) }
 {
     let called = subs.line_named("b1")?;
     let caller = subs.line_named("a1")?;
-    Some(Record {
+    let charging = Record {
         number,
         caller,
         called: Some(called),
@@ -43,13 +44,17 @@ fn call(subs: &Subs, number: u64) -> Option<Record>
         requested: 0,
         connected: None,
         ended: 0,
+    };
+    Some(EndedCall {
+        charging,
+        ended_by: EndedBy::Call,
     })
 }
 
 /// Two calls.
-fn two_calls(subs: &Subs) -> Option<(Record, Record)>
-    ensures first { IfSome result (λ calls. HasLines (line_count subs.now) calls.0) }
-    ensures second { IfSome result (λ calls. HasLines (line_count subs.now) calls.1) }
+fn two_calls(subs: &Subs) -> Option<(EndedCall, EndedCall)>
+    ensures first { IfSome result (λ calls. HasLines (line_count subs.now) calls.0.charging) }
+    ensures second { IfSome result (λ calls. HasLines (line_count subs.now) calls.1.charging) }
 {
     let first = call(subs, 1)?;
     let second = call(subs, 2)?;

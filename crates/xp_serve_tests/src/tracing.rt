@@ -6,8 +6,8 @@ use std::sync::Arc;
 use std::test::Fail;
 use xp_clock::Start;
 use xp_door::{LineShare, Notices, Tap, Trace};
-use xp_serve::TraceWriter;
 use xp_trace::TracedLines;
+use xp_tracing::TraceWriter;
 
 /// An incoming call and a call connected packet, as frames; below is how they stand in a file at the second 1,795,694,400.
 const RECEIVED: &[u8] =

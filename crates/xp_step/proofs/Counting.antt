@@ -10,7 +10,8 @@ use Rattle.xp_facilities.specs.declared.charging_information.ChargingInformation
 use Rattle.xp_packets.specs.declared.end.End.{End}
 use Rattle.xp_packets.specs.declared.end.End.TheVariants.{Caller, Called}
 use Rattle.xp_relay.specs.Coupled.{Coupled, after, coupled}
-use Rattle.xp_relay.specs.Runs.{Arrival, run, same_end, turn_on}
+use Rattle.xp_relay.specs.Contents.{same_end}
+use Rattle.xp_relay.specs.Runs.{Arrival, run, turn_on}
 use Rattle.xp_subs.specs.Sound.{IsSound}
 use Rattle.xp_subs.specs.Tables.{Tables}
 use Rattle.xp_step.specs.declared.entry.Entry.{Entry}

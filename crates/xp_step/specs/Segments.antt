@@ -2,7 +2,8 @@
 use Rattle.std.specs.Prelude.{ℕ, ◌+◌, nat_le, Bool, false, if◌then◌else◌, Option, None, Some, List, [], ◌∷◌, ◌++◌, option_to_list}
 use Rattle.xp_packets.specs.declared.end.End.{End}
 use Rattle.xp_relay.specs.Coupled.{Coupled, after, coupled, received_by, sent_by}
-use Rattle.xp_relay.specs.Runs.{Arrival, same_end, turn_on}
+use Rattle.xp_relay.specs.Contents.{same_end}
+use Rattle.xp_relay.specs.Runs.{Arrival, turn_on}
 use Rattle.xp_subs.specs.Tables.{Tables}
 use Rattle.xp_step.specs.declared.entry.Entry.{Entry}
 use Rattle.xp_machine.specs.declared.agreement.Agreement.{Agreement}

@@ -16,8 +16,7 @@ use xp_machine::ChannelState;
 pub fn action_of<A: Allocator>(state: ChannelState, what: &What<A>) -> Action
     ensures { result ≡ cell (channel_of (state_of state)) (kind_of what.now) }
 {
-    let mut channel = state.channel();
-    channel.on_packet(kind(what))
+    state.channel().on_packet(kind(what))
 }
 
 /// Returns the kind of an event. A line that is given up as too slow goes out of service like one whose connection is

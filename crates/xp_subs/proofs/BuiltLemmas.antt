@@ -434,12 +434,12 @@ built_keeps inside file used fit some limits port once own is targets names = re
 }
 
 -- the tables that were built of the parts of a file
-pub built_tables : (file : FileData) (limit journal : ℕ) (host : List ℕ) (xot_port : ℕ) (entries first second third : List StationData)
+pub built_tables : (file : FileData) (limit journal : ℕ) (host : List ℕ) (xot_port : ℕ) (name : Option (List ℕ)) (entries first second third : List StationData)
     (known : List (List ℕ)) (stations : List Station) (lines : List Line)
-    → record { segment_limit = limit; journal = journal; host = host; xot_port = xot_port; stations = entries } ≡ file
+    → record { segment_limit = limit; journal = journal; host = host; xot_port = xot_port; name = name; stations = entries } ≡ file
     → first ≡ entries → known ≡ mentions [] first → second ≡ entries → stations ≡ stations_from known 0 second
     → third ≡ entries → lines ≡ lines_from 0 third
-    → record { stations = stations; lines = lines; groups = known; segment_limit = limit; journal = journal; host = host; xot_port = xot_port } ≡ tables_of file
+    → record { stations = stations; lines = lines; groups = known; segment_limit = limit; journal = journal; host = host; xot_port = xot_port; name = name } ≡ tables_of file
 unfolding tables_of
-built_tables file limit journal host xot_port entries first second third known stations lines is a names b these c those =
+built_tables file limit journal host xot_port name entries first second third known stations lines is a names b these c those =
     rw (← is, these, those, names, a, b, c)

@@ -95,6 +95,7 @@ tables_of file = record {
   journal = file.journal;
   host = file.host;
   xot_port = file.xot_port;
+  name = file.name;
 }
 
 -- What the file has twice, by its key: the first value that was used before; or, where each is used once, the default caller of

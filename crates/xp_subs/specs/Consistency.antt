@@ -12,4 +12,5 @@ tables inside = record {
   journal = inside.journal;
   host = string_bytes inside.host;
   xot_port = inside.xot_port;
+  name = inside.name;
 }

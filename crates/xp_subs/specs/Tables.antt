@@ -19,6 +19,8 @@ pub record Tables : Type 0 where
   pub journal : ℕ
   pub host : List ℕ
   pub xot_port : ℕ
+  -- the name of the exchange, if it is given one
+  pub name : Option (List ℕ)
 
 abbrev pub station_count : Tables → ℕ
 station_count tables = length tables.stations

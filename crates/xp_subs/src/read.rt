@@ -117,6 +117,7 @@ fn put_together(
         journal: file.journal,
         host: file.host,
         xot_port: file.xot_port,
+        name: file.name,
         targets: uses.targets,
         names: uses.names,
     }

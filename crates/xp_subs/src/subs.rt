@@ -20,6 +20,7 @@ pub struct Subs {
     pub(crate) journal: u64,
     pub(crate) host: String,
     pub(crate) xot_port: u16,
+    pub(crate) name: Option<Name>,
     pub(crate) targets: IndexMap<Digits, Target>,
     pub(crate) names: IndexMap<Name, LineNo>,
 }
@@ -34,6 +35,7 @@ impl Drop for Subs {
             journal: _,
             host: _,
             xot_port: _,
+            name: _,
             targets: _,
             names: _,
         } = self;
@@ -188,6 +190,16 @@ impl Subs {
         ensures { result ≡ self.now.xot_port }
     {
         self.xot_port
+    }
+
+    /// The name of the exchange, 1 to 16 letters and digits. `None` where the file gives it none.
+    pub fn exchange_name(&self) -> Option<&str>
+        ensures { option_map (λ name. name.now) result ≡ self.now.name }
+    {
+        match &self.name {
+            Some(name) => Some(name.as_str()),
+            None => None,
+        }
     }
 
     /// Whether a line is behind an XOT router.

@@ -1,59 +1,59 @@
 //! From where the connections of a line may come.
 
 ghost use Rattle.std.specs.Prelude.{◌≡◌, ◌↔◌, [], Any, IfErr, IfOk, IsTrue, OnErr, OnOk};
-ghost use Rattle.xp_door.specs.Hosts.{IsSameHost};
 ghost use Rattle.xp_tcp.specs.Admissions.{Adds, Admits, IsRefused};
+ghost use Rattle.xp_tcp.specs.Networks.{Includes};
 
+use crate::source::Source;
 use arrayvec::ArrayVec;
 use std::marker::Model;
 use std::net::{IpAddr, Ipv4Addr};
 use thiserror::Error;
-use xp_door::is_same_host;
 
-/// How many addresses a line has at most from which its connections may come.
-pub const MOST_ADDRESSES: usize = 8;
+/// How many sources a line has at most from which its connections may come.
+pub const MOST_SOURCES: usize = 8;
 
-/// Why an address is not added.
+/// Why a source is not added.
 #[derive(Clone, Copy, Debug, Drop, PartialEq, Error)]
 pub enum AdmissionFault {
-    /// The text is that of no IPv4 or IPv6 address.
-    #[error("no address")]
-    NoAddress,
-    /// There are 8 addresses already.
-    #[error("too many addresses")]
+    /// The text is that of no IPv4 or IPv6 address, and of no network.
+    #[error("neither an address nor a network")]
+    NoSource,
+    /// There are 8 sources already.
+    #[error("too many addresses and networks")]
     Full,
 }
 
-/// An address in its place. A free place holds 0.0.0.0, from which no connection comes.
+/// A source in its place. A free place holds 0.0.0.0, from which no connection comes.
 #[derive(Drop)]
-struct Place(IpAddr);
+struct Place(Source);
 
 impl Model for Place {
-    ghost use Rattle.std.specs.declared.net.ip_addr.IpAddr.{IpAddr};
+    ghost use Rattle.xp_tcp.specs.declared.source.Source.{Source};
 
-    ghost Value = { IpAddr };
+    ghost Value = { Source };
 
     ghost view = { λ place. place.0 };
 }
 
 impl Default for Place {
     fn default() -> Place {
-        Place(IpAddr::V4(Ipv4Addr::UNSPECIFIED))
+        Place(Source::Host(IpAddr::V4(Ipv4Addr::UNSPECIFIED)))
     }
 }
 
-/// The addresses from which a line's connections may come. Where there is none they may come from any address. Contracts see the
-/// list of them.
+/// The hosts and networks from which a line's connections may come. Where there is none they may come from any address. Contracts
+/// see the list of them.
 #[derive(Drop)]
 pub struct Admission {
-    places: ArrayVec<Place, MOST_ADDRESSES>,
+    places: ArrayVec<Place, MOST_SOURCES>,
 }
 
 impl Model for Admission {
     ghost use Rattle.std.specs.Prelude.{List};
-    ghost use Rattle.std.specs.declared.net.ip_addr.IpAddr.{IpAddr};
+    ghost use Rattle.xp_tcp.specs.declared.source.Source.{Source};
 
-    ghost Value = { List IpAddr };
+    ghost Value = { List Source };
 
     ghost view = { λ admission. admission.places.items };
 }
@@ -68,24 +68,24 @@ impl Admission {
         }
     }
 
-    /// Adds the address of a text, such as `10.0.0.9` or `2001:db8::9`. Names of hosts are not looked up.
+    /// Adds the host or the network of a text, such as `10.0.0.9`, `2001:db8::9` or `10.0.0.0/8`. Names of hosts are not looked up.
     ///
     /// # Errors
     ///
-    /// `NoAddress` where the text is no IPv4 or IPv6 address, and else `Full` where there are 8 addresses already. Nothing is
-    /// added then.
+    /// `NoSource` where the text is that of no IPv4 or IPv6 address and of no network, and else `Full` where there are 8 sources
+    /// already. Nothing is added then.
     pub fn add(&mut self, text: &str) -> Result<(), AdmissionFault>
         ensures ok { OnOk result (Adds self.old text.now self.new) }
         ensures refused { IfErr result (IsRefused self.old text.now) }
         ensures err { OnErr result (self.new ≡ self.old) }
     {
-        let Ok(address) = text.parse::<IpAddr>() else {
-            return Err(AdmissionFault::NoAddress);
+        let Some(source) = Source::of(text) else {
+            return Err(AdmissionFault::NoSource);
         };
         if self.places.is_full() {
             return Err(AdmissionFault::Full);
         }
-        self.places.push(Place(address));
+        self.places.push(Place(source));
         Ok(())
     }
 
@@ -105,12 +105,12 @@ impl Admission {
     }
 }
 
-/// Whether one of the addresses is that of the same host.
+/// Whether one of the sources includes a peer.
 fn is_among(places: &[Place], peer: IpAddr) -> bool
-    ensures { IsTrue result ↔ Any (λ address. IsSameHost address peer) places.now }
+    ensures { IsTrue result ↔ Any (λ source. Includes source peer) places.now }
 {
     for place in places {
-        if is_same_host(place.0, peer) {
+        if place.0.includes(peer) {
             return true;
         }
     }

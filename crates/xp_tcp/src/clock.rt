@@ -7,7 +7,7 @@ use std::marker::Model;
 use std::sync::Arc;
 use xp_clock::Start;
 use xp_door::{LineWaker, wake_if_asleep};
-use xp_lines::Clock;
+use xp_links::Clock;
 use xp_subs::LineNo;
 
 /// The clock of a line. It tells the seconds since 1970, and never goes back. It knows whether a turn of the line is due. Contracts

@@ -2,7 +2,7 @@
 
 ghost use Rattle.std.specs.Prelude.{◌≡◌, true};
 
-use xp_lines::Gate;
+use xp_links::Gate;
 use xp_subs::LineNo;
 
 /// Lets every packet go.

@@ -5,6 +5,8 @@
 mod access;
 mod admission;
 mod clock;
+mod connection_notes;
+mod ends;
 mod gate;
 mod leaving;
 mod line_listener;
@@ -19,13 +21,15 @@ mod router_connection;
 mod router_link;
 mod router_port;
 mod sockets;
+mod source;
 mod thread_links;
 mod thread_sockets;
 mod tokens;
 
 pub use access::Access;
-pub use admission::{Admission, AdmissionFault, MOST_ADDRESSES};
+pub use admission::{Admission, AdmissionFault, MOST_SOURCES};
 pub use clock::TcpClock;
+pub use ends::Ends;
 pub use gate::OpenGate;
 pub use line_port::{LineLink, LinePort};
 pub use link::TcpLink;
@@ -33,9 +37,10 @@ pub use poller::TcpPoller;
 pub use port::TcpPort;
 pub use router_link::RouterLink;
 pub use router_port::RouterPort;
-pub use sockets::{Ends, ListenFault, Sockets};
+pub use sockets::{ListenFault, Sockets};
+pub use source::Source;
 pub use xp_door::{
-    Caller, CallerRule, Candidate, Choice, ConnectFault, Door, DoorBell, Notice, Notices,
-    RouterCall, Trace, choose, is_router, line_for,
+    Caller, CallerRule, Candidate, Choice, ClearedCall, ConnectFault, Dialled, Door, DoorBell,
+    DownReason, Notice, Notices, RouterCall, Trace, choose, is_router, line_for,
 };
 pub use xp_trace::{NamesFault, TracedLines};

@@ -47,9 +47,9 @@ pub(crate) struct LineListener {
 
 impl Model for LineListener {
     ghost use Rattle.std.specs.Prelude.{List};
-    ghost use Rattle.std.specs.declared.net.ip_addr.IpAddr.{IpAddr};
+    ghost use Rattle.xp_tcp.specs.declared.source.Source.{Source};
 
-    ghost Value = { List IpAddr };
+    ghost Value = { List Source };
 
     ghost view = { λ listener. listener.admission };
 }

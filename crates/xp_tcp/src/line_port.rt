@@ -1,7 +1,7 @@
 //! The ports and links of lines of both kinds.
 
 ghost use Rattle.std.specs.Prelude.{◌≡◌, ◌≢◌, ◌≤◌, length};
-ghost use Rattle.xp_lines.specs.Counts.{pulled_count, pushed_count};
+ghost use Rattle.xp_links.specs.Counts.{pulled_count, pushed_count};
 ghost use Rattle.xp_tcp.specs.Accesses.{AtPort, Behind};
 
 use crate::access::Access;
@@ -11,7 +11,7 @@ use crate::router_link::RouterLink;
 use crate::router_port::RouterPort;
 use std::marker::Model;
 use std::net::SocketAddr;
-use xp_lines::{Arrived, Link, Port, Pulled, Pushed};
+use xp_links::{Arrived, Link, Port, Pulled, Pushed};
 
 /// Where a line's links come from. Contracts see where its connections come from, and from which addresses they may.
 pub struct LinePort {

@@ -2,8 +2,9 @@
 
 ghost use Rattle.std.specs.Prelude.{◌≡◌, ◌≢◌, ◌<◌, ◌≤◌, ◌↔◌, ◌⊎◌, IsTrue, length};
 ghost use Rattle.std.specs.IoError.{error_kind};
-ghost use Rattle.xp_lines.specs.Counts.{pulled_count, pushed_count};
+ghost use Rattle.xp_links.specs.Counts.{pulled_count, pushed_count};
 
+use crate::connection_notes::ConnectionNotes;
 use crate::line_listener::LineListener;
 use crate::options::{Patience, notice_dead_peer};
 use crate::thread_links::ThreadLinks;
@@ -13,17 +14,16 @@ use mio::{Interest, Registry};
 use std::io;
 use std::io::{ErrorKind, Read, Write};
 use std::sync::Arc;
-use xp_door::{Arrival, LineShare, LineWaker, Notice, Tap};
-use xp_lines::{Link, Pulled, Pushed};
+use xp_door::{Arrival, DownReason, LineShare, LineWaker, Notice};
+use xp_links::{Link, Pulled, Pushed};
 
-/// A TCP connection of a line. It tells the notice that the line is up as it is made, and that the line is down as it is dropped. A peer
-/// that is gone ends it within some 90 seconds. It ends where another connection takes its place.
+/// A TCP connection of a line. It tells the notice that the line is up as it is made, and that the line is down, and why, as it is
+/// dropped. A peer that is gone ends it within some 90 seconds. It ends where another connection takes its place.
 pub struct TcpLink {
     stream: TcpStream,
     listener: Arc<LineListener>,
     links: Arc<ThreadLinks>,
-    /// Where the line is traced.
-    tap: Option<Tap>,
+    notes: ConnectionNotes,
 }
 
 impl Drop for TcpLink {
@@ -32,10 +32,11 @@ impl Drop for TcpLink {
             stream,
             listener,
             links,
-            tap: _,
+            notes,
         } = self;
         let line = listener.share.line;
-        listener.share.tell(Notice::Down { line });
+        let reason = notes.reason();
+        listener.share.tell(Notice::Down { line, reason });
         links.let_go(stream);
     }
 }
@@ -52,12 +53,12 @@ impl TcpLink {
         wait_for(&mut stream, &links.waits, &listener.share, Patience::Line)?;
         let line = listener.share.line;
         listener.share.tell(Notice::Up { line, peer });
-        let tap = listener.share.tap();
+        let notes = ConnectionNotes::new(&listener.share, Patience::Line);
         Ok(TcpLink {
             stream,
             listener,
             links,
-            tap,
+            notes,
         })
     }
 }
@@ -87,8 +88,13 @@ pub(crate) fn is_early(error: &io::Error) -> bool
     matches!(error.kind(), ErrorKind::WouldBlock | ErrorKind::Interrupted)
 }
 
-/// Reads from a connection, unless all octets that were there are read. There is room for some.
-pub(crate) fn read_from(stream: &mut TcpStream, waker: &LineWaker, into: &mut [u8]) -> Pulled
+/// Reads from a connection, unless all octets that were there are read. There is room for some. An error is noted.
+pub(crate) fn read_from(
+    stream: &mut TcpStream,
+    waker: &LineWaker,
+    notes: &mut ConnectionNotes,
+    into: &mut [u8],
+) -> Pulled
     requires { 0 < length into.old }
     ensures bound { pulled_count result ≤ length into.new }
     ensures some { result ≢ Pulled.Octets 0 }
@@ -110,12 +116,15 @@ pub(crate) fn read_from(stream: &mut TcpStream, waker: &LineWaker, into: &mut [u
             Pulled::Nothing
         }
         Err(error) if is_early(&error) => Pulled::Nothing,
-        Err(_) => Pulled::Fault,
+        Err(error) => {
+            notes.fail(&error);
+            Pulled::Fault
+        }
     }
 }
 
-/// Writes to a connection as many octets as it takes now.
-pub(crate) fn write_to(stream: &mut TcpStream, from: &[u8]) -> Pushed
+/// Writes to a connection as many octets as it takes now. An error is noted.
+pub(crate) fn write_to(stream: &mut TcpStream, notes: &mut ConnectionNotes, from: &[u8]) -> Pushed
     ensures bound { pushed_count result ≤ length from.now }
 {
     if from.is_empty() {
@@ -124,45 +133,10 @@ pub(crate) fn write_to(stream: &mut TcpStream, from: &[u8]) -> Pushed
     match stream.write(from) {
         Ok(count) => Pushed::Took(count),
         Err(error) if is_early(&error) => Pushed::Nothing,
-        Err(_) => Pushed::Fault,
-    }
-}
-
-/// Counts the octets that a line has received.
-pub(crate) fn count_pulled(share: &LineShare, pulled: Pulled) -> Pulled
-    ensures { result ≡ pulled }
-{
-    if let Pulled::Octets(count) = pulled {
-        share.count_received(count);
-    }
-    pulled
-}
-
-/// Counts the octets that a line has sent.
-pub(crate) fn count_pushed(share: &LineShare, pushed: Pushed) -> Pushed
-    ensures { result ≡ pushed }
-{
-    if let Pushed::Took(count) = pushed {
-        share.count_sent(count);
-    }
-    pushed
-}
-
-/// Traces the octets that a connection has received.
-pub(crate) fn trace_pulled(tap: &mut Option<Tap>, into: &[u8], pulled: Pulled)
-    requires { pulled_count pulled ≤ length into.now }
-{
-    if let (Some(tap), Pulled::Octets(count)) = (tap, pulled) {
-        tap.receive(&into[..count]);
-    }
-}
-
-/// Traces the octets that a connection has sent.
-pub(crate) fn trace_pushed(tap: &mut Option<Tap>, from: &[u8], pushed: Pushed)
-    requires { pushed_count pushed ≤ length from.now }
-{
-    if let (Some(tap), Pushed::Took(count)) = (tap, pushed) {
-        tap.send(&from[..count]);
+        Err(error) => {
+            notes.fail(&error);
+            Pushed::Fault
+        }
     }
 }
 
@@ -176,19 +150,20 @@ impl Link for TcpLink {
             return Pulled::Nothing;
         }
         if self.listener.is_replaced() {
+            self.notes.end(DownReason::Replaced);
             return Pulled::Ended;
         }
         let Some(waker) = self.listener.share.waker() else {
             return Pulled::Fault;
         };
-        let pulled = read_from(&mut self.stream, waker, into);
-        trace_pulled(&mut self.tap, into, pulled);
-        count_pulled(&self.listener.share, pulled)
+        let pulled = read_from(&mut self.stream, waker, &mut self.notes, into);
+        self.notes.note_pulled(&self.listener.share, into, pulled);
+        pulled
     }
 
     fn push(&mut self, from: &[u8]) -> Pushed {
-        let pushed = write_to(&mut self.stream, from);
-        trace_pushed(&mut self.tap, from, pushed);
-        count_pushed(&self.listener.share, pushed)
+        let pushed = write_to(&mut self.stream, &mut self.notes, from);
+        self.notes.note_pushed(&self.listener.share, from, pushed);
+        pushed
     }
 }

@@ -20,6 +20,16 @@ pub(crate) enum Patience {
     Router,
 }
 
+impl Patience {
+    /// The seconds after which it ends at the latest.
+    pub(crate) fn seconds(self) -> u16 {
+        match self {
+            Patience::Line => 90,
+            Patience::Router => 30,
+        }
+    }
+}
+
 /// How many octets an option's value has.
 const VALUE_LENGTH: u32 = 4;
 
@@ -68,8 +78,7 @@ impl PeerOption {
             (PeerOption::Interval, Patience::Line) => 10,
             (PeerOption::Interval, Patience::Router) => 5,
             (PeerOption::Count, _) => 3,
-            (PeerOption::Unacknowledged, Patience::Line) => 90_000,
-            (PeerOption::Unacknowledged, Patience::Router) => 30_000,
+            (PeerOption::Unacknowledged, _) => u32::from(patience.seconds()) * 1_000,
         }
     }
 

@@ -7,7 +7,7 @@ use std::sync::Arc;
 use std::time::Duration;
 use xp_clock::uptime;
 use xp_door::{LineWaker, ThreadWaker};
-use xp_lines::{Patience, Poller};
+use xp_links::{Patience, Poller};
 
 /// How long a thread sleeps at most, and after how long each line has a turn at the latest, in milliseconds.
 const LONGEST_SLEEP: u64 = 500;

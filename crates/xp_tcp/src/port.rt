@@ -8,10 +8,10 @@ use crate::thread_links::ThreadLinks;
 use std::marker::Model;
 use std::sync::Arc;
 use xp_door::Arrival;
-use xp_lines::{Arrived, Port};
+use xp_links::{Arrived, Port};
 
-/// Gives a line its links: the connections to its own port. Contracts see the addresses from which these may come, none where they may
-/// come from any.
+/// Gives a line its links: the connections to its own port. Contracts see the hosts and networks from which these may come, none where
+/// they may come from any address.
 #[derive(Drop)]
 pub struct TcpPort {
     listener: Arc<LineListener>,
@@ -20,9 +20,9 @@ pub struct TcpPort {
 
 impl Model for TcpPort {
     ghost use Rattle.std.specs.Prelude.{List};
-    ghost use Rattle.std.specs.declared.net.ip_addr.IpAddr.{IpAddr};
+    ghost use Rattle.xp_tcp.specs.declared.source.Source.{Source};
 
-    ghost Value = { List IpAddr };
+    ghost Value = { List Source };
 
     ghost view = { λ port. port.listener.value };
 }

@@ -2,14 +2,16 @@
 
 ghost use Rattle.std.specs.Prelude.{◌≡◌, ◌≢◌, ◌<◌, ◌≤◌, false, length};
 ghost use Rattle.xp_clearing.specs.Clearings.{is_settled};
-ghost use Rattle.xp_lines.specs.Counts.{pulled_count, pushed_count};
+ghost use Rattle.xp_links.specs.Counts.{pulled_count, pushed_count};
 
-use crate::link::{read_from, trace_pulled, trace_pushed, write_to};
+use crate::connection_notes::ConnectionNotes;
+use crate::link::{read_from, write_to};
+use crate::options::Patience;
 use mio::net::TcpStream;
 use std::net::SocketAddr;
 use xp_clearing::{CallWatch, Clearing, begins_with_call, front_length};
-use xp_door::{LineWaker, Tap};
-use xp_lines::{Pulled, Pushed};
+use xp_door::{DownReason, LineShare};
+use xp_links::{Pulled, Pushed};
 
 /// A connection between a line and its router, for one call.
 #[derive(Drop)]
@@ -18,18 +20,17 @@ pub(crate) struct RouterConnection {
     /// Who has made it, where the router has.
     from: Option<SocketAddr>,
     watch: CallWatch,
-    /// Where its line is traced.
-    tap: Option<Tap>,
+    notes: ConnectionNotes,
 }
 
 impl RouterConnection {
     /// A connection that the exchange has made.
-    pub(crate) fn to_router(stream: TcpStream, tap: Option<Tap>) -> RouterConnection {
+    pub(crate) fn to_router(stream: TcpStream, share: &LineShare) -> RouterConnection {
         RouterConnection {
             stream,
             from: None,
             watch: CallWatch::new(),
-            tap,
+            notes: ConnectionNotes::new(share, Patience::Router),
         }
     }
 
@@ -37,13 +38,13 @@ impl RouterConnection {
     pub(crate) fn from_router(
         stream: TcpStream,
         peer: SocketAddr,
-        tap: Option<Tap>,
+        share: &LineShare,
     ) -> RouterConnection {
         RouterConnection {
             stream,
             from: Some(peer),
             watch: CallWatch::new(),
-            tap,
+            notes: ConnectionNotes::new(share, Patience::Router),
         }
     }
 
@@ -61,7 +62,7 @@ impl RouterConnection {
     }
 
     /// Reads octets of the call. Those behind the packet that clears it are dropped.
-    pub(crate) fn pull(&mut self, waker: &LineWaker, into: &mut [u8]) -> Pulled
+    pub(crate) fn pull(&mut self, share: &LineShare, into: &mut [u8]) -> Pulled
         requires { 0 < length into.old }
         ensures bound { pulled_count result ≤ length into.new }
         ensures some { result ≢ Pulled.Octets 0 }
@@ -72,17 +73,20 @@ impl RouterConnection {
         if self.watch.clearing.takes_no_more() {
             return Pulled::Nothing;
         }
-        let pulled = match read_from(&mut self.stream, waker, into) {
+        let Some(waker) = share.waker() else {
+            return Pulled::Fault;
+        };
+        let pulled = match read_from(&mut self.stream, waker, &mut self.notes, into) {
             Pulled::Octets(count) => Pulled::Octets(self.watch.receive(&into[..count])),
             other => other,
         };
-        trace_pulled(&mut self.tap, into, pulled);
+        self.notes.note_pulled(share, into, pulled);
         pulled
     }
 
     /// Writes octets of the call, to the end of the packet by which it is cleared at most. A call that the exchange has put to the
     /// line is not written where the router's own came first: the exchange has ended it, or will as it reads the router's.
-    pub(crate) fn push(&mut self, from: &[u8]) -> Pushed
+    pub(crate) fn push(&mut self, share: &LineShare, from: &[u8]) -> Pushed
         ensures bound { pushed_count result ≤ length from.now }
     {
         if self.watch.clearing.is_settled() {
@@ -92,8 +96,8 @@ impl RouterConnection {
             return Pushed::Took(front_length(from));
         }
         let most = self.watch.may_send(from);
-        let pushed = write_to(&mut self.stream, &from[..most]);
-        trace_pushed(&mut self.tap, from, pushed);
+        let pushed = write_to(&mut self.stream, &mut self.notes, &from[..most]);
+        self.notes.note_pushed(share, &from[..most], pushed);
         match pushed {
             Pushed::Took(count) => {
                 self.watch.send(&from[..count]);
@@ -118,6 +122,11 @@ impl RouterConnection {
         } else {
             Pushed::Fault
         }
+    }
+
+    /// Why it is over, as it is let go.
+    pub(crate) fn reason(&self) -> DownReason {
+        self.notes.reason()
     }
 
     /// The connection itself.

@@ -1,9 +1,9 @@
 //! The link of a line behind a router.
 
 ghost use Rattle.std.specs.Prelude.{◌≡◌, ◌≢◌, ◌≤◌, length};
-ghost use Rattle.xp_lines.specs.Counts.{pulled_count, pushed_count};
+ghost use Rattle.xp_links.specs.Counts.{pulled_count, pushed_count};
 
-use crate::link::{count_pulled, count_pushed, wait_for};
+use crate::link::wait_for;
 use crate::options::Patience;
 use crate::router_connection::RouterConnection;
 use crate::thread_links::ThreadLinks;
@@ -14,7 +14,7 @@ use std::time::Duration;
 use xp_clearing::begins_with_call;
 use xp_clock::uptime;
 use xp_door::{Arrival, Attempt, ConnectFault, LineShare, Notice, RouterLine};
-use xp_lines::{Link, Pulled, Pushed};
+use xp_links::{Link, Pulled, Pushed};
 
 /// How long a connection to a router may take, in seconds.
 const CONNECT_SECONDS: u64 = 5;
@@ -57,8 +57,10 @@ impl Drop for RouterLink {
         } = self;
         match circuit {
             Circuit::Connected(connection) => {
+                let line = share.line;
+                let reason = connection.reason();
                 links.let_go(connection.into_stream());
-                share.tell(Notice::Down { line: share.line });
+                share.tell(Notice::Down { line, reason });
             }
             Circuit::Free | Circuit::Asked(_) | Circuit::Connecting(_, _) | Circuit::Failed => {}
         }
@@ -102,8 +104,7 @@ impl RouterLink {
         }
         let line = self.share.line;
         self.share.tell(Notice::Up { line, peer });
-        let tap = self.share.tap();
-        self.circuit = Circuit::Connected(RouterConnection::from_router(stream, peer, tap));
+        self.circuit = Circuit::Connected(RouterConnection::from_router(stream, peer, &self.share));
     }
 
     /// Makes the next step to a connection for these octets, which are to be pushed.
@@ -157,8 +158,7 @@ impl RouterLink {
         if let Ok(peer) = stream.peer_addr() {
             let line = self.share.line;
             self.share.tell(Notice::Connected { line, peer });
-            let tap = self.share.tap();
-            self.circuit = Circuit::Connected(RouterConnection::to_router(stream, tap));
+            self.circuit = Circuit::Connected(RouterConnection::to_router(stream, &self.share));
         } else if is_late(since) {
             self.fail(ConnectFault::NoAnswer);
         } else {
@@ -233,18 +233,15 @@ impl Link for RouterLink {
         if matches!(self.circuit, Circuit::Free) {
             self.take_handed();
         }
-        let Some(waker) = self.share.waker() else {
-            return Pulled::Fault;
-        };
         let Circuit::Connected(connection) = &mut self.circuit else {
             return Pulled::Nothing;
         };
-        match connection.pull(waker, into) {
+        match connection.pull(&self.share, into) {
             Pulled::Ended if connection.fresh_peer().is_some() => {
                 self.close();
                 Pulled::Nothing
             }
-            pulled => count_pulled(&self.share, pulled),
+            pulled => pulled,
         }
     }
 
@@ -258,11 +255,11 @@ impl Link for RouterLink {
         self.settle();
         self.step(from);
         let pushed = match &mut self.circuit {
-            Circuit::Connected(connection) => connection.push(from),
+            Circuit::Connected(connection) => connection.push(&self.share, from),
             Circuit::Free | Circuit::Asked(_) | Circuit::Connecting(_, _) => Pushed::Nothing,
             Circuit::Failed => Pushed::Fault,
         };
         self.settle();
-        count_pushed(&self.share, pushed)
+        pushed
     }
 }

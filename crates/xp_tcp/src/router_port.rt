@@ -7,7 +7,7 @@ use crate::thread_links::ThreadLinks;
 use std::marker::Model;
 use std::sync::Arc;
 use xp_door::{LineShare, RouterLine};
-use xp_lines::Arrived;
+use xp_links::Arrived;
 
 /// Gives a line behind a router its links, the next one as soon as the last went: so the line is in service.
 /// Contracts see the router's address, and what its calls are matched with.

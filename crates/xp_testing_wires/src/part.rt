@@ -1,14 +1,14 @@
 //! Parts of a line: its link and the port that it comes from, its clock and its gate; and what its thread does between the turns.
 
 ghost use Rattle.std.specs.Prelude.{◌≤◌, length};
-ghost use Rattle.xp_lines.specs.Counts.{pulled_count};
+ghost use Rattle.xp_links.specs.Counts.{pulled_count};
 
 use crate::board::{Board, Line};
 use std::alloc::AllocError;
 use std::sync::Arc;
 use std::sync::atomic::Ordering;
 use std::thread;
-use xp_lines::{Arrived, Clock, Gate, Link, Patience, Poller, Port, Pulled, Pushed};
+use xp_links::{Arrived, Clock, Gate, Link, Patience, Poller, Port, Pulled, Pushed};
 use xp_subs::LineNo;
 use xp_testing::{number, setting};
 

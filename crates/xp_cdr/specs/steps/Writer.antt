@@ -1,13 +1,13 @@
 -- For private steps. What a writer of details keeps.
 use Rattle.std.specs.Prelude.{◌≡◌, ℕ, ◌≤◌, List, ◌++◌, Option, None, Some, Result, Ok, Err, flat_map, length, take}
-use Rattle.xp_charge.specs.declared.record.Record.{Record}
+use Rattle.xp_cdr.specs.declared.ended.EndedCall.{EndedCall}
 use Rattle.xp_cdr.specs.Files.{HasFront}
 use Rattle.xp_cdr.specs.steps.Batch.{Texts}
 
 -- The file has all details before the batch on the disk. The batch is the details of the last records that were given.
-pub record IsBatchOf (text : Record → List ℕ) (given : List Record) (synced : List ℕ) (batch : Texts) : Type 0 where
-  pub before : List Record
-  pub last : List Record
+pub record IsBatchOf (text : EndedCall → List ℕ) (given : List EndedCall) (synced : List ℕ) (batch : Texts) : Type 0 where
+  pub before : List EndedCall
+  pub last : List EndedCall
   pub given_are : given ≡ before ++ last
   pub octets_are : batch.octets ≡ flat_map text last
   pub count_is : batch.count ≡ length last

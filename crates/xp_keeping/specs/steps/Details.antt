@@ -2,7 +2,7 @@
 -- how that puts them on the disk.
 use Rattle.std.specs.Prelude.{◌≡◌, ◌⊎◌, ◌<◌, List, Bool, true, false, length}
 use Rattle.xp_cdr.specs.Ledger.{HasAll, IsWhole, Ledger, Takes, with_given}
-use Rattle.xp_charge.specs.declared.record.Record.{Record}
+use Rattle.xp_cdr.specs.declared.ended.EndedCall.{EndedCall}
 use Rattle.xp_keeping.specs.Details.{IsFirstOf, Keeping}
 
 -- The writer of the file was given all records, or a front of them where memory was wanting.
@@ -12,7 +12,7 @@ pub record IsGivenAs (keeping : Keeping) : Type 0 where
   pub subs : keeping.ledger.subs ≡ keeping.subs
 
 -- memory is wanting, and the writer is as it was, or it was given the records
-abbrev pub Gives : Bool → Ledger → List Record → Bool → Ledger → Type 0
+abbrev pub Gives : Bool → Ledger → List EndedCall → Bool → Ledger → Type 0
 Gives was_short old records is_short new =
     ((is_short ≡ true) × (new ≡ old)) ⊎ ((was_short ≡ false) × (is_short ≡ false) × (new ≡ with_given old records))
 

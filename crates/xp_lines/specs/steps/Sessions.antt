@@ -1,5 +1,5 @@
 -- For private steps. What a line has gained up to one of its turns, and how one turn goes on from there.
-use Rattle.std.specs.Prelude.{◌≡◌, ◌⊎◌, ℕ, List, [], ◌∷◌, Option, Some, None, option_map}
+use Rattle.std.specs.Prelude.{◌≡◌, ◌⊎◌, ℕ, Bool, List, [], ◌∷◌, Option, Some, None, option_map}
 use Rattle.std.specs.List.{AllByRecursion}
 use Rattle.xp_subs.specs.Tables.{Tables, modulus_of}
 use Rattle.xp_step.specs.declared.event.What.TheVariants.{Down}
@@ -117,8 +117,9 @@ module _ {A : Type 0} (subs : Tables) (of_link : Option (List ℕ) → Option (L
   pub record TurnsOn (connection : ℕ) (old : Pass A) (seen : Seen A) (left : Option (Here A)) (end : Option EndReason) (new : Pass A) : Type 0 where
     pub after : TurnOutcome
     pub now : ℕ
+    pub wanting : Bool
     pub new_seen : Seen A
-    pub is_turn : IsTurn (modulus_of subs old.line) now connection old seen after new new_seen
+    pub is_turn : IsTurn (modulus_of subs old.line) now connection old seen after wanting new new_seen
     pub moved : of_link new_seen.pushed new_seen.pulled
     pub line : new.line ≡ old.line
     pub leaves : Leaves after (connection, new_seen) left end

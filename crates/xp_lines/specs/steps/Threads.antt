@@ -4,7 +4,7 @@ use Rattle.std.specs.declared.alloc.Global.{Global as Alloc}
 use Rattle.std.specs.declared.thread.PromisedHandle.{PromisedHandle}
 use Rattle.std.specs.declared.vec.Vec.{Vec}
 use Rattle.xp_lock.specs.Passes.{Pass}
-use Rattle.xp_lines.specs.Pairs.{AreEach}
+use Rattle.xp_links.specs.Pairs.{AreEach}
 use Rattle.xp_lines.specs.declared.threads.OfLines.{OfLines}
 
 module _ {N P L C G : Type 0} where

@@ -2,8 +2,8 @@
 use Rattle.std.specs.Prelude.{Result, Ok, Err}
 use Rattle.xp_keeping.specs.declared.keep_fault.KeepFault.{KeepFault}
 use Rattle.xp_keeping.specs.declared.keep_fault.KeepFault.TheVariants as faults
-use Rattle.xp_serve.specs.declared.failure.ServeFailure.{ServeFailure}
-use Rattle.xp_serve.specs.declared.failure.ServeFailure.TheVariants.{Memory, Output}
+use Rattle.xp_listening.specs.declared.failure.ServeFailure.{ServeFailure}
+use Rattle.xp_listening.specs.declared.failure.ServeFailure.TheVariants.{Memory, Output}
 
 -- what is told where they could not be written
 abbrev pub failure_beside : Result (Unit {0}) ServeFailure → KeepFault → ServeFailure

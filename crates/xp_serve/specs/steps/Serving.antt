@@ -2,7 +2,7 @@
 use Rattle.std.specs.Prelude.{◌≡◌, ◌≤◌, List, [], map, vec_capacity}
 use Rattle.std.specs.declared.alloc.Global.{Global as Alloc}
 use Rattle.std.specs.List.{AllByRecursion}
-use Rattle.xp_lines.specs.Pairs.{AreEach}
+use Rattle.xp_links.specs.Pairs.{AreEach}
 use Rattle.xp_lines.specs.Sessions.{IsAnyLink, IsLineServed}
 use Rattle.xp_lines.specs.declared.line.LineEnd.{LineEnd}
 use Rattle.xp_lock.specs.Opening.{AreFirst}

@@ -1,11 +1,12 @@
-use Rattle.std.proofs.Common.{Some, ap, arith, codes, option_map, refl, sym}
+use Rattle.std.proofs.Common.{None, Some, ap, arith, codes, option_map, refl, subst, sym}
 use Rattle.xp_limits.specs.Limits.{IsNumber}
 use Rattle.clap.proofs.OnLiterals.{clap_on_literals}
+use Rattle.xp_arguments.specs.Commands.{IsNamed}
 use Rattle.xp_arguments.proofs.laws.errands_can_be_asked_for.Goals as goal
 
 pub returns-clause-check : goal.returns-clause-check
 unfolding clap_on_literals
-returns-clause-check c = record { faultless = refl; asked = record { word = _; rows = _; found_is = refl; subcommand_is = (refl, refl); named = refl } }
+returns-clause-check c = record { faultless = refl; asked = record { word = _; rows = _; found_is = refl; subcommand_is = (refl, (refl, (refl, refl))); named = refl } }
 
 pub returns-clause-replay : goal.returns-clause-replay
 unfolding clap_on_literals
@@ -17,6 +18,9 @@ twelve = record { numeral = (omega arith, (omega arith, (omega arith, tt))); val
 three : IsNumber (codes "3") 3
 three = record { numeral = (omega arith, (omega arith, tt)); value = refl; least = omega arith; most = omega arith }
 
+xp_1 : IsNamed (Some (codes "xp-1")) (Some (codes "xp-1"))
+xp_1 = (refl, refl)
+
 pub returns-clause-serve : goal.returns-clause-serve
 unfolding clap_on_literals
 returns-clause-serve c =
@@ -26,7 +30,7 @@ returns-clause-serve c =
         word = _;
         rows = _;
         found_is = refl;
-        subcommand_is = (refl, record { limits = record { records_are = refl; turns_are = refl }; details = refl; trace = (refl, refl); console = refl; quiet = refl; until_eof = refl });
+        subcommand_is = (refl, record { limits = record { records_are = refl; turns_are = refl }; details = refl; exchange = tt; trace = (refl, refl); console = refl; quiet = refl; until_eof = refl });
         named = refl;
       };
     }
@@ -40,7 +44,7 @@ returns-clause-limits c =
         word = _;
         rows = _;
         found_is = refl;
-        subcommand_is = (refl, record { limits = record { records_are = twelve; turns_are = three }; details = refl; trace = (refl, refl); console = refl; quiet = refl; until_eof = refl });
+        subcommand_is = (refl, record { limits = record { records_are = twelve; turns_are = three }; details = refl; exchange = tt; trace = (refl, refl); console = refl; quiet = refl; until_eof = refl });
         named = refl;
       };
     }
@@ -48,13 +52,13 @@ returns-clause-limits c =
 pub returns-clause-details : goal.returns-clause-details
 unfolding clap_on_literals
 returns-clause-details c =
-    λ order details limits trace console quiet until_eof. record {
+    λ order details exchange limits trace console quiet until_eof. record {
       faultless = refl;
       asked = record {
         word = _;
         rows = _;
         found_is = refl;
-        subcommand_is = (refl, record { limits = rw (limits) (record { records_are = refl; turns_are = refl }); details = details; trace = rw (trace) ((refl, refl)); console = ap (option_map (λ address. address.now)) console; quiet = quiet; until_eof = until_eof });
+        subcommand_is = (refl, record { limits = rw (limits) (record { records_are = refl; turns_are = refl }); details = details; exchange = subst (IsNamed (Some (codes "xp-1"))) (sym exchange) xp_1; trace = rw (trace) ((refl, refl)); console = ap (option_map (λ address. address.now)) console; quiet = quiet; until_eof = until_eof });
         named = refl;
       };
     }
@@ -62,7 +66,7 @@ returns-clause-details c =
 pub returns-clause-trace : goal.returns-clause-trace
 unfolding clap_on_literals
 returns-clause-trace c =
-    λ order trace traced path lines limits details console quiet until_eof. record {
+    λ order trace traced path lines limits details exchange console quiet until_eof. record {
       faultless = refl;
       asked = record {
         word = _;
@@ -73,6 +77,7 @@ returns-clause-trace c =
           record {
             limits = rw (limits) (record { records_are = refl; turns_are = refl });
             details = ap (option_map (λ name. name.now)) details;
+            exchange = subst (IsNamed None) (sym (ap (option_map (λ name. name.now)) exchange)) tt;
             trace = rw (traced) ((ap Some (sym path), lines));
             console = ap (option_map (λ address. address.now)) console;
             quiet = quiet;
@@ -93,7 +98,15 @@ returns-clause-stop c = record { faultless = refl; asked = record { word = _; ro
 
 pub returns-clause-summary : goal.returns-clause-summary
 unfolding clap_on_literals
-returns-clause-summary c = record { faultless = refl; asked = record { word = _; rows = _; found_is = refl; subcommand_is = (refl, refl); named = refl } }
+returns-clause-summary c = record { faultless = refl; asked = record { word = _; rows = _; found_is = refl; subcommand_is = (refl, (refl, (refl, refl))); named = refl } }
+
+pub returns-clause-serving : goal.returns-clause-serving
+unfolding clap_on_literals
+returns-clause-serving c = record { faultless = refl; asked = record { word = _; rows = _; found_is = refl; subcommand_is = (refl, (refl, (refl, refl))); named = refl } }
+
+pub returns-clause-ports : goal.returns-clause-ports
+unfolding clap_on_literals
+returns-clause-ports c = record { faultless = refl; asked = record { word = _; rows = _; found_is = refl; subcommand_is = (refl, (refl, refl)); named = refl } }
 
 pub returns-clause-words : goal.returns-clause-words
 unfolding clap_on_literals

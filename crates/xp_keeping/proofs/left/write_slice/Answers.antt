@@ -9,24 +9,24 @@ use Rattle.xp_keeping.proofs.left.write_slice.Goals as goal
 
 pub returns-in_err-write_one : goal.returns-in_err-write_one
 returns-in_err-write_one g c =
-    let text = detail_text c.args.subs.now c.args.started in
+    let text = detail_text c.args.subs.now c.args.run.now in
     let records = c.args.left.now in
-    let i = c.loop-ended.ended-index in
+    let i = c.loop-call.call-index in
     let p = err_from_is_err_and c.from_residual.result c.from_residual.ensures.1 in
     let printed = c.in_err-write_one.ensures in
     let first = flat_map text (take i records) in
     let front = printed.0 in
     subst (Prints (g.W.Write.contents c.args.output.now) (g.W.Write.contents c.write_one.new.output) (flat_map text records)) (sym (p.1 ∙ ap Err p.2)) (
       first ++ front,
-      appends_both _ _ _ first front c.loop-ended.invariant printed.1,
-      subst (IsFront (first ++ front)) (sym (around text records i c.ended-item.result c.loop-ended-test.true c.ended-item.is))
-          (front_behind first front (text c.ended-item.result) (flat_map text (drop (i + 1) records)) printed.2),
+      appends_both _ _ _ first front c.loop-call.invariant printed.1,
+      subst (IsFront (first ++ front)) (sym (around text records i c.call-item.result c.loop-call-test.true c.call-item.is))
+          (front_behind first front (text c.call-item.result) (flat_map text (drop (i + 1) records)) printed.2),
     )
 
-pub loop-ended-preserved : goal.loop-ended-preserved
-loop-ended-preserved g c =
-    let text = detail_text c.args.subs.now c.args.started in
+pub loop-call-preserved : goal.loop-call-preserved
+loop-call-preserved g c =
+    let text = detail_text c.args.subs.now c.args.run.now in
     let records = c.args.left.now in
-    let i = c.loop-ended.ended-index in
-    subst (Appends (g.W.Write.contents c.args.output.now) (g.W.Write.contents c.write_one.new.output)) (sym (one_more text records i c.ended-item.result c.loop-ended-test.true c.ended-item.is))
-    (appends_both _ _ _ (flat_map text (take i records)) (text c.ended-item.result) c.loop-ended.invariant c.in_ok-write_one.ensures)
+    let i = c.loop-call.call-index in
+    subst (Appends (g.W.Write.contents c.args.output.now) (g.W.Write.contents c.write_one.new.output)) (sym (one_more text records i c.call-item.result c.loop-call-test.true c.call-item.is))
+    (appends_both _ _ _ (flat_map text (take i records)) (text c.call-item.result) c.loop-call.invariant c.in_ok-write_one.ensures)

@@ -3,5 +3,5 @@ use Rattle.std.specs.Io.KnownBytes.{Appends}
 use Rattle.xp_cdr.specs.Details.{detail_text}
 use Rattle.xp_keeping.proofs.left.write_slice.Given as goal
 
-abbrev pub invariant-loop-ended : goal.invariant-loop-ended
-invariant-loop-ended g l = Appends (g.W.Write.contents l.fn.output) (g.W.Write.contents l.output) (flat_map (detail_text l.subs l.started) (take l.ended-index l.left))
+abbrev pub invariant-loop-call : goal.invariant-loop-call
+invariant-loop-call g l = Appends (g.W.Write.contents l.fn.output) (g.W.Write.contents l.output) (flat_map (detail_text l.subs l.run) (take l.call-index l.left))

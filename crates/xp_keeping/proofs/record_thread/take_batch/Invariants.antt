@@ -6,7 +6,7 @@ abbrev pub invariant-loop-place : goal.invariant-loop-place
 invariant-loop-place g l = record {
   queue : l.records.queue ≡ l.fn.records.queue;
   taken : l.records.taken ≡ l.fn.records.taken ++ l.batch.items;
-  lines : All (HasLines l.lines) l.batch.items;
+  lines : All (λ call. HasLines l.lines call.charging) l.batch.items;
   len : vec_len l.batch ≤ l._place;
   room : 256 ≤ vec_capacity l.batch;
 }

@@ -32,7 +32,7 @@ returns-clause-reads g c =
     let all = first.ensures.all c.in_default.is in
     let at = subst (λ stop. Offers (modulus_of g.N.Name.subs c.args.pass.now.line) c.args.waiting.now c.args.frames.now.waiting first.ensures.offers.0 (goes_on stop) first.new.waiting first.new.frames.waiting) c.in_default.is first.ensures.offers.2 in
     let pulls = c.pull_in-pull.ensures.pulls in
-    let reads = reads_both _ _ _ _ _ _ _ _ _ _ _ _ _ _ at all.0 all.1 first.ensures.rest.0 pulls.2 (ap (modulus_of g.N.Name.subs) first.ensures.offers.1.line) second.ensures.offers.2 second.ensures.rest.0 in (
+    let reads = reads_both _ _ _ _ _ _ _ _ _ _ _ _ _ _ at all.0 all.1 first.ensures.rest.0 first.ensures.rest.1 pulls.2 (ap (modulus_of g.N.Name.subs) first.ensures.offers.1.line) second.ensures.offers.2 second.ensures.rest.0 in (
       pulls.0,
       pulls.1,
       first.ensures.offers.0 ++ second.ensures.offers.0,

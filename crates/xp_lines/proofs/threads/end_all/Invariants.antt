@@ -1,7 +1,7 @@
 use Rattle.std.proofs.Common.{◌≡◌, ◌+◌, ◌≤◌, ◌++◌, List, length}
 use Rattle.std.specs.Prelude.{vec_capacity, vec_len}
 use Rattle.std.specs.Vec.Iter.{into_iter_items, into_iter_len}
-use Rattle.xp_lines.specs.Pairs.{AreEach}
+use Rattle.xp_links.specs.Pairs.{AreEach}
 use Rattle.std.specs.declared.alloc.Global.{Global as Alloc}
 use Rattle.xp_lock.specs.Passes.{Pass}
 use Rattle.xp_lines.specs.Sessions.{AreMoved}

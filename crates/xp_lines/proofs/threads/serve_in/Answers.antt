@@ -1,5 +1,5 @@
 use Rattle.std.proofs.Common.{map, subst, sym, ◌∙◌}
-use Rattle.xp_lines.specs.Pairs.{AreEach}
+use Rattle.xp_links.specs.Pairs.{AreEach}
 use Rattle.xp_lines.specs.Sessions.{AreMoved}
 use Rattle.xp_lines.specs.steps.Serving.{EndsSo}
 use Rattle.xp_lines.proofs.Served.{each_down, each_served, same_lines}

@@ -1,6 +1,6 @@
 use Rattle.std.proofs.Common.{inr, refl, sym, ◌∙◌}
 use Rattle.xp_lines.proofs.Offered.{accepted, refused}
-use Rattle.xp_lines.proofs.Worked.{lapses_gone, lapses_nothing, lapses_refused, lapses_taken, refused_leaves}
+use Rattle.xp_lines.proofs.Worked.{lapses_gone, lapses_nothing, lapses_refused, lapses_taken, refused_loses}
 use Rattle.xp_lines.proofs.turning.expire_late.Goals as goal
 
 pub returns-then-not-stays-clause-lapses : goal.returns-then-not-stays-clause-lapses
@@ -20,4 +20,4 @@ returns-in-Err-clause-lapses g c =
     let no = refused _ _ _ _ _ c.offer.ensures.tells c.in-Err.is in lapses_refused _ _ _ _ _ _ _ no.0 no.1 c.outcome_at.ensures
 
 pub returns-in-Err-clause-ends : goal.returns-in-Err-clause-ends
-returns-in-Err-clause-ends g c = let no = refused _ _ _ _ _ c.offer.ensures.tells c.in-Err.is in inr (refused_leaves _ _ no.0 c.outcome_at.ensures)
+returns-in-Err-clause-ends g c = let no = refused _ _ _ _ _ c.offer.ensures.tells c.in-Err.is in inr (refused_loses _ _ no.0 c.outcome_at.ensures)

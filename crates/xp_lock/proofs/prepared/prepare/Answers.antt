@@ -19,7 +19,7 @@ invariant_of-result g c =
       c.in_ok-history_length.ensures.recorder,
       new_kept _ outboxes ends new,
       new.queues,
-      new.taken,
+      new.unused,
       lines,
       subst (λ t. line_count t ≤ 512) (sym subs) c.counts-lines.ensures.sound.few_lines,
       new.end_count,

@@ -6,6 +6,8 @@ use Rattle.xp_outbox.specs.Ends.{Taking}
 use Rattle.xp_subs.specs.Tables.{line_count, modulus_of}
 use Rattle.xp_step.specs.declared.output.Outgoing.{Outgoing}
 use Rattle.xp_lock.specs.Opening.{AreFirst}
+use Rattle.xp_lock.specs.steps.Opening.{IsUnused}
+use Rattle.xp_lock.specs.Outgoing.{put_out_to}
 use Rattle.xp_lock.specs.Passes.{Pass}
 use Rattle.xp_seats.specs.HistorySeat.{SeatState}
 use Rattle.xp_seats.specs.Views.{claiming, keeping, next_claim, one_further}
@@ -24,13 +26,15 @@ invariant_of-push g c =
     let left = ap length items in
     let all = was.count in
     let queues = g.N.Name.queues in
-    let Empty : Taking (Outgoing _) → Type 0 = λ end. end.taken ≡ [] in (
+    let Empty : Taking (Outgoing _) → Type 0 = IsUnused in
+    let new = All-head Empty c.in-Some.outbox _ (subst (All Empty) items was.unused) in (
       ap (λ s. s.history_length) claim ∙ c.requires.history_length,
       knows ∙ ap (claiming line) (sym (ap (λ v. v.seen) knows)),
       omega (arith, left, all, same),
       c.modulus_of.ensures ∙ ap (λ t. modulus_of t line) c.requires.subs,
       subst (λ m. slice_get queues m ≡ Some c.in-Some.outbox.queue) (sym same) (at_front queues n c.in-Some.outbox.queue _ (sym was.queues ∙ ap (map (λ end. end.queue)) items)),
-      sym (ap (λ (taken : List (Outgoing _)). min (length taken) (2 ^ 64 - 1)) (All-head Empty c.in-Some.outbox _ (subst (All Empty) items was.taken))),
+      sym (ap (λ (taken : List (Outgoing _)). min (length taken) (2 ^ 64 - 1)) new.0),
+      new.1 ∙ ap (put_out_to line) (sym (ap (λ v. v.seen) knows)),
     )
 
 pub loop-outbox-preserved : goal.loop-outbox-preserved
@@ -48,13 +52,13 @@ loop-outbox-preserved g c =
     let pushed = c.in_ok-push.ensures.items in
     let claim = c.next_claim-history_seat.ensures.claim in
     let knows = ap (λ s. s.knows) claim ∙ ap (λ k. next_claim k.knows) was.keeper in
-    let Empty : Taking (Outgoing _) → Type 0 = λ end. end.taken ≡ [] in
-    let ends = subst (All Empty) items was.taken in
+    let Empty : Taking (Outgoing _) → Type 0 = IsUnused in
+    let ends = subst (All Empty) items was.unused in
     let same : c.len-line.result ≡ n = c.len-line.ensures ∙ c.loop-outbox.passes.ok.0 in
     let pass : Pass _ = record { line = c.len-line.result; seen = c.next_claim-history_seat.result.knows.seen; taken = c.in-Some.outbox.taken } in
     let long : length after ≡ n + 1 = let by = ap length pushed in omega (arith, by, length-append passes (pass ∷ [])) in
     let seen : c.next_claim-history_seat.result.knows.seen ≡ [] = ap (λ v. v.seen) knows in
-    let first = first_push n passes pass was.passes (λ i. record { line = same i; seen = seen i; taken = All-head Empty c.in-Some.outbox rest ends i }) in
+    let first = first_push n passes pass was.passes (λ i. record { line = same i; seen = seen i; taken = (All-head Empty c.in-Some.outbox rest ends).0 i }) in
     record {
       can_next = tt;
       is_finite = tt;
@@ -65,7 +69,7 @@ loop-outbox-preserved g c =
       passes = subst (λ m. AreFirst m after) (sym long) (subst (AreFirst (n + 1)) (sym pushed) first);
       queues = sym (drop_rest g.N.Name.queues n c.in-Some.outbox.queue _ (sym was.queues ∙ ap (map (λ end. end.queue)) items))
           ∙ ap (λ m. drop m g.N.Name.queues) (let next : suc n ≡ length after = omega (arith, long) in next);
-      taken = All-tail Empty c.in-Some.outbox rest ends;
+      unused = All-tail Empty c.in-Some.outbox rest ends;
       count = omega (arith, left, all, long);
     }
 

@@ -3,6 +3,7 @@ use Rattle.std.specs.Prelude.{All}
 use Rattle.std.specs.Vec.Iter.{into_iter_items, into_iter_len}
 use Rattle.xp_subs.specs.Tables.{line_count}
 use Rattle.xp_lock.specs.Opening.{AreFirst}
+use Rattle.xp_lock.specs.steps.Opening.{IsUnused}
 use Rattle.xp_seats.specs.Views.{keeping}
 use Rattle.xp_lock.proofs.start.first_passes.Given as goal
 
@@ -14,6 +15,6 @@ invariant-loop-outbox g l = record {
   keeper : l.keeper ≡ record { history_length = g.N.Name.history_length; knows = keeping (length l.passes.items) [] [] };
   passes : AreFirst (length l.passes.items) l.passes.items;
   queues : map (λ end. end.queue) (into_iter_items l.outbox-iterator) ≡ drop (length l.passes.items) g.N.Name.queues;
-  taken : All (λ end. end.taken ≡ []) (into_iter_items l.outbox-iterator);
+  unused : All IsUnused (into_iter_items l.outbox-iterator);
   count : length l.passes.items + length (into_iter_items l.outbox-iterator) ≡ line_count g.N.Name.subs;
 }

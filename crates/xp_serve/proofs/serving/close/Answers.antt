@@ -3,7 +3,7 @@ use Rattle.std.proofs.lemmas.List.{length-map}
 use Rattle.xp_lock.specs.Passes.{IsLegal}
 use Rattle.xp_serve.specs.Ends.{first_early_end}
 use Rattle.xp_serve.specs.steps.Serving.{WereServed}
-use Rattle.xp_lines.specs.Pairs.{AreEach}
+use Rattle.xp_links.specs.Pairs.{AreEach}
 use Rattle.xp_serve.specs.Served.{IsDownIfStopped}
 use Rattle.xp_serve.proofs.Passes.{each_end, served_brought, served_count, served_in_order, served_none_missing}
 use Rattle.xp_serve.proofs.serving.close.Goals as goal

@@ -1,5 +1,5 @@
 use Rattle.std.proofs.Common.{inl, refl, subst}
-use Rattle.xp_serve.specs.Hosts.{IsHost, IsNoHost}
+use Rattle.xp_listening.specs.Hosts.{IsHost, IsNoHost}
 use Rattle.xp_serve.proofs.Told.{not_of_host}
 use Rattle.xp_serve.proofs.serving.serve.Goals as goal
 

@@ -1,6 +1,6 @@
 use Rattle.std.proofs.Common.{◌++◌, ap, inl, inr, refl, sym, ◌∙◌}
 use Rattle.xp_subs.specs.Tables.{line_count}
-use Rattle.xp_serve.proofs.Accesses.{served_count}
+use Rattle.xp_listening.proofs.Accesses.{served_count}
 use Rattle.xp_serve.proofs.Told.{early_line, wants_memory}
 use Rattle.xp_serve.proofs.serving.serve_at.Goals as goal
 

@@ -27,7 +27,7 @@ returns-clause-flushes g c =
         waited = sym (append-nil batch.octets);
         synced = synced;
         subs = refl;
-        started = refl;
+        run = refl;
         given = refl;
       },
       record { waiting = refl; taken = put.1 ∙ synced ∙ sym (all_text _ _ _ batch c.self.invariant.0); synced = sym put.1 },

@@ -4,6 +4,7 @@ use Rattle.xp_step.specs.Worlds.{world_after}
 use Rattle.xp_step.specs.Agreed.{AllHaveTerms}
 use Rattle.xp_core.specs.Delivered.{AreDelivered}
 use Rattle.xp_core.specs.Lines.{HasLines}
+use Rattle.xp_lock.specs.Histories.{AreForced}
 use Rattle.xp_lock.proofs.book.Book.count.Goals as goal
 
 pub returns-clause-lines : goal.returns-clause-lines
@@ -17,3 +18,6 @@ returns-clause-terms g c =
 pub returns-clause-delivered : goal.returns-clause-delivered
 returns-clause-delivered g c =
     subst (λ book. AreDelivered book.subs book.history (world_after book.subs book.history)) c.self.view_is c.count.ensures.delivered
+
+pub returns-clause-forced : goal.returns-clause-forced
+returns-clause-forced g c = subst (λ book. AreForced book.subs book.history) c.self.view_is c.self.invariant.1

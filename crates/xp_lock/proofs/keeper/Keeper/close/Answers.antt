@@ -6,6 +6,7 @@ use mathlib.Core.List.{IsPrefix}
 use Rattle.xp_lock.specs.Outboxes.{outbox_at}
 use Rattle.xp_lock.specs.Closing.{PassesMatch, PassMatches}
 use Rattle.xp_lock.specs.steps.Closing.{AreWithin}
+use Rattle.xp_lock.specs.Histories.{AreForced}
 use Rattle.xp_seats.specs.Handed.{handed}
 use Rattle.xp_lock.specs.Outgoing.{put_out_to}
 use Rattle.xp_seats.specs.Views.{StartsWith}
@@ -116,9 +117,15 @@ index_mut-requires g c =
     let zeros = ap length c.requires.zeros ∙ length-replicate {A = ℕ} (line_count g.N.Name.subs) 0 in
     omega (arith, within, lines, zeros, c.loop-pass.taken.ok.0)
 
-pub new-requires : goal.new-requires
-new-requires g c =
+pub new-requires-clause-within : goal.new-requires-clause-within
+new-requires-clause-within g c =
     subst (AreWithin c.loop-pass.taken.items) (sym (c.into_parts-core.ensures.history ∙ ap (λ s. s.history) c.self.view_is)) c.loop-pass.invariant.within
+
+pub new-requires-clause-forced : goal.new-requires-clause-forced
+new-requires-clause-forced g c =
+    let parts = c.into_parts-core.ensures in
+    subst (λ t. AreForced t c.into_parts-core.result.0.history) (sym parts.subs)
+    (subst (AreForced c.self.inside.core_with_outboxes.subs) (sym parts.history) parts.kept.forced)
 
 pub returns-clause-taken : goal.returns-clause-taken
 returns-clause-taken g c =

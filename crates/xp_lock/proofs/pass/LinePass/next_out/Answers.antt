@@ -13,4 +13,4 @@ invariant_of-self-2 g c =
     let all = length-append before (c.in_ok-item.item ∷ []) in
     omega (arith, taken, all) in
     let more = count_more (length before) c.self.inside.count _ was.5 c.saturating_add-self-inside.ensures in
-    (was.0, was.1, was.2, was.3, was.4 ∙ ap (λ e. Some e.queue) (sym item), more ∙ ap (λ n. min n (2 ^ 64 - 1)) (sym long))
+    (was.0, was.1, was.2, was.3, was.4 ∙ ap (λ e. Some e.queue) (sym item), more ∙ ap (λ n. min n (2 ^ 64 - 1)) (sym long), ap (λ e. e.owed) item ∙ was.6)

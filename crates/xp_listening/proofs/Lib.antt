@@ -1,0 +1,2 @@
+pub mod Accesses
+mod Addresses

@@ -1,0 +1,4 @@
+pub mod Accesses
+pub mod Failures
+pub mod Hosts
+pub mod Prepared

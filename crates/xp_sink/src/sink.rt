@@ -1,0 +1,62 @@
+//! Where the charging records of an exchange go as calls end, and who sees it meanwhile.
+
+ghost use Rattle.std.specs.Prelude.{◌≡◌, ◌++◌, All};
+ghost use Rattle.xp_charge.specs.Lines.{HasLines};
+ghost use Rattle.xp_sink.specs.Seen.{IsSeen};
+
+use xp_charge::Record;
+use xp_view::ExchangeView;
+
+/// The answer of a sink.
+#[derive(Clone, Copy, PartialEq)]
+pub enum Received {
+    /// Serving goes on.
+    GoesOn,
+    /// Serving stops: the lines are asked to stop. The sink is still given the records of the calls that end by it.
+    Stops,
+}
+
+/// Where charging records go as calls end.
+pub trait RecordSink: Drop {
+    ghost use Rattle.std.specs.Prelude.{ℕ, List};
+    ghost use Rattle.xp_charge.specs.declared.record.Record.{Record};
+
+    // All records that the sink was given so far.
+    ghost received: { Self → List Record };
+
+    // How many lines there are. Each record names lines with lower numbers.
+    ghost lines: { Self → ℕ };
+
+    // What stays the same of a sink from one moment to a later one, whatever it is given in between.
+    ghost keeps: { Self → Self → Type 0 };
+
+    /// Takes these records, which follow those that it was given before. The thread that calls it serves no line and does not
+    /// hold the exchange's lock, so it may wait.
+    fn receive(&mut self, records: Vec<Record>) -> Received
+        requires lines { All (HasLines (lines self.old)) records.items }
+        ensures received { received self.new ≡ received self.old ++ records.items }
+        ensures lines { lines self.new ≡ lines self.old }
+        ensures keeps { keeps self.old self.new };
+
+    /// Called by the recording thread at least ten times a second, also while no calls end. It may write what waits, and may
+    /// ask for a stop.
+    fn tick(&mut self) -> Received
+        ensures received { received self.new ≡ received self.old }
+        ensures lines { lines self.new ≡ lines self.old }
+        ensures keeps { keeps self.old self.new };
+
+    /// Whether the sink wants to see the exchange now. The recording thread asks at least ten times a second.
+    fn wants_look(&self) -> bool;
+
+    /// Takes what can be seen of the exchange, as it was when the records were taken that the sink received last. It is called only
+    /// where the sink wanted that.
+    fn see(&mut self, view: ExchangeView)
+        requires seen { IsSeen (lines self.old) view }
+        ensures received { received self.new ≡ received self.old }
+        ensures lines { lines self.new ≡ lines self.old }
+        ensures keeps { keeps self.old self.new };
+
+    ghost keeps_itself: { (sink : Self) → keeps sink sink };
+
+    ghost keeps_on: { (first second third : Self) → keeps first second → keeps second third → keeps first third };
+}
