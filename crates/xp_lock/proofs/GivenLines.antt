@@ -1,177 +1,99 @@
--- Which lines were given something, one more at a time.
-use Rattle.std.proofs.Common.{◌≡◌, ◌≢◌, ◌⊎◌, ℕ, suc, ◌+◌, ◌<◌, ◌≤◌, Bool, true, false, eqb, List, [], ◌∷◌, ◌++◌, filter, map, take, drop, get_or, length, refl, ap, sym, subst, ◌∙◌, inl, inr, arith, append-nil, length-append, eq-eqb}
-use Rattle.std.specs.Prelude.{◌||◌}
-use Rattle.std.proofs.lemmas.Bool.{cases_eq, cases_lt, ne_eqb}
-use Rattle.std.proofs.lemmas.Grind.{flat_map-append}
-use Rattle.std.proofs.lemmas.List.{map-append, take-append-drop, take_more}
-use Rattle.std.proofs.lemmas.List.Elements.{filter-append}
+-- Which lines were given something, one entry more at a time.
+use Rattle.std.proofs.Common.{◌≡◌, ◌⊎◌, ℕ, ◌+◌, ◌<◌, ◌≤◌, true, false, cond, List, [], ◌∷◌, ◌++◌, drop, get_or, length, ap, sym, subst, ◌∙◌, inl, inr, arith, length-append}
+use Rattle.std.proofs.lemmas.Bool.{cases_eq, cases_lt, cond_both}
+use Rattle.std.proofs.lemmas.List.{drop_more, flat_map_more, length_push}
 use Rattle.xp_step.specs.declared.entry.Entry.{Entry}
 use Rattle.xp_step.specs.declared.output.Output.{Output}
 use Rattle.xp_lock.specs.Given.{AreApart, AreGiven}
 use Rattle.xp_seats.specs.Among.{is_among}
-use Rattle.xp_lock.specs.steps.Given.{AddFew, AreAdded}
+use Rattle.xp_lock.specs.steps.Given.{with_line, with_lines}
 use Rattle.xp_lock.specs.Outgoing.{put_out_to, to_line}
+use Rattle.xp_lock.proofs.Among.{Among, among_is, apart_push, is_from, no_more_than, push_cases, push_new, push_old}
 use Rattle.xp_lock.proofs.Putting.{to_line_other, to_line_same}
-use Rattle.xp_lock.proofs.Trio.{Among, among_either, among_left, among_right}
 
--- the front of a list, with its next item
-pub front_next : {X : Type 0} (items : List X) (at : ℕ) (item : X) → at < length items → item ≡ get_or items at item → take at items ++ item ∷ [] ≡ take (at + 1) items
-front_next items at item within is = ap (λ x. take at items ++ x ∷ []) is ∙ sym (take_more items at item within)
+-- what holds of the lines as they are where the line is there, and with it behind them where it is not
+one_way : (lines : List ℕ) (line : ℕ) (P : List ℕ → Type 0) → (is_among line lines ≡ true → P lines) → (is_among line lines ≡ false → P (lines ++ line ∷ [])) → P (with_line lines line)
+one_way lines line P there out = cond_both (is_among line lines) lines (lines ++ line ∷ []) P there out
 
--- ---- lists of lines
+one_longer : (lines : List ℕ) (line : ℕ) → length lines ≤ length (with_line lines line)
+one_longer lines line = one_way lines line (λ xs. length lines ≤ length xs) (λ there. omega arith) (λ out. omega (arith, length_push lines line))
 
-pub among_is : (lines : List ℕ) (line : ℕ) → is_among line lines ≡ true → Among lines line
-among_is [] line is = absurd (cc)
-among_is (x ∷ lines) line is = elim (cases_eq x line) [
-  | inl same ↦ inl (sym same)
-  | inr other ↦ inr (among_is lines line (sym (ap (λ b. b || is_among line lines) (ne_eqb x line other)) ∙ is))
-]
+one_apart : (lines : List ℕ) (line : ℕ) → AreApart lines → AreApart (with_line lines line)
+one_apart lines line apart = one_way lines line AreApart (λ there. apart) (apart_push lines line apart)
 
-pub is_from : (lines : List ℕ) (line : ℕ) → Among lines line → is_among line lines ≡ true
-is_from [] line h = absurd h
-is_from (x ∷ lines) line h = elim (cases_eq x line) [
-  | inl same ↦ ap (λ b. b || is_among line lines) (eq-eqb x line same)
-  | inr other ↦
-      ap (λ b. b || is_among line lines) (ne_eqb x line other)
-      ∙ is_from lines line (elim h [ inl is ↦ absurd (other (sym is)) | inr rest ↦ rest ])
-]
+one_new : (lines : List ℕ) (line : ℕ) → Among (with_line lines line) line
+one_new lines line = one_way lines line (λ xs. Among xs line) (among_is lines line) (λ out. push_new lines line)
 
-is_false : (b : Bool) → (b ≡ true → ⊥) → b ≡ false
-is_false true no_more = absurd (no_more refl)
-is_false false no_more = refl
+one_old : (other : ℕ) (lines : List ℕ) (line : ℕ) → Among lines other → Among (with_line lines line) other
+one_old other lines line here = one_way lines line (λ xs. Among xs other) (λ there. here) (λ out. push_old lines line other here)
 
-not_among : (lines : List ℕ) (line : ℕ) → is_among line lines ≡ false → Among lines line → ⊥
-not_among lines line out h = let here = is_from lines line h in absurd (cc)
-
-pub apart_push : (lines : List ℕ) (line : ℕ) → AreApart lines → is_among line lines ≡ false → AreApart (lines ++ line ∷ [])
-apart_push [] line apart out = (refl, tt)
-apart_push (x ∷ lines) line apart out = (
-  is_false (is_among x (lines ++ line ∷ [])) (λ here. elim (among_either lines (line ∷ []) x (among_is (lines ++ line ∷ []) x here)) [
-    | inl old ↦ not_among lines x apart.0 old
-    | inr new ↦ elim new [ inl same ↦ not_among (x ∷ lines) line out (inl (sym same)) | inr none ↦ none ]
-  ]),
-  apart_push lines line apart.1 (is_false (is_among line lines) (λ here. not_among (x ∷ lines) line out (inr (among_is lines line here)))),
-)
-
--- all but one
-without : (lines : List ℕ) (line : ℕ) → Among lines line
-    → (rest : List ℕ) × (length lines ≡ suc (length rest)) × ((other : ℕ) → other ≢ line → Among lines other → Among rest other)
-without [] line h = absurd h
-without (x ∷ lines) line (inl same) = (lines, refl, λ other apart there. elim there [ inl is ↦ absurd (apart (is ∙ sym same)) | inr rest ↦ rest ])
-without (x ∷ lines) line (inr here) =
-    let r = without lines line here in
-    (x ∷ r.0, ap suc r.1, λ other apart there. elim there [ inl is ↦ inl is | inr rest ↦ inr (r.2 other apart rest) ])
-
--- lines that are all among others are no more than those
-pub no_more_than : (lines others : List ℕ) → AreApart lines → ((line : ℕ) → Among lines line → Among others line) → length lines ≤ length others
-no_more_than [] others apart all = omega arith
-no_more_than (x ∷ lines) others apart all =
-    let r = without others x (all x (inl refl)) in
-    let rest = no_more_than lines r.0 apart.1 (λ line here. r.2 line (λ same. not_among lines x apart.0 (subst (Among lines) same here)) (all line (inr here))) in
-    let count = r.1 in
-    omega (arith, rest, count)
+one_cases : (lines : List ℕ) (line other : ℕ) → Among (with_line lines line) other → Among lines other ⊎ (other ≡ line)
+one_cases lines line other = one_way lines line (λ xs. Among xs other → Among lines other ⊎ (other ≡ line)) (λ there here. inl here) (λ out here. push_cases lines line other here)
 
 module _ {A : Type 0} where
-  -- ---- outputs
+  -- what each line more keeps
+  keeps : (P : List ℕ → Type 0) → ((lines : List ℕ) (line : ℕ) → P lines → P (with_line lines line)) → (lines : List ℕ) (outputs : List (Output A)) → P lines → P (with_lines lines outputs)
+  keeps P one lines [] was = was
+  keeps P one lines (output ∷ outputs) was = keeps P one (with_line lines output.line) outputs (one lines output.line was)
 
-  out_more : (line : ℕ) (outputs more : List (Output A)) → length (to_line line (outputs ++ more)) ≡ length (to_line line outputs) + length (to_line line more)
-  out_more line outputs more =
-      ap (λ xs. length (map (λ (o : Output A). o.outgoing) xs)) (filter-append (λ (o : Output A). eqb o.line line) outputs more)
-      ∙ ap length (map-append (λ (o : Output A). o.outgoing) (filter (λ (o : Output A). eqb o.line line) outputs) (filter (λ (o : Output A). eqb o.line line) more))
-      ∙ length-append (to_line line outputs) (to_line line more)
+  longer : (lines : List ℕ) (outputs : List (Output A)) → length lines ≤ length (with_lines lines outputs)
+  longer lines outputs = keeps (λ xs. length lines ≤ length xs) (λ xs line was. omega (arith, was, one_longer xs line)) lines outputs (omega arith)
 
-  pub added_none : (old : List ℕ) → AreApart old → AreAdded {A = A} old [] old
-  added_none old apart = record {
-    each = λ line. (λ here. inl here, λ either. elim either [ inl here ↦ here | inr some ↦ absurd (omega (arith, some)) ]);
-    once = apart;
-  }
+  -- while a line is added, there is room for it
+  pub room_for : (lines : List ℕ) (outputs : List (Output A)) (at : ℕ) (output : Output A) → at < length outputs → output ≡ get_or outputs at output → is_among output.line lines ≡ false
+      → length lines + 1 ≤ length (with_lines lines (drop at outputs))
+  room_for lines outputs at output within is out =
+      let first = ap (λ xs. length (with_lines lines xs)) (drop_more outputs at output within ∙ ap (λ x. x ∷ drop (at + 1) outputs) (sym is)) in
+      let new = ap (λ b. length (cond b lines (lines ++ output.line ∷ []))) out in
+      omega (arith, first, new, length_push lines output.line, longer (with_line lines output.line) (drop (at + 1) outputs))
 
-  module _ (old : List ℕ) (done : List (Output A)) (output : Output A) (now : List ℕ) (added : AreAdded old done now) where
-    one_of : (line : ℕ) → 0 < length (to_line line (done ++ output ∷ [])) → (0 < length (to_line line done)) ⊎ (line ≡ output.line)
-    one_of line some = elim (cases_eq output.line line) [
-      | inl same ↦ inr (sym same)
-      | inr other ↦ inl (let all = out_more line done (output ∷ []) in let none = ap length (to_line_other line output [] other) in omega (arith, some, all, none))
+  all_old : (lines : List ℕ) (outputs : List (Output A)) (line : ℕ) → Among lines line → Among (with_lines lines outputs) line
+  all_old lines outputs line here = keeps (λ xs. Among xs line) (one_old line) lines outputs here
+
+  all_new : (lines : List ℕ) (outputs : List (Output A)) (line : ℕ) → 0 < length (to_line line outputs) → Among (with_lines lines outputs) line
+  all_new lines [] line some = absurd (omega (arith, some))
+  all_new lines (output ∷ outputs) line some = elim (cases_eq output.line line) [
+    | inl same ↦ all_old (with_line lines output.line) outputs line (subst (Among (with_line lines output.line)) same (one_new lines output.line))
+    | inr other ↦ all_new (with_line lines output.line) outputs line (subst (λ xs. 0 < length xs) (to_line_other line output outputs other) some)
+  ]
+
+  all_cases : (lines : List ℕ) (outputs : List (Output A)) (line : ℕ) → Among (with_lines lines outputs) line → Among lines line ⊎ (0 < length (to_line line outputs))
+  all_cases lines [] line here = inl here
+  all_cases lines (output ∷ outputs) line here = elim (cases_eq output.line line) [
+    | inl same ↦ inr (let one = ap length (to_line_same line output outputs same) in omega (arith, one))
+    | inr other ↦ elim (all_cases (with_line lines output.line) outputs line here) [
+      | inl before ↦ elim (one_cases lines output.line line before) [ inl was ↦ inl was | inr same ↦ absurd (other (sym same)) ]
+      | inr some ↦ inr (subst (λ xs. 0 < length xs) (sym (to_line_other line output outputs other)) some)
     ]
+  ]
 
-    some_before : (line : ℕ) → 0 < length (to_line line done) → 0 < length (to_line line (done ++ output ∷ []))
-    some_before line some = let all = out_more line done (output ∷ []) in omega (arith, some, all)
+  -- ---- those of entries
 
-    some_here : (line : ℕ) → line ≡ output.line → 0 < length (to_line line (done ++ output ∷ []))
-    some_here line same =
-        let all = out_more line done (output ∷ []) in
-        let one = ap length (to_line_same line output [] (sym same)) in
-        omega (arith, all, one)
+  pub put_more : (line : ℕ) (entries : List (Entry A)) (entry : Entry A) → put_out_to line (entries ++ entry ∷ []) ≡ put_out_to line entries ++ to_line line entry.outputs
+  put_more line entries entry = sym (flat_map_more (λ (e : Entry A). to_line line e.outputs) [] entries entry)
 
-    pub added_new : is_among output.line now ≡ false → AreAdded old (done ++ output ∷ []) (now ++ output.line ∷ [])
-    added_new out = record {
-      each = λ line. (
-        λ here. elim (among_either now (output.line ∷ []) line (among_is (now ++ output.line ∷ []) line here)) [
-          | inl before ↦ elim ((added.each line).0 (is_from now line before)) [ inl was ↦ inl was | inr some ↦ inr (some_before line some) ]
-          | inr this ↦ elim this [ inl same ↦ inr (some_here line same) | inr none ↦ absurd none ]
-        ],
-        λ either. is_from (now ++ output.line ∷ []) line (elim either [
-          | inl was ↦ among_left now (output.line ∷ []) line (among_is now line ((added.each line).1 (inl was)))
-          | inr some ↦ elim (one_of line some) [
-            | inl before ↦ among_left now (output.line ∷ []) line (among_is now line ((added.each line).1 (inr before)))
-            | inr same ↦ among_right now (output.line ∷ []) line (inl same)
-          ]
-        ]),
-      );
-      once = apart_push now output.line added.once out;
-    }
-
-    pub added_old : is_among output.line now ≡ true → AreAdded old (done ++ output ∷ []) now
-    added_old there = record {
-      each = λ line. (
-        λ here. elim ((added.each line).0 here) [ inl was ↦ inl was | inr some ↦ inr (some_before line some) ],
-        λ either. elim either [
-          | inl was ↦ (added.each line).1 (inl was)
-          | inr some ↦ elim (one_of line some) [
-            | inl before ↦ (added.each line).1 (inr before)
-            | inr same ↦ subst (λ l. is_among l now ≡ true) (sym same) there
-          ]
-        ],
-      );
-      once = added.once;
-    }
-
-  pub added_few : (old : List ℕ) (outputs : List (Output A)) (at : ℕ) (now : List ℕ) → AddFew old outputs → AreAdded old (take at outputs) now → length now ≤ 3
-  added_few old outputs at now few added =
-      let most = no_more_than now few.lines added.once (λ line here. among_is few.lines line (elim ((added.each line).0 (is_from now line here)) [
-        | inl was ↦ few.there line was
-        | inr some ↦ few.goes line (
-            let all = out_more line (take at outputs) (drop at outputs) in
-            let whole = ap (λ xs. length (to_line line xs)) (take-append-drop at outputs) in
-            omega (arith, some, all, whole))
-      ])) in
-      let three = few.few in
-      omega (arith, most, three)
-
-  -- ---- entries
-
-  put_more : (line : ℕ) (entries more : List (Entry A)) → length (put_out_to line (entries ++ more)) ≡ length (put_out_to line entries) + length (put_out_to line more)
-  put_more line entries more =
-      ap length (flat_map-append (λ (e : Entry A). to_line line e.outputs) entries more) ∙ length-append (put_out_to line entries) (put_out_to line more)
-
-  put_one : (line : ℕ) (entry : Entry A) → length (put_out_to line (entry ∷ [])) ≡ length (to_line line entry.outputs)
-  put_one line entry = ap length (append-nil (to_line line entry.outputs))
+  pub count_more : (line : ℕ) (entries : List (Entry A)) (entry : Entry A) → length (put_out_to line (entries ++ entry ∷ [])) ≡ length (put_out_to line entries) + length (to_line line entry.outputs)
+  count_more line entries entry = ap length (put_more line entries entry) ∙ length-append (put_out_to line entries) (to_line line entry.outputs)
 
   pub given_none : AreGiven {A = A} [] []
   given_none = record { each = λ line. (λ here. absurd (cc), λ some. absurd (omega (arith, some))); once = tt }
 
-  pub given_more : (done : List (Entry A)) (entry : Entry A) (lines more : List ℕ) → AreGiven done lines → AreAdded lines entry.outputs more → AreGiven (done ++ entry ∷ []) more
-  given_more done entry lines more given added = record {
+  pub given_more : (entries : List (Entry A)) (entry : Entry A) (lines : List ℕ) → AreGiven entries lines → AreGiven (entries ++ entry ∷ []) (with_lines lines entry.outputs)
+  given_more entries entry lines given = record {
     each = λ line.
-        let all = put_more line done (entry ∷ []) in
-        let one = put_one line entry in (
-          λ here. elim ((added.each line).0 here) [
-            | inl was ↦ let some = (given.each line).0 was in omega (arith, some, all)
-            | inr some ↦ omega (arith, some, all, one)
+        let all = count_more line entries entry in (
+          λ here. elim (all_cases lines entry.outputs line (among_is (with_lines lines entry.outputs) line here)) [
+            | inl was ↦ let some = (given.each line).0 (is_from lines line was) in omega (arith, some, all)
+            | inr some ↦ omega (arith, some, all)
           ],
-          λ some. (added.each line).1 (elim (cases_lt 0 (length (to_line line entry.outputs))) [
-            | inl this ↦ inr this
-            | inr none ↦ inl ((given.each line).1 (omega (arith, some, all, one, none)))
+          λ some. is_from (with_lines lines entry.outputs) line (elim (cases_lt 0 (length (to_line line entry.outputs))) [
+            | inl new ↦ all_new lines entry.outputs line new
+            | inr none ↦ all_old lines entry.outputs line (among_is lines line ((given.each line).1 (omega (arith, some, all, none))))
           ]),
         );
-    once = added.once;
+    once = keeps AreApart one_apart lines entry.outputs given.once;
   }
+
+  pub given_few : (entries : List (Entry A)) (lines others : List ℕ) → AreGiven entries lines → ((line : ℕ) → 0 < length (put_out_to line entries) → Among others line)
+      → length lines ≤ length others
+  given_few entries lines others given goes = no_more_than lines others given.once (λ line here. goes line ((given.each line).0 (is_from lines line here)))

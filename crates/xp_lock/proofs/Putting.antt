@@ -1,8 +1,9 @@
 -- Outputs are put into the outboxes of their lines.
-use Rattle.std.proofs.Common.{◌≡◌, ◌≢◌, ℕ, ◌-◌, ◌<◌, ◌≤◌, eqb, cond, List, [], ◌∷◌, ◌++◌, length, map, filter, set, sym, refl, ap, ◌∙◌, inl, inr, arith, append_assoc, append-nil, length-append, length-set, get_or-set_other, eq-eqb}
+use Rattle.std.proofs.Common.{◌≡◌, ◌≢◌, ℕ, ◌-◌, ◌<◌, eqb, cond, List, [], ◌∷◌, ◌++◌, length, map, filter, set, sym, refl, ap, ◌∙◌, inl, inr, arith, append_assoc, append-nil, length-append, length-set, get_or-set_other, eq-eqb}
 use Rattle.std.proofs.lemmas.Bool.{cases_eq, cases_lt, ne_eqb}
 use Rattle.std.proofs.lemmas.Grind.{get_or-set_at}
-use Rattle.std.proofs.lemmas.List.{get_or_past}
+use Rattle.std.proofs.lemmas.List.{get_or_past, map-append}
+use Rattle.std.proofs.lemmas.List.Elements.{filter-append}
 use Rattle.xp_outbox.specs.Ends.{Putting}
 use Rattle.xp_step.specs.declared.output.Outgoing.{Outgoing}
 use Rattle.xp_step.specs.declared.output.Output.{Output}
@@ -45,47 +46,40 @@ module _ {A : Type 0} where
   abbrev pub put_first : Output A → List (Putting (Outgoing A)) → List (Putting (Outgoing A))
   put_first output outboxes = set outboxes output.line (with_items (outbox_at outboxes output.line) (output.outgoing ∷ []))
 
-  -- one output, and then the others
-  first_at : (output : Output A) (rest : List (Output A)) (outboxes : List (Putting (Outgoing A))) → HasRoomFor (output ∷ rest) outboxes → (line : ℕ)
-      → (with_items (outbox_at (put_first output outboxes) line) (to_line line rest) ≡ with_items (outbox_at outboxes line) (to_line line (output ∷ rest)))
-      × (length (to_line line rest) ≤ (outbox_at (put_first output outboxes) line).free)
-  first_at output rest outboxes room line =
+  one_more : (line : ℕ) (output : Output A) (rest : List (Output A)) → to_line line (output ∷ rest) ≡ to_line line (output ∷ []) ++ to_line line rest
+  one_more line output rest =
+      ap (map (λ (o : Output A). o.outgoing)) (filter-append (λ (o : Output A). eqb o.line line) (output ∷ []) rest)
+      ∙ map-append (λ (o : Output A). o.outgoing) (filter (λ (o : Output A). eqb o.line line) (output ∷ [])) (filter (λ (o : Output A). eqb o.line line) rest)
+
+  -- what one output does, seen from any line
+  first_at : (output : Output A) (outboxes : List (Putting (Outgoing A))) → 0 < (outbox_at outboxes output.line).free → (line : ℕ)
+      → outbox_at (put_first output outboxes) line ≡ with_items (outbox_at outboxes line) (to_line line (output ∷ []))
+  first_at output outboxes some line =
       let given = with_items (outbox_at outboxes output.line) (output.outgoing ∷ []) in
       elim (cases_eq line output.line) [
         | inl same ↦
-            let now : outbox_at (put_first output outboxes) line ≡ given =
-            get_or-set_at outboxes output.line line given no_outbox same (box_there outboxes output.line (room_first output rest outboxes room)) in
-            let items = to_line_same line output rest (sym same) in
-            let many : length (to_line line (output ∷ rest)) ≡ length (output.outgoing ∷ to_line line rest) = ap length items in
-            let enough : length (to_line line (output ∷ rest)) ≤ (outbox_at outboxes line).free = room line in
-            let left : (outbox_at (put_first output outboxes) line).free ≡ (outbox_at outboxes output.line).free - 1 = ap (λ b. b.free) now in
-            let place : (outbox_at outboxes line).free ≡ (outbox_at outboxes output.line).free = ap (λ l. (outbox_at outboxes l).free) same in (
-              ap (λ b. with_items b (to_line line rest)) now
-                  ∙ with_items_more (outbox_at outboxes output.line) (output.outgoing ∷ []) (to_line line rest)
-                  ∙ ap (λ l. with_items (outbox_at outboxes l) (output.outgoing ∷ to_line line rest)) (sym same)
-                  ∙ ap (with_items (outbox_at outboxes line)) (sym items),
-              omega (arith, many, enough, left, place),
-            )
+            get_or-set_at outboxes output.line line given no_outbox same (box_there outboxes output.line some)
+            ∙ ap (λ l. with_items (outbox_at outboxes l) (output.outgoing ∷ [])) (sym same) ∙ ap (with_items (outbox_at outboxes line)) (sym (to_line_same line output [] (sym same)))
         | inr other ↦
-            let now : outbox_at (put_first output outboxes) line ≡ outbox_at outboxes line = get_or-set_other outboxes output.line line given no_outbox other in
-            let items = to_line_other line output rest (λ same. other (sym same)) in
-            let many : length (to_line line (output ∷ rest)) ≡ length (to_line line rest) = ap length items in
-            let enough : length (to_line line (output ∷ rest)) ≤ (outbox_at outboxes line).free = room line in
-            let left : (outbox_at (put_first output outboxes) line).free ≡ (outbox_at outboxes line).free = ap (λ b. b.free) now in (
-              ap (λ b. with_items b (to_line line rest)) now ∙ ap (with_items (outbox_at outboxes line)) (sym items),
-              omega (arith, many, enough, left),
-            )
+            get_or-set_other outboxes output.line line given no_outbox other ∙ sym (with_none (outbox_at outboxes line))
+            ∙ ap (with_items (outbox_at outboxes line)) (sym (to_line_other line output [] (λ same. other (sym same))))
       ]
 
-  pub room_rest : (output : Output A) (rest : List (Output A)) (outboxes : List (Putting (Outgoing A))) → HasRoomFor (output ∷ rest) outboxes → HasRoomFor rest (put_first output outboxes)
-  room_rest output rest outboxes room line = (first_at output rest outboxes room line).1
+  module _ (output : Output A) (rest : List (Output A)) (outboxes : List (Putting (Outgoing A))) (room : HasRoomFor (output ∷ rest) outboxes) where
+    pub room_rest : HasRoomFor rest (put_first output outboxes)
+    room_rest line =
+        let enough = room line in
+        let all = ap length (one_more line output rest) in
+        let left = ap (λ b. b.free) (first_at output outboxes (room_first output rest outboxes room) line) in
+        omega (arith, enough, all, left, length-append (to_line line (output ∷ [])) (to_line line rest))
 
-  pub put_rest : (output : Output A) (rest : List (Output A)) (outboxes after : List (Putting (Outgoing A))) → HasRoomFor (output ∷ rest) outboxes
-      → IsPut rest (put_first output outboxes) after → IsPut (output ∷ rest) outboxes after
-  put_rest output rest outboxes after room put = record {
-    count = put.count ∙ length-set outboxes output.line (with_items (outbox_at outboxes output.line) (output.outgoing ∷ []));
-    each = λ line. put.each line ∙ (first_at output rest outboxes room line).0;
-  }
+    pub put_rest : (after : List (Putting (Outgoing A))) → IsPut rest (put_first output outboxes) after → IsPut (output ∷ rest) outboxes after
+    put_rest after put = record {
+      count = put.count ∙ length-set outboxes output.line (with_items (outbox_at outboxes output.line) (output.outgoing ∷ []));
+      each = λ line.
+          put.each line ∙ ap (λ b. with_items b (to_line line rest)) (first_at output outboxes (room_first output rest outboxes room) line)
+          ∙ with_items_more (outbox_at outboxes line) (to_line line (output ∷ [])) (to_line line rest) ∙ ap (with_items (outbox_at outboxes line)) (sym (one_more line output rest));
+    }
 
   pub put_none : (outboxes : List (Putting (Outgoing A))) → IsPut [] outboxes outboxes
   put_none outboxes = record { count = refl; each = λ line. sym (with_none (outbox_at outboxes line)) }

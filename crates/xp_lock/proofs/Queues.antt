@@ -9,7 +9,7 @@ use Rattle.xp_lock.specs.declared.fault.OfferFault.{OfferFault}
 use Rattle.xp_lock.specs.declared.fault.OfferFault.TheVariants.{Halted, JournalFull, NoRoom, Memory}
 use Rattle.xp_lock.specs.Outboxes.{LooksIf, outbox_at}
 use Rattle.xp_lock.specs.CoreWithOutboxes.{Refuses, CoreWithOutboxes, Takes, is_up}
-use Rattle.xp_lock.proofs.Ready.{alike, as_many}
+use Rattle.xp_lock.proofs.Ready.{are_alike}
 
 module _ {A : Type 0} where
   abbrev pub queues : List (Putting (Outgoing A)) → List TableId
@@ -38,7 +38,7 @@ module _ {A : Type 0} where
 
   looked_left : (old new : CoreWithOutboxes A) (up : Bool) (line : ℕ) → new ≡ record old { outboxes = new.outboxes } → LooksIf up line old.outboxes new.outboxes → IsLeft old new
   looked_left old new up line same looks = record {
-    queues_same = same_queues old.outboxes new.outboxes (as_many up line old.outboxes new.outboxes looks) (λ other. (alike up line old.outboxes new.outboxes looks other).queue);
+    queues_same = let alike = are_alike up line old.outboxes new.outboxes looks in same_queues old.outboxes new.outboxes alike.count (λ other. (alike.each other).queue);
     history = ap (λ s. s.history) same;
     subs = ap (λ s. s.subs) same;
     given = ap (λ s. s.given) same;

@@ -1,12 +1,12 @@
 -- What the passes of a closed exchange took, and how it is counted.
-use Rattle.std.proofs.Common.{◌≡◌, ℕ, ◌+◌, ◌-◌, ◌*◌, ◌^◌, ◌<◌, ◌≤◌, Bool, true, false, true≢false, eqb, List, [], ◌∷◌, ◌++◌, All, length, set, refl, sym, ap, ◌∙◌, inl, inr, arith, eq-eqb, length-append}
+use Rattle.std.proofs.Common.{◌≡◌, ℕ, ◌+◌, ◌-◌, ◌*◌, ◌^◌, ◌<◌, ◌≤◌, true, false, true≢false, eqb, List, [], ◌∷◌, ◌++◌, All, length, set, refl, sym, ap, ◌∙◌, inl, inr, arith, eq-eqb, length-append}
 use Rattle.std.proofs.Math.Nat.{min-eq_left, min-eq_right}
 use Rattle.std.proofs.Math.Seq.{take-append_seam}
-use Rattle.std.proofs.lemmas.Bool.{cases_eq, cases_lt}
+use Rattle.std.proofs.lemmas.Bool.{cases_eq, cases_lt, or_left, or_right}
 use Rattle.std.proofs.lemmas.Grind.{flat_map-append}
 use Rattle.std.proofs.lemmas.List.{get_or-replicate, get_or-set_other, get_or-set_same, get_or_past, length-replicate}
 use Rattle.std.proofs.lemmas.List.Elements.{All-cons, All-head, All-nil, All-tail}
-use Rattle.std.specs.Prelude.{◌||◌, min, replicate, take}
+use Rattle.std.specs.Prelude.{min, replicate, take}
 use mathlib.Core.List.{IsPrefix}
 use Rattle.xp_subs.specs.Tables.{Tables, line_count}
 use Rattle.xp_step.specs.declared.entry.Entry.{Entry}
@@ -77,22 +77,18 @@ module _ {A : Type 0} where
 
 -- ---- the counts by line
 
-or_right : (b : Bool) → (b || true) ≡ true
-or_right true = refl
-or_right false = refl
-
 -- these later counts are the same for these lines
 abbrev pub Agree : List ℕ → List ℕ → List ℕ → Type 0
 Agree lines counts later = (line : ℕ) → is_among line lines ≡ true → taken_by later line ≡ taken_by counts line
 
 pub agree_before : (lines counts later : List ℕ) (line n : ℕ) → is_among line lines ≡ false → Agree (line ∷ lines) (set counts line n) later → Agree lines counts later
 agree_before lines counts later line n out agree other there =
-    agree other (ap (λ b. eqb line other || b) there ∙ or_right (eqb line other))
+    agree other (or_right (eqb line other) (is_among other lines) there)
     ∙ get_or-set_other counts line other n 0 (λ same. true≢false (sym there ∙ ap (λ l. is_among l lines) same ∙ out))
 
 pub noted_here : (lines counts later : List ℕ) (line n : ℕ) → line < length counts → Agree (line ∷ lines) (set counts line n) later → taken_by later line ≡ n
 noted_here lines counts later line n within agree =
-    agree line (ap (λ b. b || is_among line lines) (eq-eqb line line refl)) ∙ get_or-set_same counts line n 0 within
+    agree line (or_left (eqb line line) (is_among line lines) (eq-eqb line line refl)) ∙ get_or-set_same counts line n 0 within
 
 none_taken : (lines line : ℕ) → taken_by (replicate lines 0) line ≡ 0
 none_taken lines line = elim (cases_lt line lines) [

@@ -4,21 +4,20 @@ ghost use Rattle.std.specs.Prelude.{◌≡◌, ◌<◌, IfOk, IfErr, OnErr, OnOk
 ghost use Rattle.xp_subs.specs.Tables.{line_count};
 ghost use Rattle.xp_step.specs.Exchange.{IsReadable};
 ghost use Rattle.xp_lock.specs.steps.Outboxes.{OutboxesMatch};
-ghost use Rattle.xp_lock.specs.steps.Stalling.{CanEnter, with_outboxes};
-ghost use Rattle.xp_lock.specs.CoreWithOutboxes.{Takes};
+ghost use Rattle.xp_lock.specs.steps.Stalling.{CanEnter, HasTaken, with_outboxes};
 
 use crate::fault::OfferFault;
 use crate::given::GivenLines;
 use crate::outboxes::{OutboxPutEnd, put_out};
 use crate::receipt::Receipt;
-use crate::stalling::stall_all;
+use crate::stalling::{due_line, stall};
 use std::alloc::Allocator;
 use std::sync::Wait;
 use xp_core::{Core, StepFault};
 use xp_step::{Entry, Event};
 
-/// Enters an event, puts its outputs into the outboxes, and enters the stalls that it forces, at its moment. The stalls are prepared
-/// first, so that nothing can fail once the event is entered.
+/// Enters an event, puts its outputs into the outboxes, and stalls the lines that are then due, the lowest first, at its moment,
+/// until none is due. The stalls are prepared first, so that nothing can fail once the event is entered.
 pub fn enter<A: Allocator + Copy, R: Wait>(
     rt: &R,
     core: &mut Core<A>,
@@ -27,8 +26,8 @@ pub fn enter<A: Allocator + Copy, R: Wait>(
 ) -> Result<Receipt, OfferFault<A>>
     requires line { event.line < line_count core.old.subs }
     requires readable { IsReadable event.what }
-    requires can { CanEnter core.old event outboxes.old.items }
-    ensures ok { IfOk result (λ done. Takes (with_outboxes core.old outboxes.old.items) event done (with_outboxes core.new outboxes.new.items)) }
+    requires can { CanEnter (with_outboxes core.old outboxes.old.items) event }
+    ensures ok { IfOk result (λ done. HasTaken core.old outboxes.old.items event done core.new outboxes.new.items) }
     ensures kept { OnOk result (OutboxesMatch core.new.subs core.new.history outboxes.new.items) }
     ensures err { IfErr result (λ fault. fault ≡ OfferFault.Memory event) }
     ensures core { OnErr result (core.new ≡ record core.old { stalls = core.new.stalls }) }
@@ -39,8 +38,7 @@ pub fn enter<A: Allocator + Copy, R: Wait>(
     }
     let line = event.line;
     let moment = event.moment;
-    let from = core.count();
-    let _coupled = core.line(line);
+    let _legal = core.count();
     let Entry {
         number,
         outputs,
@@ -53,6 +51,9 @@ pub fn enter<A: Allocator + Copy, R: Wait>(
     };
     let mut given = GivenLines::new();
     put_out(rt, core, outboxes, &mut given, outputs);
-    stall_all(rt, core, outboxes, &mut given, from, moment);
+    while let Some(slow) = due_line(rt, core, outboxes, &given) {
+        let Entry { outputs, .. } = stall(core, slow, moment);
+        put_out(rt, core, outboxes, &mut given, outputs);
+    }
     Ok(Receipt::new(number, core, line, given))
 }

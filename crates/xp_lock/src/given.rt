@@ -1,9 +1,8 @@
 //! The lines to which some entries put something out.
 
-ghost use Rattle.std.specs.Prelude.{◌≡◌};
-ghost use Rattle.xp_lock.specs.Given.{AreApart};
+ghost use Rattle.std.specs.Prelude.{◌≡◌, ◌≤◌, length};
+ghost use Rattle.xp_lock.specs.steps.Given.{with_lines};
 ghost use Rattle.xp_seats.specs.Among.{is_among};
-ghost use Rattle.xp_lock.specs.steps.Given.{AddFew, AreAdded};
 
 use arrayvec::ArrayVec;
 use std::alloc::Allocator;
@@ -12,16 +11,15 @@ use xp_subs::LineNo;
 
 /// For how many lines a `GivenLines` has room. One event, with the stalls that it forces, puts something out to three lines
 /// at most.
-pub const MOST_GIVEN: usize = 4;
+pub const MOST_GIVEN: usize = 3;
 
 /// The lines to which something was put out, each once.
 pub type GivenLines = ArrayVec<LineNo, MOST_GIVEN>;
 
 /// Adds the lines of these outputs that are not there yet.
 pub fn add_lines<A: Allocator>(given: &mut GivenLines, outputs: &[Output<A>])
-    requires few { AddFew given.old.items outputs.now }
-    requires once { AreApart given.old.items }
-    ensures { AreAdded given.old.items outputs.now given.new.items }
+    requires { length (with_lines given.old.items outputs.now) ≤ 3 }
+    ensures { given.new.items ≡ with_lines given.old.items outputs.now }
 {
     for output in outputs {
         if !is_there(given.as_slice(), output.line) {
@@ -31,7 +29,7 @@ pub fn add_lines<A: Allocator>(given: &mut GivenLines, outputs: &[Output<A>])
 }
 
 /// Whether a line is among these lines.
-pub fn is_there(lines: &[LineNo], line: LineNo) -> bool
+fn is_there(lines: &[LineNo], line: LineNo) -> bool
     ensures { result ≡ is_among line lines.now }
 {
     for other in lines {

@@ -1,8 +1,7 @@
 //! The put ends of the lines' outboxes: what puts outputs into them, and what looks at their free places.
 
 ghost use Rattle.std.specs.Prelude.{◌≡◌, ◌<◌, ◌≤◌, true, false, [], ◌∷◌, Some, length, map, slice_get, slice_set};
-ghost use Rattle.xp_lock.specs.Given.{AreApart};
-ghost use Rattle.xp_lock.specs.steps.Given.{AddFew, AreAdded};
+ghost use Rattle.xp_lock.specs.steps.Given.{with_lines};
 ghost use Rattle.xp_lock.specs.Outboxes.{IsLookedAt, LooksIf, PLACES_KEPT, outbox_at};
 ghost use Rattle.xp_lock.specs.steps.Outboxes.{HasRoomFor, IsPut, with_items};
 
@@ -62,11 +61,10 @@ pub fn put_out<A: Allocator + Copy, R: Wait>(
     outputs: Outputs<A>,
 )
     requires room { HasRoomFor outputs outboxes.old.items }
-    requires few { AddFew given.old.items outputs }
-    requires once { AreApart given.old.items }
+    requires few { length (with_lines given.old.items outputs) ≤ 3 }
     ensures core { core.new ≡ core.old }
     ensures outboxes { IsPut outputs outboxes.old.items outboxes.new.items }
-    ensures given { AreAdded given.old.items outputs given.new.items }
+    ensures given { given.new.items ≡ with_lines given.old.items outputs }
 {
     add_lines(given, outputs.as_slice());
     core.keep_memory(put_all(rt, outboxes, outputs));
@@ -108,7 +106,7 @@ pub fn has_room<A: Allocator, R: Wait>(
 }
 
 /// Looks at the free places of a line's outbox, and returns how many there are.
-fn look<A: Allocator, R: Wait>(
+pub fn look<A: Allocator, R: Wait>(
     rt: &R,
     outboxes: &mut Vec<OutboxPutEnd<A>, A>,
     line: LineNo,
@@ -123,7 +121,7 @@ fn look<A: Allocator, R: Wait>(
 
 /// Looks at the free places of an outbox, and returns how many there are. It looks again while it finds fewer than this end
 /// knows of. That does not happen, since this end alone fills places.
-pub fn look_at<A: Allocator, R: Wait>(rt: &R, end: &mut OutboxPutEnd<A>) -> usize
+fn look_at<A: Allocator, R: Wait>(rt: &R, end: &mut OutboxPutEnd<A>) -> usize
     ensures end { end.new ≡ record end.old { free = result } }
     ensures looked { IsLookedAt end.old (record end.old { free = result }) }
 {

@@ -1,6 +1,6 @@
-use Rattle.std.proofs.Common.{take}
-use Rattle.xp_lock.specs.steps.Given.{AreAdded}
+use Rattle.std.proofs.Common.{◌≡◌, drop}
+use Rattle.xp_lock.specs.steps.Given.{with_lines}
 use Rattle.xp_lock.proofs.given.add_lines.Given as goal
 
 abbrev pub invariant-loop-output : goal.invariant-loop-output
-invariant-loop-output g l = AreAdded l.fn.given.items (take l.output-index l.fn.outputs) l.given.items
+invariant-loop-output g l = with_lines l.given.items (drop l.output-index l.fn.outputs) ≡ with_lines l.fn.given.items l.fn.outputs

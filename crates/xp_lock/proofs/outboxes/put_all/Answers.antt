@@ -29,7 +29,7 @@ loop-output-preserved g c =
       put = λ after put.
           let Put : List (Putting (Outgoing _)) → Type 0 = λ bs. IsPut rest bs after in
           let All : List (Output _) → Type 0 = λ xs. IsPut xs outboxes after in
-          was.put after (subst All (sym items) (put_rest c.in-Some.output rest outboxes after room (subst Put set put)));
+          was.put after (subst All (sym items) (put_rest c.in-Some.output rest outboxes room after (subst Put set put)));
     }
 
 pub loop-output-smaller : goal.loop-output-smaller
