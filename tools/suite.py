@@ -48,6 +48,7 @@ SCRIPTS = [
     Script("serve/page.py", "", "the console's page in a browser, where there is one", 15),
     Script("serve/records_file.py", "", "the file of call detail records", 40),
     Script("serve/rotation.py", "", "the file of call detail records moved, removed and rotated under calls", 40),
+    Script("serve/days.py", "", "call detail records by the day, over a midnight of the clock", 80),
     Script("serve/traces.py", "", "the trace of lines", 40),
     Script("serve/disk.py", "", "disks that fail or hang, and outputs that nobody reads", 60),
     Script("serve/ports.py", "", "hosts, ports, strangers, and output that fails", 40),

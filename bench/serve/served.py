@@ -82,9 +82,9 @@ class Served(server.Process):
     def said(self):
         return f"the program that serves said: {self.told().strip() or 'nothing'}"
 
-    def wait_until_told(self, text, count=1):
+    def wait_until_told(self, text, count=1, most=PATIENCE):
         """Waits until it has told this text so often."""
-        until(lambda: self.told().count(text) >= count, f"it has not told: {text}")
+        until(lambda: self.told().count(text) >= count, f"it has not told: {text}", most)
 
     def rise(self, port, source=None):
         """A connection to the port of a line, once the line is up: a clear request without a call is confirmed, and counts for

@@ -19,6 +19,7 @@ use std::time::Clock;
 use xp_arguments::ServeOrder;
 use xp_cdr::{DetailFile, ExchangeName, ExchangeRun, Opened, RecordFile};
 use xp_clock::WallClock;
+use xp_days::{DayFiles, day_of, newest_file};
 use xp_keeping::{DetailKeeper, OperatorLog, PatientOutput, start_details};
 use xp_listening::ServeFailure;
 use xp_readiness::{Failure, Tracing};
@@ -53,11 +54,7 @@ pub(crate) fn serve_into_file<
     requires spare { subs.spare ≡ subs.own }
 {
     let (file, opened) = DetailFile::open(rt.alloc(), host, path)?;
-    tell_found(rt, clock, &opened);
-    let run = ExchangeRun {
-        started: moment_of_start(clock, &opened),
-        exchange: name_of_exchange(rt, order.exchange, &subs.own),
-    };
+    let run = run_of(rt, order, clock, &opened, &subs.own);
     let log = OperatorLog::new(host, order.quiet);
     let details = DetailsOfRun { file, run, log };
     let mut output = PatientOutput::new(host);
@@ -66,11 +63,64 @@ pub(crate) fn serve_into_file<
     Ok(())
 }
 
+/// Serves the lines as `serve_into_file` does, with a file of call detail records for each day in this directory.
+pub(crate) fn serve_into_directory<
+    R: AllocGlobal
+        + Clock
+        + Copy
+        + Drop
+        + Files<File = File>
+        + Log
+        + Net<Listener = TcpListener, Stream = TcpStream>
+        + RandomSource
+        + Send
+        + Sync
+        + Threads
+        + Wait
+        + 'static,
+>(
+    rt: &R,
+    host: HostRuntime,
+    order: &ServeOrder<'_>,
+    path: &str,
+    clock: WallClock,
+    subs: ThreeSubs,
+) -> Result<(), Failure>
+    requires names { subs.names ≡ subs.own }
+    requires spare { subs.spare ≡ subs.own }
+{
+    let today = day_of(clock.seconds());
+    let newest = newest_file(&host, path, today)?;
+    let (file, opened) = DayFiles::open(host, path, &newest, today)?;
+    let run = run_of(rt, order, clock, &opened, &subs.own);
+    let log = OperatorLog::new(host, order.quiet);
+    let details = DetailsOfRun { file, run, log };
+    let mut output = PatientOutput::new(host);
+    let told = serve_with_details(rt, order, clock, subs, details, &mut output)?;
+    told?;
+    Ok(())
+}
+
+/// Tells how the file of call detail records was found. Returns the run that begins now.
+fn run_of<R: Files<File = File> + Log>(
+    rt: &R,
+    order: &ServeOrder<'_>,
+    clock: WallClock,
+    opened: &Opened,
+    subs: &Subs,
+) -> ExchangeRun {
+    tell_found(rt, clock, opened);
+    ExchangeRun {
+        started: moment_of_start(clock, opened),
+        exchange: name_of_exchange(rt, order.exchange, subs),
+    }
+}
+
 /// What the charging records of a run are kept with.
 #[derive(Drop)]
-struct DetailsOfRun {
+struct DetailsOfRun<F: RecordFile> {
     /// The file of call detail records, which has just been opened.
-    file: DetailFile<HostRuntime>,
+    file: F,
     /// The run of which exchange they are of.
     run: ExchangeRun,
     log: OperatorLog<HostRuntime>,
@@ -96,20 +146,22 @@ fn serve_with_details<
         + Threads
         + Wait
         + 'static,
+    F: RecordFile + Send + 'static,
     W: Write,
 >(
     rt: &R,
     order: &ServeOrder<'_>,
     clock: WallClock,
     subs: ThreeSubs,
-    details: DetailsOfRun,
+    details: DetailsOfRun<F>,
     output: &mut W,
 ) -> Result<Result<(), ServeFailure>, Failure>
     requires names { subs.names ≡ subs.own }
     requires spare { subs.spare ≡ subs.own }
-    requires taken { ⟦<DetailFile<HostRuntime> as RecordFile>⟧.taken details.file ≡ [] }
-    requires synced { ⟦<DetailFile<HostRuntime> as RecordFile>⟧.synced details.file ≡ [] }
-    requires failures { ⟦<DetailFile<HostRuntime> as RecordFile>⟧.failures details.file ≡ 0 }
+    requires taken { F.taken details.file ≡ [] }
+    requires synced { F.synced details.file ≡ [] }
+    requires before { (F.current details.file).before ≡ [] }
+    requires failures { F.failures details.file ≡ 0 }
     ensures ok { IfOk result (λ told. (keeper : Queued Keeping) × LeavesAlone subs.own details.run keeper (W.contents output.old) (W.contents output.new) told) }
     ensures err { OnErr result (W.contents output.new ≡ W.contents output.old) }
 {

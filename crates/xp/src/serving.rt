@@ -3,7 +3,7 @@
 ghost use Rattle.std.specs.Prelude.{◌≡◌, [], IfOk};
 ghost use Rattle.xp_serve.specs.Serving.{Serves};
 
-use crate::into_file::serve_into_file;
+use crate::into_file::{serve_into_directory, serve_into_file};
 use crate::served_console::ServedConsole;
 use log::Log;
 use std::alloc::AllocGlobal;
@@ -17,7 +17,7 @@ use std::sync::{Arc, Wait};
 use std::thread;
 use std::thread::{JoinHandle, Scope, Threads};
 use std::time::Clock;
-use xp_arguments::ServeOrder;
+use xp_arguments::{DetailsOrder, ServeOrder};
 use xp_clock::WallClock;
 use xp_keeping::{OperatorLog, RecordKeeper, RecordPrinter, StandardOutput, start_printer};
 use xp_limits::Limits;
@@ -42,8 +42,8 @@ pub(crate) struct ThreeSubs {
     pub(crate) spare: Subs,
 }
 
-/// Serves the lines as they were ordered. Their charging records are kept in the file of call detail records if there is one, and
-/// are otherwise printed: by `host`, since what a thread of its own works with has no type parameter.
+/// Serves the lines as they were ordered. Their charging records are kept in the file of call detail records, or in those of a
+/// directory, if there is one, and are otherwise printed: by `host`, since what a thread of its own works with has no type parameter.
 pub(crate) fn serve_lines<
     R: AllocGlobal
         + Clock
@@ -64,7 +64,10 @@ pub(crate) fn serve_lines<
 {
     let clock = WallClock::start();
     match order.details {
-        Some(path) => serve_into_file(rt, host, order, path, clock, subs),
+        Some(DetailsOrder::File(path)) => serve_into_file(rt, host, order, path, clock, subs),
+        Some(DetailsOrder::Directory(path)) => {
+            serve_into_directory(rt, host, order, path, clock, subs)
+        }
         None => serve_and_print(rt, host, order, clock, subs),
     }
 }

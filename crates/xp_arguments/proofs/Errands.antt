@@ -1,7 +1,9 @@
 -- What the arguments of a command ask for.
 use Rattle.std.proofs.Common.{◌≡◌, ◌∙◌, [], cond, refl, sym, ap, subst, codes, option_map, Option, Some, None, IfNone, IfSome, List, ℕ, Bool, nat_eq, slice_index_or}
 use Rattle.clap.specs.Words.{Row, Text, first_of}
-use Rattle.xp_arguments.specs.Commands.{AsksFor, HasLimits, HasName, HasReplayForm, HasTrace, IsNamed, IsOneForm, IsOrder, has_flag, IsQuestion, IsSubcommand, IsTrace, operand_of, verb_of, word_of}
+use Rattle.xp_arguments.specs.Commands.{AreDetails, AsksFor, HasDetails, directory_of, file_of, HasLimits, HasName, HasReplayForm, HasTrace, IsNamed, IsOneForm, IsOrder, has_flag, IsQuestion, IsSubcommand, IsTrace, operand_of, verb_of, word_of}
+use Rattle.xp_arguments.specs.declared.details_order.DetailsOrder.{DetailsOrder}
+use Rattle.xp_arguments.specs.declared.details_order.DetailsOrder.TheVariants as details_orders
 use Rattle.xp_arguments.specs.declared.subcommand.QuestionOrder.{QuestionOrder}
 use Rattle.xp_arguments.specs.declared.subcommand.ReplayForm.{ReplayForm}
 use Rattle.xp_arguments.specs.declared.subcommand.ServeOrder.{ServeOrder}
@@ -45,6 +47,10 @@ no_order rows none order is = none order.limits is.limits
 pub no_trace : (rows : List Row) → ((trace : Option TraceOrder) → HasTrace rows trace → ⊥) → (order : ServeOrder) → IsOrder rows order → ⊥
 no_trace rows none order is = none order.trace is.trace
 
+-- arguments that name a file and a directory of call detail records
+pub no_details : (rows : List Row) → ((details : Option DetailsOrder) → HasDetails rows details → ⊥) → (order : ServeOrder) → IsOrder rows order → ⊥
+no_details rows none order is = none order.details is.details
+
 -- arguments with a name that is none of an exchange
 pub no_name : (rows : List Row) → ((name : Option Text) → HasName rows name → ⊥) → (order : ServeOrder) → IsOrder rows order → ⊥
 no_name rows none order is = none (option_map (λ name. name.now) order.exchange) is.exchange
@@ -68,6 +74,25 @@ module _ (rows : List Row) (path lines : Option Text) (path_is : path ≡ first_
   has_no_trace none =
       subst (λ path. IfNone found ((trace : Option TraceOrder) → IsTrace path (first_of (codes "trace-lines") rows) trace → ⊥)) path_is
       (subst (λ lines. IfNone found ((trace : Option TraceOrder) → IsTrace path lines trace → ⊥)) lines_are none)
+
+-- no call detail records go to a file and to a directory
+pub not_both : (details : Option DetailsOrder) (file directory : Text) → file_of details ≡ Some file → directory_of details ≡ Some directory → ⊥
+not_both None file directory is too = cc
+not_both (Some (details_orders.File name)) file directory is too = cc
+not_both (Some (details_orders.Directory name)) file directory is too = cc
+
+-- where the arguments ask call detail records to go
+module _ (rows : List Row) (file directory : Option Text) (file_is : file ≡ first_of (codes "cdr") rows) (directory_is : directory ≡ first_of (codes "cdr-dir") rows)
+    (found : Option (Option DetailsOrder)) where
+  pub has_details : IfSome found (AreDetails file directory) → IfSome found (HasDetails rows)
+  has_details is =
+      subst (λ file. IfSome found (AreDetails file (first_of (codes "cdr-dir") rows))) file_is
+      (subst (λ directory. IfSome found (AreDetails file directory)) directory_is is)
+
+  pub has_no_details : IfNone found ((details : Option DetailsOrder) → AreDetails file directory details → ⊥) → IfNone found ((details : Option DetailsOrder) → HasDetails rows details → ⊥)
+  has_no_details none =
+      subst (λ file. IfNone found ((details : Option DetailsOrder) → AreDetails file (first_of (codes "cdr-dir") rows) details → ⊥)) file_is
+      (subst (λ directory. IfNone found ((details : Option DetailsOrder) → AreDetails file directory details → ⊥)) directory_is none)
 
 -- arguments without a calling line
 pub no_caller : (rows : List Row) → first_of (codes "CALLER") rows ≡ None → (question : QuestionOrder) → IsQuestion rows question → ⊥

@@ -10,6 +10,8 @@ use Rattle.xp_arguments.specs.declared.subcommand.CheckForm.{CheckForm}
 use Rattle.xp_arguments.specs.declared.subcommand.CheckForm.TheVariants as check_forms
 use Rattle.xp_arguments.specs.declared.subcommand.ConsoleRequest.{ConsoleRequest}
 use Rattle.xp_arguments.specs.declared.subcommand.ConsoleRequest.TheVariants as requests
+use Rattle.xp_arguments.specs.declared.details_order.DetailsOrder.{DetailsOrder}
+use Rattle.xp_arguments.specs.declared.details_order.DetailsOrder.TheVariants as details_orders
 use Rattle.xp_arguments.specs.declared.subcommand.QuestionOrder.{QuestionOrder}
 use Rattle.xp_arguments.specs.declared.subcommand.ReplayForm.{ReplayForm}
 use Rattle.xp_arguments.specs.declared.subcommand.ReplayForm.TheVariants as replay_forms
@@ -78,7 +80,9 @@ explain = with_rule (with_rule (with_rule call (valued (codes "up"))) (valued (c
 
 -- the command that serves, with the arguments that tell of records
 abbrev pub recording : App
-recording = with_rule (with_rule (with_rule (command_of Serve) (valued (codes "cdr"))) (valued (codes "name"))) (valued (codes "records"))
+recording =
+    with_rule (with_rule (with_rule (with_rule (command_of Serve) (valued (codes "cdr"))) (valued (codes "cdr-dir"))) (valued (codes "name")))
+    (valued (codes "records"))
 
 -- with those that tell of a trace
 abbrev pub tracing : App
@@ -158,6 +162,25 @@ pub record IsQuestion (rows : List Row) (question : QuestionOrder) : Type 0 wher
 abbrev pub HasLimits : List Row → Limits → Type 0
 HasLimits rows limits = AreLimits (first_of (codes "records") rows) (first_of (codes "turns") rows) limits
 
+-- the name of the file to which call detail records go, and that of the directory: at most one of them is there
+abbrev pub file_of : Option DetailsOrder → Option Text
+file_of None = None
+file_of (Some (details_orders.File name)) = Some name.now
+file_of (Some (details_orders.Directory name)) = None
+
+abbrev pub directory_of : Option DetailsOrder → Option Text
+directory_of None = None
+directory_of (Some (details_orders.File name)) = None
+directory_of (Some (details_orders.Directory name)) = Some name.now
+
+-- call detail records go to the file of this name, or to files in the directory of this name, or nowhere
+abbrev pub AreDetails : Option Text → Option Text → Option DetailsOrder → Type 0
+AreDetails file directory details = (file_of details ≡ file) × (directory_of details ≡ directory)
+
+-- the arguments say where call detail records go
+abbrev pub HasDetails : List Row → Option DetailsOrder → Type 0
+HasDetails rows details = AreDetails (first_of (codes "cdr") rows) (first_of (codes "cdr-dir") rows) details
+
 -- a trace into the file of this name, of these lines or of all; nothing is traced where neither is there
 abbrev pub IsTrace : Option Text → Option Text → Option TraceOrder → Type 0
 IsTrace path lines None = (path ≡ None) × (lines ≡ None)
@@ -181,7 +204,7 @@ HasName rows name = IsNamed (first_of (codes "name") rows) name
 -- the arguments say how the lines are to be served
 pub record IsOrder (rows : List Row) (order : ServeOrder) : Type 0 where
   pub limits : HasLimits rows order.limits
-  pub details : option_map (λ name. name.now) order.details ≡ first_of (codes "cdr") rows
+  pub details : HasDetails rows order.details
   pub exchange : HasName rows (option_map (λ name. name.now) order.exchange)
   pub trace : HasTrace rows order.trace
   pub console : option_map (λ address. address.now) order.console ≡ first_of (codes "console") rows

@@ -3,6 +3,7 @@
 
 mod addresses;
 mod arguments;
+mod details_order;
 mod laws;
 mod misfits;
 mod source;
@@ -11,6 +12,7 @@ mod texts;
 
 pub use addresses::{console_address, no_console_address};
 pub use arguments::{Arguments, refused};
+pub use details_order::DetailsOrder;
 pub use laws::errands_can_be_asked_for;
 pub use source::FileSource;
 pub use subcommand::{

@@ -1,6 +1,8 @@
 //! What is wrong with arguments that ask for nothing, in words for a person. No contract says what is told.
 
-use crate::subcommand::{LADDER, NAME, PCAP, RECORDS, TRACE, TRACE_LINES, TURNS, WORDS, is_true};
+use crate::subcommand::{
+    CDR, CDR_DIR, LADDER, NAME, PCAP, RECORDS, TRACE, TRACE_LINES, TURNS, WORDS, is_true,
+};
 use clap::ArgMatches;
 use std::alloc::{AllocError, Global};
 use xp_cdr::ExchangeName;
@@ -49,6 +51,9 @@ fn faulty_text<'a>(matches: &ArgMatches<'a>, name: &str) -> Option<&'a str> {
 fn unfit_arguments(matches: &ArgMatches<'_>) -> &'static str {
     if matches.get_str(TRACE_LINES).is_some() && matches.get_str(TRACE).is_none() {
         return "--trace-lines needs --trace";
+    }
+    if matches.get_str(CDR).is_some() && matches.get_str(CDR_DIR).is_some() {
+        return "--cdr and --cdr-dir do not go together";
     }
     let words = is_true(matches, WORDS);
     let ladder = is_true(matches, LADDER);

@@ -4,6 +4,7 @@ ghost use Rattle.std.specs.Prelude.{◌≡◌, IfNone, IfSome, Option, Some, cod
 ghost use Rattle.clap.specs.Words.{Text, first_of, found_of, rows_of};
 ghost use Rattle.xp_arguments.specs.Commands.{HasCheckForm, HasDepth, HasLimits, HasName, HasReplayForm, HasTrace, IsNamed, IsOneForm, IsOrder, IsQuestion, IsSubcommand, IsTrace, Suits, operand_of, says_true, verb_of, word_of};
 
+use crate::details_order::{DetailsOrder, details_of};
 use clap::ArgMatches;
 use xp_cdr::ExchangeName;
 use xp_limits::Limits;
@@ -52,6 +53,9 @@ pub const STATUS: &str = "status";
 
 /// The argument for the file of call detail records.
 pub const CDR: &str = "cdr";
+
+/// The argument for the directory of call detail records by the day.
+pub const CDR_DIR: &str = "cdr-dir";
 
 /// The argument for the name of the exchange.
 pub const NAME: &str = "name";
@@ -204,8 +208,8 @@ pub struct TraceOrder<'a> {
 #[derive(Clone, Copy, PartialEq, Eq)]
 pub struct ServeOrder<'a> {
     pub limits: Limits,
-    /// The name of the file of call detail records, if there is to be one.
-    pub details: Option<&'a str>,
+    /// Where call detail records go, if they are to be written.
+    pub details: Option<DetailsOrder<'a>>,
     /// The name of the exchange, if it is given one. It is that of an exchange.
     pub exchange: Option<&'a str>,
     /// What is to be traced, if anything.
@@ -374,7 +378,7 @@ fn order_of<'a>(matches: &ArgMatches<'a>) -> Option<ServeOrder<'a>>
     let limits = limits_of(matches)?;
     let trace = trace_of(matches)?;
     let exchange = exchange_of(matches)?;
-    let details = matches.get_str(CDR);
+    let details = details_of(matches)?;
     let console = matches.get_str(CONSOLE);
     let quiet = is_true(matches, QUIET);
     let until_eof = is_true(matches, UNTIL_EOF);

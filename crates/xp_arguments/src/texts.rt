@@ -109,6 +109,9 @@ pub(crate) const STATUS_HELP: &str = "Ends with status 1 where the call is refus
 
 pub(crate) const CDR_HELP: &str = "Writes call detail records at the end of this file (CSV)";
 
+pub(crate) const CDR_DIR_HELP: &str =
+    "Writes them into this directory instead, a file for each day (UTC)";
+
 pub(crate) const NAME_HELP: &str =
     "Names the exchange so in its records, not by its file or host: letters, digits, - and .";
 

@@ -1,7 +1,11 @@
 mod DigitLemmas
 mod FileLemmas
+mod GivenLemmas
+mod LedgerLemmas
 mod LineLemmas
-mod MomentLemmas
+pub mod MomentLemmas
 mod NameLemmas
 mod PlainLemmas
+mod SentLemmas
+mod TextLemmas
 mod WriterLemmas

@@ -91,7 +91,7 @@ since_1970 year month day days is counted =
     ]
 
 -- the text of a date is that of its year, month and day
-date_is : (year : ℤ) (month day days : ℕ) → IsCivilDate year month day → days_from_civil year month day ≡ pos days → jiff.year_text year ++ 45 ∷ [] ++ jiff.pad2 month ++ 45 ∷ [] ++ jiff.pad2 day ≡ date_text days
+pub date_is : (year : ℤ) (month day days : ℕ) → IsCivilDate year month day → days_from_civil year month day ≡ pos days → jiff.year_text year ++ 45 ∷ [] ++ jiff.pad2 month ++ 45 ∷ [] ++ jiff.pad2 day ≡ date_text days
 date_is (negsuc n) month day days is e =
     let before = day_count-lt_year (negsuc n) month day (pos 1970) 1 1 is (omega arith) (omega (arith, signed_arith)) in
     absurd (omega (arith, signed_arith, days_from_civil-day_count (negsuc n) month day, day_count-epoch))

@@ -14,7 +14,6 @@ use Rattle.xp_packets.specs.declared.end.End.TheVariants.{Caller, Called}
 use Rattle.xp_file.specs.Name.{is_line_letter}
 use Rattle.xp_subs.specs.Sound.{IsSound}
 use Rattle.xp_subs.specs.Tables.{Tables, address_of, line_count}
-use Rattle.xp_charge.specs.declared.record.Record.{Record}
 use Rattle.xp_charge.specs.Duration.{seconds_of}
 use Rattle.xp_charge.specs.Lines.{HasLines}
 use Rattle.xp_charge.specs.Text.{name_of, payer_text}

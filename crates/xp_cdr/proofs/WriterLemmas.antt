@@ -1,30 +1,8 @@
--- What a writer keeps as it is given records, and as its file takes octets.
-use Rattle.std.proofs.Common.{◌≡◌, ℕ, ◌+◌, ◌≤◌, List, [], ◌++◌, Option, None, Some, append-nil, append_assoc, arith, drop, flat_map, length, length-append, sym, take, take-add, ap, ◌∙◌, refl}
-use Rattle.std.proofs.lemmas.List.{append_cancel_left, length-drop, take-append-drop, take-append-le, take_all}
-use Rattle.std.proofs.lemmas.List.Concat.{flat_map-append}
-use Rattle.xp_cdr.specs.declared.ended.EndedCall.{EndedCall}
+-- What is known of a file as it takes octets.
+use Rattle.std.proofs.Common.{◌≡◌, ℕ, ◌+◌, ◌≤◌, List, [], ◌++◌, Option, None, Some, append-nil, append_assoc, arith, drop, length, length-append, sym, take, take-add, ap, ◌∙◌}
+use Rattle.std.proofs.lemmas.List.{append_cancel_left, length-drop, length-take, nil_from_length, take-append-drop, take-append-le, take_all}
 use Rattle.xp_cdr.specs.Files.{HasFront, LosesAnEnd}
-use Rattle.xp_cdr.specs.steps.Batch.{Texts, no_texts}
-use Rattle.xp_cdr.specs.steps.Writer.{IsAt, IsBatchOf, IsSettled}
-
--- what is on the disk, and then what waits
-pub all_text : (text : EndedCall → List ℕ) (given : List EndedCall) (synced : List ℕ) (batch : Texts) → IsBatchOf text given synced batch → flat_map text given ≡ synced ++ batch.octets
-all_text text given synced batch is =
-    ap (flat_map text) is.given_are
-    ∙ flat_map-append text is.before is.last
-    ∙ ap (λ octets. flat_map text is.before ++ octets) (sym is.octets_are)
-    ∙ ap (λ front. front ++ batch.octets) (sym is.synced_is)
-
--- the whole batch is on the disk
-pub all_synced : (text : EndedCall → List ℕ) (given : List EndedCall) (synced : List ℕ) (batch : Texts) (new : List ℕ) → IsBatchOf text given synced batch → new ≡ synced ++ batch.octets → IsBatchOf text given new no_texts
-all_synced text given synced batch new is put = record {
-  before = given;
-  last = [];
-  given_are = sym (append-nil given);
-  octets_are = refl;
-  count_is = refl;
-  synced_is = put ∙ sym (all_text text given synced batch is);
-}
+use Rattle.xp_cdr.specs.steps.Writer.{IsAt, IsSettled}
 
 -- more octets wait
 pub more_wait : (synced octets more taken : List ℕ) (place : Option ℕ) → IsAt synced octets taken place → IsAt synced (octets ++ more) taken place
@@ -94,3 +72,25 @@ rest_taken synced octets old new start count within had all more =
     ∙ ap (λ front. front ++ drop start octets) had
     ∙ append_assoc synced (take start octets) (drop start octets)
     ∙ ap (λ all. synced ++ all) (take-append-drop start octets)
+
+-- of octets that begin with these
+pub front_wider : (synced octets more taken : List ℕ) → HasFront synced octets taken → HasFront synced (octets ++ more) taken
+front_wider synced octets more taken has = record {
+  front = has.front;
+  rest = has.rest ++ more;
+  octets_are = ap (λ all. all ++ more) has.octets_are ∙ append_assoc has.front has.rest more;
+  taken_is = has.taken_is;
+}
+
+-- where there is nothing to take, nothing is taken
+pub none_taken : (synced taken : List ℕ) (place : Option ℕ) → IsAt synced [] taken place → taken ≡ synced
+none_taken synced taken None at =
+    let none : at.front ≡ [] = nil_from_length at.front (omega (arith, ap length at.octets_are, length-append at.front at.rest)) in
+    at.taken_is ∙ ap (λ front. synced ++ front) none ∙ append-nil synced
+none_taken synced taken (Some count) at =
+    let none : take count [] ≡ [] = nil_from_length (take count []) (omega (arith, length-take {A = ℕ} count [])) in
+    at.1 ∙ ap (λ front. synced ++ front) none ∙ append-nil synced
+
+-- the file has taken nothing behind what it has on the disk
+pub at_start : (synced octets taken : List ℕ) → taken ≡ synced → IsAt synced octets taken (Some 0)
+at_start synced octets taken same = (omega arith, same ∙ sym (append-nil synced))

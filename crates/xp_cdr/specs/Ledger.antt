@@ -13,7 +13,7 @@ pub record Ledger : Type 0 where
   -- the records that were given, in order, each with by what its call ended
   pub given : List EndedCall
   -- what the file has taken since it was opened, and the front of that which it has on the disk; where new files were begun at its
-  -- path, what all of them have, one after the other
+  -- path or for later parts, what all of them have, one after the other
   pub taken : List ℕ
   pub synced : List ℕ
   -- what is not on the disk yet, in memory
@@ -77,10 +77,11 @@ pub record HasAll (ledger : Ledger) : Type 0 where
   pub taken : ledger.taken ≡ details_text ledger ledger.given
   pub synced : ledger.synced ≡ ledger.taken
 
--- After a success the file has all on the disk. It fails exactly where one call of the file does; then all that waited still waits.
+-- After a success the file has all on the disk. It fails exactly where one call of the file does; then what is on the disk so far is
+-- taken off, and what waits is the call detail records of the records that were given last, each whole.
 abbrev pub Flushes : {E : Type 0} → Ledger → Result (Unit {0}) E → Ledger → Type 0
 Flushes old (Ok done) new = Takes old new × HasAll new × (new.failures ≡ old.failures)
-Flushes old (Err fault) new = Takes old new × (new.failures ≡ old.failures + 1) × (new.waiting ≡ old.waiting)
+Flushes old (Err fault) new = Takes old new × (new.failures ≡ old.failures + 1) × IsUnfinished new new.waiting
 
 -- the subscriptions of an exchange without lines
 abbrev pub no_tables : Tables

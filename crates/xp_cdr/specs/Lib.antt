@@ -4,4 +4,5 @@ pub mod Files
 pub mod Ledger
 pub mod Moments
 pub mod Names
+pub mod Parts
 pub mod steps

@@ -1,5 +1,5 @@
 -- The names of exchanges.
-use Rattle.std.specs.Prelude.{◌≡◌, ◌≤◌, ℕ, List, Bool, true, ◌&&◌, ◌||◌, nat_eq, nat_le, codes, if◌then◌else◌, length, map, take}
+use Rattle.std.specs.Prelude.{◌≡◌, ℕ, List, Bool, true, ◌&&◌, ◌||◌, nat_eq, nat_le, codes, if◌then◌else◌, length, map, take}
 use Rattle.std.specs.List.{list_all}
 use Rattle.xp_file.specs.Name.{is_group_letter}
 

@@ -14,6 +14,7 @@ pub fn append_all<F: RecordFile>(file: &mut F, octets: &[u8]) -> (usize, io::Res
     ensures bound { result.0 ≤ length octets.now }
     ensures taken { F.taken file.new ≡ F.taken file.old ++ take result.0 octets.now }
     ensures synced { F.synced file.new ≡ F.synced file.old }
+    ensures current { F.current file.new ≡ F.current file.old }
     ensures all { OnOk result.1 (result.0 ≡ length octets.now) }
     ensures failures { MatchResult result.1 (λ _. F.failures file.new ≡ F.failures file.old) (λ _. F.failures file.new ≡ F.failures file.old + 1) }
 {

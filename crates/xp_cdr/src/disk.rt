@@ -21,6 +21,7 @@ pub fn put_on_disk<F: RecordFile>(
 ) -> (Option<usize>, io::Result<()>)
     requires { IsAt (F.synced file.old) octets.now (F.taken file.old) taken }
     ensures put { IsPut (F.synced file.old) octets.now (F.synced file.new) (F.taken file.new) result.0 result.1 }
+    ensures current { F.current file.new ≡ F.current file.old }
     ensures failures { MatchResult result.1 (λ _. F.failures file.new ≡ F.failures file.old) (λ _. F.failures file.new ≡ F.failures file.old + 1) }
 {
     let start = match settle(file, taken) {
@@ -40,6 +41,7 @@ pub fn put_on_disk<F: RecordFile>(
 /// What the file tells.
 fn settle<F: RecordFile>(file: &mut F, taken: Option<usize>) -> io::Result<usize>
     ensures synced { F.synced file.new ≡ F.synced file.old }
+    ensures current { F.current file.new ≡ F.current file.old }
     ensures ok { IfOk result (IsSettled (F.synced file.old) (F.taken file.old) (F.taken file.new) taken) }
     ensures err { OnErr result (LosesAnEnd (F.synced file.old) (F.taken file.old) (F.taken file.new)) }
     ensures failures { MatchResult result (λ _. F.failures file.new ≡ F.failures file.old) (λ _. F.failures file.new ≡ F.failures file.old + 1) }
@@ -61,6 +63,7 @@ fn settle<F: RecordFile>(file: &mut F, taken: Option<usize>) -> io::Result<usize
 fn sync_all<F: RecordFile>(file: &mut F, octets: &[u8]) -> (Option<usize>, io::Result<()>)
     requires { F.taken file.old ≡ F.synced file.old ++ octets.now }
     ensures put { IsPut (F.synced file.old) octets.now (F.synced file.new) (F.taken file.new) result.0 result.1 }
+    ensures current { F.current file.new ≡ F.current file.old }
     ensures failures { MatchResult result.1 (λ _. F.failures file.new ≡ F.failures file.old) (λ _. F.failures file.new ≡ F.failures file.old + 1) }
 {
     if octets.is_empty() {

@@ -1,17 +1,15 @@
 //! A file of call detail records.
 
-ghost use Rattle.std.specs.Prelude.{◌≡◌, [], ◌∷◌, ◌++◌, IfOk, length};
+ghost use Rattle.std.specs.Prelude.{◌≡◌, ◌+◌, [], ◌∷◌, ◌++◌, IfOk, MatchResult, length};
 ghost use Rattle.std.specs.Io.{StartsWith};
 ghost use Rattle.std.specs.IoError.{error_kind};
 
-use crate::detail::{HEADER, OLD_HEADER};
-use crate::last_line::last_started;
 use crate::opening::{OpenFault, Opened};
 use crate::record_file::{Place, RecordFile};
-use crate::torn::end_of_lines;
-use std::alloc::Global;
+use crate::tidying::tidy;
+use std::alloc::{AllocError, Global};
 use std::fs::{File, Files, Metadata, TryLockError};
-use std::io::{ErrorKind, Read, Seek, SeekFrom, Write};
+use std::io::{ErrorKind, Write};
 use std::os::unix::fs::MetadataExt;
 use std::{fs, io};
 use xp_past::Past;
@@ -57,6 +55,26 @@ impl<R: Files<File = File> + Drop> RecordFile for DetailFile<R> {
 
     ghost failures = { λ file. length file.failures.items };
 
+    ghost part_of = { λ _. 0 };
+
+    ghost current = { λ _. record { part = 0; before = [] } };
+
+    fn part_at(&self, _moment: u64) -> u64 {
+        0
+    }
+
+    fn open_part(&self) -> u64 {
+        0
+    }
+
+    fn name(&self) -> &str {
+        let path = self.path.as_str();
+        match path.rsplit_once('/') {
+            Some((_, name)) => name,
+            None => path,
+        }
+    }
+
     fn append(&mut self, octets: &[u8]) -> io::Result<usize> {
         match self.file.write(octets) {
             Ok(0) if !octets.is_empty() => Err(self.failed(io::Error::from(ErrorKind::WriteZero))),
@@ -101,11 +119,14 @@ impl<R: Files<File = File> + Drop> RecordFile for DetailFile<R> {
                 self.go_on_in(begun);
                 Ok(Place::Begun)
             }
-            Err(fault) => {
-                self.failures.push(&ErrorKind::Other);
-                Err(fault)
-            }
+            Err(fault) => Err(self.refused(fault)),
         }
+    }
+
+    /// One file has the records of all moments: no other one is begun.
+    fn begin(&mut self, _part: u64) -> Result<(), OpenFault> {
+        let error = io::Error::from(ErrorKind::Unsupported);
+        Err(self.refused(OpenFault::Open(error)))
     }
 }
 
@@ -135,6 +156,36 @@ impl<R: Files<File = File> + Drop> DetailFile<R> {
             failures: Past::new(),
         };
         Ok((file, opened))
+    }
+
+    /// What it has taken since it was opened. It is known to proofs alone.
+    pub fn taken(&self) -> Past<u8>
+        ensures { result.items ≡ ⟦<DetailFile<R> as RecordFile>⟧.taken self.now }
+    {
+        self.taken.again()
+    }
+
+    /// Goes on in the file of this name in this directory, which is opened or made as `open` does it. It is locked before the one that
+    /// was open is let go.
+    ///
+    /// # Errors
+    ///
+    /// Why it was not opened. Then the one that is open goes on.
+    pub fn go_on_at(&mut self, directory: &str, name: &str) -> Result<(), OpenFault>
+        requires { ⟦<DetailFile<R> as RecordFile>⟧.taken self.old ≡ ⟦<DetailFile<R> as RecordFile>⟧.synced self.old }
+        ensures taken { ⟦<DetailFile<R> as RecordFile>⟧.taken self.new ≡ ⟦<DetailFile<R> as RecordFile>⟧.taken self.old }
+        ensures synced { ⟦<DetailFile<R> as RecordFile>⟧.synced self.new ≡ ⟦<DetailFile<R> as RecordFile>⟧.synced self.old }
+        ensures failures { MatchResult result (λ _. ⟦<DetailFile<R> as RecordFile>⟧.failures self.new ≡ ⟦<DetailFile<R> as RecordFile>⟧.failures self.old) (λ _. ⟦<DetailFile<R> as RecordFile>⟧.failures self.new ≡ ⟦<DetailFile<R> as RecordFile>⟧.failures self.old + 1) }
+    {
+        let alloc = *self.path.allocator();
+        match begun_in(alloc, &self.rt, directory, name) {
+            Ok((path, begun)) => {
+                self.path = path;
+                self.go_on_in(begun);
+                Ok(())
+            }
+            Err(fault) => Err(self.refused(fault)),
+        }
     }
 
     /// Notes that the file took these octets.
@@ -180,6 +231,43 @@ impl<R: Files<File = File> + Drop> DetailFile<R> {
         self.failures.push(&error.kind());
         error
     }
+
+    /// Notes that no file was begun, and passes on why.
+    fn refused(&mut self, fault: OpenFault) -> OpenFault
+        ensures taken { self.new.taken ≡ self.old.taken }
+        ensures synced { self.new.synced ≡ self.old.synced }
+        ensures failures { length self.new.failures.items ≡ length self.old.failures.items + 1 }
+    {
+        self.failures.push(&ErrorKind::Other);
+        fault
+    }
+}
+
+/// The path of the file of this name in this directory.
+pub fn path_in(alloc: Global, directory: &str, name: &str) -> Result<String, AllocError> {
+    let mut path = directory.to_string(alloc)?;
+    if !directory.ends_with('/') {
+        path.push('/')?;
+    }
+    path.push_str(name)?;
+    Ok(path)
+}
+
+/// Opens the file of this name in this directory, or makes it, as `begin` does. Returns its path, too.
+fn begun_in<R: Files<File = File>>(
+    alloc: Global,
+    rt: &R,
+    directory: &str,
+    name: &str,
+) -> Result<(String, Begun), OpenFault> {
+    let path = path_in(alloc, directory, name).map_err(no_memory)?;
+    let (begun, _) = begin(rt, path.as_str())?;
+    Ok((path, begun))
+}
+
+/// Memory was wanting.
+fn no_memory(_refused: AllocError) -> OpenFault {
+    OpenFault::Open(io::Error::from(ErrorKind::OutOfMemory))
 }
 
 /// A path of its own.
@@ -311,64 +399,5 @@ fn lock(file: &File) -> Result<(), OpenFault> {
         Ok(()) => Ok(()),
         Err(TryLockError::WouldBlock) => Err(OpenFault::InUse),
         Err(TryLockError::Error(error)) => Err(OpenFault::Lock(error)),
-    }
-}
-
-/// Cuts off a torn last line, and writes the names of the fields if there is no line. Returns how the file was found, and how long
-/// it is now.
-fn tidy(mut file: &File) -> Result<(Opened, u64), OpenFault> {
-    let length = file.metadata().map_err(OpenFault::Read)?.len();
-    let columns = columns_of(&mut file, length).map_err(OpenFault::Read)?;
-    let end = end_of_lines(&mut file, length).map_err(OpenFault::Read)?;
-    let last_started = last_started(&mut file, end).map_err(OpenFault::Read)?;
-    match columns {
-        Columns::These => {}
-        Columns::Old => return Err(OpenFault::OldColumns(last_started)),
-        Columns::Other => return Err(OpenFault::OtherContent),
-    }
-    write_lines(file, length, end).map_err(OpenFault::Write)?;
-    let opened = Opened {
-        is_new: end == 0,
-        torn: length - end,
-        last_started,
-        moved_aside: false,
-    };
-    Ok((opened, end.max(HEADER.len() as u64)))
-}
-
-/// Cuts a file of this length back to the end of its lines, and writes the names of the fields if it has no line.
-fn write_lines(mut file: &File, length: u64, end: u64) -> io::Result<()> {
-    if end < length {
-        file.set_len(end)?;
-    }
-    if end == 0 {
-        file.write_all(HEADER.as_bytes())?;
-    }
-    file.sync_all()
-}
-
-/// Which columns a file has.
-#[derive(Clone, Copy)]
-enum Columns {
-    These,
-    /// Those of call detail records before they told their exchange and by what a call ended.
-    Old,
-    Other,
-}
-
-/// Which columns a file of this length has, by its first line, or by as many octets of it as it has.
-fn columns_of<S: Read + Seek>(file: &mut S, length: u64) -> io::Result<Columns> {
-    let names = HEADER.as_bytes();
-    let mut buffer = [0; HEADER.len()];
-    let size = length.min(names.len() as u64) as usize;
-    let front = &mut buffer[..size];
-    file.seek(SeekFrom::Start(0))?;
-    file.read_exact(front)?;
-    if names.starts_with(front) {
-        Ok(Columns::These)
-    } else if front.starts_with(OLD_HEADER.as_bytes()) {
-        Ok(Columns::Old)
-    } else {
-        Ok(Columns::Other)
     }
 }

@@ -4,23 +4,30 @@
 
 mod append;
 mod batch;
+mod cut;
 mod detail;
 mod disk;
 mod ended;
 mod fields;
 mod file;
+mod flush_fault;
+mod flushing;
+mod giving;
 mod last_line;
 mod laws;
 mod moment;
 mod opening;
+mod progress;
 mod record_file;
 mod run;
+mod tidying;
 mod torn;
 mod writer;
 
 pub use detail::{HEADER, write_detail, write_header};
 pub use ended::{EndedBy, EndedCall};
-pub use file::DetailFile;
+pub use file::{DetailFile, path_in};
+pub use flush_fault::FlushFault;
 pub use laws::{details_are_read_back, details_need_no_quotes, moment_is_what_a_clock_shows};
 pub use opening::{OpenFault, Opened};
 pub use record_file::{Place, RecordFile};

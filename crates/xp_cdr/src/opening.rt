@@ -8,6 +8,9 @@ use thiserror::Error;
 pub enum OpenFault {
     #[error("cannot be opened: {0}")]
     Open(io::Error),
+    /// Of files that are each of a part of time: the directory in which they lie.
+    #[error("the directory cannot be read: {0}")]
+    Directory(io::Error),
     /// Another exchange has the file open.
     #[error("is in use by another exchange")]
     InUse,

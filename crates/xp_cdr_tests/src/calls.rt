@@ -20,6 +20,35 @@ pub static DETAILS: [&str; 4] = [
     "2026-11-26T12:00:00Z,4,a1,2080010,b1,2080020,2080020,caller,3,2,2026-11-26T12:15:00Z,2026-11-26T12:15:02Z,2026-11-26T12:16:02Z,60,00,0,x-1.net,call\n",
 ];
 
+/// How many days after the 26th the calls 1 to 4 end, where they end on several.
+pub static LATER: [u64; 4] = [0, 1, 0, 2];
+
+/// The call detail records of these.
+pub static DETAILS_OF_DAYS: [&str; 4] = [
+    "2026-11-26T12:00:00Z,1,a1,2080010,b1,2080020,2080020,caller,3,2,2026-11-26T12:15:00Z,2026-11-26T12:15:02Z,2026-11-26T12:16:02Z,60,00,0,x-1.net,call\n",
+    "2026-11-26T12:00:00Z,2,a1,2080010,b1,2080020,2080020,caller,3,2,2026-11-27T12:15:00Z,2026-11-27T12:15:02Z,2026-11-27T12:16:02Z,60,00,0,x-1.net,call\n",
+    "2026-11-26T12:00:00Z,3,a1,2080010,b1,2080020,2080020,caller,3,2,2026-11-26T12:15:00Z,2026-11-26T12:15:02Z,2026-11-26T12:16:02Z,60,00,0,x-1.net,call\n",
+    "2026-11-26T12:00:00Z,4,a1,2080010,b1,2080020,2080020,caller,3,2,2026-11-28T12:15:00Z,2026-11-28T12:15:02Z,2026-11-28T12:16:02Z,60,00,0,x-1.net,call\n",
+];
+
+/// The 26th of November 2026, by the number of days since the first of January 1970.
+pub const THE_26TH: u64 = 20_783;
+
+/// The call of this number, so many days later.
+pub fn call_later(subs: &Subs, number: u64, days: u64) -> Option<EndedCall>
+    ensures { IfSome result (λ call. HasLines (line_count subs.now) call.charging) }
+{
+    let mut call = call(subs, number)?;
+    let later = days.saturating_mul(86_400);
+    let charging = &mut call.charging;
+    charging.requested = charging.requested.saturating_add(later);
+    charging.connected = charging
+        .connected
+        .map(|moment| moment.saturating_add(later));
+    charging.ended = charging.ended.saturating_add(later);
+    Some(call)
+}
+
 /// A call from a1 to b1, connected after two seconds and for a minute.
 pub fn call(subs: &Subs, number: u64) -> Option<EndedCall>
     ensures { IfSome result (λ call. HasLines (line_count subs.now) call.charging) }

@@ -1,7 +1,8 @@
 //! A file that fails.
 
-ghost use Rattle.std.specs.Prelude.{◌≡◌, ◌+◌, ◌<◌, [], length};
+ghost use Rattle.std.specs.Prelude.{◌≡◌, ◌+◌, ◌<◌, ◌++◌, [], length};
 
+use crate::calls::THE_26TH;
 use std::alloc::Global;
 use std::io;
 use std::io::{Error, ErrorKind};
@@ -31,6 +32,10 @@ pub struct FailingFile {
     calls: u64,
     cuts: u64,
     begun: u64,
+    /// The day of the open file, and which days were begun, each with how much was on the disk then.
+    day: u64,
+    days: Vec<(u64, usize)>,
+    before: Past<u8>,
 }
 
 impl FailingFile {
@@ -38,6 +43,7 @@ impl FailingFile {
         requires { 0 < most }
         ensures synced { result.synced.items ≡ [] }
         ensures behind { result.behind.items ≡ [] }
+        ensures before { result.before.items ≡ [] }
         ensures failures { result.failures.items ≡ [] }
     {
         FailingFile {
@@ -49,6 +55,9 @@ impl FailingFile {
             calls: 0,
             cuts: 0,
             begun: 0,
+            day: THE_26TH,
+            days: Vec::new(alloc),
+            before: Past::new(),
         }
     }
 
@@ -77,10 +86,17 @@ impl FailingFile {
         self.begun
     }
 
+    /// Which days were begun, each with how much was on the disk then.
+    pub fn days(&self) -> &[(u64, usize)] {
+        self.days.as_slice()
+    }
+
     /// Counts a call, and tells whether it fails.
     fn fails(&mut self) -> bool
         ensures synced { self.new.synced ≡ self.old.synced }
         ensures behind { self.new.behind ≡ self.old.behind }
+        ensures day { self.new.day ≡ self.old.day }
+        ensures before { self.new.before ≡ self.old.before }
         ensures failures { self.new.failures ≡ self.old.failures }
     {
         self.calls = self.calls.saturating_add(1);
@@ -88,10 +104,22 @@ impl FailingFile {
         self.failing.from <= self.calls && self.calls < end
     }
 
+    /// All that it has taken.
+    fn so_far(&self) -> Past<u8>
+        ensures { result.items ≡ self.now.synced.items ++ self.now.behind.items }
+    {
+        let mut all = Past::new();
+        all.extend(self.synced.as_slice());
+        all.extend(self.behind.as_slice());
+        all
+    }
+
     /// Notes a failure of this kind, and tells it.
     fn failure(&mut self, kind: ErrorKind) -> Error
         ensures synced { self.new.synced ≡ self.old.synced }
         ensures behind { self.new.behind ≡ self.old.behind }
+        ensures day { self.new.day ≡ self.old.day }
+        ensures before { self.new.before ≡ self.old.before }
         ensures failures { length self.new.failures.items ≡ length self.old.failures.items + 1 }
     {
         self.failures.push(&kind);
@@ -100,13 +128,29 @@ impl FailingFile {
 }
 
 impl RecordFile for FailingFile {
-    ghost use Rattle.std.specs.Prelude.{◌++◌};
+    ghost use Rattle.std.specs.Prelude.{◌/◌};
 
     ghost taken = { λ file. file.synced.items ++ file.behind.items };
 
     ghost synced = { λ file. file.synced.items };
 
     ghost failures = { λ file. length file.failures.items };
+
+    ghost part_of = { λ moment. moment / 86400 };
+
+    ghost current = { λ file. record { part = file.day; before = file.before.items } };
+
+    fn part_at(&self, moment: u64) -> u64 {
+        moment / 86_400
+    }
+
+    fn open_part(&self) -> u64 {
+        self.day
+    }
+
+    fn name(&self) -> &str {
+        "a file"
+    }
 
     fn append(&mut self, octets: &[u8]) -> io::Result<usize> {
         if self.fails() {
@@ -149,5 +193,19 @@ impl RecordFile for FailingFile {
         }
         self.begun = self.begun.saturating_add(1);
         Ok(Place::Begun)
+    }
+
+    fn begin(&mut self, part: u64) -> Result<(), OpenFault> {
+        if self.fails() {
+            return Err(OpenFault::Open(self.failure(ErrorKind::PermissionDenied)));
+        }
+        match self.days.push((part, self.synced.len())) {
+            Ok(()) => {
+                self.day = part;
+                self.before = self.so_far();
+                Ok(())
+            }
+            Err(_) => Err(OpenFault::Open(self.failure(ErrorKind::OutOfMemory))),
+        }
     }
 }

@@ -13,7 +13,7 @@ use crate::operator_log::OperatorLog;
 use log::Log;
 use std::alloc::Global;
 use std::marker::Model;
-use xp_cdr::{DetailWriter, EndedCall, ExchangeRun, Place, RecordFile};
+use xp_cdr::{DetailWriter, EndedCall, ExchangeRun, FlushFault, OpenFault, Place, RecordFile};
 use xp_clock::WallClock;
 use xp_past::Past;
 use xp_sink::Received;
@@ -25,9 +25,13 @@ const MOST_WAITING: usize = 100_000;
 /// After so many seconds a write that failed is tried again, and so is the beginning of a new file.
 const SECONDS_TO_RETRY: u64 = 1;
 
-/// Writes call detail records to a file, and waits until they are on the disk. Where the file fails, they wait in order, and are
-/// offered to it again each second. Where the file is moved or removed, it goes on in a new one at its path. Once memory was wanting,
-/// it takes no more records. It has no other output than the file and the log.
+/// So many seconds after a part of time has begun, its file is begun, even if no call has ended since: records of calls that ended
+/// before it have come by then.
+const SECONDS_TO_BEGIN: u64 = 5;
+
+/// Writes call detail records to a file, or to files of parts of time, and waits until they are on the disk. Where the file fails, they
+/// wait in order, and are offered to it again each second. Where the file is moved or removed, it goes on in a new one at its path. Once
+/// memory was wanting, it takes no more records. It has no other output than the file and the log.
 #[derive(Drop)]
 pub struct DetailKeeper<F: RecordFile, L: Log> {
     /// The subscriptions, from which the lines have their names and addresses.
@@ -71,6 +75,7 @@ impl<F: RecordFile, L: Log> DetailKeeper<F, L> {
     ) -> DetailKeeper<F, L>
         requires taken { F.taken file ≡ [] }
         requires synced { F.synced file ≡ [] }
+        requires before { (F.current file).before ≡ [] }
         requires failures { F.failures file ≡ 0 }
         ensures { result ≡ first_keeping subs run }
     {
@@ -124,7 +129,7 @@ impl<F: RecordFile, L: Log> DetailKeeper<F, L> {
             return;
         }
         match self.writer.follow() {
-            Ok(Place::Same) => self.begin_at = None,
+            Ok(Place::Same) => self.begin_next(now),
             Ok(Place::Begun) => {
                 self.begin_at = None;
                 self.log.warn(
@@ -132,13 +137,46 @@ impl<F: RecordFile, L: Log> DetailKeeper<F, L> {
                     "cdr: the file was moved or removed: a new one is begun at its path",
                 );
             }
-            Err(fault) => {
-                if self.begin_at.is_none() {
-                    self.log.error(now, format_args!("cdr: a new file can't be begun: {fault}"));
-                }
-                self.begin_at = Some(now.saturating_add(SECONDS_TO_RETRY));
-            }
+            Err(fault) => self.note_unbegun(now, fault),
         }
+    }
+
+    /// Begins the file of the part of time that has come, and tells that, where no record waits.
+    fn begin_next(&mut self, now: u64)
+        ensures given { self.new.given ≡ self.old.given }
+        ensures keeps { GoesOnAs self.old self.new }
+    {
+        let part = self
+            .writer
+            .file()
+            .part_at(now.saturating_sub(SECONDS_TO_BEGIN));
+        match self.writer.begin(part) {
+            Ok(is_begun) => {
+                self.begin_at = None;
+                if is_begun {
+                    self.tell_begun(now);
+                }
+            }
+            Err(fault) => self.note_unbegun(now, fault),
+        }
+    }
+
+    /// Tells that the file that is open now was begun.
+    fn tell_begun(&mut self, now: u64)
+        ensures { self.new ≡ self.old }
+    {
+        let name = self.writer.file().name();
+        self.log.info(now, format_args!("cdr: {name} is begun"));
+    }
+
+    /// Tells why no new file was begun, unless that was told before, and tries it again after a second.
+    fn note_unbegun(&mut self, now: u64, fault: OpenFault)
+        ensures { self.new ≡ self.old }
+    {
+        if self.begin_at.is_none() {
+            self.log.error(now, format_args!("cdr: a new file can't be begun: {fault}"));
+        }
+        self.begin_at = Some(now.saturating_add(SECONDS_TO_RETRY));
     }
 
     /// Offers what waits to the file, and waits until it is on the disk, unless the file failed within this second.
@@ -153,16 +191,28 @@ impl<F: RecordFile, L: Log> DetailKeeper<F, L> {
         if self.writer.waiting_octets() == 0 {
             return;
         }
-        match self.writer.flush() {
+        let part = self.writer.file().open_part();
+        let flushed = self.writer.flush();
+        if self.writer.file().open_part() != part {
+            self.tell_begun(now);
+        }
+        self.note_flushed(now, flushed);
+    }
+
+    /// Tells what came of offering what waits, where it is news. A failure is followed by another try after a second.
+    fn note_flushed(&mut self, now: u64, flushed: Result<(), FlushFault>)
+        ensures { self.new ≡ self.old }
+    {
+        match flushed {
             Ok(()) => {
                 if self.retry_at.take().is_some() {
                     self.log.warn(now, "call detail records are written again");
                 }
             }
-            Err(error) => {
+            Err(fault) => {
                 if self.retry_at.is_none() {
                     self.log
-                        .error(now, format_args!("call detail records wait: {error}"));
+                        .error(now, format_args!("call detail records wait: {fault}"));
                 }
                 self.retry_at = Some(now.saturating_add(SECONDS_TO_RETRY));
             }
@@ -226,6 +276,7 @@ fn put_on_disk<F: RecordFile>(writer: &mut DetailWriter<F>) -> bool
     }
     match writer.flush() {
         Ok(()) => true,
+        Err(_) if writer.waiting_octets() == 0 => true,
         Err(_) => false,
     }
 }

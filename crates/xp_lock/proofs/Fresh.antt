@@ -1,7 +1,7 @@
 -- What a take shows a pass.
 use Rattle.std.proofs.Common.{◌≡◌, ◌≢◌, ℕ, true, false, cond, eqb, not, List, [], ◌∷◌, ◌++◌, length, sym, refl, ap, ◌∙◌, subst, eq-eqb}
 use Rattle.std.proofs.lemmas.Bool.{ne_eqb}
-use Rattle.std.proofs.lemmas.List.Elements.{All-cons, All-nil}
+use Rattle.std.proofs.lemmas.List.Elements.{All-cons, All-head, All-nil, All-tail}
 use Rattle.std.specs.Prelude.{◌&&◌}
 use Rattle.xp_subs.specs.Tables.{Tables}
 use Rattle.xp_step.specs.declared.entry.Entry.{Entry}
@@ -18,37 +18,31 @@ use Rattle.xp_seats.specs.Views.{IsGrown, StartsWith}
 use Rattle.xp_seats.proofs.Lists.{handed-append}
 
 module _ {A : Type 0} where
-  -- entries that are stalls, one by one
-  abbrev pub AllStalls : List (Entry A) → Type 0
-  AllStalls [] = Unit {0}
-  AllStalls (entry ∷ entries) = (is_stall entry.event.what ≡ true) × AllStalls entries
+  abbrev IsStall : Entry A → Type 0
+  IsStall entry = is_stall entry.event.what ≡ true
 
   all_stalls : (subs : Tables) (before : List (Entry A)) (world : World) (places : ℕ → ℕ) (entries stalls : List (Entry A)) (last : World)
-      → Stalls subs before world places entries stalls last → AllStalls stalls
-  all_stalls subs before world places entries [] last same = tt
+      → Stalls subs before world places entries stalls last → AreStalls stalls
+  all_stalls subs before world places entries [] last same = All-nil IsStall
   all_stalls subs before world places entries (stall ∷ stalls) last h =
-      (ap is_stall h.1, all_stalls subs before h.0 places (entries ++ stall ∷ []) stalls last h.4)
-
-  are_stalls : (stalls : List (Entry A)) → AllStalls stalls → AreStalls stalls
-  are_stalls [] h = All-nil (λ entry. is_stall entry.event.what ≡ true)
-  are_stalls (stall ∷ stalls) h = All-cons (λ entry. is_stall entry.event.what ≡ true) stall stalls h.0 (are_stalls stalls h.1)
+      All-cons IsStall stall stalls (ap is_stall h.1) (all_stalls subs before h.0 places (entries ++ stall ∷ []) stalls last h.4)
 
   -- no line hands in stalls
-  handed_stalls : (line : ℕ) (stalls : List (Entry A)) → AllStalls stalls → handed line stalls ≡ []
+  handed_stalls : (line : ℕ) (stalls : List (Entry A)) → AreStalls stalls → handed line stalls ≡ []
   handed_stalls line [] h = refl
   handed_stalls line (stall ∷ stalls) h =
       let rest = handed line stalls in
-      ap (λ b. cond (eqb stall.event.line line && not b) (stall ∷ rest) rest) h.0 ∙ neither (eqb stall.event.line line) ∙ handed_stalls line stalls h.1
+      ap (λ b. cond (eqb stall.event.line line && not b) (stall ∷ rest) rest) (All-head IsStall stall stalls h) ∙ neither (eqb stall.event.line line) ∙ handed_stalls line stalls (All-tail IsStall stall stalls h)
     where
       neither : (b : _) → cond (b && false) (stall ∷ handed line stalls) (handed line stalls) ≡ handed line stalls
       neither true = refl
       neither false = refl
 
-  handed_other : (line : ℕ) (entry : Entry A) (stalls : List (Entry A)) → AllStalls stalls → entry.event.line ≢ line → handed line (entry ∷ stalls) ≡ []
+  handed_other : (line : ℕ) (entry : Entry A) (stalls : List (Entry A)) → AreStalls stalls → entry.event.line ≢ line → handed line (entry ∷ stalls) ≡ []
   handed_other line entry stalls h other =
       ap (λ b. cond (b && not (is_stall entry.event.what)) (entry ∷ handed line stalls) (handed line stalls)) (ne_eqb entry.event.line line other) ∙ handed_stalls line stalls h
 
-  handed_own : (line : ℕ) (entry : Entry A) (stalls : List (Entry A)) → AllStalls stalls → entry.event.line ≡ line → is_stall entry.event.what ≡ false
+  handed_own : (line : ℕ) (entry : Entry A) (stalls : List (Entry A)) → AreStalls stalls → entry.event.line ≡ line → is_stall entry.event.what ≡ false
       → handed line (entry ∷ stalls) ≡ entry ∷ []
   handed_own line entry stalls h own kind =
       ap (λ b. cond (b && not (is_stall entry.event.what)) (entry ∷ handed line stalls) (handed line stalls)) (eq-eqb entry.event.line line own)
@@ -56,7 +50,7 @@ module _ {A : Type 0} where
       ∙ ap (λ xs. entry ∷ xs) (handed_stalls line stalls h)
 
   module _ (old : CoreWithOutboxes A) (event : Event A) (done : Receipt) (new : CoreWithOutboxes A) (takes : Takes old event done new) where
-    stalls_are : AllStalls takes.stalls
+    stalls_are : AreStalls takes.stalls
     stalls_are = all_stalls old.subs old.history takes.forces.next takes.known (takes.entry ∷ []) takes.stalls _ takes.forces.forced
 
     -- what is added is of the event's line
@@ -86,7 +80,7 @@ module _ {A : Type 0} where
           entry = takes.entry;
           event_is = takes.event_is;
           stalls = takes.stalls;
-          are_stalls = are_stalls takes.stalls stalls_are;
+          are_stalls = stalls_are;
           few = takes.few;
           known = takes.known;
           forces = forced;

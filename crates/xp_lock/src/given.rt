@@ -11,7 +11,7 @@ use xp_subs::LineNo;
 
 /// For how many lines a `GivenLines` has room. One event, with the stalls that it forces, puts something out to three lines
 /// at most.
-pub const MOST_GIVEN: usize = 3;
+pub const MOST_GIVEN: usize = 4;
 
 /// The lines to which something was put out, each once.
 pub type GivenLines = ArrayVec<LineNo, MOST_GIVEN>;

@@ -2,7 +2,7 @@
 
 use std::alloc::{AllocError, Global};
 use std::fmt::Write;
-use xp_arguments::ServeOrder;
+use xp_arguments::{DetailsOrder, ServeOrder};
 use xp_subs::{Access, LineNo, Subs};
 
 /// The ports of lines that have one of their own.
@@ -63,7 +63,8 @@ fn push_ports(told: &mut String, subs: &Subs) -> Result<(), AllocError> {
 /// Appends where the records go, and where the console is.
 fn push_outputs(told: &mut String, order: &ServeOrder<'_>) -> Result<(), AllocError> {
     match order.details {
-        Some(path) => write!(told, "; records in {path}")?,
+        Some(DetailsOrder::File(path)) => write!(told, "; records in {path}")?,
+        Some(DetailsOrder::Directory(path)) => write!(told, "; records by the day in {path}")?,
         None => told.push_str("; records on standard output")?,
     }
     if let Some(address) = order.console {

@@ -19,5 +19,6 @@ loop-taken-preserved g c =
           ∙ append_assoc before (take done all) (take count (drop done all))
           ∙ ap (λ front. before ++ front) (sym (take-add done count all));
       synced = c.in-Ok.ensures.synced ∙ kept.synced;
+      current = c.in-Ok.ensures.current ∙ kept.current;
       failures = c.in-Ok.ensures.failures ∙ kept.failures;
     }

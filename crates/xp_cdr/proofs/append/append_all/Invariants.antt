@@ -6,6 +6,7 @@ invariant-loop-taken g l = record {
   within : l.taken ≤ length l.octets;
   taken : g.F.RecordFile.taken l.file ≡ g.F.RecordFile.taken l.fn.file ++ take l.taken l.octets;
   synced : g.F.RecordFile.synced l.file ≡ g.F.RecordFile.synced l.fn.file;
+  current : g.F.RecordFile.current l.file ≡ g.F.RecordFile.current l.fn.file;
   failures : g.F.RecordFile.failures l.file ≡ g.F.RecordFile.failures l.fn.file;
 }
 

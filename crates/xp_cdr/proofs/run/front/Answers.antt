@@ -1,4 +1,4 @@
-use Rattle.std.proofs.Common.{◌≤◌, arith, length, sym}
+use Rattle.std.proofs.Common.{arith, sym}
 use Rattle.std.proofs.lemmas.List.{length-take-le}
 use Rattle.xp_cdr.proofs.NameLemmas.{short_taken}
 use Rattle.xp_cdr.proofs.run.front.Goals as goal

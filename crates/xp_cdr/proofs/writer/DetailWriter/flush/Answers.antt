@@ -1,35 +1,104 @@
-use Rattle.std.proofs.Common.{◌++◌, ap, append-nil, refl, subst, sym, ◌∙◌}
-use Rattle.xp_cdr.specs.Files.{HasFront}
-use Rattle.xp_cdr.proofs.WriterLemmas.{all_text, front_at}
+use Rattle.std.proofs.Common.{append-nil, drop, refl, sym, ◌∙◌}
+use Rattle.xp_cdr.specs.Ledger.{first_tables}
+use Rattle.xp_cdr.specs.steps.Writer.{told_text}
+use Rattle.xp_cdr.proofs.LedgerLemmas.{is_unfinished, is_whole, whole_at_end}
+use Rattle.xp_cdr.proofs.SentLemmas.{all_told, sent_anew}
 use Rattle.xp_cdr.proofs.writer.DetailWriter.flush.Goals as goal
 
-pub returns-in_err-result-clause-whole : goal.returns-in_err-result-clause-whole
-returns-in_err-result-clause-whole g c =
+pub returns-in-Err-clause-flushes : goal.returns-in-Err-clause-flushes
+returns-in-Err-clause-flushes g c =
+    let file = c.self.inside.file in
+    let part_of = g.F.RecordFile.part_of in
+    let text = told_text c.self.inside.giving in
+    let given = c.self.inside.giving.given.items in
+    let synced = g.F.RecordFile.synced file in
+    let taken = g.F.RecordFile.taken file in
+    let current = g.F.RecordFile.current file in
     let batch = c.self.inside.batch in
-    let file = c.put_on_disk-taken.new.file in
-    let put = rw c.in_err-result.was at c.put_on_disk-taken.ensures.put in
-    record {
-      all = all_text _ _ _ batch c.self.invariant.0 ∙ ap (λ synced. synced ++ batch.octets) (sym put.0);
-      front =
-          subst (λ octets. HasFront (g.F.RecordFile.synced file) octets (g.F.RecordFile.taken file)) c.octets.ensures
-          (front_at _ _ _ c.put_on_disk-taken.result.0 put.1);
-    }
-
-pub returns-clause-flushes : goal.returns-clause-flushes
-returns-clause-flushes g c =
-    let batch = c.self.inside.batch in
-    let put = rw c.in_ok-result.was at c.put_on_disk-taken.ensures.put in
-    let failures = rw c.in_ok-result.was at c.put_on_disk-taken.ensures.failures in
-    let synced = put.0 ∙ ap (λ octets. g.F.RecordFile.synced c.self.inside.file ++ octets) c.octets.ensures in
-    rw (← c.self.view_is, c.clear.ensures) (
+    let progress = c.self.inside.progress in
+    let now = c.flush_batch-flushed.new.file in
+    let ensures = c.in-Err.ensures in
+    rw (← c.self.view_is) (
       record {
-        more = batch.octets;
-        waited = sym (append-nil batch.octets);
-        synced = synced;
+        more = ensures.advances.more;
+        waited = ensures.advances.rest_is;
+        synced = ensures.advances.synced_is;
         subs = refl;
         run = refl;
         given = refl;
       },
-      record { waiting = refl; taken = put.1 ∙ synced ∙ sym (all_text _ _ _ batch c.self.invariant.0); synced = sym put.1 },
-      failures,
+      ensures.failures,
+      is_unfinished part_of (first_tables c.self.inside.giving.told_by.items) c.self.inside.giving.run given (g.F.RecordFile.synced now) (g.F.RecordFile.taken now)
+          (g.F.RecordFile.current now) (g.F.RecordFile.failures now) batch c.flush_batch-flushed.new.progress ensures.sent,
     )
+
+pub returns-in-Err-clause-whole : goal.returns-in-Err-clause-whole
+returns-in-Err-clause-whole g c =
+    let file = c.self.inside.file in
+    let part_of = g.F.RecordFile.part_of in
+    let text = told_text c.self.inside.giving in
+    let given = c.self.inside.giving.given.items in
+    let synced = g.F.RecordFile.synced file in
+    let taken = g.F.RecordFile.taken file in
+    let current = g.F.RecordFile.current file in
+    let batch = c.self.inside.batch in
+    let progress = c.self.inside.progress in
+    let now = c.flush_batch-flushed.new.file in
+    is_whole part_of (first_tables c.self.inside.giving.told_by.items) c.self.inside.giving.run given (g.F.RecordFile.synced now) (g.F.RecordFile.taken now)
+    (g.F.RecordFile.current now) (g.F.RecordFile.failures now) batch c.flush_batch-flushed.new.progress c.in-Err.ensures.sent
+
+pub invariant_of-self : goal.invariant_of-self
+invariant_of-self g c =
+    let file = c.self.inside.file in
+    let part_of = g.F.RecordFile.part_of in
+    let text = told_text c.self.inside.giving in
+    let given = c.self.inside.giving.given.items in
+    let synced = g.F.RecordFile.synced file in
+    let taken = g.F.RecordFile.taken file in
+    let current = g.F.RecordFile.current file in
+    let batch = c.self.inside.batch in
+    let progress = c.self.inside.progress in
+    let now = c.flush_batch-flushed.new.file in
+    rw (c.clear.ensures, c.none-self-inside.ensures, c.part-part.ensures)
+    (sent_anew part_of text given (g.F.RecordFile.synced now) (g.F.RecordFile.taken now) (g.F.RecordFile.current now) batch.part c.in-Ok.ensures.whole)
+
+pub returns-in-Ok-clause-flushes : goal.returns-in-Ok-clause-flushes
+returns-in-Ok-clause-flushes g c =
+    let file = c.self.inside.file in
+    let part_of = g.F.RecordFile.part_of in
+    let text = told_text c.self.inside.giving in
+    let given = c.self.inside.giving.given.items in
+    let synced = g.F.RecordFile.synced file in
+    let taken = g.F.RecordFile.taken file in
+    let current = g.F.RecordFile.current file in
+    let batch = c.self.inside.batch in
+    let progress = c.self.inside.progress in
+    let whole = c.in-Ok.ensures.whole in
+    rw (← c.self.view_is, c.clear.ensures, c.none-self-inside.ensures) (
+      record {
+        more = drop progress.octets batch.octets;
+        waited = sym (append-nil (drop progress.octets batch.octets));
+        synced = whole.synced_is ∙ all_told part_of text given synced taken current batch progress c.self.invariant;
+        subs = refl;
+        run = refl;
+        given = refl;
+      },
+      record { waiting = refl; taken = whole.taken_is ∙ whole.synced_is; synced = sym whole.taken_is },
+      c.in-Ok.ensures.failures,
+    )
+
+pub returns-in-Ok-clause-whole : goal.returns-in-Ok-clause-whole
+returns-in-Ok-clause-whole g c =
+    let file = c.self.inside.file in
+    let part_of = g.F.RecordFile.part_of in
+    let text = told_text c.self.inside.giving in
+    let given = c.self.inside.giving.given.items in
+    let synced = g.F.RecordFile.synced file in
+    let taken = g.F.RecordFile.taken file in
+    let current = g.F.RecordFile.current file in
+    let batch = c.self.inside.batch in
+    let progress = c.self.inside.progress in
+    let now = c.flush_batch-flushed.new.file in
+    rw (c.clear.ensures, c.none-self-inside.ensures)
+    (whole_at_end part_of (first_tables c.self.inside.giving.told_by.items) c.self.inside.giving.run given (g.F.RecordFile.synced now) (g.F.RecordFile.taken now)
+    (g.F.RecordFile.current now) (g.F.RecordFile.failures now) batch.part c.in-Ok.ensures.whole)

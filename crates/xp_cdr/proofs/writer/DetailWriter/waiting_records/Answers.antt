@@ -1,9 +1,20 @@
-use Rattle.std.proofs.Common.{subst, ◌∙◌}
-use Rattle.xp_cdr.specs.Ledger.{LacksLast, Ledger}
+use Rattle.std.proofs.Common.{◌-◌, subst}
+use Rattle.xp_cdr.specs.Ledger.{LacksLast, Ledger, first_tables}
+use Rattle.xp_cdr.specs.steps.Writer.{told_text}
+use Rattle.xp_cdr.proofs.LedgerLemmas.{lacks_last}
 use Rattle.xp_cdr.proofs.writer.DetailWriter.waiting_records.Goals as goal
 
 pub returns : goal.returns
 returns g c =
-    let is = c.self.invariant.0 in
-    subst (λ (ledger : Ledger). LacksLast ledger c.count.result) c.self.view_is
-    (record { whole = is.before; rest = is.last; given_are = is.given_are; count_is = c.count.ensures ∙ is.count_is; synced_is = is.synced_is })
+    let file = c.self.inside.file in
+    let part_of = g.F.RecordFile.part_of in
+    let text = told_text c.self.inside.giving in
+    let given = c.self.inside.giving.given.items in
+    let synced = g.F.RecordFile.synced file in
+    let taken = g.F.RecordFile.taken file in
+    let current = g.F.RecordFile.current file in
+    let batch = c.self.inside.batch in
+    let progress = c.self.inside.progress in
+    rw c.count.ensures
+    (subst (λ (ledger : Ledger). LacksLast ledger (batch.count - progress.records)) c.self.view_is
+    (lacks_last part_of (first_tables c.self.inside.giving.told_by.items) c.self.inside.giving.run given synced taken current (g.F.RecordFile.failures file) batch progress c.self.invariant))

@@ -1,0 +1,22 @@
+use Rattle.std.proofs.Common.{◌∙◌}
+use Rattle.xp_cdr.proofs.SentLemmas.{advances_on}
+use Rattle.xp_cdr.proofs.flushing.flush_batch.Goals as goal
+
+pub loop-cut-preserved : goal.loop-cut-preserved
+loop-cut-preserved g c =
+    let file = g.F.RecordFile in
+    let kept = c.loop-cut.invariant in
+    let passed = c.in_ok-pass_cut.ensures in
+    record {
+      sent = passed.sent;
+      advances =
+          advances_on c.args.batch.now.octets (file.synced c.args.file.now) (file.synced c.loop-cut.file) (file.synced c.pass_cut.new.file)
+          c.args.progress.now c.loop-cut.progress c.pass_cut.new.progress kept.advances passed.advances;
+      failures = passed.failures ∙ kept.failures;
+    }
+
+pub returns-in_err-pass_cut-clause-advances : goal.returns-in_err-pass_cut-clause-advances
+returns-in_err-pass_cut-clause-advances g c =
+    let file = g.F.RecordFile in
+    advances_on c.args.batch.now.octets (file.synced c.args.file.now) (file.synced c.loop-cut.file) (file.synced c.pass_cut.new.file)
+    c.args.progress.now c.loop-cut.progress c.pass_cut.new.progress c.loop-cut.invariant.advances c.in_err-pass_cut.ensures.advances

@@ -1,0 +1,109 @@
+//! Files of call detail records, one for each day.
+
+ghost use Rattle.std.specs.Prelude.{◌≡◌, [], IfOk};
+
+use crate::day::{day_of, file_name};
+use crate::newest::{NewestFile, newest_day};
+use std::alloc::AllocGlobal;
+use std::fs::{File, Files};
+use std::io;
+use xp_cdr::{DetailFile, OpenFault, Opened, Place, RecordFile};
+use xp_past::Past;
+
+/// The files of call detail records of a directory, one for each day in UTC, as `calls-2026-11-28.csv`. That of the last day is open,
+/// and no other exchange can open it. Once that of a later day is begun, it is closed for ever.
+#[derive(Drop)]
+pub struct DayFiles<R: Files<File = File> + Drop> {
+    directory: String,
+    /// The day of the open file.
+    day: u64,
+    file: DetailFile<R>,
+    /// What the files of earlier days have taken.
+    before: Past<u8>,
+}
+
+impl<R: Files<File = File> + Drop> RecordFile for DayFiles<R> {
+    ghost use Rattle.xp_days.specs.Days.{day_of};
+
+    ghost taken = { λ files. ⟦<DetailFile<R> as RecordFile>⟧.taken files.file };
+
+    ghost synced = { λ files. ⟦<DetailFile<R> as RecordFile>⟧.synced files.file };
+
+    ghost failures = { λ files. ⟦<DetailFile<R> as RecordFile>⟧.failures files.file };
+
+    ghost part_of = { day_of };
+
+    ghost current = { λ files. record { part = files.day; before = files.before.items } };
+
+    fn part_at(&self, moment: u64) -> u64 {
+        day_of(moment)
+    }
+
+    fn open_part(&self) -> u64 {
+        self.day
+    }
+
+    fn name(&self) -> &str {
+        self.file.name()
+    }
+
+    fn append(&mut self, octets: &[u8]) -> io::Result<usize> {
+        self.file.append(octets)
+    }
+
+    fn sync(&mut self) -> io::Result<()> {
+        self.file.sync()
+    }
+
+    fn cut_back(&mut self) -> io::Result<()> {
+        self.file.cut_back()
+    }
+
+    fn follow(&mut self) -> Result<Place, OpenFault> {
+        self.file.follow()
+    }
+
+    fn begin(&mut self, part: u64) -> Result<(), OpenFault> {
+        let name = file_name(part);
+        self.file.go_on_at(self.directory.as_str(), name.as_str())?;
+        self.day = part;
+        self.before = self.file.taken();
+        Ok(())
+    }
+}
+
+impl<R: AllocGlobal + Copy + Drop + Files<File = File>> DayFiles<R> {
+    /// Opens this file of a day, which is the newest of this directory (`newest_file`), as `DetailFile::open` does.
+    ///
+    /// # Errors
+    ///
+    /// Why it was not opened. `InUse` too where another exchange has just begun the file of a later day, up to `today`.
+    pub fn open(
+        rt: R,
+        directory: &str,
+        newest: &NewestFile,
+        today: u64,
+    ) -> Result<(DayFiles<R>, Opened), OpenFault>
+        ensures taken { IfOk result (λ opened. ⟦<DayFiles<R> as RecordFile>⟧.taken opened.0 ≡ []) }
+        ensures synced { IfOk result (λ opened. ⟦<DayFiles<R> as RecordFile>⟧.synced opened.0 ≡ []) }
+        ensures before { IfOk result (λ opened. (⟦<DayFiles<R> as RecordFile>⟧.current opened.0).before ≡ []) }
+        ensures failures { IfOk result (λ opened. ⟦<DayFiles<R> as RecordFile>⟧.failures opened.0 ≡ 0) }
+    {
+        let alloc = rt.alloc();
+        let directory = directory.to_string(alloc).map_err(|_| OpenFault::Open(io::Error::from(
+            io::ErrorKind::OutOfMemory,
+        )))?;
+        let (file, opened) = DetailFile::open(alloc, rt, newest.path.as_str())?;
+        let now = newest_day(&rt, directory.as_str(), today).map_err(OpenFault::Directory)?;
+        if now.is_some_and(|day| day > newest.day) {
+            return Err(OpenFault::InUse);
+        }
+        let files = DayFiles {
+            directory,
+            day: newest.day,
+            file,
+            before: Past::new(),
+        };
+        Ok((files, opened))
+    }
+}

@@ -1,0 +1,66 @@
+//! The newest of the files of days in a directory.
+
+use crate::day::{day_named, file_name};
+use std::alloc::{AllocError, AllocGlobal};
+use std::fs::{File, Files};
+use std::{fs, io};
+use xp_cdr::{OpenFault, path_in};
+
+/// The file of a day.
+#[derive(Drop)]
+pub struct NewestFile {
+    pub day: u64,
+    pub path: String,
+}
+
+/// The newest file of a day in this directory that is not later than `today`, or that of `today` where there is none yet. Nothing is
+/// opened or made.
+///
+/// # Errors
+///
+/// `Directory` where the directory cannot be read, and `Open` for want of memory.
+pub fn newest_file<R: AllocGlobal + Clone + Drop + Files<File = File>>(
+    rt: &R,
+    directory: &str,
+    today: u64,
+) -> Result<NewestFile, OpenFault> {
+    let day = newest_day(rt, directory, today)
+        .map_err(OpenFault::Directory)?
+        .unwrap_or(today);
+    let path = path_in(rt.alloc(), directory, file_name(day).as_str()).map_err(no_memory)?;
+    Ok(NewestFile { day, path })
+}
+
+/// The newest day of which there is a file in this directory, up to `today`.
+pub(crate) fn newest_day<R: AllocGlobal + Clone + Drop + Files<File = File>>(
+    rt: &R,
+    directory: &str,
+    today: u64,
+) -> io::Result<Option<u64>> {
+    let mut newest = None;
+    for entry in fs::read_dir(rt, directory)? {
+        let entry = match entry {
+            Ok(entry) => entry,
+            // A name that is no text is that of no day.
+            Err(error) if error.kind() == io::ErrorKind::InvalidFilename => continue,
+            Err(error) => return Err(error),
+        };
+        newest = later(newest, day_named(entry.file_name()), today);
+    }
+    Ok(newest)
+}
+
+/// The later of two days that are not after `today`.
+fn later(newest: Option<u64>, day: Option<u64>, today: u64) -> Option<u64> {
+    match (newest, day) {
+        (_, None) => newest,
+        (_, Some(day)) if day > today => newest,
+        (Some(newest), Some(day)) => Some(newest.max(day)),
+        (None, day) => day,
+    }
+}
+
+/// Memory was wanting.
+fn no_memory(_refused: AllocError) -> OpenFault {
+    OpenFault::Open(io::Error::from(io::ErrorKind::OutOfMemory))
+}
