@@ -5,10 +5,12 @@ ghost use Rattle.xp_serve.specs.Serving.{Serves};
 
 use crate::into_file::{serve_into_directory, serve_into_file};
 use crate::served_console::ServedConsole;
+use crate::status_feed::StatusFeed;
 use log::Log;
-use std::alloc::AllocGlobal;
+use std::alloc::{AllocGlobal, Global};
 use std::fs::{File, Files};
 use std::io::BufWriter;
+use std::marker::Brand;
 use std::net::{Net, TcpListener, TcpStream};
 use std::random::RandomSource;
 use std::sync::atomic::AtomicBool;
@@ -21,6 +23,7 @@ use xp_arguments::{DetailsOrder, ServeOrder};
 use xp_clock::WallClock;
 use xp_keeping::{OperatorLog, RecordKeeper, RecordPrinter, StandardOutput, start_printer};
 use xp_limits::Limits;
+use xp_observer::{BoardName, StatusBoard};
 use xp_readiness::{Failure, Tracing, opening};
 use xp_serve::{
     Attending, ConsoleFeed, NoConsole, OperatorWatch, ServeEnd, StopInput, TracedWatch, Watch,
@@ -146,63 +149,69 @@ pub(crate) fn attend<
     let alloc = rt.alloc();
     let notices = tracing.notices(alloc, clock.start)?;
     let notices = Arc::new(alloc, notices).map_err(|_| TaskFailure::Memory)?;
+    let console = match order.console {
+        Some(address) => Some(ServedConsole::listen(rt, address)?),
+        None => None,
+    };
     let watching = Watching {
-        order,
+        opening: opening(alloc, order, &subs)?,
+        stop: order.until_eof.then_some(StopInput::default()),
+        log: OperatorLog::new(*rt, order.quiet),
+        limits: order.limits,
         clock,
         notices,
         trace: tracing.thread,
     };
-    match order.console {
-        Some(address) => attend_with_console(rt, address, watching, subs, keeper),
-        None => {
-            let notices = Arc::try_clone(&watching.notices)?;
-            let watch = watching.watch(rt, &subs, NoConsole)?;
-            let attending = Attending { keeper, watch };
-            Ok(serve_attended(rt, alloc, subs, order.limits, notices, attending))
-        }
-    }
+    attend_named::<Brand, R, K>(rt, console, watching, subs, keeper)
 }
 
 /// What the lines are watched with.
 #[derive(Drop)]
-struct Watching<'a, 'o, R: Wait> {
-    order: &'a ServeOrder<'o>,
+struct Watching<R: Log + Wait> {
+    /// What is told before all else.
+    opening: String,
+    /// The input whose end asks serving to stop, if there is one.
+    stop: Option<StopInput>,
+    log: OperatorLog<R>,
+    limits: Limits,
     clock: WallClock,
     notices: Arc<Notices>,
     trace: Option<TraceThread<R>>,
 }
 
-impl<R: AllocGlobal + Copy + Drop + Log + Send + Threads + Wait + 'static> Watching<'_, '_, R> {
+impl<R: Copy + Drop + Log + Send + Threads + Wait + 'static> Watching<R> {
     /// What watches over these lines, and begins their trace.
     fn watch<F: ConsoleFeed>(
         self,
-        rt: &R,
+        alloc: Global,
         subs: &Subs,
         console: F,
     ) -> Result<TracedWatch<OperatorWatch<R, F>, R>, Failure> {
         let Watching {
-            order,
+            opening,
+            stop,
+            log,
+            limits: _,
             clock,
             notices,
             trace,
         } = self;
-        let opening = opening(rt.alloc(), order, subs)?;
-        let stop = order.until_eof.then_some(StopInput::default());
-        let log = OperatorLog::new(*rt, order.quiet);
-        let watch = OperatorWatch::new(rt.alloc(), subs, notices, stop, console, clock, log)?;
+        let watch = OperatorWatch::new(alloc, subs, notices, stop, console, clock, log)?;
         Ok(TracedWatch::new(watch.with_opening(opening), trace))
     }
 }
 
-/// Serves the lines as `attend` does, with a console at this address.
-fn attend_with_console<
+/// Serves the lines as `attend` does, with this console if there is one. `B` names the board between the console and the lines. This
+/// is proved for every name with these subscriptions: so what stands on the board is of an exchange of them, and the board asks for a
+/// stop only where the console granted one.
+fn attend_named<
+    B: BoardName + Send + Sync,
     R: AllocGlobal
         + Clock
         + Copy
         + Drop
         + Log
         + Net<Listener = TcpListener, Stream = TcpStream>
-        + RandomSource
         + Send
         + Sync
         + Threads
@@ -211,26 +220,71 @@ fn attend_with_console<
     K: RecordKeeper,
 >(
     rt: &R,
-    address: &str,
-    watching: Watching<'_, '_, R>,
+    console: Option<ServedConsole>,
+    watching: Watching<R>,
     subs: Subs,
     keeper: K,
 ) -> Result<ServeEnd<K>, Failure>
+    requires shown { B.tables ≡ subs }
     requires names { K.named_by keeper ≡ subs }
     requires new { K.received keeper ≡ [] }
     ensures { IfOk result (λ end. Serves K.kept K.keeps subs keeper end.keeper end.outcome) }
 {
-    let served = ServedConsole::listen(rt, address)?;
+    let alloc = rt.alloc();
+    let limits = watching.limits;
     let notices = Arc::try_clone(&watching.notices)?;
-    let limits = watching.order.limits;
-    let feed = served.feed(rt.alloc(), &subs, watching.clock, &notices)?;
-    let watch = watching.watch(rt, &subs, feed)?;
+    match console {
+        Some(console) => attend_with_console::<B, R, K>(rt, console, watching, subs, keeper),
+        None => {
+            let watch = watching.watch(alloc, &subs, NoConsole::<B>::default())?;
+            let attending = Attending { keeper, watch };
+            Ok(serve_attended(rt, alloc, subs, limits, notices, attending))
+        }
+    }
+}
+
+/// Serves the lines, with a console beside them.
+fn attend_with_console<
+    B: BoardName + Send + Sync,
+    R: AllocGlobal
+        + Clock
+        + Copy
+        + Drop
+        + Log
+        + Net<Listener = TcpListener, Stream = TcpStream>
+        + Send
+        + Sync
+        + Threads
+        + Wait
+        + 'static,
+    K: RecordKeeper,
+>(
+    rt: &R,
+    console: ServedConsole,
+    watching: Watching<R>,
+    subs: Subs,
+    keeper: K,
+) -> Result<ServeEnd<K>, Failure>
+    requires shown { B.tables ≡ subs }
+    requires names { K.named_by keeper ≡ subs }
+    requires new { K.received keeper ≡ [] }
+    ensures { IfOk result (λ end. Serves K.kept K.keeps subs keeper end.keeper end.outcome) }
+{
+    let alloc = rt.alloc();
+    let limits = watching.limits;
+    let notices = Arc::try_clone(&watching.notices)?;
+    let board = Arc::new(alloc, StatusBoard::<B>::new()).map_err(|_| TaskFailure::Memory)?;
+    let theirs = Arc::try_clone(&board)?;
+    let counted = Arc::try_clone(&notices)?;
+    let feed = StatusFeed::new(alloc, &subs, watching.clock, theirs, counted)?;
+    let watch = watching.watch(alloc, &subs, feed)?;
     let attending = Attending { keeper, watch };
-    serve_beside(rt, served, subs, limits, notices, attending)
+    serve_beside(rt, console, &board, subs, limits, notices, attending)
 }
 
 /// Serves the lines, and the console on a thread of its own beside them.
 fn serve_beside<
+    B: BoardName + Send + Sync,
     R: AllocGlobal
         + Clock
         + Log
@@ -243,12 +297,14 @@ fn serve_beside<
 >(
     rt: &R,
     console: ServedConsole,
+    board: &StatusBoard<B>,
     subs: Subs,
     limits: Limits,
     notices: Arc<Notices>,
     attending: Attending<K, W>,
 ) -> Result<ServeEnd<K>, Failure>
     requires names { K.named_by attending.keeper ≡ subs }
+    requires shown { W.tables ≡ subs }
     requires new { K.received attending.keeper ≡ [] }
     ensures { IfOk result (λ end. Serves K.kept K.keeps subs attending.keeper end.keeper end.outcome) }
 {
@@ -259,10 +315,11 @@ fn serve_beside<
         rt,
         |scope| -> Result<ServeEnd<K>, Failure>
             requires names { K.named_by attending.keeper ≡ subs }
+            requires shown { W.tables ≡ subs }
             requires new { K.received attending.keeper ≡ [] }
             ensures { IfOk result (λ end. Serves K.kept K.keeps subs attending.keeper end.keeper end.outcome) }
         {
-            let Some(running) = begin_console(rt, scope, console, ends) else {
+            let Some(running) = begin_console(rt, scope, console, board, ends) else {
                 return Err(Failure::from(TaskFailure::Memory));
             };
             let end = serve_attended(rt, rt.alloc(), subs, limits, notices, attending);
@@ -274,13 +331,14 @@ fn serve_beside<
 }
 
 /// Starts the thread of the console, which ends when the flag is set. `None` where it cannot be started.
-fn begin_console<'s, E, R: Clock + Sync + Wait + 's>(
+fn begin_console<'s, E, B: BoardName + Send + Sync + 's, R: Clock + Sync + Wait + 's>(
     rt: &'s R,
     scope: &Scope<'s, E>,
     console: ServedConsole,
+    board: &'s StatusBoard<B>,
     is_over: Arc<AtomicBool>,
 ) -> Option<JoinHandle<()>> {
-    scope.spawn(move || console.run(rt, &is_over)).ok()
+    scope.spawn(move || console.run(rt, board, &is_over)).ok()
 }
 
 /// Tells that standard output took nothing, and how many charging records were lost with it.

@@ -1,31 +1,32 @@
 //! What feeds the console of the exchange that is served.
 
-use crate::served_console::ServedBoard;
+ghost use Rattle.std.specs.Prelude.{◌≡◌};
+
 use std::alloc::{AllocError, Global};
 use std::sync::Arc;
 use xp_causes::Refusal;
 use xp_charge::Record;
 use xp_clock::WallClock;
-use xp_observer::{Observer, StatusBoard, Traffic};
+use xp_observer::{BoardName, Observer, StatusBoard, Traffic};
 use xp_serve::ConsoleFeed;
 use xp_subs::Subs;
 use xp_tcp::{Notice, Notices};
 use xp_view::ExchangeView;
 
 /// Feeds the console: it shows what can be seen of the exchange each time that the console asks for it. The exchange is seen each
-/// second, so that it is known since when a line is in its state.
+/// second, so that it is known since when a line is in its state. `B` names the board, and the exchange that it shows.
 #[derive(Drop)]
-pub(crate) struct StatusFeed {
+pub(crate) struct StatusFeed<B: BoardName> {
     alloc: Global,
-    observer: Observer,
-    board: Arc<StatusBoard<ServedBoard>>,
+    observer: Observer<B>,
+    board: Arc<StatusBoard<B>>,
     notices: Arc<Notices>,
     clock: WallClock,
     /// The moment at which the exchange was seen last, in seconds since 1970.
     seen: u64,
 }
 
-impl StatusFeed {
+impl<B: BoardName> StatusFeed<B> {
     /// The feed of the console over this board, for an exchange of these subscriptions that begins to serve now. The notices count
     /// the octets that its connections move.
     ///
@@ -36,9 +37,11 @@ impl StatusFeed {
         alloc: Global,
         subs: &Subs,
         clock: WallClock,
-        board: Arc<StatusBoard<ServedBoard>>,
+        board: Arc<StatusBoard<B>>,
         notices: Arc<Notices>,
-    ) -> Result<StatusFeed, AllocError> {
+    ) -> Result<StatusFeed<B>, AllocError>
+        requires { B.tables ≡ subs.now }
+    {
         let seen = clock.seconds();
         Ok(StatusFeed {
             alloc,
@@ -51,10 +54,10 @@ impl StatusFeed {
     }
 }
 
-impl ConsoleFeed for StatusFeed {
-    ghost use Rattle.std.specs.Prelude.{⊤};
+impl<B: BoardName> ConsoleFeed for StatusFeed<B> {
+    ghost tables = { B.tables };
 
-    ghost may_stop = { ⊤ };
+    ghost may_stop = { B.may_stop };
 
     fn note(&mut self, notice: &Notice) {
         match notice {

@@ -35,6 +35,7 @@ pub trait RecordKeeper: RecordSink {
         ensures calls { calls self.new ≡ calls self.old }
         ensures received { Self.received self.new ≡ Self.received self.old }
         ensures lines { Self.lines self.new ≡ Self.lines self.old }
+        ensures tables { Self.tables self.new ≡ Self.tables self.old }
         ensures keeps { Self.keeps self.old self.new };
 
     /// Keeps the records that are left as the run ends, which follow those that were received. Their calls ended by the stop.

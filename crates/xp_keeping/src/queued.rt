@@ -271,6 +271,8 @@ impl<K: CallKeeper, R: Threads + Wait + Copy + Drop> RecordSink for QueuedKeeper
 
     ghost lines = { λ k. line_count k.subs };
 
+    ghost tables = { λ k. k.subs };
+
     ghost keeps = { KeepsBeside };
 
     #[tactic(auto, using(crate::proofs::EndedLemmas::records_more))]

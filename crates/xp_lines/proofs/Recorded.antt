@@ -1,7 +1,14 @@
 -- Records that go from a recorder to a sink, in one turn after the other.
 use Rattle.std.proofs.Common.{◌≡◌, List, [], ◌++◌, sym, ap, subst, ◌∙◌, append_assoc, append-nil}
+use Rattle.std.specs.declared.alloc.Global.{Global as Alloc}
 use Rattle.xp_charge.specs.declared.record.Record.{Record}
+use Rattle.xp_core.specs.Records.{records_of}
+use Rattle.xp_lock.specs.Passes.{IsLegal}
 use Rattle.xp_seats.specs.Recording.{Recording}
+use Rattle.xp_sink.specs.Seen.{IsSeen}
+use Rattle.xp_subs.specs.Tables.{Tables}
+use Rattle.xp_view.specs.Views.{Shows}
+use Rattle.xp_view.specs.declared.view.ExchangeView.{ExchangeView}
 use Rattle.xp_lines.specs.Recorded.{HandsOn}
 
 module _ {A S : Type 0} (received : S → List Record) (keeps : S → S → Type 0) where
@@ -41,3 +48,20 @@ module _ {A S : Type 0} (received : S → List Record) (keeps : S → S → Type
     seen = handed.seen;
     kept = on before mid after handed.kept kept;
   }
+
+  -- the sink was given what the recorder took, and so it was after a turn
+  pub still_received : (old : Recording A) (before : S) (new : Recording A) (after : S) → received before ≡ old.received
+      → HandsOn received keeps old before new after → received after ≡ new.received
+  still_received old before new after same handed = handed.given ∙ ap (λ xs. xs ++ handed.more) same ∙ sym handed.taken
+
+-- what the recorder saw is seen by a sink that was given what the recorder took
+pub seen_by : (tables own : Tables) (recorder : Recording Alloc) (given : List Record) (view : ExchangeView Alloc) → own ≡ tables
+    → given ≡ recorder.received → recorder.received ≡ records_of recorder.seen → IsLegal tables recorder.seen → Shows tables recorder.seen view
+    → IsSeen own given view
+seen_by tables own recorder given view same taken each legal shows =
+    subst (λ shown. IsSeen shown given view) (sym same) (record {
+      history = recorder.seen;
+      legal = legal;
+      records_are = taken ∙ each;
+      shows = shows;
+    })

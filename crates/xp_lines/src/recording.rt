@@ -31,7 +31,9 @@ pub(crate) fn keep_recording<N: Name, S: RecordSink, R: Wait>(
     sink: S,
     signals: &Signals,
 ) -> Recorded<N, S>
-    requires { S.lines sink ≡ line_count N.subs }
+    requires lines { S.lines sink ≡ line_count N.subs }
+    requires tables { S.tables sink ≡ N.subs }
+    requires received { S.received sink ≡ recorder.received }
     ensures { HandsOn S.received S.keeps recorder sink result.recorder result.sink }
 {
     let mut recorder = recorder;
@@ -68,8 +70,11 @@ fn hand_over<N: Name, S: RecordSink, R: Wait>(
     recorder: &mut Recorder<N>,
     sink: &mut S,
 ) -> Received
-    requires { S.lines sink.old ≡ line_count N.subs }
+    requires lines { S.lines sink.old ≡ line_count N.subs }
+    requires tables { S.tables sink.old ≡ N.subs }
+    requires received { S.received sink.old ≡ recorder.old.received }
     ensures lines { S.lines sink.new ≡ S.lines sink.old }
+    ensures tables { S.tables sink.new ≡ S.tables sink.old }
     ensures hands { HandsOn S.received S.keeps recorder.old sink.old recorder.new sink.new }
 {
     if sink.wants_look() {
@@ -86,8 +91,11 @@ fn hand_records<N: Name, S: RecordSink, R: Wait>(
     recorder: &mut Recorder<N>,
     sink: &mut S,
 ) -> Received
-    requires { S.lines sink.old ≡ line_count N.subs }
+    requires lines { S.lines sink.old ≡ line_count N.subs }
+    requires tables { S.tables sink.old ≡ N.subs }
+    requires received { S.received sink.old ≡ recorder.old.received }
     ensures lines { S.lines sink.new ≡ S.lines sink.old }
+    ensures tables { S.tables sink.new ≡ S.tables sink.old }
     ensures hands { HandsOn S.received S.keeps recorder.old sink.old recorder.new sink.new }
 {
     let Ok(records) = exchange.take_records(rt, recorder) else {
@@ -96,7 +104,7 @@ fn hand_records<N: Name, S: RecordSink, R: Wait>(
     give(sink, records)
 }
 
-/// Hands the records of the calls that have ended since to the sink, with what can be seen of the exchange then.
+/// Hands the records of the calls that have ended since to the sink, and then shows it the exchange as it was when they were taken.
 fn show<N: Name, S: RecordSink, R: Wait>(
     rt: &R,
     alloc: Global,
@@ -104,8 +112,11 @@ fn show<N: Name, S: RecordSink, R: Wait>(
     recorder: &mut Recorder<N>,
     sink: &mut S,
 ) -> Received
-    requires { S.lines sink.old ≡ line_count N.subs }
+    requires lines { S.lines sink.old ≡ line_count N.subs }
+    requires tables { S.tables sink.old ≡ N.subs }
+    requires received { S.received sink.old ≡ recorder.old.received }
     ensures lines { S.lines sink.new ≡ S.lines sink.old }
+    ensures tables { S.tables sink.new ≡ S.tables sink.old }
     ensures hands { HandsOn S.received S.keeps recorder.old sink.old recorder.new sink.new }
 {
     let Ok(look) = exchange.look(rt, alloc, recorder) else {
@@ -122,6 +133,7 @@ fn give<S: RecordSink>(sink: &mut S, records: Vec<Record>) -> Received
     requires { All (HasLines (S.lines sink.old)) records.items }
     ensures received { S.received sink.new ≡ S.received sink.old ++ records.items }
     ensures lines { S.lines sink.new ≡ S.lines sink.old }
+    ensures tables { S.tables sink.new ≡ S.tables sink.old }
     ensures keeps { S.keeps sink.old sink.new }
 {
     if records.is_empty() {

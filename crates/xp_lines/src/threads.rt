@@ -69,9 +69,10 @@ type Begun<N, P, C, G> = Result<
 /// says. `turns` is the most turns of each line, and `records` the number of charging records at which the exchange is halted. If a
 /// thread cannot be started, or there is none for a line, the exchange is halted. The ends are in the order of the lines.
 ///
-/// The recorder takes the charging records of calls as they end, and the sink is given them. It is given the rest once all lines
-/// have ended; those that no memory could be had for stay with the exchange. Where the sink answers that serving stops, the lines
-/// are asked to stop.
+/// The recorder takes the charging records of calls as they end, and the sink is given them: before, it was given those that the
+/// recorder took before. It is given the rest once all lines have ended; those that no memory could be had for stay with the
+/// exchange. Where the sink wants to see the exchange, it is shown it as it was when the recorder took the records that the sink was
+/// given last. Where the sink answers that serving stops, the lines are asked to stop.
 ///
 /// # Errors
 ///
@@ -95,7 +96,9 @@ pub fn serve_all<
     turns: u64,
     records: u64,
 ) -> Result<LinesServed<N, S>, ServeFault<N, P, C, G, S>>
-    requires { S.lines sink ≡ line_count N.subs }
+    requires lines { S.lines sink ≡ line_count N.subs }
+    requires tables { S.tables sink ≡ N.subs }
+    requires received { S.received sink ≡ recorder.received }
     ensures ok { IfOk result (λ served. map (λ end. end.pass.line) served.ends.items ≡ map (λ line. line.pass.line) lines.items) }
     ensures served { IfOk result (λ served. AreEach (IsLineServed N.subs (AreMoved P.Link.pushed P.Link.pulled)) (map (λ line. line.pass) lines.items) (map (λ end. end.pass) served.ends.items)) }
     ensures stopped { IfOk result (λ served. AreEach (λ first end. end.why ≡ EndReason.Stopped → IsLineDown N.subs (AreMoved P.Link.pushed P.Link.pulled) first end.pass) (map (λ line. line.pass) lines.items) served.ends.items) }
@@ -110,6 +113,8 @@ pub fn serve_all<
         rt,
         |scope| -> Result<LinesServed<N, S>, ServeFault<N, P, C, G, S>>
             requires lines { S.lines sink ≡ line_count N.subs }
+            requires tables { S.tables sink ≡ N.subs }
+            requires received { S.received sink ≡ recorder.received }
             ensures ok { IfOk result (λ served. map (λ end. end.pass.line) served.ends.items ≡ map (λ line. line.pass.line) lines.items) }
             ensures served { IfOk result (λ served. AreEach (IsLineServed N.subs (AreMoved P.Link.pushed P.Link.pulled)) (map (λ line. line.pass) lines.items) (map (λ end. end.pass) served.ends.items)) }
             ensures stopped { IfOk result (λ served. AreEach (λ first end. end.why ≡ EndReason.Stopped → IsLineDown N.subs (AreMoved P.Link.pushed P.Link.pulled) first end.pass) (map (λ line. line.pass) lines.items) served.ends.items) }
@@ -149,6 +154,8 @@ fn serve_in<
     records: u64,
 ) -> Result<LinesServed<N, S>, ServeFault<N, P, C, G, S>>
     requires lines { S.lines sink ≡ line_count N.subs }
+    requires tables { S.tables sink ≡ N.subs }
+    requires received { S.received sink ≡ recorder.received }
     ensures ok { IfOk result (λ served. map (λ end. end.pass.line) served.ends.items ≡ map (λ line. line.pass.line) lines.items) }
     ensures served { IfOk result (λ served. AreEach (IsLineServed N.subs (AreMoved P.Link.pushed P.Link.pulled)) (map (λ line. line.pass) lines.items) (map (λ end. end.pass) served.ends.items)) }
     ensures stopped { IfOk result (λ served. AreEach (λ first end. end.why ≡ EndReason.Stopped → IsLineDown N.subs (AreMoved P.Link.pushed P.Link.pulled) first end.pass) (map (λ line. line.pass) lines.items) served.ends.items) }

@@ -1,6 +1,7 @@
 //! A sink that keeps charging records as text.
 
 use crate::told::tell_records;
+use std::snapshot::Snapshot;
 use std::sync::Arc;
 use std::sync::atomic::Ordering;
 use xp_charge::Record;
@@ -18,6 +19,8 @@ pub struct Kept {
     pub text: Vec<u8>,
     /// The subscriptions, from which the lines have their names.
     pub subs: Subs,
+    /// Those of the exchange that it sees.
+    pub shown: Snapshot<Subs>,
     pub board: Arc<Board>,
     /// How many lines and entries it saw last.
     pub seen_lines: usize,
@@ -32,6 +35,8 @@ impl RecordSink for Kept {
     ghost received = { λ kept. kept.given.items };
 
     ghost lines = { λ kept. line_count kept.subs };
+
+    ghost tables = { λ kept. kept.shown.value };
 
     ghost keeps = { λ _ _. ⊤ };
 

@@ -1,12 +1,13 @@
 //! Lines that are served, each by a thread of its own or all by one.
 
-ghost use Rattle.std.specs.Prelude.{◌≡◌};
+ghost use Rattle.std.specs.Prelude.{◌≡◌, [], IfOk};
 ghost use Rattle.xp_subs.specs.Tables.{line_count};
 
 use crate::kept::Kept;
 use crate::told::{tell_book, why_letter};
 use std::alloc::{AllocError, Global};
 use std::marker::Brand;
+use std::snapshot::Snapshot;
 use std::sync::{Arc, Wait};
 use std::test::Fail;
 use std::thread::Threads;
@@ -107,6 +108,8 @@ fn serves<N: Name + Send + Sync, R: Threads + Wait + Sync>(
     board: &Arc<Board>,
 ) -> Result<Vec<u8>, AllocError>
     requires lines { line_count sink.subs ≡ line_count prepared.subs }
+    requires tables { sink.shown.value ≡ prepared.subs }
+    requires given { sink.given.items ≡ [] }
     requires subs { N.subs ≡ prepared.subs }
     requires history_length { N.history_length ≡ prepared.history_length }
     requires queues { N.queues ≡ prepared.queues }
@@ -154,11 +157,15 @@ fn close<N: Name, R: Wait>(
     Ok(text)
 }
 
-/// A sink that keeps the records of a board's lines.
-fn sink(alloc: Global, board: &Arc<Board>) -> Result<Kept, Fail> {
+/// A sink that keeps the records of a board's lines, and sees the exchange of these subscriptions.
+fn sink(alloc: Global, board: &Arc<Board>, shown: &Subs) -> Result<Kept, Fail>
+    ensures shown { IfOk result (λ kept. kept.shown.value ≡ shown.now) }
+    ensures given { IfOk result (λ kept. kept.given.items ≡ []) }
+{
     let board = Arc::try_clone(board)?;
     Ok(Kept {
         subs: subs(alloc, &board)?,
+        shown: Snapshot::of(shown),
         text: Vec::new(alloc),
         board,
         seen_lines: 0,
@@ -179,7 +186,7 @@ pub fn serve<R: Threads + Wait + Sync>(
     let board = Arc::new(alloc, Board::new(alloc, scene, together, at)?)?;
     let pollers = pollers(alloc, &board)?;
     let subs = subs(alloc, &board)?;
-    let sink = sink(alloc, &board)?;
+    let sink = sink(alloc, &board, &subs)?;
     if sink.subs.counts().lines != subs.counts().lines {
         return Err("the subscriptions differ".into());
     }

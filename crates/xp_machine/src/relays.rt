@@ -103,7 +103,11 @@ impl<A: Allocator + Copy> StoredMeteredRelay<A> {
         Ok(self)
     }
 
-    /// Gives the relay a packet of this end, and returns what it carries to either end.
+    /// Gives the relay a packet of this end, and returns what it carries to either end. The meter stays as it was.
+    ///
+    /// # Errors
+    ///
+    /// `AllocError` if an allocation fails. Then the relay stays as it was.
     pub fn take(
         &mut self,
         here: End,
@@ -113,6 +117,8 @@ impl<A: Allocator + Copy> StoredMeteredRelay<A> {
         requires empty { room.moves ≡ [] }
         requires space { 17 ≤ room.room }
         ensures ok { IfOk result (λ made. (call : Coupled A) → RepresentsCall self.old.relay call → Follows here (turn_of here packet.now) call self.new.relay made.moves) }
+        ensures meter { self.new.meter ≡ self.old.meter }
+        ensures err { OnErr result (self.new ≡ self.old) }
     {
         self.metered.relay.take(here, packet, room)
     }

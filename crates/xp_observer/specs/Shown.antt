@@ -8,8 +8,8 @@ use Rattle.xp_console.specs.declared.status.LineState.{LineState}
 use Rattle.xp_console.specs.declared.status.LineState.TheVariants.{OutOfService, Ready, DteWaiting, DceWaiting, DataTransfer, DceClearIndication}
 use Rattle.xp_console.specs.declared.status.LineStatus.{LineStatus}
 use Rattle.xp_machine.specs.declared.view.LineView.{LineView}
-use Rattle.xp_observer.specs.declared.lines.NamedLine.{NamedLine}
 use Rattle.xp_packets.specs.Digits.{text_of}
+use Rattle.xp_sink.specs.Seen.{IsSeenOf}
 use Rattle.xp_subs.specs.Tables.{Tables, station_at}
 use Rattle.xp_subs.specs.declared.line.Line.{Line}
 use Rattle.xp_view.specs.declared.view.ExchangeView.{ExchangeView}
@@ -32,10 +32,6 @@ names_at tables line = record {
 -- how the lines are named, in order
 abbrev pub names_of : Tables → List LineNames
 names_of tables = map (names_at tables) tables.lines
-
--- how a line is named that is kept
-abbrev pub names_in : NamedLine → LineNames
-names_in line = record { name = line.name; address = line.address; station = line.station }
 
 -- the state of a logical channel, in the words of X.25 Annex B
 abbrev pub state_of : Channel → LineState
@@ -65,3 +61,10 @@ pub record IsStatusOf (names : List LineNames) (view : ExchangeView Alloc) (stat
   pub lines_are : AreShown names view.lines.items status.lines.items
   pub events_are : status.totals.events ≡ view.entries
   pub stalls_are : status.totals.stalls ≡ view.stalls
+
+-- This status shows an exchange of these subscriptions: each line by its own name, as it is seen in the state to which a history of
+-- the exchange leads.
+pub record IsStatusOfExchange (tables : Tables) (status : ExchangeStatus) : Type 0 where
+  pub view : ExchangeView Alloc
+  pub seen : IsSeenOf tables view
+  pub shows : IsStatusOf (names_of tables) view status

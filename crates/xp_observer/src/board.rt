@@ -1,15 +1,17 @@
 //! What the console and the thread that sees the exchange tell each other.
 
 ghost use Rattle.std.specs.Prelude.{◌≡◌, IfSome, true};
+ghost use Rattle.xp_observer.specs.Shown.{IsStatusOfExchange};
 
 use std::alloc::{AllocError, Global};
 use std::marker::{Brand, Model, PhantomData};
 use std::sync::atomic::Ordering::SeqCst;
 use std::sync::atomic::{AtomicBool, AtomicIn, Rule};
-use std::sync::{Arc, Mutex, Wait};
+use std::sync::{Mutex, Wait};
 use std::thread::Parker;
 use std::time::Duration;
 use xp_console::{ExchangeStatus, StatusSource};
+use xp_sink::ShownExchange;
 
 /// How often the console looks for a status that it asked for, before it gives up.
 const MOST_LOOKS: u32 = 40;
@@ -17,18 +19,15 @@ const MOST_LOOKS: u32 = 40;
 /// For how long it waits between two looks at most, in milliseconds.
 const PATIENCE: u64 = 50;
 
-/// Names a board by what may be shown on it, and by what holds where it may ask for a stop. Its two ends are proved for every such
-/// name, so one shows nothing that the other did not put, and the other is asked for no stop that the first was not asked for.
-pub trait BoardName {
+/// Names a board by the exchange that it shows, and by what holds where it may ask for a stop. A status is put there only where it was
+/// made of what is seen of the exchange, and no other is shown. The two ends are proved for every such name, so one asks for no stop
+/// that the other did not grant.
+pub trait BoardName: ShownExchange {
     ghost use Rattle.std.specs.declared.net.ip_addr.IpAddr.{IpAddr};
     ghost use Rattle.http.specs.declared.request.Parts.{Parts};
     ghost use Rattle.xp_console.specs.Requests.{IsAnswer};
     ghost use Rattle.xp_console.specs.declared.requests.Answer.TheVariants.{Granted};
     ghost use Rattle.xp_console.specs.declared.requests.Resource.TheVariants.{Stop};
-    ghost use Rattle.xp_console.specs.declared.status.ExchangeStatus.{ExchangeStatus};
-
-    // What holds of each status that is put on the board.
-    ghost may_show: { ExchangeStatus → Type 0 };
 
     // What holds where the board asks for a stop.
     ghost may_stop: { Type 0 };
@@ -39,8 +38,6 @@ pub trait BoardName {
 
 impl BoardName for Brand {
     ghost use Rattle.std.specs.Prelude.{⊤};
-
-    ghost may_show = { λ _. ⊤ };
 
     ghost may_stop = { ⊤ };
 
@@ -67,17 +64,18 @@ struct PutStatus<B: BoardName> {
 
 impl<B: BoardName> Model for PutStatus<B> {
     ghost use Rattle.xp_console.specs.declared.status.ExchangeStatus.{ExchangeStatus};
+    ghost use Rattle.xp_observer.specs.Shown.{IsStatusOfExchange};
 
     ghost Value = { ExchangeStatus };
 
     ghost view = { λ put. put.status };
 
-    ghost invariant = { λ put. B.may_show put.status };
+    ghost invariant = { λ put. IsStatusOfExchange B.tables put.status };
 }
 
 impl<B: BoardName> PutStatus<B> {
     fn new(status: ExchangeStatus) -> PutStatus<B>
-        requires { B.may_show status }
+        requires { IsStatusOfExchange B.tables status }
         ensures { result ≡ status }
     {
         PutStatus {
@@ -88,7 +86,7 @@ impl<B: BoardName> PutStatus<B> {
 
     fn into_status(self) -> ExchangeStatus
         ensures same { result ≡ self }
-        ensures may_show { B.may_show result }
+        ensures shows { IsStatusOfExchange B.tables result }
     {
         let PutStatus { status, board: _ } = self;
         status
@@ -97,7 +95,7 @@ impl<B: BoardName> PutStatus<B> {
 
 /// The status, as one that was put on a board, if there is one.
 fn put_status<B: BoardName>(status: Option<ExchangeStatus>) -> Option<PutStatus<B>>
-    requires { IfSome status B.may_show }
+    requires { IfSome status (IsStatusOfExchange B.tables) }
 {
     let status = status?;
     Some(PutStatus::new(status))
@@ -132,7 +130,7 @@ impl<B: BoardName> StatusBoard<B> {
 
     /// Puts a status for the console, or that none could be made. None is asked for any more.
     pub fn put(&self, status: Option<ExchangeStatus>)
-        requires { IfSome status B.may_show }
+        requires { IfSome status (IsStatusOfExchange B.tables) }
     {
         self.is_wanted.store(false, SeqCst);
         let status = put_status(status);
@@ -158,7 +156,7 @@ impl<B: BoardName> StatusBoard<B> {
 
     /// Takes the status that was put last.
     fn take(&self) -> Option<ExchangeStatus>
-        ensures { IfSome result B.may_show }
+        ensures { IfSome result (IsStatusOfExchange B.tables) }
     {
         let put = self.status.try_lock()?.take()?;
         Some(put.into_status())
@@ -187,20 +185,21 @@ impl<B: BoardName> Default for StatusBoard<B> {
 #[derive(Drop)]
 pub struct BoardSource<'a, R: Wait, B: BoardName> {
     rt: &'a R,
-    board: Arc<StatusBoard<B>>,
+    board: &'a StatusBoard<B>,
 }
 
 impl<'a, R: Wait, B: BoardName> BoardSource<'a, R, B> {
     /// The source over a board.
-    pub fn new(rt: &'a R, board: Arc<StatusBoard<B>>) -> BoardSource<'a, R, B> {
+    pub fn new(rt: &'a R, board: &'a StatusBoard<B>) -> BoardSource<'a, R, B> {
         BoardSource { rt, board }
     }
 }
 
 impl<R: Wait, B: BoardName> StatusSource for BoardSource<'_, R, B> {
     ghost use Rattle.std.specs.Prelude.{◌≡◌};
+    ghost use Rattle.xp_observer.specs.Shown.{IsStatusOfExchange};
 
-    ghost shows = { λ old status new. B.may_show status × (new ≡ old) };
+    ghost shows = { λ old status new. IsStatusOfExchange B.tables status × (new ≡ old) };
 
     ghost stops = { λ old new. new ≡ old };
 

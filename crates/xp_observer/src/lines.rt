@@ -1,7 +1,8 @@
 //! What is shown of a line.
 
 ghost use Rattle.std.specs.Prelude.{◌≡◌, IfOk};
-ghost use Rattle.xp_observer.specs.Shown.{IsShownAs, names_in, state_of};
+ghost use Rattle.xp_observer.specs.Shown.{IsShownAs, state_of};
+ghost use Rattle.xp_observer.specs.steps.Shown.{names_in};
 
 use std::alloc::{AllocError, Global};
 use std::net::SocketAddr;

@@ -1,17 +1,19 @@
 //! What is kept to show an operator the exchange.
 
 ghost use Rattle.std.specs.Prelude.{◌≡◌, IfOk, map};
-ghost use Rattle.xp_observer.specs.Shown.{AreShown, IsStatusOf, names_in, names_of};
+ghost use Rattle.xp_observer.specs.Shown.{AreShown, IsStatusOf, names_of};
+ghost use Rattle.xp_observer.specs.steps.Shown.{names_in};
 
 use crate::calls::live_calls;
 use crate::ended::ended_call;
 use crate::lines::NamedLine;
 use crate::notes::Notes;
 use std::alloc::{AllocError, Global};
-use std::marker::Model;
+use std::marker::{Model, PhantomData};
 use std::net::SocketAddr;
 use xp_charge::Record;
 use xp_console::{EndedCall, ExchangeStatus, LineStatus, Totals};
+use xp_sink::ShownExchange;
 use xp_subs::{LineNo, Subs};
 use xp_view::ExchangeView;
 
@@ -22,33 +24,37 @@ pub struct Traffic {
     pub sent: u64,
 }
 
-/// What is kept to show an operator the exchange: the names and addresses of its lines, and notes of their peers and routers, the last
-/// records, and sums over all of them. Contracts see it as the names and addresses of the lines.
+/// What is kept to show an operator the exchange that N names: the names and addresses of its lines, and notes of their peers and
+/// routers, the last records, and sums over all of them.
 #[derive(Drop)]
-pub struct Observer {
+pub struct Observer<N: ShownExchange> {
     /// The moment at which the exchange began to serve, in seconds since 1970.
     started: u64,
     lines: Vec<NamedLine>,
     notes: Notes,
+    exchange: PhantomData<N>,
 }
 
-impl Model for Observer {
-    ghost use Rattle.std.specs.Prelude.{List, map};
-    ghost use Rattle.xp_observer.specs.Shown.{LineNames, names_in};
+impl<N: ShownExchange> Model for Observer<N> {
+    ghost use Rattle.std.specs.Prelude.{◌≡◌, map};
+    ghost use Rattle.xp_observer.specs.Shown.{names_of};
+    ghost use Rattle.xp_observer.specs.steps.Shown.{names_in};
 
-    ghost Value = { List LineNames };
+    ghost Value = { Unit {0} };
 
-    ghost view = { λ observer. map names_in observer.lines.items };
+    ghost view = { λ _. tt };
+
+    ghost invariant = { λ observer. map names_in observer.lines.items ≡ names_of N.tables };
 }
 
-impl Observer {
+impl<N: ShownExchange> Observer<N> {
     /// The observer of an exchange of these subscriptions, which began to serve at this moment, in seconds since 1970.
     ///
     /// # Errors
     ///
     /// `AllocError` if an allocation fails.
-    pub fn new(alloc: Global, subs: &Subs, started: u64) -> Result<Observer, AllocError>
-        ensures { IfOk result (λ observer. observer ≡ names_of subs.now) }
+    pub fn new(alloc: Global, subs: &Subs, started: u64) -> Result<Observer<N>, AllocError>
+        requires { N.tables ≡ subs.now }
     {
         let lines = named_lines(alloc, subs)?;
         let notes = Notes::new(alloc, subs, started)?;
@@ -56,49 +62,38 @@ impl Observer {
             started,
             lines,
             notes,
+            exchange: PhantomData,
         })
     }
 
     /// Takes note that a line has a connection from or to this peer.
-    pub fn came_up(&mut self, line: LineNo, peer: SocketAddr)
-        ensures { self.new ≡ self.old }
-    {
+    pub fn came_up(&mut self, line: LineNo, peer: SocketAddr) {
         self.notes.set_peer(line, Some(peer));
     }
 
     /// Takes note that a line has lost its connection.
-    pub fn went_down(&mut self, line: LineNo)
-        ensures { self.new ≡ self.old }
-    {
+    pub fn went_down(&mut self, line: LineNo) {
         self.notes.set_peer(line, None);
     }
 
     /// Takes note that a line behind a router has a connection that was made to the router, which is this peer.
-    pub fn router_connected(&mut self, line: LineNo, peer: SocketAddr)
-        ensures { self.new ≡ self.old }
-    {
+    pub fn router_connected(&mut self, line: LineNo, peer: SocketAddr) {
         self.notes.routers.connected(line);
         self.notes.set_peer(line, Some(peer));
     }
 
     /// Takes note that no connection to the router of a line could be made, at this moment in seconds since 1970.
-    pub fn router_failed(&mut self, line: LineNo, now: u64)
-        ensures { self.new ≡ self.old }
-    {
+    pub fn router_failed(&mut self, line: LineNo, now: u64) {
         self.notes.routers.failed(line, now);
     }
 
     /// Takes note that a call of a router was refused with this cause, since no line took it.
-    pub fn router_refused(&mut self, cause: u8)
-        ensures { self.new ≡ self.old }
-    {
+    pub fn router_refused(&mut self, cause: u8) {
         self.notes.router_refusals.count(cause);
     }
 
     /// Takes note of the records of calls that have ended.
-    pub fn note_ended(&mut self, records: &[Record])
-        ensures { self.new ≡ self.old }
-    {
+    pub fn note_ended(&mut self, records: &[Record]) {
         self.notes.note_ended(records);
     }
 
@@ -116,8 +111,7 @@ impl Observer {
         waiting: usize,
         traffic: Traffic,
     ) -> Result<ExchangeStatus, AllocError>
-        ensures same { self.new ≡ self.old }
-        ensures shows { IfOk result (IsStatusOf self.old view.now) }
+        ensures shows { IfOk result (IsStatusOf (names_of N.tables) view.now) }
         ensures moment { IfOk result (λ status. status.moment ≡ now) }
         ensures waiting { IfOk result (λ status. status.totals.records_waiting ≡ waiting) }
     {

@@ -1,7 +1,7 @@
 //! What goes on beside the lines while they are served.
 
-ghost use Rattle.std.specs.Prelude.{◌≡◌, ℕ, []};
-ghost use Rattle.xp_sink.specs.Seen.{IsSeen};
+ghost use Rattle.std.specs.Prelude.{◌≡◌, []};
+ghost use Rattle.xp_sink.specs.Seen.{IsSeenOf};
 ghost use Rattle.xp_serve.specs.Serving.{Serves};
 
 use crate::serving::{ServeEnd, serve};
@@ -19,6 +19,11 @@ use xp_view::ExchangeView;
 
 /// What is looked at again and again while the lines are served.
 pub trait Watch: Drop {
+    ghost use Rattle.xp_subs.specs.Tables.{Tables};
+
+    // The subscriptions of the exchange that it sees.
+    ghost tables: { Tables };
+
     /// Looks once, and does not wait. It is called at least ten times a second.
     fn look(&mut self) -> Received;
 
@@ -30,7 +35,7 @@ pub trait Watch: Drop {
 
     /// Takes what can be seen of the exchange, and how many records wait to be kept.
     fn see(&mut self, view: &ExchangeView, waiting: usize)
-        requires seen { (lines : ℕ) × IsSeen lines view.now };
+        requires seen { IsSeenOf tables view.now };
 
     /// Looks for the last time: all lines have ended.
     fn end(&mut self);
@@ -62,6 +67,8 @@ impl<K: RecordKeeper, W: Watch> RecordSink for Attending<K, W> {
     ghost received = { λ a. K.received a.keeper };
 
     ghost lines = { λ a. K.lines a.keeper };
+
+    ghost tables = { λ _. W.tables };
 
     ghost keeps = { λ a b. K.keeps a.keeper b.keeper };
 
@@ -122,7 +129,8 @@ impl<K: RecordKeeper, W: Watch> RecordKeeper for Attending<K, W> {
     }
 }
 
-/// Serves the lines by [`serve`] with a keeper of their charging records and what is looked at beside it, and gives the keeper back.
+/// Serves the lines by [`serve`] with a keeper of their charging records and what is looked at beside it, and gives the keeper back. What
+/// it sees is the exchange of these subscriptions.
 pub fn serve_attended<
     R: Net<Listener = TcpListener, Stream = TcpStream> + Threads + Wait + Sync,
     K: RecordKeeper,
@@ -136,6 +144,7 @@ pub fn serve_attended<
     attending: Attending<K, W>,
 ) -> ServeEnd<K>
     requires names { K.named_by attending.keeper ≡ subs }
+    requires tables { W.tables ≡ subs }
     requires new { K.received attending.keeper ≡ [] }
     ensures { Serves K.kept K.keeps subs attending.keeper result.keeper result.outcome }
 {

@@ -43,7 +43,9 @@ pub(crate) fn serve_with_door<
     sink: S,
     limits: Limits,
 ) -> Result<LinesServed<N, S>, ServeFault<N, P, C, G, S>>
-    requires { S.lines sink ≡ line_count N.subs }
+    requires lines { S.lines sink ≡ line_count N.subs }
+    requires tables { S.tables sink ≡ N.subs }
+    requires received { S.received sink ≡ recorder.received }
     ensures served { IfOk result (λ served. AreEach (IsLineServed N.subs (AreMoved P.Link.pushed P.Link.pulled)) (map (λ line. line.pass) lines.items) (map (λ end. end.pass) served.ends.items)) }
     ensures stopped { IfOk result (λ served. AreEach (λ first end. end.why ≡ EndReason.Stopped → IsLineDown N.subs (AreMoved P.Link.pushed P.Link.pulled) first end.pass) (map (λ line. line.pass) lines.items) served.ends.items) }
     ensures recorded { IfOk result (λ served. HandsOn S.received S.keeps recorder sink served.recorder served.sink) }
@@ -67,6 +69,8 @@ pub(crate) fn serve_with_door<
         rt,
         |scope| -> Result<LinesServed<N, S>, ServeFault<N, P, C, G, S>>
             requires lines { S.lines sink ≡ line_count N.subs }
+            requires tables { S.tables sink ≡ N.subs }
+            requires received { S.received sink ≡ recorder.received }
             ensures served { IfOk result (λ served. AreEach (IsLineServed N.subs (AreMoved P.Link.pushed P.Link.pulled)) (map (λ line. line.pass) lines.items) (map (λ end. end.pass) served.ends.items)) }
             ensures stopped { IfOk result (λ served. AreEach (λ first end. end.why ≡ EndReason.Stopped → IsLineDown N.subs (AreMoved P.Link.pushed P.Link.pulled) first end.pass) (map (λ line. line.pass) lines.items) served.ends.items) }
             ensures recorded { IfOk result (λ served. HandsOn S.received S.keeps recorder sink served.recorder served.sink) }

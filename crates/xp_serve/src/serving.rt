@@ -63,6 +63,7 @@ pub fn serve<
     keeper: K,
 ) -> ServeEnd<K>
     requires names { K.named_by keeper ≡ subs }
+    requires tables { K.tables keeper ≡ subs }
     requires new { K.received keeper ≡ [] }
     ensures host { (result.outcome ≡ Err NoHost) ↔ IsNoHost subs.host }
     ensures serves { Serves K.kept K.keeps subs keeper result.keeper result.outcome }
@@ -90,6 +91,7 @@ fn serve_at<
     keeper: K,
 ) -> ServeEnd<K>
     requires names { K.named_by keeper ≡ subs }
+    requires tables { K.tables keeper ≡ subs }
     requires new { K.received keeper ≡ [] }
     ensures { Serves K.kept K.keeps subs keeper result.keeper result.outcome }
 {
@@ -153,6 +155,8 @@ pub fn serve_on<
 ) -> Result<Recorded<S>, NotServed<S>>
     requires sockets { length sockets ≡ line_count subs }
     requires lines { S.lines sink ≡ line_count subs }
+    requires tables { S.tables sink ≡ subs }
+    requires received { S.received sink ≡ [] }
     ensures served { IfOk result (λ recorded. IsServed subs recorded.served) }
     ensures received { IfOk result (λ recorded. S.received recorded.sink ≡ S.received sink ++ recorded.served.book.given) }
     ensures keeps { IfOk result (λ recorded. S.keeps sink recorded.sink) }
@@ -185,6 +189,8 @@ fn serve_named<
     requires sockets { length sockets ≡ line_count prepared.subs }
     requires few { line_count prepared.subs ≤ 512 }
     requires lines { S.lines sink ≡ line_count prepared.subs }
+    requires tables { S.tables sink ≡ prepared.subs }
+    requires received { S.received sink ≡ [] }
     ensures served { IfOk result (λ recorded. IsServed prepared.subs recorded.served) }
     ensures received { IfOk result (λ recorded. S.received recorded.sink ≡ S.received sink ++ recorded.served.book.given) }
     ensures keeps { IfOk result (λ recorded. S.keeps sink recorded.sink) }

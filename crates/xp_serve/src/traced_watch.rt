@@ -22,6 +22,8 @@ impl<T: Watch, R: Wait> TracedWatch<T, R> {
 }
 
 impl<T: Watch, R: Wait + Drop> Watch for TracedWatch<T, R> {
+    ghost tables = { T.tables };
+
     fn look(&mut self) -> Received {
         if let Some(trace) = &self.trace {
             trace.begin();

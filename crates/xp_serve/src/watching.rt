@@ -137,6 +137,8 @@ impl<L: Log + Drop, F: ConsoleFeed> OperatorWatch<L, F> {
 }
 
 impl<L: Log + Drop, F: ConsoleFeed> Watch for OperatorWatch<L, F> {
+    ghost tables = { F.tables };
+
     fn look(&mut self) -> Received {
         let now = self.clock.now();
         self.tell_opening(now);

@@ -1,7 +1,10 @@
 //! What is shown of an exchange, over a view that is made by hand: a call from a1 to h2 that has been up for a minute, one from h1
 //! that ended, and one that was refused.
 
+ghost use Rattle.std.specs.Prelude.{◌≡◌};
+
 use std::alloc::{AllocError, Global};
+use std::marker::Brand;
 use std::net::SocketAddr;
 use std::test::Fail;
 use xp_channel::Channel;
@@ -11,6 +14,7 @@ use xp_core::CallView;
 use xp_machine::LineView;
 use xp_observer::{Observer, Traffic};
 use xp_packets::{Digits, End};
+use xp_sink::ShownExchange;
 use xp_subs::{LineNo, Subs};
 use xp_testing::THREE_STATIONS;
 use xp_view::{ExchangeView, LineWithCall};
@@ -120,7 +124,14 @@ fn record(number: u64, called: Option<LineNo>, cause: u8) -> Option<Record> {
 /// What is shown after a connection of a1 came, one of b1 came and went, and two calls have ended.
 fn status(alloc: Global) -> Result<ExchangeStatus, Fail> {
     let subs = Subs::read(alloc, THREE_STATIONS)?;
-    let mut observer = Observer::new(alloc, &subs, STARTED)?;
+    status_of::<Brand>(alloc, &subs)
+}
+
+/// The same, where these are the subscriptions of the exchange that N names.
+fn status_of<N: ShownExchange>(alloc: Global, subs: &Subs) -> Result<ExchangeStatus, Fail>
+    requires { N.tables ≡ subs.now }
+{
+    let mut observer = Observer::<N>::new(alloc, subs, STARTED)?;
     let peer = peer()?;
     observer.came_up(0, peer);
     observer.came_up(1, peer);

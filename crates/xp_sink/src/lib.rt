@@ -1,6 +1,8 @@
-//! Where the charging records of an exchange go while it is served.
+//! Where the charging records of an exchange go while it is served, and what is shown of it meanwhile.
 #![tactic(auto)]
 
+mod shown;
 mod sink;
 
+pub use shown::ShownExchange;
 pub use sink::{Received, RecordSink};

@@ -20,12 +20,16 @@ pub enum Received {
 pub trait RecordSink: Drop {
     ghost use Rattle.std.specs.Prelude.{ℕ, List};
     ghost use Rattle.xp_charge.specs.declared.record.Record.{Record};
+    ghost use Rattle.xp_subs.specs.Tables.{Tables};
 
     // All records that the sink was given so far.
     ghost received: { Self → List Record };
 
     // How many lines there are. Each record names lines with lower numbers.
     ghost lines: { Self → ℕ };
+
+    // The subscriptions of the exchange that the sink is shown.
+    ghost tables: { Self → Tables };
 
     // What stays the same of a sink from one moment to a later one, whatever it is given in between.
     ghost keeps: { Self → Self → Type 0 };
@@ -36,6 +40,7 @@ pub trait RecordSink: Drop {
         requires lines { All (HasLines (lines self.old)) records.items }
         ensures received { received self.new ≡ received self.old ++ records.items }
         ensures lines { lines self.new ≡ lines self.old }
+        ensures tables { tables self.new ≡ tables self.old }
         ensures keeps { keeps self.old self.new };
 
     /// Called by the recording thread at least ten times a second, also while no calls end. It may write what waits, and may
@@ -43,17 +48,19 @@ pub trait RecordSink: Drop {
     fn tick(&mut self) -> Received
         ensures received { received self.new ≡ received self.old }
         ensures lines { lines self.new ≡ lines self.old }
+        ensures tables { tables self.new ≡ tables self.old }
         ensures keeps { keeps self.old self.new };
 
     /// Whether the sink wants to see the exchange now. The recording thread asks at least ten times a second.
     fn wants_look(&self) -> bool;
 
-    /// Takes what can be seen of the exchange, as it was when the records were taken that the sink received last. It is called only
-    /// where the sink wanted that.
+    /// Takes what can be seen of the exchange, as it was when the records were taken that the sink received last: its charging records
+    /// then are those that the sink was given so far. It is called only where the sink wanted that.
     fn see(&mut self, view: ExchangeView)
-        requires seen { IsSeen (lines self.old) view }
+        requires seen { IsSeen (tables self.old) (received self.old) view }
         ensures received { received self.new ≡ received self.old }
         ensures lines { lines self.new ≡ lines self.old }
+        ensures tables { tables self.new ≡ tables self.old }
         ensures keeps { keeps self.old self.new };
 
     ghost keeps_itself: { (sink : Self) → keeps sink sink };

@@ -1,6 +1,7 @@
 use Rattle.std.proofs.Common.{rules, ◌≡◌, ◌<◌, ◌+◌, length, map, subst, sym, take}
 use Rattle.xp_observer.proofs.Shown.{one_name_more}
-use Rattle.xp_observer.specs.Shown.{names_at, names_in}
+use Rattle.xp_observer.specs.Shown.{names_at}
+use Rattle.xp_observer.specs.steps.Shown.{names_in}
 use Rattle.xp_observer.proofs.observer.named_lines.Goals as goal
 use Rattle.xp_subs.specs.Tables.{no_line}
 

@@ -4,6 +4,9 @@ use Rattle.xp_seats.specs.Recording.{Recording}
 use Rattle.xp_serve.proofs.Passes.{were_served, were_stopped}
 use Rattle.xp_serve.proofs.serving.serve_named.Goals as goal
 
+pub serve_with_door-requires-clause-received : goal.serve_with_door-requires-clause-received
+serve_with_door-requires-clause-received g c κs within = c.requires.received ∙ sym (ap (λ (r : Recording Alloc). r.received) c.in-Ok.ensures.recorder)
+
 pub close-requires-clause-served : goal.close-requires-clause-served
 close-requires-clause-served g c =
     were_served g.N.Name.subs _ (map (λ line. line.pass) c.in-Ok.ready.lines.items) (map (λ end. end.pass) c.in-Ok-serve_with_door.lines.ends.items)
