@@ -63,7 +63,7 @@ fn seen(channel: Channel, call: Option<CallView>) -> LineWithCall {
         line: LineView {
             channel,
             identifier: 1,
-            call: match call {
+            call: match &call {
                 Some(call) => Some(call.number),
                 None => None,
             },
@@ -74,22 +74,28 @@ fn seen(channel: Channel, call: Option<CallView>) -> LineWithCall {
     }
 }
 
-/// What can be seen: a call from a1, the first line, to h2, the fourth.
-fn view(alloc: Global) -> Result<ExchangeView, AllocError> {
-    let call = Some(CallView {
+/// A call from a1, the first line, to h2, the fourth.
+fn live_call() -> Option<CallView> {
+    Some(CallView {
         number: 3,
         caller: 0,
         called: 3,
+        dialled: Digits::from_text("2080030")?,
+        payer: End::Caller,
         requested: 1_230,
         connected: Some(1_240),
         from_caller: 7,
         from_called: 9,
-    });
+    })
+}
+
+/// What can be seen: that call.
+fn view(alloc: Global) -> Result<ExchangeView, AllocError> {
     let mut lines = Vec::with_capacity(alloc, 5)?;
-    lines.push(seen(Channel::P4, call))?;
+    lines.push(seen(Channel::P4, live_call()))?;
     lines.push(seen(Channel::Off, None))?;
     lines.push(seen(Channel::P1, None))?;
-    lines.push(seen(Channel::P4, call))?;
+    lines.push(seen(Channel::P4, live_call()))?;
     lines.push(seen(Channel::P7, None))?;
     Ok(ExchangeView {
         lines,
