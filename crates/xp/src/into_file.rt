@@ -5,7 +5,8 @@ ghost use Rattle.xp_keeping.specs.Details.{Keeping};
 ghost use Rattle.xp_keeping.specs.Queued.{Queued};
 ghost use Rattle.xp_serve.specs.LeftAlone.{LeavesAlone};
 
-use crate::serving::{ThreeSubs, attend};
+use crate::live::{LiveOfRun, begin_live_of};
+use crate::serving::{Beside, CopiedSubs, attend};
 use log::Log;
 use std::alloc::AllocGlobal;
 use std::fs::{File, Files};
@@ -21,6 +22,7 @@ use xp_cdr::{DetailFile, ExchangeName, ExchangeRun, Opened, RecordFile};
 use xp_clock::WallClock;
 use xp_keeping::{DetailKeeper, OperatorLog, PatientOutput, start_details};
 use xp_listening::ServeFailure;
+use xp_live::LeftBehind;
 use xp_readiness::{Failure, Tracing};
 use xp_serve::settle;
 use xp_subs::Subs;
@@ -47,19 +49,25 @@ pub(crate) fn serve_into_file<
     order: &ServeOrder<'_>,
     path: &str,
     clock: WallClock,
-    subs: ThreeSubs,
+    subs: CopiedSubs,
 ) -> Result<(), Failure>
     requires names { subs.names ≡ subs.own }
     requires spare { subs.spare ≡ subs.own }
 {
-    let (file, opened) = DetailFile::open(rt.alloc(), host, path)?;
+    let (mut file, opened) = DetailFile::open(rt.alloc(), host, path)?;
     tell_found(rt, clock, &opened);
+    let live = begin_live_of(rt, host, order, path, clock, &mut file)?;
     let run = ExchangeRun {
-        started: moment_of_start(clock, &opened),
+        started: moment_of_start(clock, &opened, live.left),
         exchange: name_of_exchange(rt, order.exchange, &subs.own),
     };
     let log = OperatorLog::new(host, order.quiet);
-    let details = DetailsOfRun { file, run, log };
+    let details = DetailsOfRun {
+        file,
+        run,
+        log,
+        live,
+    };
     let mut output = PatientOutput::new(host);
     let told = serve_with_details(rt, order, clock, subs, details, &mut output)?;
     told?;
@@ -74,6 +82,7 @@ struct DetailsOfRun {
     /// The run of which exchange they are of.
     run: ExchangeRun,
     log: OperatorLog<HostRuntime>,
+    live: LiveOfRun,
 }
 
 /// Serves the lines, keeps their charging records in a file of call detail records, and writes those in doubt on the output, and
@@ -101,7 +110,7 @@ fn serve_with_details<
     rt: &R,
     order: &ServeOrder<'_>,
     clock: WallClock,
-    subs: ThreeSubs,
+    subs: CopiedSubs,
     details: DetailsOfRun,
     output: &mut W,
 ) -> Result<Result<(), ServeFailure>, Failure>
@@ -113,19 +122,31 @@ fn serve_with_details<
     ensures ok { IfOk result (λ told. (keeper : Queued Keeping) × LeavesAlone subs.own details.run keeper (W.contents output.old) (W.contents output.new) told) }
     ensures err { OnErr result (W.contents output.new ≡ W.contents output.old) }
 {
-    let ThreeSubs { own, names, spare } = subs;
-    let DetailsOfRun { file, run, log } = details;
+    let CopiedSubs {
+        own,
+        names,
+        spare,
+        live: told_by,
+    } = subs;
+    let DetailsOfRun {
+        file,
+        run,
+        log,
+        live,
+    } = details;
     let tracing = Tracing::begin(rt, order, clock, &own)?;
+    let live = live.keep(rt, clock, told_by, &run)?;
+    let beside = Beside { tracing, live };
     let keeper = DetailKeeper::new(rt.alloc(), file, names, run.copy(), clock, log);
     let keeper = start_details(*rt, rt.alloc(), &own, keeper)?;
-    let end = attend(rt, order, clock, own, tracing, keeper)?;
+    let end = attend(rt, order, clock, own, beside, keeper)?;
     Ok(settle(rt.alloc(), &spare, &run, end, output))
 }
 
-/// When the run began, in seconds since 1970: now, or a second behind the run whose record is the last of the file, if that began
-/// later. So no two runs of a file have the same moment.
-fn moment_of_start(clock: WallClock, opened: &Opened) -> u64 {
-    match opened.last_started {
+/// When the run began, in seconds since 1970: now, or a second behind the run whose record is the last of the file, or which left live
+/// calls, if that began later. So no two runs of a file have the same moment.
+fn moment_of_start(clock: WallClock, opened: &Opened, left: LeftBehind) -> u64 {
+    match opened.last_started.max(left.started) {
         Some(last) => clock.seconds().max(last.saturating_add(1)),
         None => clock.seconds(),
     }

@@ -21,9 +21,10 @@ use xp_arguments::ServeOrder;
 use xp_clock::WallClock;
 use xp_keeping::{OperatorLog, RecordKeeper, RecordPrinter, StandardOutput, start_printer};
 use xp_limits::Limits;
+use xp_live::LiveKeeper;
 use xp_readiness::{Failure, Tracing, opening};
 use xp_serve::{
-    Attending, ConsoleFeed, NoConsole, OperatorWatch, ServeEnd, StopInput, TracedWatch, Watch,
+    Attending, ConsoleFeed, LiveWatch, NoConsole, OperatorWatch, ServeEnd, StopInput, TracedWatch, Watch,
     serve_attended,
 };
 use xp_subs::Subs;
@@ -31,15 +32,25 @@ use xp_tasks::TaskFailure;
 use xp_tcp::Notices;
 use xp_tracing::TraceThread;
 
-/// The subscriptions of the lines that are served, three times.
+/// The subscriptions of the lines that are served, four times.
 #[derive(Drop)]
-pub(crate) struct ThreeSubs {
+pub(crate) struct CopiedSubs {
     /// Those of the exchange.
     pub(crate) own: Subs,
     /// Those that the records are told by.
     pub(crate) names: Subs,
     /// Those that the records in doubt are told by.
     pub(crate) spare: Subs,
+    /// Those that the live calls are told by.
+    pub(crate) live: Subs,
+}
+
+/// What goes on beside the lines.
+#[derive(Drop)]
+pub(crate) struct Beside<R: Wait> {
+    pub(crate) tracing: Tracing<R>,
+    /// What keeps the live calls in a file, if anything does.
+    pub(crate) live: Option<LiveKeeper<R>>,
 }
 
 /// Serves the lines as they were ordered. Their charging records are kept in the file of call detail records if there is one, and
@@ -58,7 +69,7 @@ pub(crate) fn serve_lines<
         + Threads
         + Wait
         + 'static,
->(rt: &R, host: HostRuntime, order: &ServeOrder<'_>, subs: ThreeSubs) -> Result<(), Failure>
+>(rt: &R, host: HostRuntime, order: &ServeOrder<'_>, subs: CopiedSubs) -> Result<(), Failure>
     requires names { subs.names ≡ subs.own }
     requires spare { subs.spare ≡ subs.own }
 {
@@ -89,21 +100,26 @@ fn serve_and_print<
     host: HostRuntime,
     order: &ServeOrder<'_>,
     clock: WallClock,
-    subs: ThreeSubs,
+    subs: CopiedSubs,
 ) -> Result<(), Failure>
     requires { subs.names ≡ subs.own }
 {
-    let ThreeSubs {
+    let CopiedSubs {
         own,
         names,
         spare: _,
+        live: _,
     } = subs;
     let tracing = Tracing::begin(rt, order, clock, &own)?;
+    let beside = Beside {
+        tracing,
+        live: None,
+    };
     let output = StandardOutput::new(host);
     let output = BufWriter::new(rt.alloc(), output).map_err(|_| TaskFailure::Memory)?;
     let keeper = RecordPrinter::new(rt.alloc(), names, output);
     let keeper = start_printer(*rt, rt.alloc(), &own, keeper)?;
-    let end = attend(rt, order, clock, own, tracing, keeper)?;
+    let end = attend(rt, order, clock, own, beside, keeper)?;
     let lost = end.keeper.left().len();
     if lost > 0 && end.keeper.is_given_up() {
         tell_unprinted(rt, clock, lost);
@@ -133,7 +149,7 @@ pub(crate) fn attend<
     order: &ServeOrder<'_>,
     clock: WallClock,
     subs: Subs,
-    tracing: Tracing<R>,
+    beside: Beside<R>,
     keeper: K,
 ) -> Result<ServeEnd<K>, Failure>
     requires names { K.named_by keeper ≡ subs }
@@ -141,6 +157,7 @@ pub(crate) fn attend<
     ensures { IfOk result (λ end. Serves K.kept K.keeps subs keeper end.keeper end.outcome) }
 {
     let alloc = rt.alloc();
+    let Beside { tracing, live } = beside;
     let notices = tracing.notices(alloc, clock.start)?;
     let notices = Arc::new(alloc, notices).map_err(|_| TaskFailure::Memory)?;
     let watching = Watching {
@@ -148,6 +165,7 @@ pub(crate) fn attend<
         clock,
         notices,
         trace: tracing.thread,
+        live,
     };
     match order.console {
         Some(address) => attend_with_console(rt, address, watching, subs, keeper),
@@ -167,27 +185,30 @@ struct Watching<'a, 'o, R: Wait> {
     clock: WallClock,
     notices: Arc<Notices>,
     trace: Option<TraceThread<R>>,
+    live: Option<LiveKeeper<R>>,
 }
 
 impl<R: AllocGlobal + Copy + Drop + Log + Send + Threads + Wait + 'static> Watching<'_, '_, R> {
-    /// What watches over these lines, and begins their trace.
+    /// What watches over these lines, begins their trace, and keeps their live calls.
     fn watch<F: ConsoleFeed>(
         self,
         rt: &R,
         subs: &Subs,
         console: F,
-    ) -> Result<TracedWatch<OperatorWatch<R, F>, R>, Failure> {
+    ) -> Result<LiveWatch<TracedWatch<OperatorWatch<R, F>, R>, R>, Failure> {
         let Watching {
             order,
             clock,
             notices,
             trace,
+            live,
         } = self;
         let opening = opening(rt.alloc(), order, subs)?;
         let stop = order.until_eof.then_some(StopInput::default());
         let log = OperatorLog::new(*rt, order.quiet);
         let watch = OperatorWatch::new(rt.alloc(), subs, notices, stop, console, clock, log)?;
-        Ok(TracedWatch::new(watch.with_opening(opening), trace))
+        let watch = TracedWatch::new(watch.with_opening(opening), trace);
+        Ok(LiveWatch::new(watch, live))
     }
 }
 

@@ -8,8 +8,8 @@ ghost use Rattle.xp_arguments.specs.Commands.{AreRight, Ask, AsksFor, call as ca
 
 use crate::misfits::misfit;
 use crate::subcommand::{
-    BUSY, CALLER, CDR, CONSOLE, DIALLED, FACILITIES, LADDER, NAME, PCAP, PORTS, QUIET, RECORDS,
-    SERVE, STATUS, Subcommand, TRACE, TRACE_LINES, TURNS, UNTIL_EOF, UP, USER, Verb, WORDS,
+    BUSY, CALLER, CDR, CONSOLE, DIALLED, FACILITIES, LADDER, LIVE, NAME, NO_LIVE, PCAP, PORTS, QUIET,
+    RECORDS, SERVE, STATUS, Subcommand, TRACE, TRACE_LINES, TURNS, UNTIL_EOF, UP, USER, Verb, WORDS,
 };
 use crate::texts;
 use clap::error::ErrorKind;
@@ -251,6 +251,8 @@ fn recording_command<'a>(alloc: Global) -> Result<Command<'a>, AllocError>
         texts::FILE_HELP,
     )?
     .arg(valued(alloc, CDR, "PATH", texts::CDR_HELP))?
+    .arg(valued(alloc, LIVE, "PATH", texts::LIVE_HELP))?
+    .arg(flag(alloc, NO_LIVE, texts::NO_LIVE_HELP))?
     .arg(valued(alloc, NAME, "NAME", texts::NAME_HELP))?
     .arg(valued(alloc, RECORDS, "N", texts::RECORDS_HELP))
 }

@@ -1,6 +1,8 @@
 //! What is wrong with arguments that ask for nothing, in words for a person. No contract says what is told.
 
-use crate::subcommand::{LADDER, NAME, PCAP, RECORDS, TRACE, TRACE_LINES, TURNS, WORDS, is_true};
+use crate::subcommand::{
+    CDR, LADDER, LIVE, NAME, NO_LIVE, PCAP, RECORDS, TRACE, TRACE_LINES, TURNS, WORDS, is_true,
+};
 use clap::ArgMatches;
 use std::alloc::{AllocError, Global};
 use xp_cdr::ExchangeName;
@@ -50,6 +52,9 @@ fn unfit_arguments(matches: &ArgMatches<'_>) -> &'static str {
     if matches.get_str(TRACE_LINES).is_some() && matches.get_str(TRACE).is_none() {
         return "--trace-lines needs --trace";
     }
+    if matches.get_str(LIVE).is_some() {
+        return unfit_live(matches);
+    }
     let words = is_true(matches, WORDS);
     let ladder = is_true(matches, LADDER);
     let capture = matches.get_str(PCAP).is_some();
@@ -59,5 +64,16 @@ fn unfit_arguments(matches: &ArgMatches<'_>) -> &'static str {
         (true, false, true) => "--words and --pcap do not go together",
         (false, true, true) => "--ladder and --pcap do not go together",
         _ => "the arguments do not go together",
+    }
+}
+
+/// Why a file of live calls does not go together with the other arguments.
+fn unfit_live(matches: &ArgMatches<'_>) -> &'static str {
+    if matches.get_str(CDR).is_none() {
+        "--live needs --cdr"
+    } else if is_true(matches, NO_LIVE) {
+        "--live and --no-live do not go together"
+    } else {
+        "the arguments do not go together"
     }
 }

@@ -74,6 +74,8 @@ their records are written. A second Ctrl-C ends it at once.
 
 Lines of facts with their moments go to standard error. Where the file of
 --cdr can't be written, the records wait, and are tried again each second.
+Beside that file PATH.live has the live calls, as of a second ago. After a kill
+or a power cut the next start gives each of them a record from it.
 With --console a page at that address shows the lines and the live calls.
 
 Example:
@@ -108,6 +110,11 @@ pub(crate) const BUSY_HELP: &str = "The lines that are in a call, as h1,h2";
 pub(crate) const STATUS_HELP: &str = "Ends with status 1 where the call is refused";
 
 pub(crate) const CDR_HELP: &str = "Writes call detail records at the end of this file (CSV)";
+
+pub(crate) const LIVE_HELP: &str =
+    "Keeps the live calls in this file (default: that of --cdr with .live behind it)";
+
+pub(crate) const NO_LIVE_HELP: &str = "Keeps no live calls: a kill loses them";
 
 pub(crate) const NAME_HELP: &str =
     "Names the exchange so in its records, not by its file or host: letters, digits, - and .";

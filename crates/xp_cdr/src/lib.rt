@@ -22,6 +22,7 @@ pub use detail::{HEADER, write_detail, write_header};
 pub use ended::{EndedBy, EndedCall};
 pub use file::DetailFile;
 pub use laws::{details_are_read_back, details_need_no_quotes, moment_is_what_a_clock_shows};
+pub use moment::read_moment;
 pub use opening::{OpenFault, Opened};
 pub use record_file::{Place, RecordFile};
 pub use run::{ExchangeName, ExchangeRun};

@@ -137,7 +137,7 @@ impl<L: Log + Drop, F: ConsoleFeed> OperatorWatch<L, F> {
 }
 
 impl<L: Log + Drop, F: ConsoleFeed> Watch for OperatorWatch<L, F> {
-    fn look(&mut self) -> Received {
+    fn look(&mut self, _waiting: usize) -> Received {
         let now = self.clock.now();
         self.tell_opening(now);
         self.tell_notices(now);
@@ -161,7 +161,7 @@ impl<L: Log + Drop, F: ConsoleFeed> Watch for OperatorWatch<L, F> {
         self.console.show(now, view, waiting);
     }
 
-    fn end(&mut self) {}
+    fn end(&mut self, _is_kept: bool) {}
 }
 
 /// The names of the lines, in order.

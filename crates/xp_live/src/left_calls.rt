@@ -1,0 +1,183 @@
+//! The lines of a live file of a run that died, and which of their calls have no record.
+
+ghost use Rattle.std.specs.Prelude.{◌≡◌, [], IfOk, IfSome, OnOk, concat, length};
+ghost use Rattle.std.specs.Io.BufRead.{take_through};
+ghost use Rattle.xp_live.specs.LeftCalls.{call_name as name_of_call, is_partial_line, left_behind, live_lines, partial_lines, without_record};
+ghost use Rattle.xp_live.specs.steps.LeftCalls.{text_in};
+
+use memchr::memchr;
+use std::alloc::{AllocError, Global};
+use std::io;
+use std::io::BufRead;
+use std::marker::Model;
+use xp_cdr::{HEADER, read_moment};
+
+/// How many commas a call detail record has.
+const COMMAS: usize = 17;
+
+/// How a whole line of a live file ends.
+const END: &[u8] = b",partial\n";
+
+/// A line of a live file.
+#[derive(Drop)]
+pub struct LiveLine {
+    /// The line, with its line feed.
+    text: Vec<u8>,
+    /// Of which call it is: its first two fields, each with the comma behind it.
+    name: Vec<u8>,
+}
+
+/// The lines of a live file whose calls have no record, as far as records were seen. Each is the partial record that its call gets.
+#[derive(Drop)]
+pub struct LeftCalls {
+    lines: Vec<LiveLine>,
+}
+
+impl Model for LeftCalls {
+    ghost use Rattle.std.specs.Prelude.{◌≡◌, All, List, map, ℕ};
+    ghost use Rattle.xp_live.specs.LeftCalls.{call_name};
+    ghost use Rattle.xp_live.specs.steps.LeftCalls.{text_in};
+
+    ghost Value = { List (List ℕ) };
+
+    ghost view = { λ left. map text_in left.lines.items };
+
+    ghost invariant = { λ left. All (λ line. line.name.items ≡ call_name line.text.items) left.lines.items };
+}
+
+impl LeftCalls {
+    /// No line.
+    pub fn none(alloc: Global) -> LeftCalls
+        ensures { result ≡ [] }
+    {
+        LeftCalls {
+            lines: Vec::new(alloc),
+        }
+    }
+
+    /// The lines of the text of a live file. `None` where the text is no such text.
+    ///
+    /// # Errors
+    ///
+    /// `AllocError` if an allocation fails.
+    pub fn read(alloc: Global, text: &[u8]) -> Result<Option<LeftCalls>, AllocError>
+        ensures { IfOk result (λ left. left ≡ live_lines text.now) }
+    {
+        if text.starts_with(HEADER.as_bytes()) {
+            read_lines(alloc, &text[HEADER.len()..])
+        } else {
+            Ok(None)
+        }
+    }
+
+    /// Lets the line go whose call this record is of, if there is one.
+    pub fn see(&mut self, record: &[u8])
+        ensures { self.new ≡ without_record record.now self.old }
+    {
+        self.lines
+            .retain(|line| !record.starts_with(line.name.as_slice()));
+    }
+
+    /// Lets the lines go whose calls have a record among these lines.
+    ///
+    /// # Errors
+    ///
+    /// What the reader tells. Then not all of them were seen.
+    pub fn see_all<S: BufRead>(&mut self, alloc: Global, records: &mut S) -> io::Result<()>
+        ensures { OnOk result (IfSome (S.remaining records.old) (λ text. self.new ≡ left_behind text self.old)) }
+    {
+        let mut record = Vec::new(alloc);
+        for _record in 0..u64::MAX {
+            record.clear();
+            if records.read_until(b'\n', &mut record)? == 0 {
+                break;
+            }
+            self.see(record.as_slice());
+        }
+        Ok(())
+    }
+
+    /// How many lines there are.
+    pub fn count(&self) -> usize
+        ensures { result ≡ length self.now }
+    {
+        self.lines.len()
+    }
+
+    /// The lines, one after the other.
+    ///
+    /// # Errors
+    ///
+    /// `AllocError` if an allocation fails.
+    pub fn text(&self, alloc: Global) -> Result<Vec<u8>, AllocError>
+        ensures { IfOk result (λ text. text.items ≡ concat self.now) }
+    {
+        let mut text = Vec::new(alloc);
+        for line in &self.lines {
+            text.extend_from_slice(line.text.as_slice())?;
+        }
+        Ok(text)
+    }
+
+    /// When the run began whose calls these are, in seconds since 1970, as the first line says.
+    pub fn started(&self) -> Option<u64> {
+        let line = self.lines.first()?.text.as_slice();
+        let size = memchr(b',', line)?;
+        read_moment(&line[..size])
+    }
+}
+
+/// The lines of this text. `None` where one of them is no whole line of a live file.
+fn read_lines(alloc: Global, text: &[u8]) -> Result<Option<LeftCalls>, AllocError>
+    ensures { IfOk result (λ left. left ≡ partial_lines text.now) }
+{
+    let mut lines = Vec::new(alloc);
+    let mut rest = text;
+    while !rest.is_empty() {
+        let line = through(b'\n', rest);
+        if !is_partial(line) {
+            return Ok(None);
+        }
+        lines.push(live_line(alloc, line)?)?;
+        rest = &rest[line.len()..];
+    }
+    Ok(Some(LeftCalls { lines }))
+}
+
+/// A line of a live file.
+fn live_line(alloc: Global, line: &[u8]) -> Result<LiveLine, AllocError>
+    ensures text { IfOk result (λ made. text_in made ≡ line.now) }
+    ensures name { IfOk result (λ made. made.name.items ≡ name_of_call line.now) }
+{
+    let name = call_name(line);
+    Ok(LiveLine {
+        text: Vec::from_slice(alloc, line)?,
+        name: Vec::from_slice(alloc, name)?,
+    })
+}
+
+/// Whether a line is a whole partial record: it has eighteen fields, and the last is `partial`.
+fn is_partial(line: &[u8]) -> bool
+    ensures { result ≡ is_partial_line line.now }
+{
+    line.ends_with(END) && line.iter().filter(|octet| **octet == b',').count() == COMMAS
+}
+
+/// Of which call a line is: its first two fields, each with the comma behind it.
+fn call_name(line: &[u8]) -> &[u8]
+    ensures { result.now ≡ name_of_call line.now }
+{
+    let started = through(b',', line);
+    let number = through(b',', &line[started.len()..]);
+    &line[..started.len() + number.len()]
+}
+
+/// The front of a text through the first of these octets; all of it where there is none.
+fn through(octet: u8, text: &[u8]) -> &[u8]
+    ensures { result.now ≡ take_through octet text.now }
+{
+    match memchr(octet, text) {
+        Some(place) => &text[..place + 1],
+        None => text,
+    }
+}

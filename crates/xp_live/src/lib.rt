@@ -1,0 +1,21 @@
+//! The calls that are connected, kept in a file as the records that they would have if the exchange died now; and the records that
+//! the calls of a run that died get from it.
+#![tactic(auto)]
+
+mod beginning;
+mod left_calls;
+mod live_calls;
+mod live_fault;
+mod live_file;
+mod live_keeper;
+mod live_text;
+mod live_thread;
+
+pub use beginning::{LeftBehind, begin_live};
+pub use left_calls::LeftCalls;
+pub use live_calls::live_calls;
+pub use live_fault::LiveFault;
+pub use live_file::LiveFile;
+pub use live_keeper::LiveKeeper;
+pub use live_text::live_text;
+pub use live_thread::LiveThread;
