@@ -1,16 +1,19 @@
 -- Which calls are kept as live (`AreLiveCalls`): those that are connected in the state to which a history leads.
-use Rattle.std.specs.Prelude.{◌≡◌, ℕ, ◌<◌, IsSome, Some, List, All, Contains, length, map, slice_index_or}
-use Rattle.xp_cdr.specs.Ended.{charging_records}
+use Rattle.std.specs.Prelude.{◌≡◌, ℕ, ◌<◌, IsSome, Some, List, [], ◌∷◌, All, Contains, map}
 use Rattle.xp_cdr.specs.declared.ended.EndedBy.TheVariants.{Partial}
 use Rattle.xp_cdr.specs.declared.ended.EndedCall.{EndedCall}
 use Rattle.xp_causes.specs.declared.clearing_cause.TheConstants.{OUT_OF_ORDER}
 use Rattle.xp_causes.specs.declared.diagnostic.TheConstants.{NO_ADDITIONAL_INFORMATION}
 use Rattle.xp_machine.specs.Clearing.{record_of}
 use Rattle.xp_machine.specs.World.{Call, call_numbered}
+use Rattle.xp_live.specs.LiveCalls.{live_calls}
+use Rattle.xp_step.specs.Run.{Run}
 use Rattle.xp_step.specs.Segments.{segments_of}
 use Rattle.xp_step.specs.Worlds.{world_after}
 use Rattle.xp_step.specs.declared.entry.Entry.{Entry}
-use Rattle.xp_subs.specs.Tables.{Tables}
+use Rattle.xp_subs.specs.Tables.{Tables, line_count}
+use Rattle.xp_view.specs.Views.{Shows}
+use Rattle.xp_view.specs.declared.view.ExchangeView.{ExchangeView}
 
 -- a live call, as it would have ended if it were cleared at this moment as out of order, by a run that died
 abbrev pub cut_off : {A : Type 0} → Tables → List (Entry A) → ℕ → ℕ → Call → EndedCall
@@ -31,10 +34,20 @@ pub record IsCutOff {A : Type 0} (tables : Tables) (history : List (Entry A)) (m
   pub connected : IsConnected tables history number call
   pub is : ended ≡ cut_off tables history moment number call
 
--- These are the calls that are connected, each once, cut off at this moment.
+-- each of these lines is lower than those behind it
+abbrev pub Ascend : List ℕ → Type 0
+Ascend [] = Unit {0}
+Ascend (line ∷ lines) = All (λ other. line < other) lines × Ascend lines
+
+-- These are the calls that are connected, each once, in the order of their callers' lines, cut off at this moment.
 pub record AreLiveCalls {A : Type 0} (tables : Tables) (history : List (Entry A)) (moment : ℕ) (calls : List EndedCall) : Type 0 where
   pub each : All (IsCutOff tables history moment) calls
-  pub all : (number : ℕ) (call : Call) → IsConnected tables history number call → Contains (cut_off tables history moment number call) calls
-  -- in the order of the callers' lines, of which no two are the same
-  pub once : (first second : ℕ) (call : EndedCall) → first < second → second < length calls
-      → (slice_index_or calls first call).charging.caller < (slice_index_or calls second call).charging.caller
+  pub all : (number : ℕ) (call : Call) → IsConnected tables history number call → Contains calls (cut_off tables history moment number call)
+  pub once : Ascend (map (λ ended. ended.charging.caller) calls)
+
+-- Where a view shows the state to which a run leads, the calls that are taken from it as live are those that are connected.
+abbrev pub TakesConnected : Type 1
+TakesConnected =
+    {A B : Type 0} → (tables : Tables) (history : List (Entry A)) (view : ExchangeView B) (moment : ℕ)
+    → Run tables history (world_after tables history) → Shows tables history view
+    → AreLiveCalls tables history moment (live_calls (line_count tables) moment view.lines.items)

@@ -3,6 +3,7 @@
 #![tactic(auto)]
 
 mod beginning;
+mod laws;
 mod left_calls;
 mod live_calls;
 mod live_fault;
@@ -12,6 +13,7 @@ mod live_text;
 mod live_thread;
 
 pub use beginning::{LeftBehind, begin_live};
+pub use laws::live_calls_are_connected;
 pub use left_calls::LeftCalls;
 pub use live_calls::live_calls;
 pub use live_fault::LiveFault;

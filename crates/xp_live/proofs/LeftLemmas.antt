@@ -1,0 +1,142 @@
+-- The octets of a text up to one of them, and its lines.
+use Rattle.std.proofs.Common.{◌≡◌, ◌∙◌, ℕ, zero, suc, ◌+◌, ◌<◌, ◌≤◌, ◌==◌, ◌⊎◌, inl, inr, Bool, true, false, not, cond, eqb, Option, None, Some, List, [], ◌∷◌, ◌++◌, All, append-nil, append_assoc, ap, arith, drop, filter, get_or, length, length-append, map, map-append, refl, subst, sym, take}
+use Rattle.std.proofs.lemmas.Bool.{and_left, and_right, cases_Bool, cond-false, cond-true}
+use Rattle.std.proofs.lemmas.List.{length-take}
+use Rattle.std.proofs.lemmas.List.Elements.{All-head, All-tail, All-filter}
+use Rattle.std.proofs.lemmas.List.Folds.{list_all-append}
+use Rattle.std.specs.Io.BufRead.{drop_through, take_through}
+use Rattle.std.specs.List.{list_all, starts_with}
+use Rattle.memchr.specs.Find.{IsFirstByte, Nowhere, Passes, is_byte}
+use Rattle.xp_live.specs.LeftCalls.{call_name, in_front, is_partial_line, lines_of, partial_lines, without_record}
+use Rattle.xp_live.specs.declared.left_calls.LiveLine.{LiveLine}
+use Rattle.xp_live.specs.steps.LeftCalls.{text_in}
+
+-- through an octet
+
+found_by : (octet : ℕ) (text : List ℕ) (place : ℕ) → place < length text → ((k : ℕ) → k < place → eqb (get_or text k 0) octet ≡ false) → eqb (get_or text place 0) octet ≡ true
+    → take (suc place) text ≡ take_through octet text
+found_by octet [] place within before here = absurd (omega (arith, within))
+found_by octet (x ∷ xs) zero within before here = sym (cond-true (eqb x octet) (x ∷ []) (x ∷ take_through octet xs) here)
+found_by octet (x ∷ xs) (suc place) within before here =
+    ap (λ rest. x ∷ rest) (found_by octet xs place (omega (arith, within)) (λ k below. before (suc k) (omega (arith, below))) here)
+    ∙ sym (cond-false (eqb x octet) (x ∷ []) (x ∷ take_through octet xs) (before 0 (omega arith)))
+
+none_by : (octet : ℕ) (text : List ℕ) → ((k : ℕ) → k < length text → eqb (get_or text k 0) octet ≡ false) → text ≡ take_through octet text
+none_by octet [] none = refl
+none_by octet (x ∷ xs) none =
+    ap (λ rest. x ∷ rest) (none_by octet xs (λ k below. none (suc k) (omega (arith, below))))
+    ∙ sym (cond-false (eqb x octet) (x ∷ []) (x ∷ take_through octet xs) (none 0 (omega arith)))
+
+false_of : (b : Bool) → (b ≡ true → ⊥) → b ≡ false
+false_of true not_true = absurd (not_true refl)
+false_of false not_true = refl
+
+pub through_found : (octet : ℕ) (text : List ℕ) (place : ℕ) → IsFirstByte (is_byte octet) text (Some place) → take (place + 1) text ≡ take_through octet text
+through_found octet text place is =
+    found_by octet text place is.0.high (λ k below. false_of _ (is.0.before k (omega arith) below)) is.1
+
+pub through_none : (octet : ℕ) (text : List ℕ) → IsFirstByte (is_byte octet) text None → text ≡ take_through octet text
+through_none octet text is = none_by octet text (λ k below. false_of _ (is k (omega arith) below))
+
+-- what is taken and what is left make up the text
+pub both_through : (octet : ℕ) (text : List ℕ) → take_through octet text ++ drop (length (take_through octet text)) text ≡ text
+both_through octet [] = refl
+both_through octet (x ∷ xs) = elim (cases_Bool (eqb x octet)) [
+  | inl is ↦ ap (λ front. front ++ drop (length front) (x ∷ xs)) (cond-true (eqb x octet) (x ∷ []) (x ∷ take_through octet xs) is)
+  | inr is ↦
+      ap (λ front. front ++ drop (length front) (x ∷ xs)) (cond-false (eqb x octet) (x ∷ []) (x ∷ take_through octet xs) is)
+      ∙ ap (λ rest. x ∷ rest) (both_through octet xs)
+]
+
+-- lines
+
+abbrev Split : List ℕ → Type 0
+Split text = lines_of text ≡ take_through 10 text ∷ lines_of (drop (length (take_through 10 text)) text)
+
+feeds : (x : ℕ) (xs : List ℕ) → eqb x 10 ≡ true → Split (x ∷ xs)
+feeds x xs is =
+    cond-true (eqb x 10) ((x ∷ []) ∷ lines_of xs) (in_front x (lines_of xs)) is
+    ∙ sym (ap (λ front. front ∷ lines_of (drop (length front) (x ∷ xs))) (cond-true (eqb x 10) (x ∷ []) (x ∷ take_through 10 xs) is))
+
+goes_on : (x y : ℕ) (ys : List ℕ) → eqb x 10 ≡ false → Split (y ∷ ys) → Split (x ∷ y ∷ ys)
+goes_on x y ys is rest =
+    cond-false (eqb x 10) ((x ∷ []) ∷ lines_of (y ∷ ys)) (in_front x (lines_of (y ∷ ys))) is
+    ∙ ap (in_front x) rest
+    ∙ sym (ap (λ front. front ∷ lines_of (drop (length front) (x ∷ y ∷ ys))) (cond-false (eqb x 10) (x ∷ []) (x ∷ take_through 10 (y ∷ ys)) is))
+
+ends : (x : ℕ) → eqb x 10 ≡ false → Split (x ∷ [])
+ends x is =
+    cond-false (eqb x 10) ((x ∷ []) ∷ []) (in_front x []) is
+    ∙ sym (ap (λ front. front ∷ lines_of (drop (length front) (x ∷ []))) (cond-false (eqb x 10) (x ∷ []) (x ∷ []) is))
+
+-- the first line of a text, and those behind it
+pub first_line : (x : ℕ) (xs : List ℕ) → Split (x ∷ xs)
+first_line x [] = elim (cases_Bool (eqb x 10)) [ inl is ↦ feeds x [] is | inr is ↦ ends x is ]
+first_line x (y ∷ ys) = elim (cases_Bool (eqb x 10)) [ inl is ↦ feeds x (y ∷ ys) is | inr is ↦ goes_on x y ys is (first_line y ys) ]
+
+pub split_line : (text : List ℕ) → 0 < length text → Split text
+split_line [] some = absurd (omega (arith, some))
+split_line (x ∷ xs) some = first_line x xs
+
+-- a line takes at least one octet
+pub takes_some : (text : List ℕ) → 0 < length text → 0 < length (take_through 10 text)
+takes_some [] some = absurd (omega (arith, some))
+takes_some (x ∷ xs) some = elim (cases_Bool (eqb x 10)) [
+  | inl is ↦ subst (λ front. 0 < length front) (sym (cond-true (eqb x 10) (x ∷ []) (x ∷ take_through 10 xs) is)) (omega arith)
+  | inr is ↦ subst (λ front. 0 < length front) (sym (cond-false (eqb x 10) (x ∷ []) (x ∷ take_through 10 xs) is)) (omega arith)
+]
+
+-- reading lines: those before the rest were read
+
+pub record AreRead (text rest : List ℕ) (lines : List LiveLine) : Type 0 where
+  pub whole : lines_of text ≡ map text_in lines ++ lines_of rest
+  pub partial : list_all is_partial_line (map text_in lines) ≡ true
+  pub named : All (λ line. line.name.items ≡ call_name line.text.items) lines
+
+-- one of the lines is none of a live file
+pub not_read : (text rest : List ℕ) (lines : List LiveLine) → AreRead text rest lines → 0 < length rest → is_partial_line (take_through 10 rest) ≡ false
+    → None ≡ partial_lines text
+not_read text rest lines so_far some wrong =
+    let behind = drop (length (take_through 10 rest)) rest in
+    let whole : lines_of text ≡ map text_in lines ++ take_through 10 rest ∷ lines_of behind =
+    so_far.whole ∙ ap (λ more. map text_in lines ++ more) (split_line rest some) in
+    let fails : list_all is_partial_line (lines_of text) ≡ false =
+    ap (list_all is_partial_line) whole ∙ list_all-append is_partial_line (map text_in lines) (take_through 10 rest ∷ lines_of behind)
+    ∙ and_right _ _ (and_left _ _ wrong) in
+    sym (cond-false (list_all is_partial_line (lines_of text)) (Some (lines_of text)) None fails)
+
+-- all lines were read
+pub all_read : (text : List ℕ) (lines : List LiveLine) → AreRead text [] lines → Some (map text_in lines) ≡ partial_lines text
+all_read text lines so_far =
+    let whole : lines_of text ≡ map text_in lines = so_far.whole ∙ append-nil (map text_in lines) in
+    let holds : list_all is_partial_line (lines_of text) ≡ true = ap (list_all is_partial_line) whole ∙ so_far.partial in
+    sym (cond-true (list_all is_partial_line (lines_of text)) (Some (lines_of text)) None holds ∙ ap Some whole)
+
+-- records
+
+filter_texts : (record : List ℕ) (lines : List LiveLine) → All (λ line. line.name.items ≡ call_name line.text.items) lines
+    → map text_in (filter (λ line. not (starts_with eqb record line.name.items)) lines) ≡ without_record record (map text_in lines)
+filter_texts record [] named = refl
+filter_texts record (line ∷ lines) named =
+    let test : List ℕ → Bool = λ name. not (starts_with eqb record name) in
+    let here : line.name.items ≡ call_name line.text.items = All-head _ line lines named in
+    let rest = filter_texts record lines (All-tail _ line lines named) in
+    elim (cases_Bool (test line.name.items)) [
+      | inl kept ↦
+          ap (map text_in) (cond-true (test line.name.items) (line ∷ filter (λ line. test line.name.items) lines) (filter (λ line. test line.name.items) lines) kept)
+          ∙ ap (λ others. text_in line ∷ others) rest
+          ∙ sym (cond-true (test (call_name line.text.items)) _ _ (ap test (sym here) ∙ kept))
+      | inr gone ↦
+          ap (map text_in) (cond-false (test line.name.items) (line ∷ filter (λ line. test line.name.items) lines) (filter (λ line. test line.name.items) lines) gone)
+          ∙ rest
+          ∙ sym (cond-false (test (call_name line.text.items)) _ _ (ap test (sym here) ∙ gone))
+    ]
+
+pub seen_record : (record : List ℕ) (lines left : List LiveLine) → All (λ line. line.name.items ≡ call_name line.text.items) lines
+    → left ≡ filter (λ line. not (starts_with eqb record line.name.items)) lines
+    → map text_in left ≡ without_record record (map text_in lines)
+seen_record record lines left named is = ap (map text_in) is ∙ filter_texts record lines named
+
+pub still_named : (record : List ℕ) (lines left : List LiveLine) → All (λ line. line.name.items ≡ call_name line.text.items) lines
+    → left ≡ filter (λ line. not (starts_with eqb record line.name.items)) lines → All (λ line. line.name.items ≡ call_name line.text.items) left
+still_named record lines left named is = subst (All (λ line. line.name.items ≡ call_name line.text.items)) (sym is) (All-filter _ _ lines named)
