@@ -5,7 +5,8 @@ use crate::live_text::live_text;
 use crate::live_thread::LiveThread;
 use std::alloc::{AllocError, Global};
 use std::sync::Wait;
-use xp_cdr::ExchangeRun;
+use xp_cdr::{EndedCall, ExchangeRun};
+use xp_charge::Record;
 use xp_clock::WallClock;
 use xp_subs::Subs;
 use xp_view::ExchangeView;
@@ -39,6 +40,8 @@ pub struct LiveKeeper<R: Wait> {
     waiting: Option<WaitingText>,
     /// Whether the text that was made last has no call.
     is_empty: bool,
+    /// The numbers of the calls in it that have not ended since.
+    live: Vec<u64>,
 }
 
 impl<R: Wait> LiveKeeper<R> {
@@ -66,14 +69,18 @@ impl<R: Wait> LiveKeeper<R> {
             seen,
             waiting: Some(WaitingText { octets, records: 0 }),
             is_empty: true,
+            live: Vec::new(alloc),
         };
         keeper.look(0);
         Ok(keeper)
     }
 
-    /// Takes note that so many more calls have ended, whose records the keeper of records is given now.
-    pub fn note_ended(&mut self, count: usize) {
-        self.records = self.records.saturating_add(count as u64);
+    /// Takes note that calls have ended, whose records the keeper of records is given now.
+    pub fn note_ended(&mut self, records: &[Record]) {
+        self.records = self.records.saturating_add(records.len() as u64);
+        for record in records {
+            self.live.retain(|number| *number != record.number);
+        }
     }
 
     /// Whether it wants to see the exchange now: in each second, unless a text still waits.
@@ -106,6 +113,7 @@ impl<R: Wait> LiveKeeper<R> {
             return Ok(None);
         }
         let octets = live_text(self.alloc, &self.subs, &self.run, calls.as_slice())?;
+        self.live = numbers_of(self.alloc, calls.as_slice())?;
         self.is_empty = calls.is_empty();
         Ok(Some(WaitingText {
             octets,
@@ -132,20 +140,23 @@ impl<R: Wait> LiveKeeper<R> {
         };
     }
 
-    /// Ends: no call is live any more. Where all records are kept, the file is made empty, and else it is left as it is.
+    /// Ends, as the run does. Where all records are kept, the file is made empty, unless calls are live that have not ended, as where
+    /// the history was full. Else it is left as it is.
     pub fn end(&mut self, is_kept: bool) {
         if is_kept {
-            self.put_empty();
+            self.put_last();
         }
         self.thread.end();
     }
 
-    /// Gives a text without calls to the thread.
-    fn put_empty(&mut self) {
-        let Ok(octets) = live_text(self.alloc, &self.subs, &self.run, &[]) else {
-            return;
-        };
-        self.waiting = Some(WaitingText { octets, records: 0 });
+    /// Gives the last text to the thread, now that all records are kept.
+    fn put_last(&mut self) {
+        if self.live.is_empty() {
+            let Ok(octets) = live_text(self.alloc, &self.subs, &self.run, &[]) else {
+                return;
+            };
+            self.waiting = Some(WaitingText { octets, records: 0 });
+        }
         for _try in 0..MOST_TRIES {
             if self.waiting.is_none() {
                 return;
@@ -153,4 +164,13 @@ impl<R: Wait> LiveKeeper<R> {
             self.look(0);
         }
     }
+}
+
+/// The numbers of these calls.
+fn numbers_of(alloc: Global, calls: &[EndedCall]) -> Result<Vec<u64>, AllocError> {
+    let mut numbers = Vec::with_capacity(alloc, calls.len())?;
+    for call in calls {
+        numbers.push(call.charging.number)?;
+    }
+    Ok(numbers)
 }

@@ -117,6 +117,7 @@ impl<K: RecordKeeper, W: Watch> RecordKeeper for Attending<K, W> {
     }
 
     fn finish(&mut self, rest: &[Record]) -> Result<(), KeepFault> {
+        self.watch.note_ended(rest);
         let kept = self.keeper.finish(rest);
         self.watch.end(kept.is_ok());
         kept

@@ -30,7 +30,7 @@ impl<T: Watch, R: Wait + Drop> Watch for LiveWatch<T, R> {
 
     fn note_ended(&mut self, records: &[Record]) {
         if let Some(live) = &mut self.live {
-            live.note_ended(records.len());
+            live.note_ended(records);
         }
         self.watch.note_ended(records);
     }
