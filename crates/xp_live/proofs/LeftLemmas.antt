@@ -1,15 +1,16 @@
 -- The octets of a text up to one of them, and its lines.
-use Rattle.std.proofs.Common.{◌≡◌, ◌∙◌, ℕ, zero, suc, ◌+◌, ◌<◌, ◌≤◌, ◌==◌, ◌⊎◌, inl, inr, Bool, true, false, not, cond, eqb, Option, None, Some, List, [], ◌∷◌, ◌++◌, All, append-nil, append_assoc, ap, arith, drop, filter, get_or, length, length-append, map, map-append, refl, subst, sym, take}
+use Rattle.std.proofs.Common.{◌≡◌, ◌∙◌, ℕ, zero, suc, ◌+◌, ◌<◌, ◌≤◌, ◌==◌, ◌⊎◌, inl, inr, Bool, true, false, not, cond, eqb, Option, None, Some, IfSome, List, [], ◌∷◌, ◌++◌, All, append-nil, append_assoc, ap, arith, drop, filter, get_or, length, length-append, map, map-append, refl, subst, sym, take}
 use Rattle.std.proofs.lemmas.Bool.{and_left, and_right, cases_Bool, cond-false, cond-true}
 use Rattle.std.proofs.lemmas.List.{length-take}
 use Rattle.std.proofs.lemmas.List.Elements.{All-head, All-tail, All-filter}
 use Rattle.std.proofs.lemmas.List.Folds.{list_all-append}
-use Rattle.std.specs.Io.BufRead.{drop_through, take_through}
+use Rattle.std.specs.Io.BufRead.{DropsThrough, drop_through, take_through}
+use Rattle.std.specs.Io.KnownBytes.{IsAtEnd}
 use Rattle.std.specs.List.{list_all, starts_with}
 use Rattle.memchr.specs.Find.{IsFirstByte, Nowhere, Passes, is_byte}
-use Rattle.xp_live.specs.LeftCalls.{call_name, in_front, is_partial_line, lines_of, partial_lines, without_record}
+use Rattle.xp_live.specs.LeftCalls.{call_name, in_front, is_partial_line, left_behind, lines_of, partial_lines, without_record, without_records}
 use Rattle.xp_live.specs.declared.left_calls.LiveLine.{LiveLine}
-use Rattle.xp_live.specs.steps.LeftCalls.{text_in}
+use Rattle.xp_live.specs.steps.LeftCalls.{AreSeen, text_in}
 
 -- through an octet
 
@@ -140,3 +141,47 @@ seen_record record lines left named is = ap (map text_in) is ∙ filter_texts re
 pub still_named : (record : List ℕ) (lines left : List LiveLine) → All (λ line. line.name.items ≡ call_name line.text.items) lines
     → left ≡ filter (λ line. not (starts_with eqb record line.name.items)) lines → All (λ line. line.name.items ≡ call_name line.text.items) left
 still_named record lines left named is = subst (All (λ line. line.name.items ≡ call_name line.text.items)) (sym is) (All-filter _ _ lines named)
+
+-- what is left behind what was taken
+drops_is : (octet : ℕ) (text : List ℕ) → drop (length (take_through octet text)) text ≡ drop_through octet text
+drops_is octet [] = refl
+drops_is octet (x ∷ xs) = elim (cases_Bool (eqb x octet)) [
+  | inl is ↦
+      ap (λ front. drop (length front) (x ∷ xs)) (cond-true (eqb x octet) (x ∷ []) (x ∷ take_through octet xs) is)
+      ∙ sym (cond-true (eqb x octet) xs (drop_through octet xs) is)
+  | inr is ↦
+      ap (λ front. drop (length front) (x ∷ xs)) (cond-false (eqb x octet) (x ∷ []) (x ∷ take_through octet xs) is)
+      ∙ drops_is octet xs
+      ∙ sym (cond-false (eqb x octet) xs (drop_through octet xs) is)
+]
+
+seen_here : (text rest record : List ℕ) (first left : List (List ℕ)) → left_behind text first ≡ left_behind rest left → record ≡ take_through 10 rest → 0 < length rest
+    → left_behind text first ≡ left_behind (drop_through 10 rest) (without_record record left)
+seen_here text rest record first left so_far is some =
+    so_far
+    ∙ ap (λ lines. without_records lines left) (split_line rest some)
+    ∙ ap (λ behind. left_behind behind (without_record (take_through 10 rest) left)) (drops_is 10 rest)
+    ∙ ap (λ one. left_behind (drop_through 10 rest) (without_record one left)) (sym is)
+
+some_there : (rest record : List ℕ) → record ≡ take_through 10 rest → 0 < length record → 0 < length rest
+some_there [] record is some = absurd (omega (arith, some, ap length is))
+some_there (x ∷ xs) record is some = omega arith
+
+-- one record more
+pub seen_one : (old now next : Option (List ℕ)) (first left : List (List ℕ)) (record : List ℕ) → AreSeen old now first left → IfSome now (λ rest. record ≡ take_through 10 rest)
+    → DropsThrough now next 10 → 0 < length record → AreSeen old next first (without_record record left)
+seen_one None now next first left record so_far is drops some = tt
+seen_one (Some text) None next first left record so_far is drops some = absurd so_far
+seen_one (Some text) (Some rest) next first left record so_far is drops some =
+    subst (λ known. AreSeen (Some text) known first (without_record record left)) (sym drops)
+    (seen_here text rest record first left so_far is (some_there rest record is some))
+
+pub none_seen : (old : Option (List ℕ)) (first : List (List ℕ)) → AreSeen old old first first
+none_seen None first = tt
+none_seen (Some text) first = refl
+
+-- all records
+pub seen_all : (old now : Option (List ℕ)) (first left : List (List ℕ)) → AreSeen old now first left → IsAtEnd now → IfSome old (λ text. left ≡ left_behind text first)
+seen_all None now first left so_far at_end = tt
+seen_all (Some text) None first left so_far at_end = absurd so_far
+seen_all (Some text) (Some rest) first left so_far at_end = sym (so_far ∙ ap (λ behind. left_behind behind left) at_end)

@@ -8,7 +8,7 @@ ghost use Rattle.xp_live.specs.steps.LeftCalls.{text_in};
 use memchr::memchr;
 use std::alloc::{AllocError, Global};
 use std::io;
-use std::io::BufRead;
+use std::io::{BufRead, ErrorKind};
 use std::marker::Model;
 use xp_cdr::{HEADER, read_moment};
 
@@ -90,11 +90,11 @@ impl LeftCalls {
         for _record in 0..u64::MAX {
             record.clear();
             if records.read_until(b'\n', &mut record)? == 0 {
-                break;
+                return Ok(());
             }
             self.see(record.as_slice());
         }
-        Ok(())
+        Err(io::Error::from(ErrorKind::FileTooLarge))
     }
 
     /// How many lines there are.
