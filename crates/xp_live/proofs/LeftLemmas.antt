@@ -10,7 +10,7 @@ use Rattle.std.specs.List.{list_all, starts_with}
 use Rattle.memchr.specs.Find.{IsFirstByte, Nowhere, Passes, is_byte}
 use Rattle.xp_live.specs.LeftCalls.{call_name, in_front, is_partial_line, left_behind, lines_of, partial_lines, without_record, without_records}
 use Rattle.xp_live.specs.declared.left_calls.LiveLine.{LiveLine}
-use Rattle.xp_live.specs.steps.LeftCalls.{AreSeen, text_in}
+use Rattle.xp_live.specs.steps.LeftCalls.{AreRead, AreSeen, text_in}
 
 -- through an octet
 
@@ -86,13 +86,6 @@ takes_some (x ∷ xs) some = elim (cases_Bool (eqb x 10)) [
   | inl is ↦ subst (λ front. 0 < length front) (sym (cond-true (eqb x 10) (x ∷ []) (x ∷ take_through 10 xs) is)) (omega arith)
   | inr is ↦ subst (λ front. 0 < length front) (sym (cond-false (eqb x 10) (x ∷ []) (x ∷ take_through 10 xs) is)) (omega arith)
 ]
-
--- reading lines: those before the rest were read
-
-pub record AreRead (text rest : List ℕ) (lines : List LiveLine) : Type 0 where
-  pub whole : lines_of text ≡ map text_in lines ++ lines_of rest
-  pub partial : list_all is_partial_line (map text_in lines) ≡ true
-  pub named : All (λ line. line.name.items ≡ call_name line.text.items) lines
 
 -- one of the lines is none of a live file
 pub not_read : (text rest : List ℕ) (lines : List LiveLine) → AreRead text rest lines → 0 < length rest → is_partial_line (take_through 10 rest) ≡ false

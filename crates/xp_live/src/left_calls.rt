@@ -70,12 +70,12 @@ impl LeftCalls {
         }
     }
 
-    /// Lets the line go whose call this record is of, if there is one.
-    pub fn see(&mut self, record: &[u8])
-        ensures { self.new ≡ without_record record.now self.old }
+    /// Lets the lines go whose call this record is of.
+    pub fn see(&mut self, row: &[u8])
+        ensures { self.new ≡ without_record row.now self.old }
     {
         self.lines
-            .retain(|line| !record.starts_with(line.name.as_slice()));
+            .retain(|line| !row.starts_with(line.name.as_slice()));
     }
 
     /// Lets the lines go whose calls have a record among these lines.
@@ -86,13 +86,13 @@ impl LeftCalls {
     pub fn see_all<S: BufRead>(&mut self, alloc: Global, records: &mut S) -> io::Result<()>
         ensures { OnOk result (IfSome (S.remaining records.old) (λ text. self.new ≡ left_behind text self.old)) }
     {
-        let mut record = Vec::new(alloc);
-        for _record in 0..u64::MAX {
-            record.clear();
-            if records.read_until(b'\n', &mut record)? == 0 {
+        let mut row = Vec::new(alloc);
+        for _row in 0..u64::MAX {
+            row.clear();
+            if records.read_until(b'\n', &mut row)? == 0 {
                 return Ok(());
             }
-            self.see(record.as_slice());
+            self.see(row.as_slice());
         }
         Err(io::Error::from(ErrorKind::FileTooLarge))
     }

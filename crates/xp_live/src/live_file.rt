@@ -107,7 +107,7 @@ fn directory_of(path: &str) -> &str {
 /// Opens and locks the file at this path, if there is one.
 fn open_locked<R: Files<File = File>>(rt: &R, path: &str) -> Result<Option<File>, LiveFault> {
     for _try in 0..MOST_TRIES {
-        let Some(file) = open(rt, path)? else {
+        let Some(file) = opened(rt, path)? else {
             return Ok(None);
         };
         lock(&file)?;
@@ -119,7 +119,7 @@ fn open_locked<R: Files<File = File>>(rt: &R, path: &str) -> Result<Option<File>
 }
 
 /// Opens the regular file at this path, if there is one.
-fn open<R: Files<File = File>>(rt: &R, path: &str) -> Result<Option<File>, LiveFault> {
+fn opened<R: Files<File = File>>(rt: &R, path: &str) -> Result<Option<File>, LiveFault> {
     match fs::metadata(rt, path) {
         Ok(there) if !there.is_file() => return Err(LiveFault::Special),
         _ => {}
