@@ -3,21 +3,21 @@
 #![tactic(auto)]
 
 mod beginning;
+mod connected;
 mod laws;
 mod left_calls;
-mod live_calls;
 mod live_fault;
 mod live_file;
 mod live_keeper;
-mod live_text;
 mod live_thread;
+mod text;
 
 pub use beginning::{LeftBehind, begin_live};
+pub use connected::live_calls;
 pub use laws::live_calls_are_connected;
 pub use left_calls::LeftCalls;
-pub use live_calls::live_calls;
 pub use live_fault::LiveFault;
-pub use live_file::LiveFile;
+pub use live_file::{LiveFile, WholeFile};
 pub use live_keeper::LiveKeeper;
-pub use live_text::live_text;
 pub use live_thread::LiveThread;
+pub use text::live_text;

@@ -14,6 +14,16 @@ const BEHIND_NEW: &str = ".new";
 /// How often the file is opened anew where another took its place meanwhile.
 const MOST_TRIES: usize = 10;
 
+/// A file that each write replaces as a whole.
+pub trait WholeFile: Drop {
+    /// Has the file hold this text, on the disk.
+    ///
+    /// # Errors
+    ///
+    /// What the system tells. Then the file holds this text or the last one, whole.
+    fn replace(&mut self, text: &[u8]) -> io::Result<()>;
+}
+
 /// A file that is replaced as a whole by each write: whoever reads it, also after a loss of power, finds a text that was written
 /// whole. No other exchange can open it while this one has it.
 #[derive(Drop)]
@@ -27,7 +37,7 @@ pub struct LiveFile<R: Files<File = File>> {
     locked: Option<File>,
 }
 
-impl<R: Files<File = File>> LiveFile<R> {
+impl<R: Files<File = File> + Drop> LiveFile<R> {
     /// Opens the file at this path, which need not be there, and reads it.
     ///
     /// # Errors
@@ -45,21 +55,6 @@ impl<R: Files<File = File>> LiveFile<R> {
             locked,
         };
         Ok((file, text))
-    }
-
-    /// Has the file hold this text, on the disk.
-    ///
-    /// # Errors
-    ///
-    /// What the system tells. Then the file holds this text or the last one, whole.
-    pub fn write(&mut self, text: &[u8]) -> io::Result<()> {
-        if !self.is_own()? {
-            return Err(io::Error::from(ErrorKind::AlreadyExists));
-        }
-        let file = self.written(text)?;
-        fs::rename(&self.rt, self.new_path.as_str(), self.path.as_str())?;
-        self.locked = Some(file);
-        File::open(&self.rt, directory_of(self.path.as_str()))?.sync_all()
     }
 
     /// A new file beside it that holds this text, on the disk.
@@ -86,6 +81,18 @@ impl<R: Files<File = File>> LiveFile<R> {
             Err(error) if error.kind() == ErrorKind::NotFound => Ok(true),
             Err(error) => Err(error),
         }
+    }
+}
+
+impl<R: Files<File = File> + Drop> WholeFile for LiveFile<R> {
+    fn replace(&mut self, text: &[u8]) -> io::Result<()> {
+        if !self.is_own()? {
+            return Err(io::Error::from(ErrorKind::AlreadyExists));
+        }
+        let file = self.written(text)?;
+        fs::rename(&self.rt, self.new_path.as_str(), self.path.as_str())?;
+        self.locked = Some(file);
+        File::open(&self.rt, directory_of(self.path.as_str()))?.sync_all()
     }
 }
 

@@ -1,7 +1,7 @@
 //! Keeping the live calls of a run in a file.
 
-use crate::live_calls::live_calls;
-use crate::live_text::live_text;
+use crate::connected::live_calls;
+use crate::text::live_text;
 use crate::live_thread::LiveThread;
 use std::alloc::{AllocError, Global};
 use std::sync::Wait;
@@ -44,7 +44,7 @@ pub struct LiveKeeper<R: Wait> {
     live: Vec<u64>,
 }
 
-impl<R: Wait> LiveKeeper<R> {
+impl<R: Wait + Drop> LiveKeeper<R> {
     /// Keeps the live calls of this run. The file is made empty at once.
     ///
     /// # Errors

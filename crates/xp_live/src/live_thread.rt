@@ -1,9 +1,8 @@
 //! Writing the file of live calls on a thread of its own.
 
-use crate::live_file::LiveFile;
+use crate::live_file::WholeFile;
 use log::Log;
 use std::alloc::{AllocError, Global};
-use std::fs::{File, Files};
 use std::sync::atomic::AtomicBool;
 use std::sync::atomic::Ordering::SeqCst;
 use std::sync::{Arc, Mutex, Wait};
@@ -51,10 +50,10 @@ impl<R: Threads + Wait + Copy + Drop + Send + 'static> LiveThread<R> {
     /// # Errors
     ///
     /// `AllocError` if an allocation fails, or the thread cannot be started.
-    pub fn start<F: Files<File = File> + Drop + Send + 'static, L: Log + Drop + Send + 'static>(
+    pub fn start<F: WholeFile + Send + 'static, L: Log + Drop + Send + 'static>(
         rt: R,
         alloc: Global,
-        file: LiveFile<F>,
+        file: F,
         clock: WallClock,
         log: OperatorLog<L>,
     ) -> Result<LiveThread<R>, AllocError> {
@@ -108,8 +107,8 @@ impl<R: Wait> LiveThread<R> {
 
 /// What the thread works with.
 #[derive(Drop)]
-struct LiveWriting<F: Files<File = File>, L: Log> {
-    file: LiveFile<F>,
+struct LiveWriting<F: WholeFile, L: Log> {
+    file: F,
     /// What the file does not hold yet.
     text: Option<Vec<u8>>,
     /// From which second on the file is tried again, where the last write failed.
@@ -118,7 +117,7 @@ struct LiveWriting<F: Files<File = File>, L: Log> {
     log: OperatorLog<L>,
 }
 
-impl<F: Files<File = File> + Drop, L: Log + Drop> LiveWriting<F, L> {
+impl<F: WholeFile, L: Log + Drop> LiveWriting<F, L> {
     /// Writes the newest text, again and again, until no further one comes.
     fn run<R: Wait>(self, rt: &R, signal: &LiveSignal) {
         let mut writing = self;
@@ -157,7 +156,7 @@ impl<F: Files<File = File> + Drop, L: Log + Drop> LiveWriting<F, L> {
         if self.retry_at.is_some_and(|at| now < at) {
             return;
         }
-        match self.file.write(text.as_slice()) {
+        match self.file.replace(text.as_slice()) {
             Ok(()) => {
                 self.text = None;
                 if self.retry_at.take().is_some() {

@@ -1,7 +1,7 @@
 use Rattle.std.specs.Prelude.{◌≡◌, All}
 use Rattle.xp_charge.specs.Lines.{HasLines}
 use Rattle.xp_live.specs.LiveCalls.{live_calls_of}
-use Rattle.xp_live.proofs.live_calls.live_calls.Given as goal
+use Rattle.xp_live.proofs.connected.live_calls.Given as goal
 
 abbrev pub invariant-loop-line : goal.invariant-loop-line
 invariant-loop-line l = record {
