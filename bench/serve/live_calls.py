@@ -44,8 +44,9 @@ def two_calls(exchange):
         a1.send(data(place, 64 * b"x"))
         h1.receive()
     connect_call(b1, h2, "200032", REVERSE)
-    h2.send(data(0, 129 * b"y"))
-    b1.receive()
+    for place, octets in enumerate((128 * b"y", b"y")):
+        h2.send(data(place, octets))
+        b1.receive()
     return lines
 
 

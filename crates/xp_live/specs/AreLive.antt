@@ -1,5 +1,6 @@
 -- Which calls are kept as live (`AreLiveCalls`): those that are connected in the state to which a history leads.
 use Rattle.std.specs.Prelude.{◌≡◌, ℕ, ◌<◌, IsSome, Some, List, [], ◌∷◌, All, Contains, map}
+use Rattle.std.specs.declared.alloc.Global.{Global as Alloc}
 use Rattle.xp_cdr.specs.declared.ended.EndedBy.TheVariants.{Partial}
 use Rattle.xp_cdr.specs.declared.ended.EndedCall.{EndedCall}
 use Rattle.xp_causes.specs.declared.clearing_cause.TheConstants.{OUT_OF_ORDER}
@@ -46,8 +47,8 @@ pub record AreLiveCalls {A : Type 0} (tables : Tables) (history : List (Entry A)
   pub once : Ascend (map (λ ended. ended.charging.caller) calls)
 
 -- Where a view shows the state to which a run leads, the calls that are taken from it as live are those that are connected.
-abbrev pub TakesConnected : Type 1
+abbrev pub TakesConnected : Type 0
 TakesConnected =
-    {A B : Type 0} → (tables : Tables) (history : List (Entry A)) (view : ExchangeView B) (moment : ℕ)
+    (tables : Tables) (history : List (Entry Alloc)) (view : ExchangeView Alloc) (moment : ℕ)
     → Run tables history (world_after tables history) → Shows tables history view
     → AreLiveCalls tables history moment (live_calls (line_count tables) moment view.lines.items)

@@ -1,6 +1,6 @@
 -- Which lines of a live file of a run that died have no record (`left_behind`).
-use Rattle.std.specs.Prelude.{ℕ, ◌==◌, ◌&&◌, Bool, not, nat_eq, Option, None, Some, if◌then◌else◌, List, [], ◌∷◌, ◌++◌, codes, drop, filter, length}
-use Rattle.std.specs.Io.BufRead.{take_through}
+use Rattle.std.specs.Prelude.{ℕ, ◌==◌, ◌&&◌, Bool, not, nat_eq, Option, None, Some, if◌then◌else◌, List, [], ◌∷◌, ◌++◌, codes, drop, filter, flat_map, length}
+use Rattle.std.specs.Io.BufRead.{drop_through, take_through}
 use Rattle.std.specs.List.{ends_with, list_all, starts_with}
 use Rattle.xp_cdr.specs.Details.{header_text}
 
@@ -16,9 +16,7 @@ lines_of (octet ∷ octets) = if octet == 10 then (octet ∷ []) ∷ lines_of oc
 
 -- of which call a line of CSV is: its first two fields, `started` and `number`, each with the comma behind it
 abbrev pub call_name : List ℕ → List ℕ
-call_name line =
-    let started = take_through 44 line in
-    started ++ take_through 44 (drop (length started) line)
+call_name line = take_through 44 line ++ take_through 44 (drop_through 44 line)
 
 -- how many commas a line has
 abbrev pub commas : List ℕ → ℕ
@@ -38,13 +36,17 @@ live_lines text = if starts_with nat_eq text header_text then partial_lines (dro
 
 -- those of these lines that this record is not of the call of
 abbrev pub without_record : List ℕ → List (List ℕ) → List (List ℕ)
-without_record record lines = filter (λ line. not (starts_with nat_eq record (call_name line))) lines
+without_record row lines = filter (λ line. not (starts_with nat_eq row (call_name line))) lines
 
 -- those that none of these records is of the call of
 abbrev pub without_records : List (List ℕ) → List (List ℕ) → List (List ℕ)
 without_records [] lines = lines
-without_records (record ∷ records) lines = without_records records (without_record record lines)
+without_records (row ∷ rows) lines = without_records rows (without_record row lines)
 
 -- those whose calls have no record in a file of this text
 abbrev pub left_behind : List ℕ → List (List ℕ) → List (List ℕ)
 left_behind text lines = without_records (lines_of text) lines
+
+-- lines, one after the other
+abbrev pub joined : List (List ℕ) → List ℕ
+joined lines = flat_map (λ line. line) lines

@@ -1,6 +1,6 @@
 //! The calls that are connected, as they would have ended if the exchange died now.
 
-ghost use Rattle.std.specs.Prelude.{◌≡◌, All, IfOk, option_to_list};
+ghost use Rattle.std.specs.Prelude.{◌≡◌, ◌++◌, All, IfOk, OnOk, option_to_list};
 ghost use Rattle.xp_charge.specs.Lines.{HasLines};
 ghost use Rattle.xp_live.specs.LiveCalls.{is_live as is_live_call, live_call as live_call_of, live_calls as live_calls_in, partial_call as cut_off};
 ghost use Rattle.xp_subs.specs.Tables.{line_count};
@@ -33,11 +33,20 @@ pub fn live_calls(
     let lines = subs.counts().lines;
     let mut calls = Vec::new(alloc);
     for line in 0..view.lines.len() {
-        if let Some(call) = live_call(lines, moment, line, &view.lines[line]) {
-            calls.push(call)?;
-        }
+        let found = live_call(lines, moment, line, &view.lines[line]);
+        push_if_some(&mut calls, found)?;
     }
     Ok(calls)
+}
+
+/// Appends a call, if there is one.
+fn push_if_some(calls: &mut Vec<EndedCall>, call: Option<EndedCall>) -> Result<(), AllocError>
+    ensures { OnOk result (calls.new.items ≡ calls.old.items ++ option_to_list call) }
+{
+    match call {
+        Some(call) => Ok(calls.push(call)?),
+        None => Ok(()),
+    }
 }
 
 /// The call that a line is in, if it is connected and this is its caller's line.

@@ -1,8 +1,8 @@
 //! The lines of a live file of a run that died, and which of their calls have no record.
 
-ghost use Rattle.std.specs.Prelude.{◌≡◌, [], IfOk, IfSome, OnOk, concat, length};
-ghost use Rattle.std.specs.Io.BufRead.{take_through};
-ghost use Rattle.xp_live.specs.LeftCalls.{call_name as name_of_call, is_partial_line, left_behind, live_lines, partial_lines, without_record};
+ghost use Rattle.std.specs.Prelude.{◌≡◌, ◌≤◌, [], ◌++◌, IfOk, IfSome, OnOk, flat_map, length};
+ghost use Rattle.std.specs.Io.BufRead.{drop_through, take_through};
+ghost use Rattle.xp_live.specs.LeftCalls.{call_name as name_of_call, commas, is_partial_line, joined, left_behind, live_lines, partial_lines, without_record};
 ghost use Rattle.xp_live.specs.steps.LeftCalls.{text_in};
 
 use memchr::memchr;
@@ -110,13 +110,9 @@ impl LeftCalls {
     ///
     /// `AllocError` if an allocation fails.
     pub fn text(&self, alloc: Global) -> Result<Vec<u8>, AllocError>
-        ensures { IfOk result (λ text. text.items ≡ concat self.now) }
+        ensures { IfOk result (λ text. text.items ≡ joined self.now) }
     {
-        let mut text = Vec::new(alloc);
-        for line in &self.lines {
-            text.extend_from_slice(line.text.as_slice())?;
-        }
-        Ok(text)
+        text_of(alloc, self.lines.as_slice())
     }
 
     /// When the run began whose calls these are, in seconds since 1970, as the first line says.
@@ -127,6 +123,17 @@ impl LeftCalls {
     }
 }
 
+/// These lines, one after the other.
+fn text_of(alloc: Global, lines: &[LiveLine]) -> Result<Vec<u8>, AllocError>
+    ensures { IfOk result (λ text. text.items ≡ flat_map text_in lines.now) }
+{
+    let mut text = Vec::new(alloc);
+    for line in lines {
+        text.extend_from_slice(line.text.as_slice())?;
+    }
+    Ok(text)
+}
+
 /// The lines of this text. `None` where one of them is no whole line of a live file.
 fn read_lines(alloc: Global, text: &[u8]) -> Result<Option<LeftCalls>, AllocError>
     ensures { IfOk result (λ left. left ≡ partial_lines text.now) }
@@ -134,12 +141,12 @@ fn read_lines(alloc: Global, text: &[u8]) -> Result<Option<LeftCalls>, AllocErro
     let mut lines = Vec::new(alloc);
     let mut rest = text;
     while !rest.is_empty() {
-        let line = through(b'\n', rest);
+        let (line, behind) = cut(b'\n', rest);
         if !is_partial(line) {
             return Ok(None);
         }
         lines.push(live_line(alloc, line)?)?;
-        rest = &rest[line.len()..];
+        rest = behind;
     }
     Ok(Some(LeftCalls { lines }))
 }
@@ -160,24 +167,42 @@ fn live_line(alloc: Global, line: &[u8]) -> Result<LiveLine, AllocError>
 fn is_partial(line: &[u8]) -> bool
     ensures { result ≡ is_partial_line line.now }
 {
-    line.ends_with(END) && line.iter().filter(|octet| **octet == b',').count() == COMMAS
+    line.ends_with(END) && commas_of(line) == COMMAS
+}
+
+/// How many commas a line has.
+fn commas_of(line: &[u8]) -> usize
+    ensures { result ≡ commas line.now }
+{
+    line.iter().filter(|octet| **octet == b',').count()
 }
 
 /// Of which call a line is: its first two fields, each with the comma behind it.
 fn call_name(line: &[u8]) -> &[u8]
     ensures { result.now ≡ name_of_call line.now }
 {
-    let started = through(b',', line);
-    let number = through(b',', &line[started.len()..]);
+    let (started, behind) = cut(b',', line);
+    let (number, _) = cut(b',', behind);
     &line[..started.len() + number.len()]
 }
 
-/// The front of a text through the first of these octets; all of it where there is none.
-fn through(octet: u8, text: &[u8]) -> &[u8]
-    ensures { result.now ≡ take_through octet text.now }
+/// Cuts a text behind the first of these octets. All of it is in front where there is none.
+fn cut(octet: u8, text: &[u8]) -> (&[u8], &[u8])
+    ensures front { result.0.now ≡ take_through octet text.now }
+    ensures behind { result.1.now ≡ drop_through octet text.now }
+    ensures whole { result.0.now ++ result.1.now ≡ text.now }
+{
+    let end = end_of(octet, text);
+    (&text[..end], &text[end..])
+}
+
+/// How long a text is through the first of these octets.
+fn end_of(octet: u8, text: &[u8]) -> usize
+    ensures end { result ≡ length (take_through octet text.now) }
+    ensures within { result ≤ length text.now }
 {
     match memchr(octet, text) {
-        Some(place) => &text[..place + 1],
-        None => text,
+        Some(place) => place + 1,
+        None => text.len(),
     }
 }
