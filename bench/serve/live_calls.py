@@ -21,6 +21,9 @@ from served import data, refused, require, run_script, until
 # Kills of an exchange that has just been started.
 KILLS = 30
 
+# The records of a large file, which the program before any proof reads much slower.
+RECORDS = 100_000
+
 
 def folder_of(folder, name):
     """A folder of its own, with the paths of the records and of the live calls in it."""
@@ -197,18 +200,18 @@ def killed_as_it_starts(program, folder):
 
 
 def large_file(program, folder):
-    """The records of a large file are seen in some seconds."""
+    """A start looks through many records in some seconds."""
     details, live = folder_of(folder, "large")
     killed(program, details, live)
     lines = live.read_text().splitlines(keepends=True)
     with details.open("w") as file:
         file.write(NAMES)
-        file.writelines(lines[1].replace(",1,", f",{number},", 1) for number in range(10, 1_000_010))
+        file.writelines(lines[1].replace(",1,", f",{number},", 1) for number in range(10, RECORDS + 10))
     begun = time.monotonic()
     told = started_and_ended(program, details)
     seconds = time.monotonic() - begun
     require("cdr: 2 calls of the run before got a partial record\n" in told, f"it has told: {told}")
-    require(seconds < 30, f"a start has taken {seconds:.1f} seconds over a million records")
+    require(seconds < 30, f"a start has taken {seconds:.1f} seconds over {RECORDS:,} records")
 
 
 # ---- files that are none

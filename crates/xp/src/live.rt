@@ -62,9 +62,7 @@ pub(crate) fn begin_live_of<R: AllocGlobal + Files<File = File> + Log>(
 
 impl LiveOfRun {
     /// What keeps the live calls of this run in the file, if there is one.
-    pub(crate) fn keep<
-        R: AllocGlobal + Copy + Drop + Send + Threads + Wait + 'static,
-    >(
+    pub(crate) fn keep<R: AllocGlobal + Copy + Drop + Send + Threads + Wait + 'static>(
         self,
         rt: &R,
         clock: WallClock,

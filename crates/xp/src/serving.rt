@@ -24,8 +24,8 @@ use xp_limits::Limits;
 use xp_live::LiveKeeper;
 use xp_readiness::{Failure, Tracing, opening};
 use xp_serve::{
-    Attending, ConsoleFeed, LiveWatch, NoConsole, OperatorWatch, ServeEnd, StopInput, TracedWatch, Watch,
-    serve_attended,
+    Attending, ConsoleFeed, LiveWatch, NoConsole, OperatorWatch, ServeEnd, StopInput, TracedWatch,
+    Watch, serve_attended,
 };
 use xp_subs::Subs;
 use xp_tasks::TaskFailure;

@@ -8,8 +8,9 @@ ghost use Rattle.xp_arguments.specs.Commands.{AreRight, Ask, AsksFor, call as ca
 
 use crate::misfits::misfit;
 use crate::subcommand::{
-    BUSY, CALLER, CDR, CONSOLE, DIALLED, FACILITIES, LADDER, LIVE, NAME, NO_LIVE, PCAP, PORTS, QUIET,
-    RECORDS, SERVE, STATUS, Subcommand, TRACE, TRACE_LINES, TURNS, UNTIL_EOF, UP, USER, Verb, WORDS,
+    BUSY, CALLER, CDR, CONSOLE, DIALLED, FACILITIES, LADDER, LIVE, NAME, NO_LIVE, PCAP, PORTS,
+    QUIET, RECORDS, SERVE, STATUS, Subcommand, TRACE, TRACE_LINES, TURNS, UNTIL_EOF, UP, USER,
+    Verb, WORDS,
 };
 use crate::texts;
 use clap::error::ErrorKind;

@@ -118,8 +118,8 @@ module _ {A : Type 0} (tables : Tables) (history : List (Entry A)) (moment : ℕ
         let own = subst (λ calls. All (λ caller. caller ≡ line) (callers calls)) (sym (taken_is line within)) (own_at line (call_on world line)).0 in
         subst (All (λ caller. caller < suc line)) (sym (map-append (λ ended. ended.charging.caller) (live_calls_of lines moment seen line) (live_call_at lines moment line (slice_get seen line))))
         (All-append (λ caller. caller < suc line) (callers (live_calls_of lines moment seen line)) (callers (live_call_at lines moment line (slice_get seen line)))
-          (All-weaker (λ caller. caller < line) (λ caller. caller < suc line) (λ caller below. omega (arith, below)) (callers (live_calls_of lines moment seen line)) (below_of line (omega (arith, most))))
-          (All-weaker (λ caller. caller ≡ line) (λ caller. caller < suc line) (λ caller is. omega (arith, is)) (callers (live_call_at lines moment line (slice_get seen line))) own))
+        (All-weaker (λ caller. caller < line) (λ caller. caller < suc line) (λ caller below. omega (arith, below)) (callers (live_calls_of lines moment seen line)) (below_of line (omega (arith, most))))
+        (All-weaker (λ caller. caller ≡ line) (λ caller. caller < suc line) (λ caller is. omega (arith, is)) (callers (live_call_at lines moment line (slice_get seen line))) own))
 
     once_of : (count : ℕ) → count ≤ lines → Ascend (callers (live_calls_of lines moment seen count))
     once_of zero most = tt
@@ -128,9 +128,9 @@ module _ {A : Type 0} (tables : Tables) (history : List (Entry A)) (moment : ℕ
         let own = subst (λ calls. All (λ caller. caller ≡ line) (callers calls) × Ascend (callers calls)) (sym (taken_is line within)) (own_at line (call_on world line)) in
         subst Ascend (sym (map-append (λ ended. ended.charging.caller) (live_calls_of lines moment seen line) (live_call_at lines moment line (slice_get seen line))))
         (ascend_append (callers (live_calls_of lines moment seen line)) (callers (live_call_at lines moment line (slice_get seen line))) (once_of line (omega (arith, most))) own.1
-          (All-weaker (λ caller. caller < line) (λ caller. All (λ other. caller < other) (callers (live_call_at lines moment line (slice_get seen line))))
-            (λ caller below. All-weaker (λ other. other ≡ line) (λ other. caller < other) (λ other is. omega (arith, below, is)) (callers (live_call_at lines moment line (slice_get seen line))) own.0)
-            (callers (live_calls_of lines moment seen line)) (below_of line (omega (arith, most)))))
+        (All-weaker (λ caller. caller < line) (λ caller. All (λ other. caller < other) (callers (live_call_at lines moment line (slice_get seen line))))
+        (λ caller below. All-weaker (λ other. other ≡ line) (λ other. caller < other) (λ other is. omega (arith, below, is)) (callers (live_call_at lines moment line (slice_get seen line))) own.0)
+        (callers (live_calls_of lines moment seen line)) (below_of line (omega (arith, most)))))
 
     contains_of : (count line : ℕ) (ended : EndedCall) → line < count → count ≤ lines → Contains (taken_at line (call_on world line)) ended
         → Contains (live_calls_of lines moment seen count) ended
@@ -160,10 +160,10 @@ module _ {A : Type 0} (tables : Tables) (history : List (Entry A)) (moment : ℕ
           ap (taken_at call.caller) on_caller
           ∙ cond-true (is_live lines call.caller (call_view tables history (number, call))) _ _
           (and_from _ (ltb call.called lines)
-            (and_from _ (ltb call.caller lines)
-              (and_from _ (eqb call.caller call.caller) (connected_of_agreed call.agreed connected.agreed) (eq-eqb call.caller call.caller refl))
-              (lt-ltb call.caller lines held.caller))
-            (lt-ltb call.called lines held.called))
+          (and_from _ (ltb call.caller lines)
+          (and_from _ (eqb call.caller call.caller) (connected_of_agreed call.agreed connected.agreed) (eq-eqb call.caller call.caller refl))
+          (lt-ltb call.caller lines held.caller))
+          (lt-ltb call.called lines held.called))
 
       pub in_all : Contains (live_calls_of lines moment seen lines) (cut_off tables history moment number call)
       in_all =

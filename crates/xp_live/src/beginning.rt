@@ -93,4 +93,3 @@ fn see_records<R: Files<File = File> + Drop>(
     let mut reader = BufReader::with_capacity(alloc, PIECE, records.reader()?)?;
     left.see_all(alloc, &mut reader)
 }
-

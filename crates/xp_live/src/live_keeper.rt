@@ -1,8 +1,8 @@
 //! Keeping the live calls of a run in a file.
 
 use crate::connected::live_calls;
-use crate::text::live_text;
 use crate::live_thread::LiveThread;
+use crate::text::live_text;
 use std::alloc::{AllocError, Global};
 use std::sync::Wait;
 use xp_cdr::{EndedCall, ExchangeRun};

@@ -165,8 +165,7 @@ impl<F: WholeFile, L: Log + Drop> LiveWriting<F, L> {
             }
             Err(error) => {
                 if self.retry_at.is_none() {
-                    self.log
-                        .warn(now, format_args!("live: live calls are not kept: {error}"));
+                    self.log.warn(now, format_args!("live: live calls are not kept: {error}"));
                 }
                 self.retry_at = Some(now.saturating_add(SECONDS_TO_RETRY));
             }
