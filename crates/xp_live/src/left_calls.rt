@@ -36,11 +36,10 @@ pub struct LeftCalls {
 impl Model for LeftCalls {
     ghost use Rattle.std.specs.Prelude.{◌≡◌, All, List, map, ℕ};
     ghost use Rattle.xp_live.specs.LeftCalls.{call_name};
-    ghost use Rattle.xp_live.specs.steps.LeftCalls.{text_in};
 
     ghost Value = { List (List ℕ) };
 
-    ghost view = { λ left. map text_in left.lines.items };
+    ghost view = { λ left. map (λ line. line.text.items) left.lines.items };
 
     ghost invariant = { λ left. All (λ line. line.name.items ≡ call_name line.text.items) left.lines.items };
 }
