@@ -76,11 +76,13 @@ call =
 abbrev pub explain : App
 explain = with_rule (with_rule (with_rule call (valued (codes "up"))) (valued (codes "busy"))) (flag (codes "status"))
 
--- the command that serves, with the arguments that tell of records
+-- the command that serves, with the arguments that tell of files of records and of live calls
+abbrev pub keeping : App
+keeping = with_rule (with_rule (with_rule (command_of Serve) (valued (codes "cdr"))) (valued (codes "live"))) (flag (codes "no-live"))
+
+-- with all that tell of records
 abbrev pub recording : App
-recording =
-    with_rule (with_rule (with_rule (with_rule (with_rule (command_of Serve) (valued (codes "cdr"))) (valued (codes "live"))) (flag (codes "no-live")))
-    (valued (codes "name"))) (valued (codes "records"))
+recording = with_rule (with_rule keeping (valued (codes "name"))) (valued (codes "records"))
 
 -- with those that tell of a trace
 abbrev pub tracing : App
