@@ -21,8 +21,8 @@ from endings import HEADER
 from records_file import NAMES, refused_call, rows_of, seconds_of
 from served import Served, refused, require, run_script, station, until
 
-# Lines that call at the same time.
-LINES = 4
+# Lines that call at the same time, and the seconds between two calls of one: with 100,000 records that wait an exchange stops.
+LINES, PAUSE = 4, 0.005
 
 DAY = datetime.date(2026, 11, 28)
 
@@ -65,6 +65,7 @@ class ByDay(Served):
         while not self.is_over.is_set():
             refused_call(line)
             self.made[place] += 1
+            time.sleep(PAUSE)
 
     @contextlib.contextmanager
     def calls(self):
