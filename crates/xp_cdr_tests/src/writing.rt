@@ -68,11 +68,8 @@ fn assert_front<R: Abort>(rt: &R, writer: &DetailWriter<FailingFile>, all: &[u8]
 fn assert_days<R: Abort>(rt: &R, writer: &DetailWriter<FailingFile>, scene: &Scene) {
     let one = DETAILS[0].len();
     let wanted = [(THE_26TH + 1, one), (THE_26TH + 2, one.saturating_mul(3))];
-    let days = if scene.later == LATER {
-        &wanted[..]
-    } else {
-        &wanted[..0]
-    };
+    let count = if scene.later == LATER { 2 } else { 0 };
+    let days = wanted.get(..count).unwrap_or(&[]);
     assert_eq!(rt; writer.file().days(), days);
 }
 
