@@ -6,7 +6,8 @@ use Rattle.xp_facilities.specs.declared.charging_information.ChargingInformation
 use Rattle.xp_packets.specs.declared.packet.Packet.TheVariants.{ClearConfirm}
 use Rattle.xp_answer.specs.ForwardedClear.{IsInRange, block_with, told_cleared}
 use Rattle.xp_answer.specs.Fields.{CanBeSent}
-use Rattle.xp_answer.specs.Information.{InformationIsTold, cleared_with, confirmed_with, information_field}
+use Rattle.xp_answer.specs.Information.{cleared_with, confirmed_with, information_field}
+use Rattle.xp_answer.specs.Laws.{InformationIsTold}
 use Rattle.xp_answer.proofs.Sent.{none_holds, few_facilities, with_block_sent}
 use Rattle.xp_answer.proofs.Tellable.{cleared_in_range, none_tellable}
 

@@ -1,12 +1,11 @@
 -- Charging information: the duration and the segments of a call, sent at its end to the line that pays (X.25 clauses
 -- 6.22, 5.2.4 and 5.2.5).
 use Rattle.std.specs.Prelude.{ℕ, List, [], ◌∷◌, ◌++◌, Option, None, Some}
-use Rattle.xp_facilities.specs.Indicated.{Indicates, duration_octets, eight_digits}
+use Rattle.xp_facilities.specs.Indicated.{duration_octets, eight_digits}
 use Rattle.xp_facilities.specs.declared.charging_information.ChargingInformation.{ChargingInformation}
 use Rattle.xp_packets.specs.declared.packet.Packet.{Packet}
 use Rattle.xp_packets.specs.declared.packet.Packet.TheVariants.{Clear, ClearConfirm}
-use Rattle.xp_answer.specs.ForwardedClear.{IsInRange, block_with, told_cleared}
-use Rattle.xp_answer.specs.Fields.{CanBeSent}
+use Rattle.xp_answer.specs.ForwardedClear.{block_with}
 
 -- the facility field that indicates the duration and the segments and nothing else
 abbrev pub information_field : Option ChargingInformation → List ℕ
@@ -22,9 +21,3 @@ module _ {A : Type 0} where
   -- a clear confirmation
   abbrev pub confirmed_with : Option ChargingInformation → Packet A
   confirmed_with charging = ClearConfirm (block_with (information_field charging) [])
-
--- The field indicates the duration and the segments, and both packets can be encoded.
-pub record InformationIsTold (A : Type 0) : Type 0 where
-  pub tells : (charging : Option ChargingInformation) → IsInRange charging → Indicates (told_cleared {A = A} charging []) (information_field charging)
-  pub cleared : (cause diagnostic : ℕ) (charging : Option ChargingInformation) → CanBeSent {A = A} (cleared_with cause diagnostic charging)
-  pub confirmed : (charging : Option ChargingInformation) → CanBeSent {A = A} (confirmed_with charging)

@@ -1,7 +1,8 @@
 -- Laws of answering and clearing.
-use Rattle.std.specs.Prelude.{◌≡◌, ℕ, ◌≤◌, Bool, List, length, Option}
+use Rattle.std.specs.Prelude.{◌≡◌, ℕ, ◌≤◌, Bool, List, [], length, Option}
 use Rattle.xp_decide.specs.Written.{CanBeWritten}
 use Rattle.xp_decide.specs.declared.verdict.IncomingCall.{IncomingCall}
+use Rattle.xp_facilities.specs.Indicated.{Indicates}
 use Rattle.xp_facilities.specs.declared.fast_select.FastSelect.{FastSelect}
 use Rattle.xp_facilities.specs.declared.charging_information.ChargingInformation.{ChargingInformation}
 use Rattle.xp_packets.specs.declared.block.Block.{Block}
@@ -10,9 +11,10 @@ use Rattle.xp_packets.specs.declared.modulus.Modulus.TheVariants.{Long}
 use Rattle.xp_packets.specs.declared.packet.Packet.{Packet}
 use Rattle.xp_answer.specs.Answered.{Answered}
 use Rattle.xp_answer.specs.Blocks.{user_in}
-use Rattle.xp_answer.specs.ForwardedClear.{IsInRange, ForwardedClear}
+use Rattle.xp_answer.specs.ForwardedClear.{IsInRange, ForwardedClear, told_cleared}
 use Rattle.xp_answer.specs.Fields.{CanBeSent}
 use Rattle.xp_answer.specs.Incoming.{IsIncomingCall}
+use Rattle.xp_answer.specs.Information.{cleared_with, confirmed_with, information_field}
 use Rattle.xp_answer.specs.Terms.{AreTerms, AreSettled}
 use Rattle.xp_answer.specs.declared.answer.Answer.{Answer}
 use Rattle.xp_answer.specs.declared.answer.Answer.TheVariants.{Connected}
@@ -74,3 +76,11 @@ ForwardedClearCanBeSent A =
     (fast : FastSelect) (cause : ℕ) (diagnostic : Option ℕ) (block : Option (Block A)) (charging : Option ChargingInformation) (packet : Packet A)
     → length (user_in block) ≤ 128 → ForwardedClear fast cause diagnostic block charging packet
     → CanBeSent packet
+
+-- ---- charging information
+
+-- The field indicates the duration and the segments, and both packets can be encoded.
+pub record InformationIsTold (A : Type 0) : Type 0 where
+  pub tells : (charging : Option ChargingInformation) → IsInRange charging → Indicates (told_cleared {A = A} charging []) (information_field charging)
+  pub cleared : (cause diagnostic : ℕ) (charging : Option ChargingInformation) → CanBeSent {A = A} (cleared_with cause diagnostic charging)
+  pub confirmed : (charging : Option ChargingInformation) → CanBeSent {A = A} (confirmed_with charging)

@@ -1,6 +1,5 @@
 //! Laws of the definitions. Each law is the contract of a function with an empty body.
-ghost use Rattle.xp_answer.specs.Information.{InformationIsTold};
-ghost use Rattle.xp_answer.specs.Laws.{IncomingCallIsOne, IncomingCallCanBeSent, EveryAnswerHasOne, ConnectionsSettleTerms, ConnectedCanBeSent, EveryClearHasOneIndication, ForwardedClearCanBeSent};
+ghost use Rattle.xp_answer.specs.Laws.{IncomingCallIsOne, IncomingCallCanBeSent, EveryAnswerHasOne, ConnectionsSettleTerms, ConnectedCanBeSent, EveryClearHasOneIndication, ForwardedClearCanBeSent, InformationIsTold};
 
 use std::alloc::Allocator;
 

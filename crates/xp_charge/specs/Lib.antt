@@ -1,5 +1,6 @@
 pub mod Counted
 pub mod Duration
+pub mod FarEnd
 pub mod Lines
 pub mod Meter
 pub mod Segments

@@ -4,10 +4,6 @@ use Rattle.xp_packets.specs.declared.end.End.{End}
 use Rattle.xp_packets.specs.declared.end.End.TheVariants.{Caller, Called}
 use Rattle.xp_charge.specs.Counted.{Counted}
 
-abbrev pub far_end : End → End
-far_end Caller = Called
-far_end Called = Caller
-
 -- the meter of a new call
 abbrev pub opening : ℕ → Counted
 opening limit = record { limit = limit; from_caller = 0; from_called = 0 }

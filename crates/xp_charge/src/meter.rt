@@ -1,5 +1,6 @@
 ghost use Rattle.std.specs.Prelude.{◌≡◌, ◌+◌, ◌≤◌, ◌<◌, ◌↔◌, IfOk, IsOk, OnErr, OnOk};
-ghost use Rattle.xp_charge.specs.Meter.{counted_from, far_end, opening, with_more};
+ghost use Rattle.xp_charge.specs.Meter.{counted_from, opening, with_more};
+ghost use Rattle.xp_charge.specs.FarEnd.{far_end};
 ghost use Rattle.xp_charge.specs.Segments.{segments};
 
 use crate::segments::segments_of;

@@ -1,6 +1,7 @@
 -- The state of flow control that is seen of a line.
 use Rattle.std.proofs.Common.{◌≡◌, ◌∙◌, ℕ, Option, Some, None, option_map, List, ap, sym, subst}
-use Rattle.xp_relay.specs.Coupled.{Coupled, RepresentsCall, state_at}
+use Rattle.xp_relay.specs.Coupled.{Coupled, state_at}
+use Rattle.xp_relay.specs.StoredCoupled.{RepresentsCall}
 use Rattle.xp_relay.specs.declared.state.FlowState.{FlowState}
 use Rattle.xp_subs.specs.Tables.{Tables}
 use Rattle.xp_machine.specs.declared.call.LiveCall.{LiveCall}

@@ -1,7 +1,7 @@
 -- What the line that pays for a call is told of its duration and its segments as it ends (X.25 clause 6.22).
 use Rattle.std.specs.Prelude.{ℕ, min, Bool, ◌&&◌, if◌then◌else◌, Option, None, Some}
 use Rattle.xp_charge.specs.Duration.{duration}
-use Rattle.xp_charge.specs.Meter.{far_end as other_end}
+use Rattle.xp_charge.specs.FarEnd.{far_end as other_end}
 use Rattle.xp_facilities.specs.Limits.{largest_duration}
 use Rattle.xp_facilities.specs.declared.charging_information.ChargingInformation.{ChargingInformation}
 use Rattle.xp_packets.specs.declared.end.End.{End}

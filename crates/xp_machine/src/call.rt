@@ -1,6 +1,7 @@
 ghost use Rattle.std.specs.Prelude.{◌≡◌, ◌≤◌};
 ghost use Rattle.xp_answer.specs.ForwardedClear.{IsInRange};
-ghost use Rattle.xp_charge.specs.Meter.{counted_from, far_end as other_end};
+ghost use Rattle.xp_charge.specs.Meter.{counted_from};
+ghost use Rattle.xp_charge.specs.FarEnd.{far_end as other_end};
 ghost use Rattle.xp_machine.specs.Clearing.{record_of};
 ghost use Rattle.xp_machine.specs.StoredState.{call_of_stored};
 ghost use Rattle.xp_machine.specs.CallEnds.{end_of, line_at_end};

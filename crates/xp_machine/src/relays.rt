@@ -72,7 +72,8 @@ impl<A: Allocator> StoredMeteredRelay<A> {
 }
 
 impl<A: Allocator + Copy> StoredMeteredRelay<A> {
-    ghost use Rattle.xp_relay.specs.Coupled.{Coupled, Follows, RepresentsCall, coupled};
+    ghost use Rattle.xp_relay.specs.Coupled.{Coupled, coupled};
+    ghost use Rattle.xp_relay.specs.StoredCoupled.{Follows, RepresentsCall};
     ghost use Rattle.xp_relay.specs.Terms.{IsWithinTerms};
     ghost use Rattle.xp_relay.specs.Turns.{turn_of};
 
@@ -155,7 +156,8 @@ impl<A: Allocator> Model for Relays<A> {
 }
 
 impl<A: Allocator> MeteredRelay<A> {
-    ghost use Rattle.xp_relay.specs.Coupled.{Coupled, RepresentsCall, received_by, sent_by};
+    ghost use Rattle.xp_relay.specs.Coupled.{Coupled, received_by, sent_by};
+    ghost use Rattle.xp_relay.specs.StoredCoupled.{RepresentsCall};
 
     /// Returns the meter with a packet of this end. It adds the packet's segments if the packet is data that the relay
     /// accepts.

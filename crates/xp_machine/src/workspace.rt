@@ -1,7 +1,8 @@
 //! Memory that one event leaves for the next. With it most events allocate only what the history keeps.
 
 ghost use Rattle.std.specs.Prelude.{◌≡◌, [], IfOk};
-ghost use Rattle.xp_relay.specs.Coupled.{RepresentsCall, coupled};
+ghost use Rattle.xp_relay.specs.Coupled.{coupled};
+ghost use Rattle.xp_relay.specs.StoredCoupled.{RepresentsCall};
 ghost use Rattle.xp_relay.specs.Terms.{IsWithinTerms};
 
 use crate::relays::{MeteredRelay, StoredMeteredRelay};

@@ -3,7 +3,8 @@ use Rattle.std.proofs.Common.{◌≡◌, List, [], sym, subst}
 use Rattle.xp_packets.specs.declared.end.End.{End}
 use Rattle.xp_packets.specs.declared.end.End.TheVariants.{Caller, Called}
 use Rattle.xp_relay.specs.declared.moves.Move.{Move}
-use Rattle.xp_relay.specs.Coupled.{Coupled, Follows, StoredDirections, RepresentsCall}
+use Rattle.xp_relay.specs.Coupled.{Coupled}
+use Rattle.xp_relay.specs.StoredCoupled.{Follows, StoredDirections, RepresentsCall}
 use Rattle.xp_relay.specs.Direction.{Direction}
 use Rattle.xp_relay.specs.steps.StoredDirection.{RepresentsTurn}
 use Rattle.xp_relay.specs.Turns.{Turn, unchanged}

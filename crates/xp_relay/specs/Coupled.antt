@@ -1,24 +1,17 @@
 -- The two directions of a call, and what a packet of one of its ends does to them.
-use Rattle.std.specs.Prelude.{◌≡◌, if◌then◌else◌, Bool, List}
+use Rattle.std.specs.Prelude.{if◌then◌else◌, Bool}
 use Rattle.xp_packets.specs.declared.end.End.{End}
 use Rattle.xp_packets.specs.declared.end.End.TheVariants.{Caller, Called}
-use Rattle.xp_relay.specs.declared.moves.Move.{Move}
 use Rattle.xp_relay.specs.declared.state.FlowState.{FlowState}
 use Rattle.xp_relay.specs.declared.state.FlowState.TheVariants.{Ready, ResetIndicated}
 use Rattle.xp_relay.specs.declared.terms.Terms.{Terms}
 use Rattle.xp_relay.specs.Direction.{Direction, opening}
-use Rattle.xp_relay.specs.StoredDirection.{StoredDirection, Represents}
 use Rattle.xp_relay.specs.Terms.{terms_from}
 use Rattle.xp_relay.specs.Turns.{Turn}
 
 -- the flow control state of an end that owes a reset confirmation, or owes none
 abbrev pub state_of : Bool → FlowState
 state_of owes = if owes then ResetIndicated else Ready
-
--- the two directions, as they are stored
-pub record StoredDirections (A : Type 0) : Type 0 where
-  pub from_caller : StoredDirection A
-  pub from_called : StoredDirection A
 
 -- a live call that carries data: what the caller sends, and what the called line sends
 pub record Coupled (A : Type 0) : Type 0 where
@@ -52,13 +45,3 @@ module _ {A : Type 0} where
   abbrev pub after : End → Turn A → Coupled A
   after Caller turn = record { from_caller = turn.sent; from_called = turn.received }
   after Called turn = record { from_caller = turn.received; from_called = turn.sent }
-
-  -- the stored directions represent this call
-  pub record RepresentsCall (k : StoredDirections A) (call : Coupled A) : Type 0 where
-    pub from_caller : Represents k.from_caller call.from_caller
-    pub from_called : Represents k.from_called call.from_called
-
-  -- the stored directions after a packet of this end, and the moves, are as the turn says
-  pub record Follows (here : End) (turn : Direction A → Direction A → Turn A) (call : Coupled A) (new : StoredDirections A) (made : List (Move A)) : Type 0 where
-    pub shown : RepresentsCall new (after here (turn_at here turn call))
-    pub moves : made ≡ (turn_at here turn call).moves

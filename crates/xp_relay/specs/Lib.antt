@@ -6,6 +6,7 @@ pub mod Encodable
 pub mod Judgement
 pub mod Observed
 pub mod Runs
+pub mod StoredCoupled
 pub mod StoredDirection
 pub mod Terms
 pub mod Turns

@@ -1,5 +1,6 @@
 ghost use Rattle.std.specs.Prelude.{◌≡◌, ◌≤◌, [], IfOk, OnOk, length};
-ghost use Rattle.xp_relay.specs.Coupled.{Coupled, Follows, RepresentsCall, coupled, received_by, sent_by, state_at};
+ghost use Rattle.xp_relay.specs.Coupled.{Coupled, coupled, received_by, sent_by, state_at};
+ghost use Rattle.xp_relay.specs.StoredCoupled.{Follows, RepresentsCall};
 ghost use Rattle.xp_relay.specs.Judgement.{judgement};
 ghost use Rattle.xp_relay.specs.Terms.{IsWithinTerms};
 ghost use Rattle.xp_relay.specs.Turns.{carries, flow, interrupt, interrupt_confirm, reject, reset, reset_confirm};
@@ -37,7 +38,7 @@ impl<A: Allocator> Drop for Relay<A> {
 }
 
 impl<A: Allocator> Model for Relay<A> {
-    ghost use Rattle.xp_relay.specs.Coupled.{StoredDirections};
+    ghost use Rattle.xp_relay.specs.StoredCoupled.{StoredDirections};
 
     ghost Value = { StoredDirections A };
 

@@ -6,7 +6,8 @@ use Rattle.xp_charge.specs.Counted.{Counted}
 use Rattle.xp_charge.specs.Meter.{counted_from}
 use Rattle.xp_charge.specs.declared.meter.OverLimit.{OverLimit}
 use Rattle.xp_packets.specs.declared.packet.Packet.{Packet}
-use Rattle.xp_relay.specs.Coupled.{Coupled, Follows, StoredDirections, RepresentsCall, received_by, sent_by}
+use Rattle.xp_relay.specs.Coupled.{Coupled, received_by, sent_by}
+use Rattle.xp_relay.specs.StoredCoupled.{Follows, StoredDirections, RepresentsCall}
 use Rattle.xp_relay.specs.Turns.{turn_of}
 use Rattle.xp_relay.specs.declared.moves.Move.{Move}
 use Rattle.xp_machine.specs.declared.call.LiveCall.{LiveCall}

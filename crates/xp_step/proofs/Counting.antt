@@ -4,7 +4,8 @@ use Rattle.std.proofs.lemmas.Bool.{cond_both, cond-true, le-leb, leb-true, ltb-f
 use Rattle.xp_answer.specs.ForwardedClear.{IsInRange}
 use Rattle.xp_charge.specs.Counted.{Counted}
 use Rattle.xp_charge.specs.Duration.{duration}
-use Rattle.xp_charge.specs.Meter.{counted_from, far_end as other_end, opening}
+use Rattle.xp_charge.specs.Meter.{counted_from, opening}
+use Rattle.xp_charge.specs.FarEnd.{far_end as other_end}
 use Rattle.xp_facilities.specs.Limits.{largest_duration}
 use Rattle.xp_facilities.specs.declared.charging_information.ChargingInformation.{ChargingInformation}
 use Rattle.xp_packets.specs.declared.end.End.{End}

@@ -1,6 +1,7 @@
 -- A line leaves the call that it is found in.
 use Rattle.std.proofs.Common.{◌≡◌, ◌∙◌, ℕ, is_none, false, option_to_list, Option, Some, None, List, [], ◌∷◌, ◌++◌, append-nil, refl, ap, sym, subst}
-use Rattle.xp_charge.specs.Meter.{counted_from, far_end as other_end, opening}
+use Rattle.xp_charge.specs.Meter.{counted_from, opening}
+use Rattle.xp_charge.specs.FarEnd.{far_end as other_end}
 use Rattle.xp_charge.specs.declared.record.Record.{Record}
 use Rattle.xp_facilities.specs.declared.charging_information.ChargingInformation.{ChargingInformation}
 use Rattle.xp_packets.specs.declared.end.End.{End}

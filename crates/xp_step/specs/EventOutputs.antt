@@ -1,7 +1,7 @@
 -- What is put out.
 use Rattle.std.specs.Prelude.{ℕ, Option, None, Some, List, [], ◌∷◌, ◌++◌, map}
 use Rattle.xp_answer.specs.Information.{cleared_with, confirmed_with}
-use Rattle.xp_charge.specs.Meter.{far_end as other_end}
+use Rattle.xp_charge.specs.FarEnd.{far_end as other_end}
 use Rattle.xp_facilities.specs.declared.charging_information.ChargingInformation.{ChargingInformation}
 use Rattle.xp_packets.specs.declared.packet.Packet.{Packet}
 use Rattle.xp_packets.specs.declared.packet.Packet.TheVariants.{Clear}

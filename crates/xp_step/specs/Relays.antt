@@ -3,7 +3,8 @@ use Rattle.std.specs.Prelude.{◌≡◌, ℕ, Bool, true, false, Option, None, S
 use Rattle.xp_charge.specs.Counted.{Counted}
 use Rattle.xp_charge.specs.Meter.{opening}
 use Rattle.xp_packets.specs.declared.end.End.TheVariants.{Caller, Called}
-use Rattle.xp_relay.specs.Coupled.{Coupled, RepresentsCall, after, coupled}
+use Rattle.xp_relay.specs.Coupled.{Coupled, after, coupled}
+use Rattle.xp_relay.specs.StoredCoupled.{RepresentsCall}
 use Rattle.xp_subs.specs.Tables.{Tables}
 use Rattle.xp_step.specs.declared.entry.Entry.{Entry}
 use Rattle.xp_machine.specs.declared.agreement.Agreement.{Agreement}

@@ -1,7 +1,8 @@
 //! The method that takes any packet of one end.
 
 ghost use Rattle.std.specs.Prelude.{◌≡◌, ◌≤◌, [], IfOk, OnErr};
-ghost use Rattle.xp_relay.specs.Coupled.{Coupled, Follows, RepresentsCall};
+ghost use Rattle.xp_relay.specs.Coupled.{Coupled};
+ghost use Rattle.xp_relay.specs.StoredCoupled.{Follows, RepresentsCall};
 ghost use Rattle.xp_relay.specs.Turns.{turn_of};
 
 use crate::data::Data;

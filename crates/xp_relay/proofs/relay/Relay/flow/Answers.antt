@@ -1,5 +1,5 @@
 use Rattle.std.proofs.Common.{sym, subst}
-use Rattle.xp_relay.specs.Coupled.{RepresentsCall}
+use Rattle.xp_relay.specs.StoredCoupled.{RepresentsCall}
 use Rattle.xp_relay.specs.Turns.{flow}
 use Rattle.xp_relay.proofs.Calls.{follows_caller, follows_called}
 use Rattle.xp_relay.proofs.relay.Relay.flow.Goals as goal

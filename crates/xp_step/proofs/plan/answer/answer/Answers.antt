@@ -3,7 +3,8 @@ use Rattle.xp_answer.specs.Answered.{IfConnected}
 use Rattle.xp_answer.specs.Terms.{AreSettled, AreTerms}
 use Rattle.xp_answer.specs.declared.answer.Answer.{Answer}
 use Rattle.xp_charge.specs.Meter.{opening}
-use Rattle.xp_relay.specs.Coupled.{RepresentsCall, coupled}
+use Rattle.xp_relay.specs.Coupled.{coupled}
+use Rattle.xp_relay.specs.StoredCoupled.{RepresentsCall}
 use Rattle.xp_packets.specs.declared.modulus.Modulus.{Modulus}
 use Rattle.xp_relay.specs.Terms.{IsWithinTerms}
 use Rattle.xp_relay.specs.declared.terms.Terms.{Terms}

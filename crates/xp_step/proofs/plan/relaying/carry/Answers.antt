@@ -1,6 +1,7 @@
 use Rattle.std.proofs.Common.{rules, ◌≡◌, ◌∙◌, is_none, true, false, None, Some, ap, subst, sym}
 use Rattle.xp_packets.specs.declared.end.End.{End}
-use Rattle.xp_relay.specs.Coupled.{Follows, RepresentsCall, received_by, sent_by}
+use Rattle.xp_relay.specs.Coupled.{received_by, sent_by}
+use Rattle.xp_relay.specs.StoredCoupled.{Follows, RepresentsCall}
 use Rattle.xp_relay.specs.Turns.{turn_of}
 use Rattle.xp_machine.specs.CallEnds.{end_of}
 use Rattle.xp_machine.specs.declared.relays.MeteredRelay.{MeteredRelay}
