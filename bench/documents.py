@@ -6,25 +6,28 @@
 The commands are taken out of the texts (documents_read.py), and are typed in order into a shell, in a tree with the launcher, the program,
 the documents and the examples. Folders of the system, as /etc/xp, stand below a folder of their own, and free ports take the place of those
 that the documents name. A command that serves goes on until the next one does, with a console. What a document shows as printed has to
-be printed by one of its commands, or by what PRINTED_BY has for it. A command that is neither typed nor in NOT_TYPED fails, and so do an
+be printed by one of its commands, or by what PRINTED_BY has for it. A command that is neither in TYPED nor in NOT_TYPED fails, and so do an
 option or a subcommand that a text names and the program does not have, and those that docs/xp.1 leaves out. It takes some twenty seconds.
 Exit status 1: something differs, and is told with its place.
 """
 
 import argparse
 import concurrent.futures
+import contextlib
 import csv
 import datetime
+import functools
 import pathlib
 import re
 import shutil
+import signal
 import sys
 import tempfile
 import urllib.request
 
 from checks import run
 from documents_read import Document, Help, Page, options_in
-from documents_shell import LIMIT, Shell, Tree
+from documents_shell import LIMIT, Shell, Tree, end_all
 from program import DEFAULT, PROGRAM, TOP
 
 # Those of bench/serve.
@@ -33,7 +36,17 @@ from served import require
 
 MARKDOWN = ("README.md", "docs/OPERATING.md", "docs/FORMATS.md")
 
-# The commands that are not typed here, as regular expressions, and why.
+# The commands that are typed, alone or beside others, as regular expressions. None changes anything outside of the tree.
+TYPED = (
+    r"(\./|/usr/bin/|crates/xp/out/)?xp (check|explain|replay|serve|status|stop|--help|--version)\b.*",
+    r"python3 (examples/)?(client|host|router)\.py .*",
+    r"(awk|cat|cd|cp|echo|exec|grep|head|install|jq|less|ln|ls|man|mkdir|mkfifo|scp|sha256sum|sort|sqlite3|ssh|tail|umask|wc)( .*)?",
+    r"rt (doc|version)",
+)
+# A path outside of the folders that stand in the tree.
+OUTSIDE = re.compile(r"(?<![\w./-])/(?!(etc|run|usr|var)/)\w")
+
+# The commands that are not typed, as regular expressions, and why.
 NOT_TYPED = {
     r"\./test( --proofs)?": "it runs this script",
     r"rt ci": "it proves; ./test --proofs runs it",
@@ -118,12 +131,11 @@ at {ended[2]}
 expire h2
 """
 
-# The options in the texts that are those of other commands than xp.
-OF_OTHERS = {"--proofs"}
+# What the launcher has beside the program.
 OF_LAUNCHER, SUBCOMMANDS_OF_LAUNCHER = {"--unproved", "--version"}, {"prove"}
 
 # Commands that may not be here.
-OPTIONAL = ("less", "man", "rt", "sqlite3")
+OPTIONAL = ("jq", "less", "man", "rt", "sqlite3")
 
 # How many documents are typed beside one another.
 JOBS = 2
@@ -163,6 +175,13 @@ def help_of(program, *words):
 # ---- typing
 
 
+def may_be_typed(text):
+    """Whether each of the commands of a line is one of TYPED, and none names a path outside of the tree."""
+    bare = re.sub(r"'[^']*'|\"[^\"]*\"", "''", text).removesuffix("&")
+    parts = [it.strip() for it in re.split(r"\|\||\||&&|;|[()]", bare)]
+    return not OUTSIDE.search(text) and all(any(re.fullmatch(it, part) for it in TYPED) for part in parts if part and not part.startswith(">"))
+
+
 def filled(text):
     """A command with words in place of those that a reader replaces."""
     for word, there in REPLACED.items():
@@ -174,36 +193,44 @@ class Typed:
     """The commands of a document, typed in order."""
 
     def __init__(self, document, helps, shell):
-        self.document, self.helps, self.shell, self.faults, self.left_out, self.used = document, helps, shell, [], [], set()
+        self.document, self.helps, self.shell, self.faults, self.left_out = document, helps, shell, [], []
 
     def fault(self, line, what):
         self.faults.append(f"{self.document.name}:{line}: {what}")
 
+    def attempt(self, command, do):
+        """Does something for a command. What is wrong is told at its place."""
+        try:
+            do()
+        except BrokenPipeError:
+            raise
+        except (Wrong, OSError) as wrong:
+            self.fault(command.line, f"`{command.text}`: {wrong}")
+
     def type_all(self):
-        """Types each command. What a block puts into the background has to have ended with the block."""
-        waits, before = False, 0
-        for it in self.document.commands():
-            if waits and it.line != before + 1:
-                waits = False
-                if self.shell.ask("wait $!; echo $?") != 0:
-                    self.fault(before, "what the block has put into the background ends with another status than 0")
-            try:
-                self.type(it)
-            except BrokenPipeError:
-                return
-            except (Wrong, OSError) as wrong:
-                self.fault(it.line, f"`{it.text}`: {wrong}")
-            waits, before = waits or it.text.endswith("&"), it.line
+        """Types each command. What a block puts into the background has to end with the block. Where the shell has ended, this ends too."""
+        waits, before = False, None
+        with contextlib.suppress(BrokenPipeError):
+            for it in self.document.commands():
+                if waits and it.line != before.line + 1:
+                    waits = False
+                    self.attempt(before, self.wait)
+                self.attempt(it, functools.partial(self.type, it))
+                waits, before = waits or it.text.endswith("&"), it
+
+    def wait(self):
+        status = self.shell.ask("wait $!; echo $?")
+        require(status == 0, f"what its block has put into the background ends with status {status}")
 
     def type(self, command):
         text = command.text
-        missing = [it for it in OPTIONAL if re.search(rf"(^|\| ){it} ", text) and not shutil.which(it)]
-        if (row := next((it for it in NOT_TYPED if re.fullmatch(it, text)), None)) is not None:
-            self.used.add(row)
-        elif missing:
+        missing = [it for it in OPTIONAL if re.search(rf"(^|\| ){it}( |$)", text) and not shutil.which(it)]
+        if any(re.fullmatch(it, text) for it in NOT_TYPED) or self.helps.name.fullmatch(text):
+            return
+        if missing:
             self.left_out.append(f"`{text}`: there is no command {missing[0]}")
-        elif self.helps.name.fullmatch(text):
-            pass
+        elif not may_be_typed(text):
+            raise Wrong("it is neither in TYPED nor in NOT_TYPED")
         elif re.search(r"xp serve (?!--help)", text) and not text.endswith("&"):
             self.shell.serve(filled(text))
         elif "host.py" in text:
@@ -224,7 +251,8 @@ class Typed:
                 printed = [self.shell.type(made[0], made[1])[1]] if made else self.shell.outputs
                 difference = missing_in(block.text, printed)
                 if difference is not None:
-                    self.fault(block.line, f"{made[0] if made else 'no command of the document'} prints this line, behind those before it: {difference}")
+                    whose = f"`{made[0]}` does not print" if made else "no command of the document prints"
+                    self.fault(block.line, f"{whose} this line behind those before it: {difference}")
         for file in self.document.files():
             status, said = self.shell.type("xp check -", file.text)
             if status != 0:
@@ -265,13 +293,13 @@ class Typed:
         for it in self.document.spans:
             subcommand = self.helps.subcommand.match(it.text)
             if subcommand or it.text.startswith("--"):
-                known = self.helps.options.get(subcommand[1], set()) if subcommand else self.helps.all_options | OF_LAUNCHER | OF_OTHERS
+                known = self.helps.options.get(subcommand[1], set()) if subcommand else self.helps.all_options | OF_LAUNCHER
                 if unknown := options_in(it.text) - known - {"--help"}:
                     self.fault(it.line, f"`{it.text}`: there is no option {' or '.join(sorted(unknown))}")
 
 
 def seconds_of(moment):
-    return int(datetime.datetime.fromisoformat(moment).timestamp()) if moment else 0
+    return int(datetime.datetime.fromisoformat(moment.replace("Z", "+00:00")).timestamp()) if moment else 0
 
 
 def lines_of(text):
@@ -303,18 +331,19 @@ def faults_of_page(page, helps):
     return [f"{page.name}: {it}" for it in faults]
 
 
-def faults_of_rest(documents, helps, used):
+def faults_of_rest(documents, helps):
     """The options that no document in Markdown names, and the rows of the tables above that are of nothing in the documents."""
     named = {option for document in documents for it in document.spans + document.blocks for option in options_in(it.text)}
     faults = [f"neither {' nor '.join(MARKDOWN)} names the option {it}" for it in sorted(helps.all_options - named)]
-    faults += [f"no command is one of NOT_TYPED: {it}" for it in NOT_TYPED if it not in used]
+    commands = [it.text for document in documents for it in document.commands()]
+    faults += [f"no command is one of NOT_TYPED: {it}" for it in NOT_TYPED if not any(re.fullmatch(it, text) for text in commands)]
     shown = [(document.name, block.text) for document in documents for block in document.shown()]
     return faults + [f"no text of {name} begins as PRINTED_BY has it: {it}" for name, it in PRINTED_BY if not any(name == of and text.startswith(it) for of, text in shown)]
 
 
 def look_at(document, helps, program):
     """Types a document into a shell of its own, and returns what came of it."""
-    with tempfile.TemporaryDirectory() as folder, Shell(Tree(program, folder)) as shell:
+    with tempfile.TemporaryDirectory(ignore_cleanup_errors=True) as folder, Shell(Tree(program, folder)) as shell:
         typed = Typed(document, helps, shell)
         typed.type_all()
         typed.look_at_requests()
@@ -334,18 +363,19 @@ def main():
     program = pathlib.Path(parser.parse_args().program).absolute()
     if not program.is_file():
         sys.exit(f"there is no program {program}")
+    for it in (signal.SIGINT, signal.SIGTERM):
+        signal.signal(it, end_all)
     helps = Helps(program)
     documents = [Document(name, (TOP / name).read_text(encoding="utf-8")) for name in MARKDOWN]
     page = Page("docs/xp.1", (TOP / "docs/xp.1").read_text(encoding="utf-8"))
-    faults, used, texts = faults_of_page(page, helps), set(), (*documents, page, helps.document)
+    faults, texts = faults_of_page(page, helps), (*documents, page, helps.document)
     with concurrent.futures.ThreadPoolExecutor(JOBS) as pool:
         for document, typed in zip(texts, pool.map(lambda it: look_at(it, helps, program), texts)):
-            used |= typed.used
             faults += typed.faults
             print(f"{document.name}: {len(document.commands())} commands, {len(document.shown())} texts that are shown as printed", flush=True)
             for it in typed.left_out:
                 print(f"{document.name}: left out: {it}", flush=True)
-    faults += faults_of_rest(documents, helps, used)
+    faults += faults_of_rest(documents, helps)
     for it in faults:
         print(f"FAIL {it}")
     return 1 if faults else 0

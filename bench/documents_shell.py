@@ -27,7 +27,8 @@ OF_DOCUMENTS = re.compile(rf"\b({'|'.join(map(str, PORTS))})\b")
 
 # Folders of the system in a command.
 OF_SYSTEM = re.compile(r"(?<![\w./-])(?=/(etc|run|usr|var)/)")
-FOLDERS = ("etc/xp", "etc/keepalived", "etc/sysctl.d", "etc/systemd/system", "run", "usr/bin", "usr/local/bin", "usr/local/src", "usr/share/doc", "usr/share/man/man1", "var/lib/xp")
+FOLDERS = """etc/xp etc/keepalived etc/sysctl.d etc/systemd/system run usr/bin usr/local/bin usr/local/src usr/share/doc usr/share/man/man1
+    var/lib/xp""".split()
 CLONE = "usr/local/src/gonukire"
 
 # Another machine, which is this one.
@@ -86,7 +87,19 @@ class Tree:
     def environment(self):
         places = [self.folder / it for it in ("elsewhere", "usr/local/bin", "usr/bin")]
         path = os.pathsep.join([*map(str, places), os.environ["PATH"]])
-        return {**os.environ, "PATH": path, "HOME": str(self.folder), "MANPATH": f"{self.folder}/usr/local/share/man:{self.folder}/usr/share/man", "LC_ALL": "C.UTF-8", "TERM": "dumb"}
+        pages = f"{self.folder}/usr/local/share/man:{self.folder}/usr/share/man"
+        return {**os.environ, "PATH": path, "HOME": str(self.folder), "MANPATH": pages, "LC_ALL": "C.UTF-8", "TERM": "dumb"}
+
+
+# The shells that go on.
+SHELLS = set()
+
+
+def end_all(*_):
+    """Ends all shells with what goes on in them, and the script, at a signal."""
+    for it in list(SHELLS):
+        os.killpg(it, signal.SIGKILL)
+    os._exit(1)
 
 
 class Shell:
@@ -96,6 +109,7 @@ class Shell:
         self.tree, self.count, self.exchange, self.log, self.console, self.hosts, self.outputs = tree, 0, None, None, "", [], []
         pipes = {"stdin": subprocess.PIPE, "stdout": subprocess.PIPE, "stderr": subprocess.DEVNULL}
         self.bash = subprocess.Popen(["bash"], cwd=tree.top, env=tree.environment(), text=True, bufsize=1, start_new_session=True, **pipes)
+        SHELLS.add(self.bash.pid)
 
     def __enter__(self):
         return self
@@ -103,6 +117,7 @@ class Shell:
     def __exit__(self, *_):
         # The shell is the first of a session of its own, and of its group.
         os.killpg(self.bash.pid, signal.SIGKILL)
+        SHELLS.remove(self.bash.pid)
         self.bash.wait()
 
     def ask(self, line):
@@ -133,7 +148,7 @@ class Shell:
         process = self.ask(f"( exec {self.tree.here(text)}\n) < /dev/null > {log} 2>&1 & echo $!")
         until(lambda: sign in log.read_text() or not pathlib.Path(f"/proc/{process}").exists(), "it does not begin", LIMIT)
         if sign not in log.read_text():
-            raise Wrong(f"status {self.ask(f'wait {process}; echo $?')}: {log.read_text().strip()}")
+            raise Wrong(f"it ends with status {self.ask(f'wait {process}; echo $?')}: {self.tree.there(log.read_text()).strip()}")
         return process, log
 
     def serve(self, text):
