@@ -47,6 +47,8 @@ SCRIPTS = [
     Script("serve/console.py", "", "the console: answers, what it shows, its stop", 40),
     Script("serve/page.py", "", "the console's page in a browser, where there is one", 15),
     Script("serve/records_file.py", "", "the file of call detail records", 40),
+    Script("serve/live_calls.py", "", "the file of live calls, and what the start after a kill makes of it", 70),
+    Script("serve/live_days.py", "", "the file of live calls beside call detail records by the day", 50),
     Script("serve/rotation.py", "", "the file of call detail records moved, removed and rotated under calls", 40),
     Script("serve/days.py", "", "call detail records by the day, over a midnight of the clock", 80),
     Script("serve/traces.py", "", "the trace of lines", 40),

@@ -32,6 +32,13 @@ HEADER = (
 # A call that was over so many seconds before a kill has its record on the disk.
 SAFE = 1
 
+# Seconds before a kill of which at least the live calls have the segments: the file of live calls is written each second, and some for
+# a machine that does other things too.
+LIVE = 1 + 0.5
+
+# The most packets that an end of a call sends, so that many calls are connected for some seconds.
+PACKETS = 90
+
 # Seconds that a stop may take.
 STOP = 6
 
@@ -52,6 +59,17 @@ class Interrupted(soak.Soak):
     def __init__(self, exchange, pairs, seconds, seed):
         super().__init__(exchange, pairs, int(soak.RATE * pairs * seconds), seconds, seed)
         self.is_ending = False
+        # Of each call the segments that had passed at each moment at which some did.
+        self.passed = collections.defaultdict(list)
+
+    def receive_data(self, line, packet):
+        call = line.call
+        super().receive_data(line, packet)
+        self.passed[call].append((time.monotonic(), tuple(call.delivered)))
+
+    def passed_before(self, call, moment):
+        """The segments of a call that had passed by this moment."""
+        return max((counts for at, counts in self.passed[call] if at <= moment), default=(0, 0), key=sum)
 
     def connect(self, line):
         if not self.is_ending:
@@ -98,12 +116,14 @@ def read_details(path):
 
 
 def read_detail(row):
+    if row["ended_by"] == "partial" and (row["cause"], row["diagnostic"]) != ("09", "0"):
+        sys.exit(f"a partial record has another cause: {row}")
     counts = int(row["segments_from_caller"]), int(row["segments_from_called"])
     ending = int(row["cause"], 16), int(row["diagnostic"]), int(row["seconds"])
     record = server.Record(
         int(row["number"]), row["caller_line"], row["called_line"] or "-", row["dialled"], row["payer"], *counts, *ending
     )
-    return row["started"], record
+    return row["started"], row["ended_by"], record
 
 
 def is_known(call):
@@ -111,8 +131,22 @@ def is_known(call):
     return call.called is not None or call.told is not None or call.connected_at is not None
 
 
-def check(made, records, must_have, kind):
+def fits_partial(call, record, passed):
+    """Whether this partial record is of a call of which so many segments had passed before."""
+    return (
+        (record.dialled, record.payer) == (call.dialled, "caller")
+        and call.accepted_at is not None
+        and call.called is not None and record.called == call.called.name
+        and passed[0] <= record.sent <= call.sent[0]
+        and passed[1] <= record.received <= call.sent[1]
+        and record.seconds <= call.seconds()[1]
+    )
+
+
+def check(made, ended, must_have, passed_of, kind):
     """The records of each caller are those of its first calls, in order. Returns how many of them had to be there."""
+    records = [record for _, record in ended]
+    partial = {record.number for by, record in ended if by == "partial"}
     if len({record.number for record in records}) != len(records):
         sys.exit(f"{kind}: a record is there twice")
     by_caller, found = collections.defaultdict(list), collections.defaultdict(list)
@@ -129,7 +163,10 @@ def check(made, records, must_have, kind):
         if len(found[name]) > len(of_line):
             sys.exit(f"{kind}: {len(found[name])} records of the {len(of_line)} calls of {name}")
         for call, record in zip(of_line, found[name]):
-            if not (call.fits(record) if is_known(call) else call.dialled == record.dialled):
+            if record.number in partial:
+                if not fits_partial(call, record, passed_of(call)):
+                    sys.exit(f"{kind}: the partial {record} is not of the call with {passed_of(call)} to {call.sent} segments to {call.called}")
+            elif not (call.fits(record) if is_known(call) else call.dialled == record.dialled):
                 sys.exit(f"{kind}: {record} is not of the call with {call.accepted()} to {call.sent} segments, told {call.told}")
     return sure
 
@@ -148,8 +185,14 @@ def play(program, folder, details, pairs, seed, kind):
             call.left_at = time.monotonic()
     if kind == signal.SIGTERM and (status != 0 or seconds > STOP):
         sys.exit(f"SIGTERM: status {status} after {seconds:.1f} seconds; {said}")
-    must_have = is_known if kind == signal.SIGTERM else lambda call: call.ends == 0 and call.left_at < ended_at - SAFE
-    return load.calls, must_have, seconds
+    def must_have(call):
+        """After a kill the calls that were over, and those that were connected, a little before."""
+        if kind == signal.SIGTERM:
+            return is_known(call)
+        is_over = call.ends == 0 and call.left_at < ended_at - SAFE
+        return is_over or (call.connected_at is not None and call.connected_at < ended_at - LIVE)
+
+    return load.calls, must_have, lambda call: load.passed_before(call, ended_at - LIVE), seconds
 
 
 def main():
@@ -161,28 +204,33 @@ def main():
     parser.add_argument("--seed", type=int, help="what the choices follow from (default: at random)")
     arguments = parser.parse_args()
 
+    calls.PACKETS = PACKETS
     seed = random.SystemRandom().randrange(1 << 32) if arguments.seed is None else arguments.seed
     print(f"seed {seed}, {2 * arguments.pairs} lines", flush=True)
     kinds = ((signal.SIGKILL, arguments.xp), (signal.SIGTERM, arguments.launcher))
     with tempfile.TemporaryDirectory() as folder:
-        details = pathlib.Path(folder) / "calls.csv"
+        details, live = (pathlib.Path(folder) / name for name in ("calls.csv", "calls.csv.live"))
         for kind, program in kinds:
             figures = []
             for number in range(arguments.rounds):
-                made, must_have, seconds = play(program, folder, details, arguments.pairs, seed + number, kind)
-                # The next start cuts off a torn line.
+                made, must_have, passed_of, seconds = play(program, folder, details, arguments.pairs, seed + number, kind)
+                # The next start cuts off a torn line, and gives the live calls their records.
                 with Exchange(arguments.xp, folder, 1, details) as again:
                     again.connect(again.base).close()
                 runs = read_details(details)
-                last = max((started for started, _ in runs), default="")
-                records = [record for started, record in runs if started == last]
-                figures.append((len(made), len(records), check(made, records, must_have, kind.name), seconds))
-                details.unlink()
+                last = max((started for started, *_ in runs), default="")
+                ended = [(by, record) for started, by, record in runs if started == last]
+                partial = sum(by == "partial" for by, _ in ended)
+                if kind == signal.SIGTERM and (partial or live.read_text() != ",".join(HEADER) + "\n"):
+                    sys.exit(f"a stop has left {partial} partial records and the live calls {live.read_text()}")
+                figures.append((len(made), len(ended), partial, check(made, ended, must_have, passed_of, kind.name), seconds))
+                for path in (details, live):
+                    path.unlink()
                 time.sleep(1)
             total = [sum(column) for column in zip(*figures)]
             print(
-                f"{kind.name}, {arguments.rounds} rounds: {total[0]:,} calls begun, {total[1]:,} records, each once;"
-                f" all {total[2]:,} that had to be there; {max(row[3] for row in figures):.1f} seconds at most", flush=True
+                f"{kind.name}, {arguments.rounds} rounds: {total[0]:,} calls begun, {total[1]:,} records, {total[2]:,} of them partial, each once;"
+                f" all {total[3]:,} that had to be there; {max(row[4] for row in figures):.1f} seconds at most", flush=True
             )
 
 

@@ -23,26 +23,39 @@ use xp_arguments::{DetailsOrder, ServeOrder};
 use xp_clock::WallClock;
 use xp_keeping::{OperatorLog, RecordKeeper, RecordPrinter, StandardOutput, start_printer};
 use xp_limits::Limits;
+use xp_live::LiveKeeper;
 use xp_observer::{BoardName, StatusBoard};
 use xp_readiness::{Failure, Tracing, opening};
 use xp_serve::{
-    Attending, ConsoleFeed, NoConsole, OperatorWatch, ServeEnd, StopInput, TracedWatch, Watch,
-    serve_attended,
+    Attending, ConsoleFeed, LiveWatch, NoConsole, OperatorWatch, ServeEnd, StopInput, TracedWatch,
+    Watch, serve_attended,
 };
 use xp_subs::Subs;
 use xp_tasks::TaskFailure;
 use xp_tcp::Notices;
 use xp_tracing::TraceThread;
 
-/// The subscriptions of the lines that are served, three times.
+/// The subscriptions of the lines that are served, four times.
 #[derive(Drop)]
-pub(crate) struct ThreeSubs {
+pub(crate) struct CopiedSubs {
     /// Those of the exchange.
     pub(crate) own: Subs,
     /// Those that the records are told by.
     pub(crate) names: Subs,
     /// Those that the records in doubt are told by.
     pub(crate) spare: Subs,
+    /// Those that the live calls are told by.
+    pub(crate) live: Subs,
+}
+
+/// What goes on beside the lines.
+#[derive(Drop)]
+pub(crate) struct Beside<R: Wait> {
+    pub(crate) tracing: Tracing<R>,
+    /// What keeps the live calls in a file, if anything does.
+    pub(crate) live: Option<LiveKeeper<R>>,
+    /// How many calls of the run before got a partial record.
+    pub(crate) partial_records: u64,
 }
 
 /// Serves the lines as they were ordered. Their charging records are kept in the file of call detail records, or in those of a
@@ -61,7 +74,7 @@ pub(crate) fn serve_lines<
         + Threads
         + Wait
         + 'static,
->(rt: &R, host: HostRuntime, order: &ServeOrder<'_>, subs: ThreeSubs) -> Result<(), Failure>
+>(rt: &R, host: HostRuntime, order: &ServeOrder<'_>, subs: CopiedSubs) -> Result<(), Failure>
     requires names { subs.names ≡ subs.own }
     requires spare { subs.spare ≡ subs.own }
 {
@@ -95,21 +108,27 @@ fn serve_and_print<
     host: HostRuntime,
     order: &ServeOrder<'_>,
     clock: WallClock,
-    subs: ThreeSubs,
+    subs: CopiedSubs,
 ) -> Result<(), Failure>
     requires { subs.names ≡ subs.own }
 {
-    let ThreeSubs {
+    let CopiedSubs {
         own,
         names,
         spare: _,
+        live: _,
     } = subs;
     let tracing = Tracing::begin(rt, order, clock, &own)?;
+    let beside = Beside {
+        tracing,
+        live: None,
+        partial_records: 0,
+    };
     let output = StandardOutput::new(host);
     let output = BufWriter::new(rt.alloc(), output).map_err(|_| TaskFailure::Memory)?;
     let keeper = RecordPrinter::new(rt.alloc(), names, output);
     let keeper = start_printer(*rt, rt.alloc(), &own, keeper)?;
-    let end = attend(rt, order, clock, own, tracing, keeper)?;
+    let end = attend(rt, order, clock, own, beside, keeper)?;
     let lost = end.keeper.left().len();
     if lost > 0 && end.keeper.is_given_up() {
         tell_unprinted(rt, clock, lost);
@@ -139,7 +158,7 @@ pub(crate) fn attend<
     order: &ServeOrder<'_>,
     clock: WallClock,
     subs: Subs,
-    tracing: Tracing<R>,
+    beside: Beside<R>,
     keeper: K,
 ) -> Result<ServeEnd<K>, Failure>
     requires names { K.named_by keeper ≡ subs }
@@ -147,6 +166,11 @@ pub(crate) fn attend<
     ensures { IfOk result (λ end. Serves K.kept K.keeps subs keeper end.keeper end.outcome) }
 {
     let alloc = rt.alloc();
+    let Beside {
+        tracing,
+        live,
+        partial_records,
+    } = beside;
     let notices = tracing.notices(alloc, clock.start)?;
     let notices = Arc::new(alloc, notices).map_err(|_| TaskFailure::Memory)?;
     let console = match order.console {
@@ -161,12 +185,13 @@ pub(crate) fn attend<
         clock,
         notices,
         trace: tracing.thread,
+        live,
+        partial_records,
     };
     attend_named::<Brand, R, K>(rt, console, watching, subs, keeper)
 }
 
 /// What the lines are watched with.
-#[derive(Drop)]
 struct Watching<R: Log + Wait> {
     /// What is told before all else.
     opening: String,
@@ -177,16 +202,34 @@ struct Watching<R: Log + Wait> {
     clock: WallClock,
     notices: Arc<Notices>,
     trace: Option<TraceThread<R>>,
+    live: Option<LiveKeeper<R>>,
+    partial_records: u64,
+}
+
+impl<R: Drop + Log + Wait> Drop for Watching<R> {
+    fn drop(self) {
+        let Watching {
+            opening: _,
+            stop: _,
+            log: _,
+            limits: _,
+            clock: _,
+            notices: _,
+            trace: _,
+            live: _,
+            partial_records: _,
+        } = self;
+    }
 }
 
 impl<R: Copy + Drop + Log + Send + Threads + Wait + 'static> Watching<R> {
-    /// What watches over these lines, and begins their trace.
+    /// What watches over these lines, begins their trace, and keeps their live calls.
     fn watch<F: ConsoleFeed>(
         self,
         alloc: Global,
         subs: &Subs,
         console: F,
-    ) -> Result<TracedWatch<OperatorWatch<R, F>, R>, Failure> {
+    ) -> Result<LiveWatch<TracedWatch<OperatorWatch<R, F>, R>, R>, Failure> {
         let Watching {
             opening,
             stop,
@@ -195,9 +238,12 @@ impl<R: Copy + Drop + Log + Send + Threads + Wait + 'static> Watching<R> {
             clock,
             notices,
             trace,
+            live,
+            partial_records: _,
         } = self;
         let watch = OperatorWatch::new(alloc, subs, notices, stop, console, clock, log)?;
-        Ok(TracedWatch::new(watch.with_opening(opening), trace))
+        let watch = TracedWatch::new(watch.with_opening(opening), trace);
+        Ok(LiveWatch::new(watch, live))
     }
 }
 
@@ -276,7 +322,8 @@ fn attend_with_console<
     let board = Arc::new(alloc, StatusBoard::<B>::new()).map_err(|_| TaskFailure::Memory)?;
     let theirs = Arc::try_clone(&board)?;
     let counted = Arc::try_clone(&notices)?;
-    let feed = StatusFeed::new(alloc, &subs, watching.clock, theirs, counted)?;
+    let (clock, partial_records) = (watching.clock, watching.partial_records);
+    let feed = StatusFeed::new(alloc, &subs, clock, theirs, counted, partial_records)?;
     let watch = watching.watch(alloc, &subs, feed)?;
     let attending = Attending { keeper, watch };
     serve_beside(rt, console, &board, subs, limits, notices, attending)

@@ -7,7 +7,7 @@ use std::sync::Arc;
 use xp_causes::Refusal;
 use xp_charge::Record;
 use xp_clock::WallClock;
-use xp_observer::{BoardName, Observer, StatusBoard, Traffic};
+use xp_observer::{BoardName, Observer, RunBegin, StatusBoard, Traffic};
 use xp_serve::ConsoleFeed;
 use xp_subs::Subs;
 use xp_tcp::{Notice, Notices};
@@ -27,8 +27,8 @@ pub(crate) struct StatusFeed<B: BoardName> {
 }
 
 impl<B: BoardName> StatusFeed<B> {
-    /// The feed of the console over this board, for an exchange of these subscriptions that begins to serve now. The notices count
-    /// the octets that its connections move.
+    /// The feed of the console over this board, for an exchange of these subscriptions that begins to serve now, where so many calls of
+    /// the run before got a partial record. The notices count the octets that its connections move.
     ///
     /// # Errors
     ///
@@ -39,13 +39,18 @@ impl<B: BoardName> StatusFeed<B> {
         clock: WallClock,
         board: Arc<StatusBoard<B>>,
         notices: Arc<Notices>,
+        partial_records: u64,
     ) -> Result<StatusFeed<B>, AllocError>
         requires { B.tables ≡ subs.now }
     {
         let seen = clock.seconds();
+        let begin = RunBegin {
+            started: seen,
+            partial_records,
+        };
         Ok(StatusFeed {
             alloc,
-            observer: Observer::new(alloc, subs, seen)?,
+            observer: Observer::new(alloc, subs, begin)?,
             board,
             notices,
             clock,

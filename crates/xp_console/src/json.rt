@@ -139,6 +139,7 @@ fn totals_value(alloc: Global, totals: &Totals) -> Result<Value, AllocError>
         "events": totals.events,
         "octets_received": totals.octets_received,
         "octets_sent": totals.octets_sent,
+        "partial_records": totals.partial_records,
         "records_waiting": totals.records_waiting,
         "refused": causes_value(alloc, &totals.refused.by_cause())?,
         "router_failures": totals.router_failures,

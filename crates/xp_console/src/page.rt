@@ -207,6 +207,7 @@ function showCounts(status) {
     ["segments of ended calls, from callers", count(totals.segments_from_callers)],
     ["segments of ended calls, from called", count(totals.segments_from_called)],
     ["failed connections to routers", count(totals.router_failures)], ["events", count(totals.events)], ["stalls", count(totals.stalls)], ["records waiting", count(totals.records_waiting)],
+    ["partial records of the run before", count(totals.partial_records)],
     ["octets received", count(totals.octets_received)], ["octets sent", count(totals.octets_sent)]];
   const list = document.getElementById("counts");
   facts.forEach(([name, value], place) => {

@@ -1,0 +1,5 @@
+pub mod AreLive
+pub mod LeftCalls
+pub mod LiveCalls
+pub mod LiveText
+pub mod steps
