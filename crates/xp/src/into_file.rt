@@ -53,6 +53,7 @@ pub(crate) fn serve_into_file<
 ) -> Result<(), Failure>
     requires names { subs.names ≡ subs.own }
     requires spare { subs.spare ≡ subs.own }
+    requires live { subs.live ≡ subs.own }
 {
     let live = path_of_live(rt.alloc(), path)?;
     let (mut file, opened) = DetailFile::open(rt.alloc(), host, path)?;
@@ -101,6 +102,7 @@ pub(crate) fn serve_into_directory<
 ) -> Result<(), Failure>
     requires names { subs.names ≡ subs.own }
     requires spare { subs.spare ≡ subs.own }
+    requires live { subs.live ≡ subs.own }
 {
     let today = day_of(clock.seconds());
     let newest = newest_file(&host, path, today)?;
@@ -185,6 +187,7 @@ fn serve_with_details<
 ) -> Result<Result<(), ServeFailure>, Failure>
     requires names { subs.names ≡ subs.own }
     requires spare { subs.spare ≡ subs.own }
+    requires live { subs.live ≡ subs.own }
     requires taken { F.taken details.file ≡ [] }
     requires synced { F.synced details.file ≡ [] }
     requires before { (F.current details.file).before ≡ [] }

@@ -1,6 +1,6 @@
 //! The live calls of the exchange that is served, and those of the run before.
 
-ghost use Rattle.std.specs.Prelude.{◌≡◌};
+ghost use Rattle.std.specs.Prelude.{◌≡◌, IfOk, IfSome};
 
 use log::Log;
 use std::alloc::{AllocError, AllocGlobal, Global};
@@ -100,7 +100,9 @@ impl LiveOfRun {
         clock: WallClock,
         subs: Subs,
         run: &ExchangeRun,
-    ) -> Result<Option<LiveKeeper<R>>, Failure> {
+    ) -> Result<Option<LiveKeeper<R>>, Failure>
+        ensures { IfOk result (λ keeper. IfSome keeper (λ tables. tables ≡ subs)) }
+    {
         let LiveOfRun { file, log, left: _ } = self;
         let Some(file) = file else {
             return Ok(None);

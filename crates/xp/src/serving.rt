@@ -1,6 +1,6 @@
 //! Serving the lines over TCP.
 
-ghost use Rattle.std.specs.Prelude.{◌≡◌, [], IfOk};
+ghost use Rattle.std.specs.Prelude.{◌≡◌, [], IfOk, IfSome};
 ghost use Rattle.xp_serve.specs.Serving.{Serves};
 
 use crate::into_file::{serve_into_directory, serve_into_file};
@@ -77,6 +77,7 @@ pub(crate) fn serve_lines<
 >(rt: &R, host: HostRuntime, order: &ServeOrder<'_>, subs: CopiedSubs) -> Result<(), Failure>
     requires names { subs.names ≡ subs.own }
     requires spare { subs.spare ≡ subs.own }
+    requires live { subs.live ≡ subs.own }
 {
     let clock = WallClock::start();
     match order.details {
@@ -161,6 +162,7 @@ pub(crate) fn attend<
     beside: Beside<R>,
     keeper: K,
 ) -> Result<ServeEnd<K>, Failure>
+    requires live { IfSome beside.live (λ tables. tables ≡ subs) }
     requires names { K.named_by keeper ≡ subs }
     requires new { K.received keeper ≡ [] }
     ensures { IfOk result (λ end. Serves K.kept K.keeps subs keeper end.keeper end.outcome) }
@@ -229,7 +231,9 @@ impl<R: Copy + Drop + Log + Send + Threads + Wait + 'static> Watching<R> {
         alloc: Global,
         subs: &Subs,
         console: F,
-    ) -> Result<LiveWatch<TracedWatch<OperatorWatch<R, F>, R>, R>, Failure> {
+    ) -> Result<LiveWatch<TracedWatch<OperatorWatch<R, F>, R>, R>, Failure>
+        requires { IfSome self.live (λ tables. tables ≡ F.tables) }
+    {
         let Watching {
             opening,
             stop,
@@ -272,6 +276,7 @@ fn attend_named<
     keeper: K,
 ) -> Result<ServeEnd<K>, Failure>
     requires shown { B.tables ≡ subs }
+    requires live { IfSome watching.live (λ tables. tables ≡ B.tables) }
     requires names { K.named_by keeper ≡ subs }
     requires new { K.received keeper ≡ [] }
     ensures { IfOk result (λ end. Serves K.kept K.keeps subs keeper end.keeper end.outcome) }
@@ -312,6 +317,7 @@ fn attend_with_console<
     keeper: K,
 ) -> Result<ServeEnd<K>, Failure>
     requires shown { B.tables ≡ subs }
+    requires live { IfSome watching.live (λ tables. tables ≡ B.tables) }
     requires names { K.named_by keeper ≡ subs }
     requires new { K.received keeper ≡ [] }
     ensures { IfOk result (λ end. Serves K.kept K.keeps subs keeper end.keeper end.outcome) }

@@ -1,4 +1,5 @@
 pub mod AreLive
+pub mod Kept
 pub mod LeftCalls
 pub mod LiveCalls
 pub mod LiveText

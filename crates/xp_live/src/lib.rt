@@ -4,6 +4,7 @@
 
 mod beginning;
 mod connected;
+mod kept_text;
 mod laws;
 mod left_calls;
 mod live_fault;
@@ -14,6 +15,7 @@ mod text;
 
 pub use beginning::{LeftBehind, begin_live};
 pub use connected::live_calls;
+pub use kept_text::KeptText;
 pub use laws::live_calls_are_connected;
 pub use left_calls::LeftCalls;
 pub use live_fault::LiveFault;

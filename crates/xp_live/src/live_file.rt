@@ -1,5 +1,6 @@
 //! The file of live calls.
 
+use crate::kept_text::KeptText;
 use crate::live_fault::LiveFault;
 use std::alloc::Global;
 use std::fs::{File, Files, Metadata, TryLockError};
@@ -14,14 +15,14 @@ const BEHIND_NEW: &str = ".new";
 /// How often the file is opened anew where another took its place meanwhile.
 const MOST_TRIES: usize = 10;
 
-/// A file that each write replaces as a whole.
+/// A file that each write replaces as a whole, with the live calls as they were seen.
 pub trait WholeFile: Drop {
     /// Has the file hold this text, on the disk.
     ///
     /// # Errors
     ///
     /// What the system tells. Then the file holds this text or the last one, whole.
-    fn replace(&mut self, text: &[u8]) -> io::Result<()>;
+    fn replace(&mut self, text: &KeptText) -> io::Result<()>;
 }
 
 /// A file that is replaced as a whole by each write: whoever reads it, also after a loss of power, finds a text that was written
@@ -85,11 +86,11 @@ impl<R: Files<File = File> + Drop> LiveFile<R> {
 }
 
 impl<R: Files<File = File> + Drop> WholeFile for LiveFile<R> {
-    fn replace(&mut self, text: &[u8]) -> io::Result<()> {
+    fn replace(&mut self, text: &KeptText) -> io::Result<()> {
         if !self.is_own()? {
             return Err(io::Error::from(ErrorKind::AlreadyExists));
         }
-        let file = self.written(text)?;
+        let file = self.written(text.as_slice())?;
         fs::rename(&self.rt, self.new_path.as_str(), self.path.as_str())?;
         self.locked = Some(file);
         File::open(&self.rt, directory_of(self.path.as_str()))?.sync_all()

@@ -1,9 +1,13 @@
 //! Keeping the live calls of a run in a file.
 
+ghost use Rattle.std.specs.Prelude.{◌≡◌, IfOk};
+ghost use Rattle.xp_sink.specs.Seen.{IsSeenOf};
+
 use crate::connected::live_calls;
+use crate::kept_text::KeptText;
 use crate::live_thread::LiveThread;
-use crate::text::live_text;
 use std::alloc::{AllocError, Global};
+use std::marker::Model;
 use std::sync::Wait;
 use xp_cdr::{EndedCall, ExchangeRun};
 use xp_charge::Record;
@@ -17,14 +21,14 @@ const MOST_TRIES: usize = 100;
 /// A text that is not with the thread yet.
 #[derive(Drop)]
 struct WaitingText {
-    octets: Vec<u8>,
+    text: KeptText,
     /// How many records the run had as its calls were live. Once so many are kept, no call has ended that is neither in the file of
     /// call detail records nor in this text.
     records: u64,
 }
 
 /// Makes the text of the live calls each second, and has a thread write it once each call that is not in it any more has its record
-/// on the disk. Nothing here waits.
+/// on the disk. Nothing here waits. Contracts see the subscriptions of the exchange.
 pub struct LiveKeeper<R: Wait> {
     alloc: Global,
     /// The subscriptions, from which the lines have their names and addresses.
@@ -60,6 +64,14 @@ impl<R: Drop + Wait> Drop for LiveKeeper<R> {
     }
 }
 
+impl<R: Wait> Model for LiveKeeper<R> {
+    ghost use Rattle.xp_subs.specs.Tables.{Tables};
+
+    ghost Value = { Tables };
+
+    ghost view = { λ keeper. keeper.subs };
+}
+
 impl<R: Wait + Drop> LiveKeeper<R> {
     /// Keeps the live calls of this run. The file is made empty at once.
     ///
@@ -72,8 +84,10 @@ impl<R: Wait + Drop> LiveKeeper<R> {
         run: ExchangeRun,
         clock: WallClock,
         thread: LiveThread<R>,
-    ) -> Result<LiveKeeper<R>, AllocError> {
-        let octets = live_text(alloc, &subs, &run, &[])?;
+    ) -> Result<LiveKeeper<R>, AllocError>
+        ensures { IfOk result (λ keeper. keeper ≡ subs) }
+    {
+        let text = KeptText::empty(alloc, &subs, &run)?;
         let seen = clock.seconds();
         let mut keeper = LiveKeeper {
             alloc,
@@ -83,7 +97,7 @@ impl<R: Wait + Drop> LiveKeeper<R> {
             thread,
             records: 0,
             seen,
-            waiting: Some(WaitingText { octets, records: 0 }),
+            waiting: Some(WaitingText { text, records: 0 }),
             is_empty: true,
             live: Vec::new(alloc),
         };
@@ -92,7 +106,9 @@ impl<R: Wait + Drop> LiveKeeper<R> {
     }
 
     /// Takes note that calls have ended, whose records the keeper of records is given now.
-    pub fn note_ended(&mut self, records: &[Record]) {
+    pub fn note_ended(&mut self, records: &[Record])
+        ensures { self.new ≡ self.old }
+    {
         self.records = self.records.saturating_add(records.len() as u64);
         for record in records {
             self.live.retain(|number| *number != record.number);
@@ -106,7 +122,10 @@ impl<R: Wait + Drop> LiveKeeper<R> {
     }
 
     /// Takes what can be seen of the exchange, as it was when the records were taken that were noted last, if it wants that.
-    pub fn see(&mut self, view: &ExchangeView) {
+    pub fn see(&mut self, view: &ExchangeView)
+        requires seen { IsSeenOf self.old view.now }
+        ensures { self.new ≡ self.old }
+    {
         if !self.wants_look() {
             return;
         }
@@ -123,42 +142,51 @@ impl<R: Wait + Drop> LiveKeeper<R> {
         &mut self,
         view: &ExchangeView,
         moment: u64,
-    ) -> Result<Option<WaitingText>, AllocError> {
+    ) -> Result<Option<WaitingText>, AllocError>
+        requires seen { IsSeenOf self.old view.now }
+        ensures { self.new ≡ self.old }
+    {
         let calls = live_calls(self.alloc, &self.subs, view, moment)?;
         if calls.is_empty() && self.is_empty {
             return Ok(None);
         }
-        let octets = live_text(self.alloc, &self.subs, &self.run, calls.as_slice())?;
+        let text = KeptText::of(self.alloc, &self.subs, &self.run, calls.as_slice())?;
         self.live = numbers_of(self.alloc, calls.as_slice())?;
         self.is_empty = calls.is_empty();
         Ok(Some(WaitingText {
-            octets,
+            text,
             records: self.records,
         }))
     }
 
     /// Gives the text to the thread that waits, if all records are kept that the run had as its calls were live. So many of those
     /// that the run has now are not.
-    pub fn look(&mut self, unkept: usize) {
+    pub fn look(&mut self, unkept: usize)
+        ensures { self.new ≡ self.old }
+    {
         let kept = self.records.saturating_sub(unkept as u64);
         match self.waiting.take() {
-            Some(text) if text.records <= kept => self.put(text),
+            Some(waiting) if waiting.records <= kept => self.put(waiting),
             waiting => self.waiting = waiting,
         }
     }
 
     /// Gives a text to the thread, or has it wait where the thread takes another one.
-    fn put(&mut self, text: WaitingText) {
-        let WaitingText { octets, records } = text;
-        self.waiting = match self.thread.put(octets) {
-            Some(octets) => Some(WaitingText { octets, records }),
+    fn put(&mut self, waiting: WaitingText)
+        ensures { self.new ≡ self.old }
+    {
+        let WaitingText { text, records } = waiting;
+        self.waiting = match self.thread.put(text) {
+            Some(text) => Some(WaitingText { text, records }),
             None => None,
         };
     }
 
     /// Ends, as the run does. Where all records are kept, the file is made empty, unless calls are live that have not ended, as where
     /// the history was full. Else it is left as it is.
-    pub fn end(&mut self, is_kept: bool) {
+    pub fn end(&mut self, is_kept: bool)
+        ensures { self.new ≡ self.old }
+    {
         if is_kept {
             self.put_last();
         }
@@ -166,12 +194,14 @@ impl<R: Wait + Drop> LiveKeeper<R> {
     }
 
     /// Gives the last text to the thread, now that all records are kept.
-    fn put_last(&mut self) {
+    fn put_last(&mut self)
+        ensures { self.new ≡ self.old }
+    {
         if self.live.is_empty() {
-            let Ok(octets) = live_text(self.alloc, &self.subs, &self.run, &[]) else {
+            let Ok(text) = KeptText::empty(self.alloc, &self.subs, &self.run) else {
                 return;
             };
-            self.waiting = Some(WaitingText { octets, records: 0 });
+            self.waiting = Some(WaitingText { text, records: 0 });
         }
         for _try in 0..MOST_TRIES {
             if self.waiting.is_none() {

@@ -1,5 +1,6 @@
 //! Writing the file of live calls on a thread of its own.
 
+use crate::kept_text::KeptText;
 use crate::live_file::WholeFile;
 use log::Log;
 use std::alloc::{AllocError, Global};
@@ -28,7 +29,7 @@ const PATIENCE_AT_END: u64 = 10;
 #[derive(Drop)]
 struct LiveSignal {
     /// The text that is to be written next. A newer one takes its place.
-    newest: Mutex<Option<Vec<u8>>>,
+    newest: Mutex<Option<KeptText>>,
     /// Whether no further text comes.
     is_over: AtomicBool,
     has_ended: AtomicBool,
@@ -81,7 +82,7 @@ impl<R: Threads + Wait + Copy + Drop + Send + 'static> LiveThread<R> {
 
 impl<R: Wait> LiveThread<R> {
     /// Has the thread write this text next. It comes back where the thread takes another one at this moment.
-    pub fn put(&self, text: Vec<u8>) -> Option<Vec<u8>> {
+    pub fn put(&self, text: KeptText) -> Option<KeptText> {
         let Some(mut newest) = self.signal.newest.try_lock() else {
             return Some(text);
         };
@@ -110,7 +111,7 @@ impl<R: Wait> LiveThread<R> {
 struct LiveWriting<F: WholeFile, L: Log> {
     file: F,
     /// What the file does not hold yet.
-    text: Option<Vec<u8>>,
+    text: Option<KeptText>,
     /// From which second on the file is tried again, where the last write failed.
     retry_at: Option<u64>,
     clock: WallClock,
@@ -156,7 +157,7 @@ impl<F: WholeFile, L: Log + Drop> LiveWriting<F, L> {
         if self.retry_at.is_some_and(|at| now < at) {
             return;
         }
-        match self.file.replace(text.as_slice()) {
+        match self.file.replace(text) {
             Ok(()) => {
                 self.text = None;
                 if self.retry_at.take().is_some() {

@@ -1,6 +1,9 @@
 //! A watch, beside which the live calls are kept in a file.
 
+ghost use Rattle.std.specs.Prelude.{◌≡◌, IfSome};
+
 use crate::attending::Watch;
+use std::marker::Model;
 use std::sync::Wait;
 use xp_charge::Record;
 use xp_live::LiveKeeper;
@@ -14,8 +17,21 @@ pub struct LiveWatch<T: Watch, R: Wait> {
     live: Option<LiveKeeper<R>>,
 }
 
+impl<T: Watch, R: Wait> Model for LiveWatch<T, R> {
+    ghost use Rattle.std.specs.Prelude.{◌≡◌, IfSome};
+
+    ghost Value = { Unit {0} };
+
+    ghost view = { λ _. tt };
+
+    ghost invariant = { λ watch. IfSome watch.live (λ tables. tables ≡ T.tables) };
+}
+
 impl<T: Watch, R: Wait> LiveWatch<T, R> {
-    pub fn new(watch: T, live: Option<LiveKeeper<R>>) -> LiveWatch<T, R> {
+    /// The watch, and what keeps the live calls of the exchange that it sees.
+    pub fn new(watch: T, live: Option<LiveKeeper<R>>) -> LiveWatch<T, R>
+        requires { IfSome live (λ tables. tables ≡ T.tables) }
+    {
         LiveWatch { watch, live }
     }
 }
