@@ -2,7 +2,7 @@
 
 ghost use Rattle.std.specs.Prelude.{◌≡◌, [], All, IfOk};
 ghost use Rattle.xp_charge.specs.Lines.{HasLines};
-ghost use Rattle.xp_live.specs.Kept.{AreSeen};
+ghost use Rattle.xp_live.specs.Kept.{AreSeen, IsKept};
 ghost use Rattle.xp_live.specs.LiveText.{live_text as live_text_of};
 ghost use Rattle.xp_subs.specs.Tables.{line_count};
 
@@ -63,7 +63,8 @@ impl KeptText {
     }
 
     pub fn as_slice(&self) -> &[u8]
-        ensures { result.now ≡ self.now }
+        ensures text { result.now ≡ self.now }
+        ensures kept { IsKept result.now }
     {
         self.octets.as_slice()
     }
