@@ -43,14 +43,36 @@ PACKETS = 90
 STOP = 6
 
 
+class Details:
+    """Where an exchange writes its call detail records: in a file, or by the day in files of a directory."""
+
+    def __init__(self, folder, is_by_day):
+        self.place = pathlib.Path(folder) / ("cdr" if is_by_day else "calls.csv")
+        self.words = ["--cdr-dir" if is_by_day else "--cdr", self.place]
+        self.live = self.place / "calls.live" if is_by_day else self.place.with_name("calls.csv.live")
+        if is_by_day:
+            self.place.mkdir()
+
+    def files(self):
+        return sorted(self.place.glob("calls-*.csv")) if self.place.is_dir() else [self.place]
+
+    def records(self):
+        """The records of all files, in order."""
+        return [record for file in self.files() for record in read_details(file)]
+
+    def remove(self):
+        for path in (*self.files(), self.live):
+            path.unlink()
+
+
 class Exchange(server.Process):
-    """An exchange over so many pairs of lines, which writes its call detail records to a file."""
+    """An exchange over so many pairs of lines, which writes its call detail records there."""
 
     def __init__(self, program, folder, pairs, details):
         self.base = server.free_ports(2 * pairs)
         file = pathlib.Path(folder) / "subscriptions.toml"
         file.write_text(server.subscriptions(pairs, self.base))
-        super().__init__([*shlex.split(str(program)), "serve", file, "--cdr", details], folder)
+        super().__init__([*shlex.split(str(program)), "serve", file, *details.words], folder)
 
 
 class Interrupted(soak.Soak):
@@ -105,7 +127,7 @@ class Interrupted(soak.Soak):
 
 
 def read_details(path):
-    """The records of the last run in the file. Each line has to be whole."""
+    """The records of the file. Each line has to be whole."""
     text = pathlib.Path(path).read_text()
     if not text.endswith("\n"):
         sys.exit("the file's last line is torn")
@@ -200,6 +222,7 @@ def main():
     parser.add_argument("--rounds", type=int, default=20, help="rounds of each kind (default: 20)")
     parser.add_argument("--xp", default=str(server.PROGRAM), help=f"the built program, which is killed ({server.DEFAULT})")
     parser.add_argument("--launcher", default=str(LAUNCHER), help="the launcher, which is stopped, with its first words (default: ./xp)")
+    parser.add_argument("--by-day", action="store_true", help="the records go to a directory, by the day")
     parser.add_argument("--pairs", type=int, default=32, help="pairs of lines (default: 32)")
     parser.add_argument("--seed", type=int, help="what the choices follow from (default: at random)")
     arguments = parser.parse_args()
@@ -209,7 +232,7 @@ def main():
     print(f"seed {seed}, {2 * arguments.pairs} lines", flush=True)
     kinds = ((signal.SIGKILL, arguments.xp), (signal.SIGTERM, arguments.launcher))
     with tempfile.TemporaryDirectory() as folder:
-        details, live = (pathlib.Path(folder) / name for name in ("calls.csv", "calls.csv.live"))
+        details = Details(folder, arguments.by_day)
         for kind, program in kinds:
             figures = []
             for number in range(arguments.rounds):
@@ -217,15 +240,14 @@ def main():
                 # The next start cuts off a torn line, and gives the live calls their records.
                 with Exchange(arguments.xp, folder, 1, details) as again:
                     again.connect(again.base).close()
-                runs = read_details(details)
+                runs = details.records()
                 last = max((started for started, *_ in runs), default="")
                 ended = [(by, record) for started, by, record in runs if started == last]
                 partial = sum(by == "partial" for by, _ in ended)
-                if kind == signal.SIGTERM and (partial or live.read_text() != ",".join(HEADER) + "\n"):
-                    sys.exit(f"a stop has left {partial} partial records and the live calls {live.read_text()}")
+                if kind == signal.SIGTERM and (partial or details.live.read_text() != ",".join(HEADER) + "\n"):
+                    sys.exit(f"a stop has left {partial} partial records and the live calls {details.live.read_text()}")
                 figures.append((len(made), len(ended), partial, check(made, ended, must_have, passed_of, kind.name), seconds))
-                for path in (details, live):
-                    path.unlink()
+                details.remove()
                 time.sleep(1)
             total = [sum(column) for column in zip(*figures)]
             print(
