@@ -37,6 +37,7 @@ SCRIPTS = [
     Script("commands.py", "--jobs 2", "the rows over the program: words, files, texts, exit status", 60),
     Script("launcher.py", "", "which program ./xp runs, and what it says", 15),
     Script("package.py", "--offline", "the Debian package: what it has, what it installs, how it comes and goes", 20),
+    Script("documents.py", "", "the commands that README, OPERATING, FORMATS, xp.1 and the help show, typed", 25),
     Script("exchange.py", "--packets 10000", "10,000 packets of random calls in a replay, beside the model", 10, "--packets 50000"),
     Script("windows.py", "--rounds 2 --step 32", "each window of a call between lines of either modulus", 30, ""),
     Script("interrupted.py", "", "a replay whose every read is interrupted", 20, proved_only=True),
@@ -74,7 +75,7 @@ SCRIPTS = [
     Script("serve/dead_peer.py", "", "peers that are gone without a word (takes root)", 95),
 ]
 # The scripts whose times depend on what else the machine does: those over sockets, and one that compares times.
-TIMED = ("serve/", "subscriptions.py")
+TIMED = ("serve/", "documents.py", "subscriptions.py")
 
 # Seconds that a script may take, and a build or a part of the rows, on a machine that does other things too.
 MOST_OF_SCRIPT, MOST_OF_BUILD = 600, 1200
