@@ -53,6 +53,7 @@ A line of a script is one of these, where NAME is a line of the FILE:
   down NAME       the connection goes
   expire NAME     the line's time to answer an incoming call is over
   in NAME DIGITS  octets come in, as hexadecimal digits: frames (RFC 1613)
+  at N            the moment of the lines behind it is N, in seconds
 Empty lines, and those that begin with #, do nothing.
 
 Prints `out NAME DIGITS` for each frame that the exchange puts out, and
