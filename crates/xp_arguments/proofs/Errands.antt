@@ -59,6 +59,10 @@ no_name rows none order is = none (option_map (λ name. name.now) order.exchange
 pub no_live : (rows : List Row) → ((live : Option Text) → HasLive rows live → ⊥) → (order : ServeOrder) → IsOrder rows order → ⊥
 no_live rows none order is = none (option_map (λ path. path.now) order.live) is.live
 
+-- the first of two texts, where each is another one
+pub either_is : (found text other one two : Option Text) → found ≡ either text other → text ≡ one → other ≡ two → found ≡ either one two
+either_is found text other one two is first second = is ∙ (ap (λ text. either text other) first ∙ ap (either one) second)
+
 -- the path of the file of live calls that the arguments say
 module _ {X : Type 0} (rows : List Row) (path details : Option Text) (off : Bool) (path_is : path ≡ first_of (codes "live") rows)
     (details_are : details ≡ either (first_of (codes "cdr") rows) (first_of (codes "cdr-dir") rows)) (off_is : off ≡ has_flag (codes "no-live") rows) (found : Option X) where
