@@ -83,24 +83,27 @@ class Proof:
         return f"{crate.folder}/out/xp.log"
 
     def run(self):
-        """Proves all crates, and returns the first that is not proved, or None."""
+        """Proves all crates, and returns those that are not proved. What does not stand on these is proved all the same."""
         # This starts the process that ends every proof when this one ends, however it ends. It has to be there before any thread.
         self.kit.guarded()
         self.held = self.kit.lock(self.program.below())
         for crate in self.lines:
             self.kit.stop_on_links(crate.folder)
         self.skip_what_is_built()
-        news = f"{len(self.done)} from before" if self.done else ""
-        while self.left or self.running:
-            self.start_what_can_run()
+        news, failed = f"{len(self.done)} from before" if self.done else "", []
+        self.start_what_can_run()
+        while self.running:
             self.tell(news)
             crate, status, seconds = self.next_finished()
             if status:
-                return crate
-            self.done.add(crate)
-            news = f"{crate.name} took {seconds:.0f} s"
+                failed.append(crate)
+                news = f"{crate.name} is not proved"
+            else:
+                self.done.add(crate)
+                news = f"{crate.name} took {seconds:.0f} s"
+            self.start_what_can_run()
         self.tell(news)
-        return None
+        return failed
 
     def skip_what_is_built(self):
         self.done = {it for it in self.program.below() if it.is_built()}
@@ -169,11 +172,10 @@ def main():
         # The shell that waits for this then ends too.
         signal.signal(signal.SIGINT, signal.SIG_DFL)
         os.kill(os.getpid(), signal.SIGINT)
-    if failed:
-        show_end(proof.log_of(failed))
-        say(f"the program was not built, since {failed.name} was not; {proof.log_of(failed)} has the whole")
-        return 1
-    return 0
+    for crate in failed:
+        show_end(proof.log_of(crate))
+        say(f"the program was not built, since {crate.name} was not; {proof.log_of(crate)} has the whole")
+    return 1 if failed else 0
 
 
 if __name__ == "__main__":
