@@ -15,9 +15,6 @@ use xp_clock::WallClock;
 use xp_subs::Subs;
 use xp_view::ExchangeView;
 
-/// How often the last text is put, as serving ends, where the thread takes another one.
-const MOST_TRIES: usize = 100;
-
 /// A text that is not with the thread yet.
 #[derive(Drop)]
 struct WaitingText {
@@ -110,9 +107,7 @@ impl<R: Wait + Drop> LiveKeeper<R> {
         ensures { self.new ≡ self.old }
     {
         self.records = self.records.saturating_add(records.len() as u64);
-        for record in records {
-            self.live.retain(|number| *number != record.number);
-        }
+        forget_ended(&mut self.live, records);
     }
 
     /// Whether it wants to see the exchange now: in each second, unless a text still waits.
@@ -203,12 +198,16 @@ impl<R: Wait + Drop> LiveKeeper<R> {
             };
             self.waiting = Some(WaitingText { text, records: 0 });
         }
-        for _try in 0..MOST_TRIES {
-            if self.waiting.is_none() {
-                return;
-            }
-            self.look(0);
+        if let Some(waiting) = self.waiting.take() {
+            self.thread.put_last(waiting.text);
         }
+    }
+}
+
+/// Lets the numbers of the calls go that these records are of.
+fn forget_ended(live: &mut Vec<u64>, records: &[Record]) {
+    for record in records {
+        live.retain(|number| *number != record.number);
     }
 }
 

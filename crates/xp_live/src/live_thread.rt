@@ -22,6 +22,9 @@ const SECONDS_TO_RETRY: u64 = 1;
 /// How often the thread is looked at as serving ends: a hundred times a second, for two seconds. Then it is given up.
 const MOST_LOOKS: usize = 200;
 
+/// How often the last text is put, as serving ends, where the thread takes another one.
+const MOST_TRIES: usize = 100;
+
 /// For how long it is waited between two of these looks, in milliseconds.
 const PATIENCE_AT_END: u64 = 10;
 
@@ -89,6 +92,17 @@ impl<R: Wait> LiveThread<R> {
         *newest = Some(text);
         self.signal.writing.unpark();
         None
+    }
+
+    /// Has the thread write this text next, also where it takes another one at this moment.
+    pub fn put_last(&self, text: KeptText) {
+        let mut text = Some(text);
+        for _try in 0..MOST_TRIES {
+            let Some(next) = text.take() else {
+                return;
+            };
+            text = self.put(next);
+        }
     }
 
     /// Tells that no further text comes, and waits until the last one is written, for two seconds at most.
