@@ -1,1 +1,2 @@
+mod AppendLemmas
 mod DigitLemmas

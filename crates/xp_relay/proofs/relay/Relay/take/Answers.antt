@@ -1,4 +1,4 @@
-use Rattle.std.proofs.Common.{◌≡◌, ap, inl, inr}
+use Rattle.std.proofs.Common.{◌≡◌, ap, inl, inr, sym}
 use Rattle.xp_relay.specs.Turns.{turn_of, unchanged}
 use Rattle.xp_relay.proofs.Calls.{follows_unchanged}
 use Rattle.xp_relay.proofs.relay.Relay.take.Goals as goal
@@ -34,3 +34,9 @@ returns-in-Reset-clause-ok g c = rw (c.in-Reset.is) (c.reset.ensures)
 
 pub returns-in-ResetConfirm-clause-ok : goal.returns-in-ResetConfirm-clause-ok
 returns-in-ResetConfirm-clause-ok g c = rw (c.in-ResetConfirm.is) (c.reset_confirm.ensures)
+
+pub returns-in_ok-copy-in-DataPacket-clause-ok : goal.returns-in_ok-copy-in-DataPacket-clause-ok
+returns-in_ok-copy-in-DataPacket-clause-ok g c = rw (c.in-DataPacket.is, sym c.in_ok-copy-in-DataPacket.ensures) (c.data.ensures)
+
+pub returns-in_ok-copy-in-Interrupt-clause-ok : goal.returns-in_ok-copy-in-Interrupt-clause-ok
+returns-in_ok-copy-in-Interrupt-clause-ok g c = rw (c.in-Interrupt.is, sym c.in_ok-copy-in-Interrupt.ensures) (c.interrupt.ensures)
