@@ -58,6 +58,7 @@ SCRIPTS = [
     Script("serve/links.py", "", "the connections of lines behind routers", 40),
     Script("serve/waiting.py", "", "connections of routers before their first frame is whole", 20),
     Script("serve/callers.py", "--calls 1000", "calls of routers behind which several stations have lines", 30, ""),
+    Script("serve/many_callers.py", "", "calls of thousands of stations behind 40 routers", 20, proved_only=True),
     Script("serve/newcomers.py", "", "connections to the port of a line that has one", 20),
     Script("serve/telling.py", "", "what the log tells of lines that go down, and of calls that are refused or cleared", 20),
     Script("serve/last_octets.py", "", "fifty calls in the middle of transfers as the exchange stops: the last octets", 30),

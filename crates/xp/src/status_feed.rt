@@ -13,8 +13,8 @@ use xp_subs::Subs;
 use xp_tcp::{Notice, Notices};
 use xp_view::ExchangeView;
 
-/// Feeds the console: it shows what can be seen of the exchange each time that the console asks for it. The exchange is seen each
-/// second, so that it is known since when a line is in its state. `B` names the board, and the exchange that it shows.
+/// Feeds the console: it shows what can be seen of the exchange each time that the console asks for it, and never else. `B` names the
+/// board, and the exchange that it shows.
 #[derive(Drop)]
 pub(crate) struct StatusFeed<B: BoardName> {
     alloc: Global,
@@ -22,8 +22,6 @@ pub(crate) struct StatusFeed<B: BoardName> {
     board: Arc<StatusBoard<B>>,
     notices: Arc<Notices>,
     clock: WallClock,
-    /// The moment at which the exchange was seen last, in seconds since 1970.
-    seen: u64,
 }
 
 impl<B: BoardName> StatusFeed<B> {
@@ -43,9 +41,8 @@ impl<B: BoardName> StatusFeed<B> {
     ) -> Result<StatusFeed<B>, AllocError>
         requires { B.tables ≡ subs.now }
     {
-        let seen = clock.seconds();
         let begin = RunBegin {
-            started: seen,
+            started: clock.seconds(),
             partial_records,
         };
         Ok(StatusFeed {
@@ -54,7 +51,6 @@ impl<B: BoardName> StatusFeed<B> {
             board,
             notices,
             clock,
-            seen,
         })
     }
 }
@@ -86,12 +82,10 @@ impl<B: BoardName> ConsoleFeed for StatusFeed<B> {
     }
 
     fn wants_look(&self) -> bool {
-        let mut clock = self.clock;
-        self.board.is_wanted() || clock.now() > self.seen
+        self.board.is_wanted()
     }
 
     fn show(&mut self, now: u64, view: &ExchangeView, waiting: usize) {
-        self.seen = now;
         let (received, sent) = self.notices.traffic();
         let traffic = Traffic { received, sent };
         match self

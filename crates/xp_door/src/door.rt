@@ -8,6 +8,7 @@ use crate::callers::{Callers, Heard};
 use crate::choosing::{Candidate, Choice, choose, is_router, line_for};
 use crate::connect_fault::ConnectFault;
 use crate::door_bell::DoorBell;
+use crate::hosts::is_same_host;
 use crate::notices::{Notice, Notices};
 use crate::refused_calls::RefusedCalls;
 use crate::router_call::RouterCall;
@@ -18,11 +19,12 @@ use mio::net::{TcpListener, TcpStream};
 use mio::{Events, Poll};
 use std::alloc::{AllocError, Global};
 use std::io::ErrorKind;
-use std::net::Net;
+use std::net::{IpAddr, Net};
 use std::sync::{Arc, Wait};
 use std::time::Duration;
 use xp_causes::Refusal;
 use xp_clock::uptime;
+use xp_subs::MOST_LINES;
 
 /// How many connections are taken at most before the lines are looked at again.
 const MOST_TAKEN: usize = 16;
@@ -44,8 +46,10 @@ pub struct Door {
     events: Events,
     /// The lines behind routers, in line order.
     lines: Vec<Arc<RouterLine>>,
-    /// The same lines as they were last looked at.
+    /// The same lines. Those behind a router are looked at as a connection of it comes.
     candidates: Vec<Candidate>,
+    /// Room for the numbers of the lines for which the bell was rung.
+    wanted: Vec<usize>,
     callers: Callers,
     refused: RefusedCalls,
     wakers: Arc<Vec<LineWaker>>,
@@ -64,6 +68,7 @@ impl Drop for Door {
             events: _,
             lines: _,
             candidates: _,
+            wanted: _,
             callers: _,
             refused: _,
             wakers: _,
@@ -92,6 +97,7 @@ impl Door {
         wakers: Arc<Vec<LineWaker>>,
         notices: Arc<Notices>,
     ) -> Result<Door, AllocError> {
+        let wanted = Vec::with_capacity(alloc, MOST_LINES)?;
         let candidates = candidates_of(alloc, &lines)?;
         let DoorSockets {
             listener,
@@ -107,6 +113,7 @@ impl Door {
             events,
             lines,
             candidates,
+            wanted,
             callers: Callers::new(alloc),
             refused: RefusedCalls::new(alloc),
             wakers,
@@ -149,11 +156,25 @@ impl Door {
         if !self.bell.take_ring() {
             return;
         }
-        for place in 0..self.lines.len() {
-            if let Some(back) = self.begin_for(rt, place) {
+        if self.bell.take_wanted(&mut self.wanted).is_err() {
+            // The bell stays rung for the lines that were not taken.
+            self.bell.ring();
+        }
+        for index in 0..self.wanted.len() {
+            if let Some(back) = self.begin_next(rt, index) {
                 self.receive(back);
             }
         }
+    }
+
+    /// Begins the connection of the line that stands in this place among those for which the bell was rung.
+    fn begin_next<R: Net>(&self, rt: &R, index: usize) -> Option<Arrival> {
+        let number = *self.wanted.get(index)?;
+        let place = self
+            .lines
+            .binary_search_by_key(&number, |line| usize::from(line.line))
+            .ok()?;
+        self.begin_for(rt, place)
     }
 
     /// Begins the connection that a line waits for, if it does. The connection comes back that the line was given before.
@@ -163,7 +184,7 @@ impl Door {
             Some(true) => {}
             Some(false) => return None,
             None => {
-                self.bell.ring();
+                self.bell.ring_for(line.line);
                 return None;
             }
         }
@@ -171,7 +192,7 @@ impl Door {
         let back = line.begin(begun.map_err(|error| ConnectFault::of(&error)));
         self.wake(line);
         if line.is_wanted() != Some(false) {
-            self.bell.ring();
+            self.bell.ring_for(line.line);
         }
         back
     }
@@ -238,7 +259,7 @@ impl Door {
             let Some(arrival) = left else {
                 return;
             };
-            self.look();
+            self.look(arrival.peer.ip());
             choice = self.choice_of(&arrival, &call);
             left = Some(arrival);
             match choice {
@@ -294,10 +315,12 @@ impl Door {
         }
     }
 
-    /// Looks which lines are free.
-    fn look(&mut self) {
+    /// Looks which of the lines behind the router with this address are free.
+    fn look(&mut self, router: IpAddr) {
         for (candidate, line) in self.candidates.iter_mut().zip(self.lines.iter()) {
-            candidate.is_free = line.is_free();
+            if is_same_host(candidate.router, router) {
+                candidate.is_free = line.is_free();
+            }
         }
     }
 

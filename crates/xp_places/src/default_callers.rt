@@ -1,10 +1,11 @@
 //! Two stations that are default callers of one router.
 
-use crate::alone::{array, is_refused};
+use crate::alone::array;
 use crate::place::Place;
 use std::alloc::{AllocError, Global};
 use toml::{Table, Value};
 use xp_file::{Key, SubscriptionFault};
+use xp_subs::{Access, LineNo, RouterAddress, Subs};
 
 /// A station with `default_caller`, and where it stands.
 #[derive(Clone, Copy)]
@@ -13,19 +14,59 @@ struct Caller<'a> {
     station: &'a Value,
 }
 
-/// The first station, in the order of the file, that is a default caller of one router with a station before it, behind that one: they
-/// are refused for it where they stand alone in a file. `None` where there is none.
+/// A router of which a station is the default caller.
+#[derive(Drop)]
+struct Behind<'a> {
+    place: Place<'a>,
+    router: RouterAddress,
+}
+
+/// The first station, in the order of the file, that is a default caller of one router with a station before it, behind that one. `None`
+/// where there is none.
 pub(crate) fn rivals<'a>(
     alloc: Global,
     file: &'a Table,
 ) -> Result<Option<(Place<'a>, Place<'a>)>, AllocError> {
-    let callers = callers(alloc, file)?;
-    for later in 1..callers.len() {
-        if let Some(earlier) = rival_of(alloc, callers[later], &callers[..later])? {
-            return Ok(Some((earlier, callers[later].place)));
+    let mut behind = Vec::new(alloc);
+    for caller in &callers(alloc, file)? {
+        let routers = routers_of(alloc, caller.station)?;
+        if let Some(rival) = first_behind(&behind, &routers) {
+            return Ok(Some((rival, caller.place)));
+        }
+        for router in routers {
+            let place = caller.place;
+            behind.push(Behind { place, router })?;
         }
     }
     Ok(None)
+}
+
+/// The first station that is behind one of these routers.
+fn first_behind<'a>(behind: &[Behind<'a>], routers: &[RouterAddress]) -> Option<Place<'a>> {
+    for other in behind {
+        let address = other.router.address();
+        if routers.iter().any(|router| router.address() == address) {
+            return Some(other.place);
+        }
+    }
+    None
+}
+
+/// The routers of the lines of a station, which stands alone in a file.
+fn routers_of(alloc: Global, station: &Value) -> Result<Vec<RouterAddress>, AllocError> {
+    let mut routers = Vec::new(alloc);
+    let text = format!(in alloc; "station = [{station}]")?;
+    let subs = match Subs::read(alloc, &text) {
+        Ok(subs) => subs,
+        Err(SubscriptionFault::Memory) => return Err(AllocError),
+        Err(_) => return Ok(routers),
+    };
+    for number in 0..subs.counts().lines {
+        if let Access::Router(router) = subs.access_of(number as LineNo) {
+            routers.push(router.copy())?;
+        }
+    }
+    Ok(routers)
 }
 
 /// The stations with `default_caller = true`, in order.
@@ -44,21 +85,4 @@ fn default_caller(number: usize, station: &Value) -> Option<Place<'_>> {
     let place = Place::Station(number, station.as_table()?);
     let is_default = place.value(Key::DefaultCaller.name())?.as_bool()?;
     is_default.then_some(place)
-}
-
-/// The first of the earlier stations that is a default caller of a router of this one.
-fn rival_of<'a>(
-    alloc: Global,
-    caller: Caller<'a>,
-    earlier: &[Caller<'a>],
-) -> Result<Option<Place<'a>>, AllocError> {
-    let second = caller.station;
-    for rival in earlier {
-        let first = rival.station;
-        let fault = SubscriptionFault::TwiceUsed(Key::DefaultCaller);
-        if is_refused(alloc, format_args!("station = [{first}, {second}]"), fault)? {
-            return Ok(Some(rival.place));
-        }
-    }
-    Ok(None)
 }

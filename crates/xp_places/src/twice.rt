@@ -23,12 +23,23 @@ pub(crate) fn twice_used<'a>(
     for later in 1..uses.len() {
         if let Some(earlier) = uses[..later]
             .iter()
-            .find(|it| it.value == uses[later].value)
+            .find(|it| is_same(it.value, uses[later].value))
         {
             return Ok(Some((*earlier, uses[later])));
         }
     }
     Ok(None)
+}
+
+/// Whether two values are the same. Texts and numbers are compared as such, which is quicker.
+fn is_same(one: &Value, other: &Value) -> bool {
+    if let (Some(one), Some(other)) = (one.as_str(), other.as_str()) {
+        return one == other;
+    }
+    if let (Some(one), Some(other)) = (one.as_integer(), other.as_integer()) {
+        return one == other;
+    }
+    one == other
 }
 
 /// The values of this key in all stations and lines, in order.
