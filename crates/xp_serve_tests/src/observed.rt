@@ -244,14 +244,8 @@ fn sums(rt: HostRuntime) -> Result<(), Fail> {
         (totals.segments_from_callers, totals.segments_from_called),
         (22, 10)
     );
-    assert_eq!(rt;
-        (totals.events, totals.stalls),
-        (40, 2)
-    );
-    assert_eq!(rt;
-        (totals.records_waiting, totals.partial_records),
-        (4, 6)
-    );
+    assert_eq!(rt; (totals.events, totals.stalls), (40, 2));
+    assert_eq!(rt; (totals.records_waiting, totals.partial_records), (4, 6));
     assert_eq!(rt; (totals.octets_received, totals.octets_sent), (50, 60));
     for (station, (from, to, refused)) in status
         .stations

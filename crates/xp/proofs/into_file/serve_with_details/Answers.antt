@@ -1,4 +1,4 @@
-use Rattle.std.proofs.Common.{◌≡◌, Result, ap, subst, sym, ◌∙◌}
+use Rattle.std.proofs.Common.{◌≡◌, IfSome, Result, ap, subst, sym, ◌∙◌}
 use Rattle.xp_cdr.specs.declared.run.ExchangeRun.{ExchangeRun}
 use Rattle.xp_keeping.specs.Details.{AreKept, GoesOnAs, Keeping, first_keeping}
 use Rattle.xp_keeping.specs.Queued.{AreKeptBeside, KeepsBeside, Queued, first_queued}
@@ -30,3 +30,7 @@ returns-clause-ok g c =
     let after = g.W.Write.contents c.settle.new.output in
     let keeper = c.in_ok-end.end.keeper in
     (keeper, subst (λ tables. LeavesAlone tables c.args.details.run keeper before after c.settle.result) c.requires.spare c.settle.ensures)
+
+-- the live calls are told by the same subscriptions, too
+pub attend-requires-clause-live : goal.attend-requires-clause-live
+attend-requires-clause-live g c = subst (λ own. IfSome c.in_ok-live.live (λ tables. tables ≡ own)) c.requires.live c.in_ok-live.ensures
