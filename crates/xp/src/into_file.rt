@@ -1,9 +1,10 @@
 //! Serving the lines, with their charging records in a file of call detail records.
 
-ghost use Rattle.std.specs.Prelude.{◌≡◌, ◌≤◌, [], IfOk, OnErr};
-ghost use Rattle.xp_keeping.specs.Details.{Keeping};
-ghost use Rattle.xp_keeping.specs.Queued.{Queued};
+ghost use Rattle.std.specs.Prelude.{◌≡◌, ◌≤◌, [], IfOk, IfSome, OnErr};
+ghost use Rattle.xp_keeping.specs.Details.{AreKept, GoesOnAs, Keeping};
+ghost use Rattle.xp_keeping.specs.Queued.{AreKeptBeside, KeepsBeside, Queued, first_queued};
 ghost use Rattle.xp_serve.specs.LeftAlone.{LeavesAlone};
+ghost use Rattle.xp_serve.specs.Serving.{Serves};
 
 use crate::live::{LiveOfRun, RunBefore, begin_live_of, path_of_live};
 use crate::serving::{Beside, CopiedSubs, attend};
@@ -21,10 +22,12 @@ use xp_arguments::ServeOrder;
 use xp_cdr::{DetailFile, ExchangeName, ExchangeRun, RecordFile, path_in};
 use xp_clock::WallClock;
 use xp_days::{DayFiles, day_of, file_before, newest_file, open_newest};
-use xp_keeping::{DetailKeeper, OperatorLog, PatientOutput, start_details};
+use xp_keeping::{
+    DetailKeeper, KeepFault, OperatorLog, PatientOutput, QueuedKeeper, start_details,
+};
 use xp_listening::ServeFailure;
 use xp_readiness::{Failure, Tracing};
-use xp_serve::settle;
+use xp_serve::{ServeEnd, settle};
 use xp_subs::Subs;
 
 /// Serves the lines, and keeps their charging records in the file of call detail records at this path. Whatever serves has no other
@@ -208,17 +211,42 @@ fn serve_with_details<
         live,
     } = details;
     let tracing = Tracing::begin(rt, order, clock, &own)?;
-    let partial_records = live.left.calls as u64;
-    let live = live.keep(rt, clock, told_by, &run)?;
-    let beside = Beside {
-        tracing,
-        live,
-        partial_records,
-    };
+    let beside = live.beside(rt, clock, told_by, &run, tracing)?;
     let keeper = DetailKeeper::new(rt.alloc(), file, names, run.copy(), clock, log);
-    let keeper = start_details(*rt, rt.alloc(), &own, keeper)?;
-    let end = attend(rt, order, clock, own, beside, keeper)?;
+    let end = attend_details(rt, order, clock, own, beside, keeper)?;
     Ok(settle(rt.alloc(), &spare, &run, end, output))
+}
+
+/// Serves the lines, with this keeper of call detail records on a thread of its own.
+fn attend_details<
+    R: AllocGlobal
+        + Clock
+        + Copy
+        + Drop
+        + Log
+        + Net<Listener = TcpListener, Stream = TcpStream>
+        + RandomSource
+        + Send
+        + Sync
+        + Threads
+        + Wait
+        + 'static,
+    F: RecordFile + Send + 'static,
+>(
+    rt: &R,
+    order: &ServeOrder<'_>,
+    clock: WallClock,
+    subs: Subs,
+    beside: Beside<R>,
+    keeper: DetailKeeper<F, HostRuntime>,
+) -> Result<ServeEnd<QueuedKeeper<DetailKeeper<F, HostRuntime>, R>>, Failure>
+    requires live { IfSome beside.live (λ tables. tables ≡ subs) }
+    requires named { keeper.subs ≡ subs }
+    requires new { keeper.given ≡ [] }
+    ensures { IfOk result (λ end. Serves (AreKeptBeside AreKept GoesOnAs) KeepsBeside subs (first_queued subs keeper KeepFault.Details) end.keeper end.outcome) }
+{
+    let keeper = start_details(*rt, rt.alloc(), &subs, keeper)?;
+    attend(rt, order, clock, subs, beside, keeper)
 }
 
 /// When the run began, in seconds since 1970: now, or a second behind the one before, if that began later. So no two runs of a file

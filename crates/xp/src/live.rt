@@ -2,6 +2,7 @@
 
 ghost use Rattle.std.specs.Prelude.{◌≡◌, IfOk, IfSome};
 
+use crate::serving::Beside;
 use log::Log;
 use std::alloc::{AllocError, AllocGlobal, Global};
 use std::fs::{File, Files};
@@ -12,7 +13,7 @@ use xp_cdr::{DetailFile, ExchangeRun, Opened, RecordFile};
 use xp_clock::WallClock;
 use xp_keeping::OperatorLog;
 use xp_live::{LeftBehind, LiveFile, LiveKeeper, LiveThread, begin_live};
-use xp_readiness::Failure;
+use xp_readiness::{Failure, Tracing};
 use xp_subs::Subs;
 
 /// What stands behind the path of the file of call detail records in that of the file of live calls.
@@ -93,8 +94,28 @@ pub(crate) fn begin_live_of<R: AllocGlobal + Files<File = File> + Log>(
 }
 
 impl LiveOfRun {
+    /// What goes on beside the lines: this trace, and what keeps the live calls of this run in the file, if there is one.
+    pub(crate) fn beside<R: AllocGlobal + Copy + Drop + Send + Threads + Wait + 'static>(
+        self,
+        rt: &R,
+        clock: WallClock,
+        subs: Subs,
+        run: &ExchangeRun,
+        tracing: Tracing<R>,
+    ) -> Result<Beside<R>, Failure>
+        ensures { IfOk result (λ beside. IfSome beside.live (λ tables. tables ≡ subs)) }
+    {
+        let partial_records = self.left.calls as u64;
+        let live = self.keep(rt, clock, subs, run)?;
+        Ok(Beside {
+            tracing,
+            live,
+            partial_records,
+        })
+    }
+
     /// What keeps the live calls of this run in the file, if there is one.
-    pub(crate) fn keep<R: AllocGlobal + Copy + Drop + Send + Threads + Wait + 'static>(
+    fn keep<R: AllocGlobal + Copy + Drop + Send + Threads + Wait + 'static>(
         self,
         rt: &R,
         clock: WallClock,

@@ -7,7 +7,7 @@ use crate::into_file::{serve_into_directory, serve_into_file};
 use crate::served_console::ServedConsole;
 use crate::status_feed::StatusFeed;
 use log::Log;
-use std::alloc::{AllocGlobal, Global};
+use std::alloc::{AllocError, AllocGlobal, Global};
 use std::fs::{File, Files};
 use std::io::BufWriter;
 use std::marker::Brand;
@@ -21,7 +21,9 @@ use std::thread::{JoinHandle, Scope, Threads};
 use std::time::Clock;
 use xp_arguments::{DetailsOrder, ServeOrder};
 use xp_clock::WallClock;
-use xp_keeping::{OperatorLog, RecordKeeper, RecordPrinter, StandardOutput, start_printer};
+use xp_keeping::{
+    CallKeeper, OperatorLog, QueuedKeeper, RecordKeeper, RecordPrinter, StandardOutput, start_printer,
+};
 use xp_limits::Limits;
 use xp_live::LiveKeeper;
 use xp_observer::{BoardName, StatusBoard};
@@ -47,6 +49,9 @@ pub(crate) struct CopiedSubs {
     /// Those that the live calls are told by.
     pub(crate) live: Subs,
 }
+
+/// What prints charging records on a thread of its own.
+type PrintingKeeper<R> = QueuedKeeper<RecordPrinter<BufWriter<StandardOutput<HostRuntime>>>, R>;
 
 /// What goes on beside the lines.
 #[derive(Drop)]
@@ -85,7 +90,15 @@ pub(crate) fn serve_lines<
         Some(DetailsOrder::Directory(path)) => {
             serve_into_directory(rt, host, order, path, clock, subs)
         }
-        None => serve_and_print(rt, host, order, clock, subs),
+        None => {
+            let CopiedSubs {
+                own,
+                names,
+                spare: _,
+                live: _,
+            } = subs;
+            serve_and_print(rt, host, order, clock, own, names)
+        }
     }
 }
 
@@ -109,31 +122,41 @@ fn serve_and_print<
     host: HostRuntime,
     order: &ServeOrder<'_>,
     clock: WallClock,
-    subs: CopiedSubs,
+    subs: Subs,
+    names: Subs,
 ) -> Result<(), Failure>
-    requires { subs.names ≡ subs.own }
+    requires { names ≡ subs }
 {
-    let CopiedSubs {
-        own,
-        names,
-        spare: _,
-        live: _,
-    } = subs;
-    let tracing = Tracing::begin(rt, order, clock, &own)?;
+    let tracing = Tracing::begin(rt, order, clock, &subs)?;
     let beside = Beside {
         tracing,
         live: None,
         partial_records: 0,
     };
+    let keeper = begin_printing(rt, host, &subs, names)?;
+    let end = attend(rt, order, clock, subs, beside, keeper)?;
+    tell_unprinted(rt, clock, &end.keeper);
+    outcome_of(end)
+}
+
+/// Starts the thread that prints charging records, which are told by these names.
+fn begin_printing<R: AllocGlobal + Copy + Drop + Send + Threads + Wait + 'static>(
+    rt: &R,
+    host: HostRuntime,
+    subs: &Subs,
+    names: Subs,
+) -> Result<PrintingKeeper<R>, Failure>
+    requires { names ≡ subs.now }
+    ensures { IfOk result (λ keeper. (keeper.subs ≡ subs.now) × (keeper.given ≡ [])) }
+{
     let output = StandardOutput::new(host);
     let output = BufWriter::new(rt.alloc(), output).map_err(|_| TaskFailure::Memory)?;
     let keeper = RecordPrinter::new(rt.alloc(), names, output);
-    let keeper = start_printer(*rt, rt.alloc(), &own, keeper)?;
-    let end = attend(rt, order, clock, own, beside, keeper)?;
-    let lost = end.keeper.left().len();
-    if lost > 0 && end.keeper.is_given_up() {
-        tell_unprinted(rt, clock, lost);
-    }
+    Ok(start_printer(*rt, rt.alloc(), subs, keeper)?)
+}
+
+/// What serving came to.
+fn outcome_of<K: RecordKeeper>(end: ServeEnd<K>) -> Result<(), Failure> {
     end.outcome?;
     Ok(())
 }
@@ -225,6 +248,20 @@ impl<R: Drop + Log + Wait> Drop for Watching<R> {
 }
 
 impl<R: Copy + Drop + Log + Send + Threads + Wait + 'static> Watching<R> {
+    /// What feeds the console over this board.
+    fn feed<B: BoardName>(
+        &self,
+        alloc: Global,
+        subs: &Subs,
+        board: &Arc<StatusBoard<B>>,
+    ) -> Result<StatusFeed<B>, AllocError>
+        requires { B.tables ≡ subs.now }
+    {
+        let theirs = Arc::try_clone(board)?;
+        let counted = Arc::try_clone(&self.notices)?;
+        StatusFeed::new(alloc, subs, self.clock, theirs, counted, self.partial_records)
+    }
+
     /// What watches over these lines, begins their trace, and keeps their live calls.
     fn watch<F: ConsoleFeed>(
         self,
@@ -326,10 +363,7 @@ fn attend_with_console<
     let limits = watching.limits;
     let notices = Arc::try_clone(&watching.notices)?;
     let board = Arc::new(alloc, StatusBoard::<B>::new()).map_err(|_| TaskFailure::Memory)?;
-    let theirs = Arc::try_clone(&board)?;
-    let counted = Arc::try_clone(&notices)?;
-    let (clock, partial_records) = (watching.clock, watching.partial_records);
-    let feed = StatusFeed::new(alloc, &subs, clock, theirs, counted, partial_records)?;
+    let feed = watching.feed(alloc, &subs, &board)?;
     let watch = watching.watch(alloc, &subs, feed)?;
     let attending = Attending { keeper, watch };
     serve_beside(rt, console, &board, subs, limits, notices, attending)
@@ -394,11 +428,19 @@ fn begin_console<'s, E, B: BoardName + Send + Sync + 's, R: Clock + Sync + Wait 
     scope.spawn(move || console.run(rt, board, &is_over)).ok()
 }
 
-/// Tells that standard output took nothing, and how many charging records were lost with it.
-fn tell_unprinted<R: Log>(rt: &R, clock: WallClock, count: usize) {
+/// Tells that standard output took nothing, and how many charging records were lost with it, where it was so.
+fn tell_unprinted<R: Copy + Log + Threads + Wait, K: CallKeeper>(
+    rt: &R,
+    clock: WallClock,
+    keeper: &QueuedKeeper<K, R>,
+) {
+    let lost = keeper.left().len();
+    if lost == 0 || !keeper.is_given_up() {
+        return;
+    }
     let mut clock = clock;
     OperatorLog::new(rt, false).error(
         clock.now(),
-        format_args!("standard output takes nothing: {count} charging records were lost"),
+        format_args!("standard output takes nothing: {lost} charging records were lost"),
     );
 }
