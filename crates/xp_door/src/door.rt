@@ -1,14 +1,10 @@
 //! The TCP port that routers connect to.
 
-ghost use Rattle.std.specs.Net.Socket.{socket_ip};
-ghost use Rattle.std.specs.Prelude.{◌≡◌, IfOk, map};
-ghost use Rattle.xp_door.specs.steps.Choices.{IsGiven, candidate_of};
-
 use crate::callers::{Callers, Heard};
-use crate::choosing::{Candidate, Choice, choose, is_router, line_for};
+use crate::choosing::Choice;
 use crate::connect_fault::ConnectFault;
 use crate::door_bell::DoorBell;
-use crate::hosts::is_same_host;
+use crate::lines_behind::{LinesBehind, lines_by_router, place_behind};
 use crate::notices::{Notice, Notices};
 use crate::refused_calls::RefusedCalls;
 use crate::router_call::RouterCall;
@@ -19,7 +15,7 @@ use mio::net::{TcpListener, TcpStream};
 use mio::{Events, Poll};
 use std::alloc::{AllocError, Global};
 use std::io::ErrorKind;
-use std::net::{IpAddr, Net};
+use std::net::Net;
 use std::sync::{Arc, Wait};
 use std::time::Duration;
 use xp_causes::Refusal;
@@ -46,8 +42,8 @@ pub struct Door {
     events: Events,
     /// The lines behind routers, in line order.
     lines: Vec<Arc<RouterLine>>,
-    /// The same lines. Those behind a router are looked at as a connection of it comes.
-    candidates: Vec<Candidate>,
+    /// The same lines, by their routers.
+    routers: Vec<LinesBehind>,
     /// Room for the numbers of the lines for which the bell was rung.
     wanted: Vec<usize>,
     callers: Callers,
@@ -67,7 +63,7 @@ impl Drop for Door {
             poll: _,
             events: _,
             lines: _,
-            candidates: _,
+            routers: _,
             wanted: _,
             callers: _,
             refused: _,
@@ -98,7 +94,7 @@ impl Door {
         notices: Arc<Notices>,
     ) -> Result<Door, AllocError> {
         let wanted = Vec::with_capacity(alloc, MOST_LINES)?;
-        let candidates = candidates_of(alloc, &lines)?;
+        let routers = lines_by_router(alloc, &lines)?;
         let DoorSockets {
             listener,
             poll,
@@ -112,7 +108,7 @@ impl Door {
             poll,
             events,
             lines,
-            candidates,
+            routers,
             wanted,
             callers: Callers::new(alloc),
             refused: RefusedCalls::new(alloc),
@@ -223,7 +219,7 @@ impl Door {
     /// Lets a connection that came wait for its first frame. Where it comes from no router, or too many wait, it is closed.
     fn receive(&mut self, arrival: Arrival) {
         let peer = arrival.peer;
-        if !is_router(peer.ip(), self.candidates.as_slice()) {
+        if place_behind(peer.ip(), &self.routers).is_none() {
             self.notices.tell(Notice::NoRouter { peer });
             return;
         }
@@ -259,8 +255,7 @@ impl Door {
             let Some(arrival) = left else {
                 return;
             };
-            self.look(arrival.peer.ip());
-            choice = self.choice_of(&arrival, &call);
+            choice = self.choose_for(&arrival, &call);
             left = Some(arrival);
             match choice {
                 Choice::Line(place) => left = self.hand(place, left),
@@ -272,17 +267,17 @@ impl Door {
         }
     }
 
-    /// Which line takes a connection.
-    fn choice_of(&self, arrival: &Arrival, call: &Option<RouterCall>) -> Choice
-        ensures { IsGiven (socket_ip arrival.now.peer) call.now self.now.candidates.items result }
-    {
-        let candidates = self.candidates.as_slice();
-        match call {
-            Some(call) => choose(call, candidates),
-            None => match line_for(arrival.peer.ip(), candidates) {
-                Some(place) => Choice::Line(place),
-                None => Choice::NoFreeLine,
-            },
+    /// Looks which line behind its router takes a connection.
+    fn choose_for(&mut self, arrival: &Arrival, call: &Option<RouterCall>) -> Choice {
+        let Some(place) = place_behind(arrival.peer.ip(), &self.routers) else {
+            return Choice::NoCaller;
+        };
+        match self.routers.get_mut(place) {
+            Some(behind) => {
+                behind.look();
+                behind.choice_of(arrival, call)
+            }
+            None => Choice::NoCaller,
         }
     }
 
@@ -303,24 +298,17 @@ impl Door {
         }
     }
 
-    /// Hands a connection to a line. It comes back where the line can't take it.
+    /// Hands a connection to the line in this place of those behind its router. It comes back where the line can't take it.
     fn hand(&self, place: usize, arrival: Option<Arrival>) -> Option<Arrival> {
-        let line = self.lines.get(place)?;
-        match line.hand(arrival?) {
+        let arrival = arrival?;
+        let behind = place_behind(arrival.peer.ip(), &self.routers)?;
+        let line = self.routers.get(behind)?.line(place)?;
+        match line.hand(arrival) {
             Ok(()) => {
                 self.wake(line);
                 None
             }
             Err(back) => Some(back),
-        }
-    }
-
-    /// Looks which of the lines behind the router with this address are free.
-    fn look(&mut self, router: IpAddr) {
-        for (candidate, line) in self.candidates.iter_mut().zip(self.lines.iter()) {
-            if is_same_host(candidate.router, router) {
-                candidate.is_free = line.is_free();
-            }
         }
     }
 
@@ -344,19 +332,4 @@ impl Door {
             Notice::DoorWorks
         });
     }
-}
-
-/// The lines as a connection's choice sees them, none of them free before they are looked at.
-fn candidates_of(alloc: Global, lines: &Vec<Arc<RouterLine>>) -> Result<Vec<Candidate>, AllocError>
-    ensures { IfOk result (λ candidates. candidates.items ≡ map (λ line. candidate_of line.value) lines.now.items) }
-{
-    let mut candidates = Vec::with_capacity(alloc, lines.len())?;
-    for line in lines {
-        candidates.push(Candidate {
-            router: line.router.ip(),
-            caller: line.caller.copy(),
-            is_free: false,
-        })?;
-    }
-    Ok(candidates)
 }

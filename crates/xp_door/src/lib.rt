@@ -11,6 +11,7 @@ mod door;
 mod door_bell;
 mod down_reason;
 mod hosts;
+mod lines_behind;
 mod locks;
 mod marks;
 mod notices;

@@ -3,7 +3,7 @@ use Rattle.std.specs.Net.Socket.{socket_ip}
 use Rattle.xp_door.specs.Choices.{IsChoice, IsFirstFree}
 use Rattle.xp_door.specs.declared.choosing.Choice.TheVariants.{Line}
 use Rattle.xp_door.specs.steps.Choices.{IsGiven}
-use Rattle.xp_door.proofs.door.Door.choice_of.Goals as goal
+use Rattle.xp_door.proofs.lines_behind.LinesBehind.choice_of.Goals as goal
 
 pub returns-in-Some : goal.returns-in-Some
 returns-in-Some c =
