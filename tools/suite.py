@@ -82,7 +82,7 @@ TIMED = ("serve/", "documents.py", "subscriptions.py")
 MOST_OF_SCRIPT, MOST_OF_BUILD = 600, 1200
 
 # The scripts of bench/ that are no tests: measurements, and what is read beside another program.
-NO_TESTS = {"instructions.py", "model.py", "words_tshark.py", "serve/allocations.py", "serve/router_load.py", "serve/run.py"}
+NO_TESTS = {"instructions.py", "model.py", "words_tshark.py", "serve/allocations.py", "serve/many.py", "serve/router_load.py", "serve/run.py"}
 
 
 def launcher(is_proved):
