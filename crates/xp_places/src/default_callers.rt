@@ -2,6 +2,7 @@
 
 use crate::alone::array;
 use crate::place::Place;
+use indexmap::IndexMap;
 use std::alloc::{AllocError, Global};
 use toml::{Table, Value};
 use xp_file::{Key, SubscriptionFault};
@@ -14,42 +15,49 @@ struct Caller<'a> {
     station: &'a Value,
 }
 
-/// A router of which a station is the default caller.
-#[derive(Drop)]
-struct Behind<'a> {
-    place: Place<'a>,
-    router: RouterAddress,
-}
-
 /// The first station, in the order of the file, that is a default caller of one router with a station before it, behind that one. `None`
 /// where there is none.
 pub(crate) fn rivals<'a>(
     alloc: Global,
     file: &'a Table,
 ) -> Result<Option<(Place<'a>, Place<'a>)>, AllocError> {
-    let mut behind = Vec::new(alloc);
-    for caller in &callers(alloc, file)? {
+    let callers = callers(alloc, file)?;
+    let mut behind: IndexMap<String, usize> = IndexMap::new(alloc);
+    for (number, caller) in callers.iter().enumerate() {
         let routers = routers_of(alloc, caller.station)?;
-        if let Some(rival) = first_behind(&behind, &routers) {
-            return Ok(Some((rival, caller.place)));
+        if let Some(rival) = first_behind(&behind, &routers).and_then(|first| callers.get(first)) {
+            return Ok(Some((rival.place, caller.place)));
         }
-        for router in routers {
-            let place = caller.place;
-            behind.push(Behind { place, router })?;
-        }
+        add_behind(alloc, &mut behind, &routers, number)?;
     }
     Ok(None)
 }
 
-/// The first station that is behind one of these routers.
-fn first_behind<'a>(behind: &[Behind<'a>], routers: &[RouterAddress]) -> Option<Place<'a>> {
-    for other in behind {
-        let address = other.router.address();
-        if routers.iter().any(|router| router.address() == address) {
-            return Some(other.place);
+/// The number of the first default caller that is behind one of these routers.
+fn first_behind(behind: &IndexMap<String, usize>, routers: &[RouterAddress]) -> Option<usize> {
+    let mut first = None;
+    for router in routers {
+        match (first, behind.get(router.address())) {
+            (Some(number), Some(other)) if number <= *other => {}
+            (_, Some(other)) => first = Some(*other),
+            (_, None) => {}
         }
     }
-    None
+    first
+}
+
+/// Notes that the default caller of this number is behind these routers.
+fn add_behind(
+    alloc: Global,
+    behind: &mut IndexMap<String, usize>,
+    routers: &[RouterAddress],
+    number: usize,
+) -> Result<(), AllocError> {
+    for router in routers {
+        let address = router.address().to_string(alloc)?;
+        behind.insert(address, number).map_err(|_| AllocError)?;
+    }
+    Ok(())
 }
 
 /// The routers of the lines of a station, which stands alone in a file.

@@ -2,6 +2,7 @@
 
 use crate::alone::array;
 use crate::place::Place;
+use indexmap::IndexMap;
 use std::alloc::{AllocError, Global};
 use toml::{Table, Value};
 use xp_file::Key;
@@ -20,26 +21,15 @@ pub(crate) fn twice_used<'a>(
     key: Key,
 ) -> Result<Option<(Use<'a>, Use<'a>)>, AllocError> {
     let uses = uses_of(alloc, file, key)?;
-    for later in 1..uses.len() {
-        if let Some(earlier) = uses[..later]
-            .iter()
-            .find(|it| is_same(it.value, uses[later].value))
-        {
-            return Ok(Some((*earlier, uses[later])));
+    let mut places: IndexMap<String, usize> = IndexMap::new(alloc);
+    for (place, later) in uses.iter().enumerate() {
+        let text = later.value.to_string(alloc)?;
+        if let Some(earlier) = places.get(&text).and_then(|first| uses.get(*first)) {
+            return Ok(Some((*earlier, *later)));
         }
+        places.insert(text, place).map_err(|_| AllocError)?;
     }
     Ok(None)
-}
-
-/// Whether two values are the same. Texts and numbers are compared as such, which is quicker.
-fn is_same(one: &Value, other: &Value) -> bool {
-    if let (Some(one), Some(other)) = (one.as_str(), other.as_str()) {
-        return one == other;
-    }
-    if let (Some(one), Some(other)) = (one.as_integer(), other.as_integer()) {
-        return one == other;
-    }
-    one == other
 }
 
 /// The values of this key in all stations and lines, in order.
