@@ -22,7 +22,8 @@ use std::time::Clock;
 use xp_arguments::{DetailsOrder, ServeOrder};
 use xp_clock::WallClock;
 use xp_keeping::{
-    CallKeeper, OperatorLog, QueuedKeeper, RecordKeeper, RecordPrinter, StandardOutput, start_printer,
+    CallKeeper, OperatorLog, QueuedKeeper, RecordKeeper, RecordPrinter, StandardOutput,
+    start_printer,
 };
 use xp_limits::Limits;
 use xp_live::LiveKeeper;
@@ -259,7 +260,14 @@ impl<R: Copy + Drop + Log + Send + Threads + Wait + 'static> Watching<R> {
     {
         let theirs = Arc::try_clone(board)?;
         let counted = Arc::try_clone(&self.notices)?;
-        StatusFeed::new(alloc, subs, self.clock, theirs, counted, self.partial_records)
+        StatusFeed::new(
+            alloc,
+            subs,
+            self.clock,
+            theirs,
+            counted,
+            self.partial_records,
+        )
     }
 
     /// What watches over these lines, begins their trace, and keeps their live calls.

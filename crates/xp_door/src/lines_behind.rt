@@ -30,9 +30,7 @@ pub(crate) fn lines_by_router(
     let mut sorted = clones_of(alloc, lines)?;
     sorted.sort_by_key(|line| line.router.ip().to_canonical())?;
     let mut routers = Vec::new(alloc);
-    for lines in
-        sorted.chunk_by(|one, other| is_same_host(one.router.ip(), other.router.ip()))
-    {
+    for lines in sorted.chunk_by(|one, other| is_same_host(one.router.ip(), other.router.ip())) {
         if let Some(first) = lines.first() {
             routers.push(LinesBehind::new(alloc, first.router.ip(), lines)?)?;
         }
@@ -91,10 +89,7 @@ impl LinesBehind {
 }
 
 /// Further handles of the same lines.
-fn clones_of(
-    alloc: Global,
-    lines: &[Arc<RouterLine>],
-) -> Result<Vec<Arc<RouterLine>>, AllocError> {
+fn clones_of(alloc: Global, lines: &[Arc<RouterLine>]) -> Result<Vec<Arc<RouterLine>>, AllocError> {
     let mut clones = Vec::with_capacity(alloc, lines.len())?;
     for line in lines {
         clones.push(Arc::try_clone(line)?)?;
