@@ -62,7 +62,7 @@ pub(crate) fn serve_into_file<
     let (mut file, opened) = DetailFile::open(rt.alloc(), host, path)?;
     let before = RunBefore {
         opened,
-        live: live.as_str(),
+        live,
         earlier: None,
     };
     let live = begin_live_of(rt, host, order, clock, &before, &mut file)?;
@@ -109,14 +109,17 @@ pub(crate) fn serve_into_directory<
 {
     let today = day_of(clock.seconds());
     let newest = newest_file(&host, path, today)?;
-    let earlier = file_before(&host, path, newest.day)?;
+    let earlier = match file_before(&host, path, newest.day)? {
+        Some(file) => Some(file.path),
+        None => None,
+    };
     let live = path_in(rt.alloc(), path, NAME_OF_LIVE)?;
     let directory = path.to_string(rt.alloc())?;
     let (mut file, opened) = open_newest(host, path, &newest, today)?;
     let before = RunBefore {
         opened,
-        live: live.as_str(),
-        earlier: earlier.as_ref().map(|file| file.path.as_str()),
+        live,
+        earlier,
     };
     let live = begin_live_of(rt, host, order, clock, &before, &mut file)?;
     let run = run_of(rt, order, clock, before.last_started(live.left), &subs.own);

@@ -28,16 +28,24 @@ pub(crate) fn path_of_live(alloc: Global, records: &str) -> Result<String, Alloc
 
 /// What the run before left.
 #[derive(Drop)]
-pub(crate) struct RunBefore<'a> {
+pub(crate) struct RunBefore {
     /// How its file of call detail records was found.
     pub(crate) opened: Opened,
     /// The path of its file of live calls, where none is given.
-    pub(crate) live: &'a str,
+    pub(crate) live: String,
     /// The path of its file of call detail records of the day before, if there is one.
-    pub(crate) earlier: Option<&'a str>,
+    pub(crate) earlier: Option<String>,
 }
 
-impl RunBefore<'_> {
+impl RunBefore {
+    /// The path of its file of call detail records of the day before, if there is one.
+    fn earlier(&self) -> Option<&str> {
+        match &self.earlier {
+            Some(path) => Some(path.as_str()),
+            None => None,
+        }
+    }
+
     /// When it began, in seconds since 1970, as far as its records and the live calls that it left tell.
     pub(crate) fn last_started(&self, left: LeftBehind) -> Option<u64> {
         self.opened.last_started.max(left.started)
@@ -68,7 +76,7 @@ pub(crate) fn begin_live_of<R: AllocGlobal + Files<File = File> + Log>(
     host: HostRuntime,
     order: &ServeOrder<'_>,
     clock: WallClock,
-    before: &RunBefore<'_>,
+    before: &RunBefore,
     records: &mut DetailFile<HostRuntime>,
 ) -> Result<LiveOfRun, Failure>
     ensures taken { ⟦<DetailFile<HostRuntime> as RecordFile>⟧.taken records.new ≡ ⟦<DetailFile<HostRuntime> as RecordFile>⟧.taken records.old }
@@ -83,8 +91,8 @@ pub(crate) fn begin_live_of<R: AllocGlobal + Files<File = File> + Log>(
             left: LeftBehind::default(),
         });
     }
-    let path = order.live.unwrap_or(before.live);
-    let (file, left) = begin_live(rt.alloc(), host, path, before.earlier, records)?;
+    let path = order.live.unwrap_or(before.live.as_str());
+    let (file, left) = begin_live(rt.alloc(), host, path, before.earlier(), records)?;
     tell_left(rt, clock, left);
     Ok(LiveOfRun {
         file: Some(file),
