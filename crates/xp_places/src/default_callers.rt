@@ -6,7 +6,7 @@ use indexmap::IndexMap;
 use std::alloc::{AllocError, Global};
 use toml::{Table, Value};
 use xp_file::{Key, SubscriptionFault};
-use xp_subs::{Access, LineNo, RouterAddress, Subs};
+use xp_subs::{Access, RouterAddress, Subs};
 
 /// A station with `default_caller`, and where it stands.
 #[derive(Clone, Copy)]
@@ -60,21 +60,47 @@ fn add_behind(
     Ok(())
 }
 
-/// The routers of the lines of a station, which stands alone in a file.
+/// The routers of the lines of a station.
 fn routers_of(alloc: Global, station: &Value) -> Result<Vec<RouterAddress>, AllocError> {
     let mut routers = Vec::new(alloc);
-    let text = format!(in alloc; "station = [{station}]")?;
-    let subs = match Subs::read(alloc, &text) {
-        Ok(subs) => subs,
-        Err(SubscriptionFault::Memory) => return Err(AllocError),
-        Err(_) => return Ok(routers),
+    let Some(station) = station.as_table() else {
+        return Ok(routers);
     };
-    for number in 0..subs.counts().lines {
-        if let Access::Router(router) = subs.access_of(number as LineNo) {
-            routers.push(router.copy())?;
+    for line in array(station, "line") {
+        if let Some(router) = router_of(alloc, line)? {
+            routers.push(router)?;
         }
     }
     Ok(routers)
+}
+
+/// The router of a line, if it is behind one, as that of a line alone in a file: what else is wrong with the station is told later.
+fn router_of(alloc: Global, line: &Value) -> Result<Option<RouterAddress>, AllocError> {
+    let Some(value) = line
+        .as_table()
+        .and_then(|line| line.get(Key::Router.name()))
+    else {
+        return Ok(None);
+    };
+    let text = format!(in alloc;
+        r#"station = [{{ address = "1", line = [{{ name = "x", router = {value} }}] }}]"#
+    )?;
+    match Subs::read(alloc, &text) {
+        Ok(subs) => Ok(first_router(&subs)),
+        Err(SubscriptionFault::Memory) => Err(AllocError),
+        Err(_) => Ok(None),
+    }
+}
+
+/// The router of the first line, if that is behind one.
+fn first_router(subs: &Subs) -> Option<RouterAddress> {
+    if subs.counts().lines == 0 {
+        return None;
+    }
+    match subs.access_of(0) {
+        Access::Router(router) => Some(router.copy()),
+        Access::Port(_) => None,
+    }
 }
 
 /// The stations with `default_caller = true`, in order.
