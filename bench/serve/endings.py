@@ -83,6 +83,20 @@ class Interrupted(soak.Soak):
         self.is_ending = False
         # Of each call the segments that had passed at each moment at which some did.
         self.passed = collections.defaultdict(list)
+        # The calls whose requests crossed a call to their line, and those of them of which the exchange may not know.
+        self.crossed, self.doubtful = set(), set()
+
+    def receive_call(self, line, packet):
+        if line.state == soak.CALLING:
+            self.crossed.add(line.call)
+        super().receive_call(line, packet)
+
+    def receive_clear(self, line, packet):
+        """The clear indication may be that of the call that crossed the line's own. A call request that comes behind it is dropped (X.25
+        Annex C, table C-2: state p7)."""
+        if line.state == soak.CALLING and line.call in self.crossed:
+            self.doubtful.add(line.call)
+        super().receive_clear(line, packet)
 
     def receive_data(self, line, packet):
         call = line.call
@@ -165,19 +179,30 @@ def fits_partial(call, record, passed):
     )
 
 
-def check(made, ended, must_have, passed_of, kind):
+def taken(of_line, records, doubtful):
+    """The calls of a line, less those that the exchange may not know and has no record of."""
+    found = []
+    for call in of_line:
+        record = records[len(found)] if len(found) < len(records) else None
+        if call not in doubtful or record is not None and record.dialled == call.dialled:
+            found.append(call)
+    return found
+
+
+def check(load, ended, must_have, passed_of, kind):
     """The records of each caller are those of its first calls, in order. Returns how many of them had to be there."""
     records = [record for _, record in ended]
-    partial = {record.number for by, record in ended if by == "partial"}
+    partial, stopped = ({record.number for by, record in ended if by == word} for word in ("partial", "stop"))
     if len({record.number for record in records}) != len(records):
         sys.exit(f"{kind}: a record is there twice")
     by_caller, found = collections.defaultdict(list), collections.defaultdict(list)
-    for call in made:
+    for call in load.calls:
         by_caller[call.caller.name].append(call)
     for record in sorted(records):
         found[record.caller].append(record)
     sure = 0
     for name, of_line in by_caller.items():
+        of_line = taken(of_line, found[name], load.doubtful)
         wanted = [place for place, call in enumerate(of_line) if must_have(call)]
         sure += len(wanted)
         if wanted and len(found[name]) <= wanted[-1]:
@@ -188,7 +213,7 @@ def check(made, ended, must_have, passed_of, kind):
             if record.number in partial:
                 if not fits_partial(call, record, passed_of(call)):
                     sys.exit(f"{kind}: the partial {record} is not of the call with {passed_of(call)} to {call.sent} segments to {call.called}")
-            elif not (call.fits(record) if is_known(call) else call.dialled == record.dialled):
+            elif not (call.fits(record, record.number in stopped) if is_known(call) else call.dialled == record.dialled):
                 sys.exit(f"{kind}: {record} is not of the call with {call.accepted()} to {call.sent} segments, told {call.told}")
     return sure
 
@@ -214,7 +239,7 @@ def play(program, folder, details, pairs, seed, kind):
         is_over = call.ends == 0 and call.left_at < ended_at - SAFE
         return is_over or (call.connected_at is not None and call.connected_at < ended_at - LIVE)
 
-    return load.calls, must_have, lambda call: load.passed_before(call, ended_at - LIVE), seconds
+    return load, must_have, lambda call: load.passed_before(call, ended_at - LIVE), seconds
 
 
 def main():
@@ -236,7 +261,7 @@ def main():
         for kind, program in kinds:
             figures = []
             for number in range(arguments.rounds):
-                made, must_have, passed_of, seconds = play(program, folder, details, arguments.pairs, seed + number, kind)
+                load, must_have, passed_of, seconds = play(program, folder, details, arguments.pairs, seed + number, kind)
                 # The next start cuts off a torn line, and gives the live calls their records.
                 with Exchange(arguments.xp, folder, 1, details) as again:
                     again.connect(again.base).close()
@@ -246,7 +271,7 @@ def main():
                 partial = sum(by == "partial" for by, _ in ended)
                 if kind == signal.SIGTERM and (partial or details.live.read_text() != ",".join(HEADER) + "\n"):
                     sys.exit(f"a stop has left {partial} partial records and the live calls {details.live.read_text()}")
-                figures.append((len(made), len(ended), partial, check(made, ended, must_have, passed_of, kind.name), seconds))
+                figures.append((len(load.calls), len(ended), partial, check(load, ended, must_have, passed_of, kind.name), seconds))
                 details.remove()
                 time.sleep(1)
             total = [sum(column) for column in zip(*figures)]
