@@ -74,8 +74,8 @@ REPLACED = {
     "python3 host.py 192.0.2.1": "python3 examples/host.py 127.0.0.1",
 }
 
-# Blocks that nothing prints, by their first words: a drawing, and the forms of lines.
-FORMS = ("  terminal  ──XOT──┐", "out NAME DIGITS", "record NUMBER FROM TO ")
+# Blocks that nothing prints, by their first words: a drawing, the forms of lines, and a line of a file of live calls.
+FORMS = ("  terminal  ──XOT──┐", "out NAME DIGITS", "record NUMBER FROM TO ", "2026-11-26T12:00:00Z,4,a1,")
 
 # A call over the lines a1 and b1, with moments, data and its end.
 CALL_OF_A_MINUTE = """up b1

@@ -1,7 +1,7 @@
 #!/usr/bin/env python3
 """Times `xp check` on the largest subscription file, and on one of half its size.
 
-The largest has 256 stations, 512 lines, and 64 closed user groups in each station: 16,384 memberships.
+The largest has 4,096 stations with a line each, and 64 closed user groups in each station: 262,144 memberships.
 Reading takes time in proportion to the file: groups are looked for by hashing, and only those of one station are compared
 with one another. It fails where twice the file takes more than three times the processor time, and where a run prints other
 counts than the file has.
@@ -16,7 +16,7 @@ import tempfile
 
 from program import DEFAULT, PROGRAM
 
-LINES_OF_STATION = 2
+LINES_OF_STATION = 1
 GROUPS_OF_STATION = 64
 # A file of twice the size may take so many times the time. Every pair compared would take four times.
 MOST_RATIO = 3
@@ -64,7 +64,7 @@ def main():
     parser = argparse.ArgumentParser(description=__doc__.splitlines()[0])
     parser.add_argument("--xp", default=str(PROGRAM), help=f"the built program ({DEFAULT})")
     parser.add_argument("--runs", type=int, default=3, help="how often each file is read; the least time counts")
-    parser.add_argument("--stations", type=int, default=256, help="stations of the largest file (default: 256)")
+    parser.add_argument("--stations", type=int, default=4_096, help="stations of the largest file (default: 4,096)")
     parser.add_argument("--keep", type=pathlib.Path, help="a folder for the files, which then stay")
     arguments = parser.parse_args()
 

@@ -48,6 +48,8 @@ SCRIPTS = [
     Script("serve/console.py", "", "the console: answers, what it shows, its stop", 40),
     Script("serve/page.py", "", "the console's page in a browser, where there is one", 15),
     Script("serve/records_file.py", "", "the file of call detail records", 40),
+    Script("serve/live_calls.py", "", "the file of live calls, and what the start after a kill makes of it", 70),
+    Script("serve/live_days.py", "", "the file of live calls beside call detail records by the day", 50),
     Script("serve/rotation.py", "", "the file of call detail records moved, removed and rotated under calls", 40),
     Script("serve/days.py", "", "call detail records by the day, over a midnight of the clock", 80),
     Script("serve/traces.py", "", "the trace of lines", 40),
@@ -56,6 +58,7 @@ SCRIPTS = [
     Script("serve/links.py", "", "the connections of lines behind routers", 40),
     Script("serve/waiting.py", "", "connections of routers before their first frame is whole", 20),
     Script("serve/callers.py", "--calls 1000", "calls of routers behind which several stations have lines", 30, ""),
+    Script("serve/many_callers.py", "", "calls of thousands of stations behind 40 routers", 20, proved_only=True),
     Script("serve/newcomers.py", "", "connections to the port of a line that has one", 20),
     Script("serve/telling.py", "", "what the log tells of lines that go down, and of calls that are refused or cleared", 20),
     Script("serve/last_octets.py", "", "fifty calls in the middle of transfers as the exchange stops: the last octets", 30),
@@ -79,7 +82,7 @@ TIMED = ("serve/", "documents.py", "subscriptions.py")
 MOST_OF_SCRIPT, MOST_OF_BUILD = 600, 1200
 
 # The scripts of bench/ that are no tests: measurements, and what is read beside another program.
-NO_TESTS = {"instructions.py", "model.py", "words_tshark.py", "serve/allocations.py", "serve/router_load.py", "serve/run.py"}
+NO_TESTS = {"instructions.py", "model.py", "words_tshark.py", "serve/allocations.py", "serve/many.py", "serve/router_load.py", "serve/run.py"}
 
 
 def launcher(is_proved):

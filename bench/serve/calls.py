@@ -55,9 +55,10 @@ class Call:
         name = {"20": "a", "30": "b"}.get(self.dialled[:2])
         return ["-", f"{name}{int(self.dialled[2:])}"] if name else ["-"]
 
-    def fits(self, record):
-        """What was on its way when the far end broke the call off may or may not have been accepted."""
-        least, (shortest, longest) = self.accepted(), self.seconds()
+    def fits(self, record, is_stopped=False):
+        """What was on its way when the far end broke the call off may or may not have been accepted, and so may be a clear request when
+        the exchange was stopped, with what was sent before it."""
+        least, (shortest, longest) = self.delivered if is_stopped else self.accepted(), self.seconds()
         return (
             record.dialled == self.dialled
             and record.called in self.lines_called()

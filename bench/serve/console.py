@@ -266,7 +266,7 @@ def wanted_status(came, a1, h1):
         ],
         "totals": {
             "calls": 3, "events": EVENTS, "octets_received": came["totals"]["octets_received"], "octets_sent": came["totals"]["octets_sent"],
-            "records_waiting": 0, "refused": [{"cause": cause, "count": int(cause == 9), "words": words} for cause, words in REFUSALS],
+            "partial_records": 0, "records_waiting": 0, "refused": [{"cause": cause, "count": int(cause == 9), "words": words} for cause, words in REFUSALS],
             "router_failures": 0, "router_refusals": [{"cause": cause, "count": 0, "words": words} for cause, words in REFUSALS],
             "segments_from_called": 1, "segments_from_callers": 2, "stalls": 0,
         },

@@ -18,6 +18,7 @@ METRICS = (
     ("events_total", "counter", "Events of lines."),
     ("stalls_total", "counter", "Lines taken out of service for not taking their output."),
     ("records_waiting", "gauge", "Records of ended calls that are not written yet."),
+    ("partial_records", "gauge", "Calls of the run before that got a partial record."),
 )
 
 
@@ -43,6 +44,7 @@ def wanted_metrics(status):
         "events_total": [("", totals["events"])],
         "stalls_total": [("", totals["stalls"])],
         "records_waiting": [("", totals["records_waiting"])],
+        "partial_records": [("", totals["partial_records"])],
     }
     return "".join(
         f"# HELP gonukire_{name} {words}\n# TYPE gonukire_{name} {kind}\n"

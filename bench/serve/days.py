@@ -29,6 +29,9 @@ DAY = datetime.date(2026, 11, 28)
 # Seconds after midnight within which the new file is begun where no call ends, and some for a machine that does other things too.
 BEGUN = 5 + 4
 
+# The file of live calls in the directory (live_days.py).
+LIVE = "calls.live"
+
 TORN = "2026-11-28T20:00:00Z,7,b0,2000"
 
 
@@ -93,7 +96,7 @@ def stamp(path):
 
 def require_days(exchange, directory, count):
     """The files of so many days have the record of each call once, in order, each in the file of its day, and nothing else."""
-    names = sorted(path.name for path in directory.iterdir())
+    names = sorted(path.name for path in directory.iterdir() if path.name != LIVE)
     require(names == [name_of(later) for later in range(count)], f"the directory has {names}")
     found = []
     for name in names:

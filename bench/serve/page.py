@@ -89,7 +89,7 @@ STATUS = {
     ],
     "started": NOW - 3 * DAY, "stations": [],
     "totals": {
-        "calls": 5, "events": 40_000, "octets_received": 88_888_888_888, "octets_sent": 99_999_999_999, "records_waiting": 0,
+        "calls": 5, "events": 40_000, "octets_received": 88_888_888_888, "octets_sent": 99_999_999_999, "partial_records": 0, "records_waiting": 0,
         "refused": [{"cause": 25, "count": 1, "words": CAUSES[1][1]}], "router_failures": 17, "router_refusals": [],
         "segments_from_called": 200, "segments_from_callers": 100, "stalls": 0,
     },

@@ -166,7 +166,7 @@ def by_logrotate(program, folder):
             subprocess.run(words, check=True)
             exchange.wait_until_begun(count)
             time.sleep(1.1)
-    files = sorted(path for path in place.iterdir() if path != details)
+    files = sorted(place.glob("calls.csv-*"))
     require([path.suffix == ".gz" for path in files] == [True, False], f"logrotate has left {files}")
     require_all(exchange, [numbers(rows_of(unpacked(path))) for path in (*files, details)])
 

@@ -21,7 +21,7 @@ resource.setrlimit(resource.RLIMIT_NOFILE, (MOST_FILES, MOST_FILES))
 
 HERE = pathlib.Path(__file__).resolve().parent
 
-# A station for each line, of which an exchange has at most 256.
+# As many pairs of lines as most measurements have, with a station for each line.
 MOST_PAIRS = 128
 
 Record = collections.namedtuple("Record", "number caller called dialled payer sent received cause diagnostic seconds")

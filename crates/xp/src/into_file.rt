@@ -1,11 +1,13 @@
 //! Serving the lines, with their charging records in a file of call detail records.
 
-ghost use Rattle.std.specs.Prelude.{◌≡◌, ◌≤◌, [], IfOk, OnErr};
-ghost use Rattle.xp_keeping.specs.Details.{Keeping};
-ghost use Rattle.xp_keeping.specs.Queued.{Queued};
+ghost use Rattle.std.specs.Prelude.{◌≡◌, ◌≤◌, [], IfOk, IfSome, OnErr};
+ghost use Rattle.xp_keeping.specs.Details.{AreKept, GoesOnAs, Keeping};
+ghost use Rattle.xp_keeping.specs.Queued.{AreKeptBeside, KeepsBeside, Queued, first_queued};
 ghost use Rattle.xp_serve.specs.LeftAlone.{LeavesAlone};
+ghost use Rattle.xp_serve.specs.Serving.{Serves};
 
-use crate::serving::{ThreeSubs, attend};
+use crate::live::{LiveOfRun, RunBefore, begin_live_of, path_of_live};
+use crate::serving::{Beside, CopiedSubs, attend};
 use log::Log;
 use std::alloc::AllocGlobal;
 use std::fs::{File, Files};
@@ -17,13 +19,15 @@ use std::sync::Wait;
 use std::thread::Threads;
 use std::time::Clock;
 use xp_arguments::ServeOrder;
-use xp_cdr::{DetailFile, ExchangeName, ExchangeRun, Opened, RecordFile};
+use xp_cdr::{DetailFile, ExchangeName, ExchangeRun, RecordFile, path_in};
 use xp_clock::WallClock;
-use xp_days::{DayFiles, day_of, newest_file};
-use xp_keeping::{DetailKeeper, OperatorLog, PatientOutput, start_details};
+use xp_days::{DayFiles, day_of, file_before, newest_file, open_newest};
+use xp_keeping::{
+    DetailKeeper, KeepFault, OperatorLog, PatientOutput, QueuedKeeper, start_details,
+};
 use xp_listening::ServeFailure;
 use xp_readiness::{Failure, Tracing};
-use xp_serve::settle;
+use xp_serve::{ServeEnd, settle};
 use xp_subs::Subs;
 
 /// Serves the lines, and keeps their charging records in the file of call detail records at this path. Whatever serves has no other
@@ -48,15 +52,28 @@ pub(crate) fn serve_into_file<
     order: &ServeOrder<'_>,
     path: &str,
     clock: WallClock,
-    subs: ThreeSubs,
+    subs: CopiedSubs,
 ) -> Result<(), Failure>
     requires names { subs.names ≡ subs.own }
     requires spare { subs.spare ≡ subs.own }
+    requires live { subs.live ≡ subs.own }
 {
-    let (file, opened) = DetailFile::open(rt.alloc(), host, path)?;
-    let run = run_of(rt, order, clock, &opened, &subs.own);
+    let live = path_of_live(rt.alloc(), path)?;
+    let (mut file, opened) = DetailFile::open(rt.alloc(), host, path)?;
+    let before = RunBefore {
+        opened,
+        live,
+        earlier: None,
+    };
+    let live = begin_live_of(rt, host, order, clock, &before, &mut file)?;
+    let run = run_of(rt, order, clock, before.last_started(live.left), &subs.own);
     let log = OperatorLog::new(host, order.quiet);
-    let details = DetailsOfRun { file, run, log };
+    let details = DetailsOfRun {
+        file,
+        run,
+        log,
+        live,
+    };
     let mut output = PatientOutput::new(host);
     let told = serve_with_details(rt, order, clock, subs, details, &mut output)?;
     told?;
@@ -84,34 +101,51 @@ pub(crate) fn serve_into_directory<
     order: &ServeOrder<'_>,
     path: &str,
     clock: WallClock,
-    subs: ThreeSubs,
+    subs: CopiedSubs,
 ) -> Result<(), Failure>
     requires names { subs.names ≡ subs.own }
     requires spare { subs.spare ≡ subs.own }
+    requires live { subs.live ≡ subs.own }
 {
     let today = day_of(clock.seconds());
     let newest = newest_file(&host, path, today)?;
-    let (file, opened) = DayFiles::open(host, path, &newest, today)?;
-    let run = run_of(rt, order, clock, &opened, &subs.own);
+    let earlier = match file_before(&host, path, newest.day)? {
+        Some(file) => Some(file.path),
+        None => None,
+    };
+    let live = path_in(rt.alloc(), path, NAME_OF_LIVE)?;
+    let directory = path.to_string(rt.alloc())?;
+    let (mut file, opened) = open_newest(host, path, &newest, today)?;
+    let before = RunBefore {
+        opened,
+        live,
+        earlier,
+    };
+    let live = begin_live_of(rt, host, order, clock, &before, &mut file)?;
+    let run = run_of(rt, order, clock, before.last_started(live.left), &subs.own);
     let log = OperatorLog::new(host, order.quiet);
-    let details = DetailsOfRun { file, run, log };
+    let details = DetailsOfRun {
+        file: DayFiles::new(directory, newest.day, file),
+        run,
+        log,
+        live,
+    };
     let mut output = PatientOutput::new(host);
     let told = serve_with_details(rt, order, clock, subs, details, &mut output)?;
     told?;
     Ok(())
 }
 
-/// Tells how the file of call detail records was found. Returns the run that begins now.
-fn run_of<R: Files<File = File> + Log>(
+/// The run that begins now, where the one before began at this moment, in seconds since 1970, if there was one.
+fn run_of<R: Files<File = File>>(
     rt: &R,
     order: &ServeOrder<'_>,
     clock: WallClock,
-    opened: &Opened,
+    last_started: Option<u64>,
     subs: &Subs,
 ) -> ExchangeRun {
-    tell_found(rt, clock, opened);
     ExchangeRun {
-        started: moment_of_start(clock, opened),
+        started: moment_of_start(clock, last_started),
         exchange: name_of_exchange(rt, order.exchange, subs),
     }
 }
@@ -124,6 +158,7 @@ struct DetailsOfRun<F: RecordFile> {
     /// The run of which exchange they are of.
     run: ExchangeRun,
     log: OperatorLog<HostRuntime>,
+    live: LiveOfRun,
 }
 
 /// Serves the lines, keeps their charging records in a file of call detail records, and writes those in doubt on the output, and
@@ -152,12 +187,13 @@ fn serve_with_details<
     rt: &R,
     order: &ServeOrder<'_>,
     clock: WallClock,
-    subs: ThreeSubs,
+    subs: CopiedSubs,
     details: DetailsOfRun<F>,
     output: &mut W,
 ) -> Result<Result<(), ServeFailure>, Failure>
     requires names { subs.names ≡ subs.own }
     requires spare { subs.spare ≡ subs.own }
+    requires live { subs.live ≡ subs.own }
     requires taken { F.taken details.file ≡ [] }
     requires synced { F.synced details.file ≡ [] }
     requires before { (F.current details.file).before ≡ [] }
@@ -165,23 +201,68 @@ fn serve_with_details<
     ensures ok { IfOk result (λ told. (keeper : Queued Keeping) × LeavesAlone subs.own details.run keeper (W.contents output.old) (W.contents output.new) told) }
     ensures err { OnErr result (W.contents output.new ≡ W.contents output.old) }
 {
-    let ThreeSubs { own, names, spare } = subs;
-    let DetailsOfRun { file, run, log } = details;
+    let CopiedSubs {
+        own,
+        names,
+        spare,
+        live: told_by,
+    } = subs;
+    let DetailsOfRun {
+        file,
+        run,
+        log,
+        live,
+    } = details;
     let tracing = Tracing::begin(rt, order, clock, &own)?;
+    let beside = live.beside(rt, clock, told_by, &run, tracing)?;
     let keeper = DetailKeeper::new(rt.alloc(), file, names, run.copy(), clock, log);
-    let keeper = start_details(*rt, rt.alloc(), &own, keeper)?;
-    let end = attend(rt, order, clock, own, tracing, keeper)?;
+    let end = attend_details(rt, order, clock, own, beside, keeper)?;
     Ok(settle(rt.alloc(), &spare, &run, end, output))
 }
 
-/// When the run began, in seconds since 1970: now, or a second behind the run whose record is the last of the file, if that began
-/// later. So no two runs of a file have the same moment.
-fn moment_of_start(clock: WallClock, opened: &Opened) -> u64 {
-    match opened.last_started {
+/// Serves the lines, with this keeper of call detail records on a thread of its own.
+fn attend_details<
+    R: AllocGlobal
+        + Clock
+        + Copy
+        + Drop
+        + Log
+        + Net<Listener = TcpListener, Stream = TcpStream>
+        + RandomSource
+        + Send
+        + Sync
+        + Threads
+        + Wait
+        + 'static,
+    F: RecordFile + Send + 'static,
+>(
+    rt: &R,
+    order: &ServeOrder<'_>,
+    clock: WallClock,
+    subs: Subs,
+    beside: Beside<R>,
+    keeper: DetailKeeper<F, HostRuntime>,
+) -> Result<ServeEnd<QueuedKeeper<DetailKeeper<F, HostRuntime>, R>>, Failure>
+    requires live { IfSome beside.live (λ tables. tables ≡ subs) }
+    requires named { keeper.subs ≡ subs }
+    requires new { keeper.given ≡ [] }
+    ensures { IfOk result (λ end. Serves (AreKeptBeside AreKept GoesOnAs) KeepsBeside subs (first_queued subs keeper KeepFault.Details) end.keeper end.outcome) }
+{
+    let keeper = start_details(*rt, rt.alloc(), &subs, keeper)?;
+    attend(rt, order, clock, subs, beside, keeper)
+}
+
+/// When the run began, in seconds since 1970: now, or a second behind the one before, if that began later. So no two runs of a file
+/// have the same moment.
+fn moment_of_start(clock: WallClock, last_started: Option<u64>) -> u64 {
+    match last_started {
         Some(last) => clock.seconds().max(last.saturating_add(1)),
         None => clock.seconds(),
     }
 }
+
+/// The name of the file of live calls beside the files of days.
+const NAME_OF_LIVE: &str = "calls.live";
 
 /// Where the system tells the host's name.
 const HOST_NAMES: [&str; 2] = ["/proc/sys/kernel/hostname", "/etc/hostname"];
@@ -227,24 +308,4 @@ fn read_front<R: Files<File = File>>(
 {
     let mut file = File::open(rt, path)?;
     file.read(buffer)
-}
-
-/// Tells that the torn last line of a file of call detail records was cut off, and that a file without the last columns was moved.
-fn tell_found<R: Log>(rt: &R, clock: WallClock, opened: &Opened) {
-    let mut log = OperatorLog::new(rt, false);
-    if opened.moved_aside {
-        log.warn(
-            clock.seconds(),
-            "cdr: a file of 16 columns was moved to the same path with .16-columns behind it, and a new one is begun",
-        );
-    }
-    if opened.torn > 0 {
-        log.warn(
-            clock.seconds(),
-            format_args!(
-                "cdr: a torn last line of {} octets was cut off",
-                opened.torn
-            ),
-        );
-    }
 }

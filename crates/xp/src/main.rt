@@ -4,11 +4,12 @@
 ghost use Rattle.std.specs.Prelude.{◌≡◌};
 
 mod into_file;
+mod live;
 mod served_console;
 mod serving;
 mod status_feed;
 
-use crate::serving::{ThreeSubs, serve_lines};
+use crate::serving::{CopiedSubs, serve_lines};
 use log::Log;
 use std::fs::{File, Files};
 use std::io::ErrorKind;
@@ -165,7 +166,14 @@ fn serve_file<
     let own = subscriptions_of(rt, file, &text)?;
     let names = subscriptions_of(rt, file, &text)?;
     let spare = subscriptions_of(rt, file, &text)?;
-    match serve_lines(rt, host, order, ThreeSubs { own, names, spare }) {
+    let live = subscriptions_of(rt, file, &text)?;
+    let subs = CopiedSubs {
+        own,
+        names,
+        spare,
+        live,
+    };
+    match serve_lines(rt, host, order, subs) {
         Ok(()) => Ok(()),
         Err(failure) => Err(with_reason(rt, file, &text, failure)),
     }

@@ -1,13 +1,13 @@
 //! Serving the lines over TCP.
 
-ghost use Rattle.std.specs.Prelude.{◌≡◌, [], IfOk};
+ghost use Rattle.std.specs.Prelude.{◌≡◌, [], IfOk, IfSome};
 ghost use Rattle.xp_serve.specs.Serving.{Serves};
 
 use crate::into_file::{serve_into_directory, serve_into_file};
 use crate::served_console::ServedConsole;
 use crate::status_feed::StatusFeed;
 use log::Log;
-use std::alloc::{AllocGlobal, Global};
+use std::alloc::{AllocError, AllocGlobal, Global};
 use std::fs::{File, Files};
 use std::io::BufWriter;
 use std::marker::Brand;
@@ -21,28 +21,47 @@ use std::thread::{JoinHandle, Scope, Threads};
 use std::time::Clock;
 use xp_arguments::{DetailsOrder, ServeOrder};
 use xp_clock::WallClock;
-use xp_keeping::{OperatorLog, RecordKeeper, RecordPrinter, StandardOutput, start_printer};
+use xp_keeping::{
+    CallKeeper, OperatorLog, QueuedKeeper, RecordKeeper, RecordPrinter, StandardOutput,
+    start_printer,
+};
 use xp_limits::Limits;
+use xp_live::LiveKeeper;
 use xp_observer::{BoardName, StatusBoard};
 use xp_readiness::{Failure, Tracing, opening};
 use xp_serve::{
-    Attending, ConsoleFeed, NoConsole, OperatorWatch, ServeEnd, StopInput, TracedWatch, Watch,
-    serve_attended,
+    Attending, ConsoleFeed, LiveWatch, NoConsole, OperatorWatch, ServeEnd, StopInput, TracedWatch,
+    Watch, serve_attended,
 };
 use xp_subs::Subs;
 use xp_tasks::TaskFailure;
 use xp_tcp::Notices;
 use xp_tracing::TraceThread;
 
-/// The subscriptions of the lines that are served, three times.
+/// The subscriptions of the lines that are served, four times.
 #[derive(Drop)]
-pub(crate) struct ThreeSubs {
+pub(crate) struct CopiedSubs {
     /// Those of the exchange.
     pub(crate) own: Subs,
     /// Those that the records are told by.
     pub(crate) names: Subs,
     /// Those that the records in doubt are told by.
     pub(crate) spare: Subs,
+    /// Those that the live calls are told by.
+    pub(crate) live: Subs,
+}
+
+/// What prints charging records on a thread of its own.
+type PrintingKeeper<R> = QueuedKeeper<RecordPrinter<BufWriter<StandardOutput<HostRuntime>>>, R>;
+
+/// What goes on beside the lines.
+#[derive(Drop)]
+pub(crate) struct Beside<R: Wait> {
+    pub(crate) tracing: Tracing<R>,
+    /// What keeps the live calls in a file, if anything does.
+    pub(crate) live: Option<LiveKeeper<R>>,
+    /// How many calls of the run before got a partial record.
+    pub(crate) partial_records: u64,
 }
 
 /// Serves the lines as they were ordered. Their charging records are kept in the file of call detail records, or in those of a
@@ -61,9 +80,10 @@ pub(crate) fn serve_lines<
         + Threads
         + Wait
         + 'static,
->(rt: &R, host: HostRuntime, order: &ServeOrder<'_>, subs: ThreeSubs) -> Result<(), Failure>
+>(rt: &R, host: HostRuntime, order: &ServeOrder<'_>, subs: CopiedSubs) -> Result<(), Failure>
     requires names { subs.names ≡ subs.own }
     requires spare { subs.spare ≡ subs.own }
+    requires live { subs.live ≡ subs.own }
 {
     let clock = WallClock::start();
     match order.details {
@@ -71,7 +91,15 @@ pub(crate) fn serve_lines<
         Some(DetailsOrder::Directory(path)) => {
             serve_into_directory(rt, host, order, path, clock, subs)
         }
-        None => serve_and_print(rt, host, order, clock, subs),
+        None => {
+            let CopiedSubs {
+                own,
+                names,
+                spare: _,
+                live: _,
+            } = subs;
+            serve_and_print(rt, host, order, clock, own, names)
+        }
     }
 }
 
@@ -95,25 +123,41 @@ fn serve_and_print<
     host: HostRuntime,
     order: &ServeOrder<'_>,
     clock: WallClock,
-    subs: ThreeSubs,
+    subs: Subs,
+    names: Subs,
 ) -> Result<(), Failure>
-    requires { subs.names ≡ subs.own }
+    requires { names ≡ subs }
 {
-    let ThreeSubs {
-        own,
-        names,
-        spare: _,
-    } = subs;
-    let tracing = Tracing::begin(rt, order, clock, &own)?;
+    let tracing = Tracing::begin(rt, order, clock, &subs)?;
+    let beside = Beside {
+        tracing,
+        live: None,
+        partial_records: 0,
+    };
+    let keeper = begin_printing(rt, host, &subs, names)?;
+    let end = attend(rt, order, clock, subs, beside, keeper)?;
+    tell_unprinted(rt, clock, &end.keeper);
+    outcome_of(end)
+}
+
+/// Starts the thread that prints charging records, which are told by these names.
+fn begin_printing<R: AllocGlobal + Copy + Drop + Send + Threads + Wait + 'static>(
+    rt: &R,
+    host: HostRuntime,
+    subs: &Subs,
+    names: Subs,
+) -> Result<PrintingKeeper<R>, Failure>
+    requires { names ≡ subs.now }
+    ensures { IfOk result (λ keeper. (keeper.subs ≡ subs.now) × (keeper.given ≡ [])) }
+{
     let output = StandardOutput::new(host);
     let output = BufWriter::new(rt.alloc(), output).map_err(|_| TaskFailure::Memory)?;
     let keeper = RecordPrinter::new(rt.alloc(), names, output);
-    let keeper = start_printer(*rt, rt.alloc(), &own, keeper)?;
-    let end = attend(rt, order, clock, own, tracing, keeper)?;
-    let lost = end.keeper.left().len();
-    if lost > 0 && end.keeper.is_given_up() {
-        tell_unprinted(rt, clock, lost);
-    }
+    Ok(start_printer(*rt, rt.alloc(), subs, keeper)?)
+}
+
+/// What serving came to.
+fn outcome_of<K: RecordKeeper>(end: ServeEnd<K>) -> Result<(), Failure> {
     end.outcome?;
     Ok(())
 }
@@ -139,14 +183,20 @@ pub(crate) fn attend<
     order: &ServeOrder<'_>,
     clock: WallClock,
     subs: Subs,
-    tracing: Tracing<R>,
+    beside: Beside<R>,
     keeper: K,
 ) -> Result<ServeEnd<K>, Failure>
+    requires live { IfSome beside.live (λ tables. tables ≡ subs) }
     requires names { K.named_by keeper ≡ subs }
     requires new { K.received keeper ≡ [] }
     ensures { IfOk result (λ end. Serves K.kept K.keeps subs keeper end.keeper end.outcome) }
 {
     let alloc = rt.alloc();
+    let Beside {
+        tracing,
+        live,
+        partial_records,
+    } = beside;
     let notices = tracing.notices(alloc, clock.start)?;
     let notices = Arc::new(alloc, notices).map_err(|_| TaskFailure::Memory)?;
     let console = match order.console {
@@ -161,12 +211,13 @@ pub(crate) fn attend<
         clock,
         notices,
         trace: tracing.thread,
+        live,
+        partial_records,
     };
     attend_named::<Brand, R, K>(rt, console, watching, subs, keeper)
 }
 
 /// What the lines are watched with.
-#[derive(Drop)]
 struct Watching<R: Log + Wait> {
     /// What is told before all else.
     opening: String,
@@ -177,16 +228,57 @@ struct Watching<R: Log + Wait> {
     clock: WallClock,
     notices: Arc<Notices>,
     trace: Option<TraceThread<R>>,
+    live: Option<LiveKeeper<R>>,
+    partial_records: u64,
+}
+
+impl<R: Drop + Log + Wait> Drop for Watching<R> {
+    fn drop(self) {
+        let Watching {
+            opening: _,
+            stop: _,
+            log: _,
+            limits: _,
+            clock: _,
+            notices: _,
+            trace: _,
+            live: _,
+            partial_records: _,
+        } = self;
+    }
 }
 
 impl<R: Copy + Drop + Log + Send + Threads + Wait + 'static> Watching<R> {
-    /// What watches over these lines, and begins their trace.
+    /// What feeds the console over this board.
+    fn feed<B: BoardName>(
+        &self,
+        alloc: Global,
+        subs: &Subs,
+        board: &Arc<StatusBoard<B>>,
+    ) -> Result<StatusFeed<B>, AllocError>
+        requires { B.tables ≡ subs.now }
+    {
+        let theirs = Arc::try_clone(board)?;
+        let counted = Arc::try_clone(&self.notices)?;
+        StatusFeed::new(
+            alloc,
+            subs,
+            self.clock,
+            theirs,
+            counted,
+            self.partial_records,
+        )
+    }
+
+    /// What watches over these lines, begins their trace, and keeps their live calls.
     fn watch<F: ConsoleFeed>(
         self,
         alloc: Global,
         subs: &Subs,
         console: F,
-    ) -> Result<TracedWatch<OperatorWatch<R, F>, R>, Failure> {
+    ) -> Result<LiveWatch<TracedWatch<OperatorWatch<R, F>, R>, R>, Failure>
+        requires { IfSome self.live (λ tables. tables ≡ F.tables) }
+    {
         let Watching {
             opening,
             stop,
@@ -195,9 +287,12 @@ impl<R: Copy + Drop + Log + Send + Threads + Wait + 'static> Watching<R> {
             clock,
             notices,
             trace,
+            live,
+            partial_records: _,
         } = self;
         let watch = OperatorWatch::new(alloc, subs, notices, stop, console, clock, log)?;
-        Ok(TracedWatch::new(watch.with_opening(opening), trace))
+        let watch = TracedWatch::new(watch.with_opening(opening), trace);
+        Ok(LiveWatch::new(watch, live))
     }
 }
 
@@ -226,6 +321,7 @@ fn attend_named<
     keeper: K,
 ) -> Result<ServeEnd<K>, Failure>
     requires shown { B.tables ≡ subs }
+    requires live { IfSome watching.live (λ tables. tables ≡ B.tables) }
     requires names { K.named_by keeper ≡ subs }
     requires new { K.received keeper ≡ [] }
     ensures { IfOk result (λ end. Serves K.kept K.keeps subs keeper end.keeper end.outcome) }
@@ -266,6 +362,7 @@ fn attend_with_console<
     keeper: K,
 ) -> Result<ServeEnd<K>, Failure>
     requires shown { B.tables ≡ subs }
+    requires live { IfSome watching.live (λ tables. tables ≡ B.tables) }
     requires names { K.named_by keeper ≡ subs }
     requires new { K.received keeper ≡ [] }
     ensures { IfOk result (λ end. Serves K.kept K.keeps subs keeper end.keeper end.outcome) }
@@ -274,9 +371,7 @@ fn attend_with_console<
     let limits = watching.limits;
     let notices = Arc::try_clone(&watching.notices)?;
     let board = Arc::new(alloc, StatusBoard::<B>::new()).map_err(|_| TaskFailure::Memory)?;
-    let theirs = Arc::try_clone(&board)?;
-    let counted = Arc::try_clone(&notices)?;
-    let feed = StatusFeed::new(alloc, &subs, watching.clock, theirs, counted)?;
+    let feed = watching.feed(alloc, &subs, &board)?;
     let watch = watching.watch(alloc, &subs, feed)?;
     let attending = Attending { keeper, watch };
     serve_beside(rt, console, &board, subs, limits, notices, attending)
@@ -341,11 +436,19 @@ fn begin_console<'s, E, B: BoardName + Send + Sync + 's, R: Clock + Sync + Wait 
     scope.spawn(move || console.run(rt, board, &is_over)).ok()
 }
 
-/// Tells that standard output took nothing, and how many charging records were lost with it.
-fn tell_unprinted<R: Log>(rt: &R, clock: WallClock, count: usize) {
+/// Tells that standard output took nothing, and how many charging records were lost with it, where it was so.
+fn tell_unprinted<R: Copy + Log + Threads + Wait, K: CallKeeper>(
+    rt: &R,
+    clock: WallClock,
+    keeper: &QueuedKeeper<K, R>,
+) {
+    let lost = keeper.left().len();
+    if lost == 0 || !keeper.is_given_up() {
+        return;
+    }
     let mut clock = clock;
     OperatorLog::new(rt, false).error(
         clock.now(),
-        format_args!("standard output takes nothing: {count} charging records were lost"),
+        format_args!("standard output takes nothing: {lost} charging records were lost"),
     );
 }

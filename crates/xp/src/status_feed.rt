@@ -7,14 +7,14 @@ use std::sync::Arc;
 use xp_causes::Refusal;
 use xp_charge::Record;
 use xp_clock::WallClock;
-use xp_observer::{BoardName, Observer, StatusBoard, Traffic};
+use xp_observer::{BoardName, Observer, RunBegin, StatusBoard, Traffic};
 use xp_serve::ConsoleFeed;
 use xp_subs::Subs;
 use xp_tcp::{Notice, Notices};
 use xp_view::ExchangeView;
 
-/// Feeds the console: it shows what can be seen of the exchange each time that the console asks for it. The exchange is seen each
-/// second, so that it is known since when a line is in its state. `B` names the board, and the exchange that it shows.
+/// Feeds the console: it shows what can be seen of the exchange each time that the console asks for it, and never else. `B` names the
+/// board, and the exchange that it shows.
 #[derive(Drop)]
 pub(crate) struct StatusFeed<B: BoardName> {
     alloc: Global,
@@ -22,13 +22,11 @@ pub(crate) struct StatusFeed<B: BoardName> {
     board: Arc<StatusBoard<B>>,
     notices: Arc<Notices>,
     clock: WallClock,
-    /// The moment at which the exchange was seen last, in seconds since 1970.
-    seen: u64,
 }
 
 impl<B: BoardName> StatusFeed<B> {
-    /// The feed of the console over this board, for an exchange of these subscriptions that begins to serve now. The notices count
-    /// the octets that its connections move.
+    /// The feed of the console over this board, for an exchange of these subscriptions that begins to serve now, where so many calls of
+    /// the run before got a partial record. The notices count the octets that its connections move.
     ///
     /// # Errors
     ///
@@ -39,17 +37,20 @@ impl<B: BoardName> StatusFeed<B> {
         clock: WallClock,
         board: Arc<StatusBoard<B>>,
         notices: Arc<Notices>,
+        partial_records: u64,
     ) -> Result<StatusFeed<B>, AllocError>
         requires { B.tables ≡ subs.now }
     {
-        let seen = clock.seconds();
+        let begin = RunBegin {
+            started: clock.seconds(),
+            partial_records,
+        };
         Ok(StatusFeed {
             alloc,
-            observer: Observer::new(alloc, subs, seen)?,
+            observer: Observer::new(alloc, subs, begin)?,
             board,
             notices,
             clock,
-            seen,
         })
     }
 }
@@ -81,12 +82,10 @@ impl<B: BoardName> ConsoleFeed for StatusFeed<B> {
     }
 
     fn wants_look(&self) -> bool {
-        let mut clock = self.clock;
-        self.board.is_wanted() || clock.now() > self.seen
+        self.board.is_wanted()
     }
 
     fn show(&mut self, now: u64, view: &ExchangeView, waiting: usize) {
-        self.seen = now;
         let (received, sent) = self.notices.traffic();
         let traffic = Traffic { received, sent };
         match self

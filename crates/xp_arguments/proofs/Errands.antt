@@ -1,7 +1,7 @@
 -- What the arguments of a command ask for.
 use Rattle.std.proofs.Common.{◌≡◌, ◌∙◌, [], cond, refl, sym, ap, subst, codes, option_map, Option, Some, None, IfNone, IfSome, List, ℕ, Bool, nat_eq, slice_index_or}
 use Rattle.clap.specs.Words.{Row, Text, first_of}
-use Rattle.xp_arguments.specs.Commands.{AreDetails, AsksFor, HasDetails, directory_of, file_of, HasLimits, HasName, HasReplayForm, HasTrace, IsNamed, IsOneForm, IsOrder, has_flag, IsQuestion, IsSubcommand, IsTrace, operand_of, verb_of, word_of}
+use Rattle.xp_arguments.specs.Commands.{AreDetails, AsksFor, HasDetails, directory_of, either, file_of, HasLimits, HasLive, HasName, HasReplayForm, HasTrace, IsLive, IsNamed, IsOneForm, IsOrder, has_flag, IsQuestion, IsSubcommand, IsTrace, operand_of, verb_of, word_of}
 use Rattle.xp_arguments.specs.declared.details_order.DetailsOrder.{DetailsOrder}
 use Rattle.xp_arguments.specs.declared.details_order.DetailsOrder.TheVariants as details_orders
 use Rattle.xp_arguments.specs.declared.subcommand.QuestionOrder.{QuestionOrder}
@@ -54,6 +54,29 @@ no_details rows none order is = none order.details is.details
 -- arguments with a name that is none of an exchange
 pub no_name : (rows : List Row) → ((name : Option Text) → HasName rows name → ⊥) → (order : ServeOrder) → IsOrder rows order → ⊥
 no_name rows none order is = none (option_map (λ name. name.now) order.exchange) is.exchange
+
+-- arguments with a file of live calls that does not go together with the others
+pub no_live : (rows : List Row) → ((live : Option Text) → HasLive rows live → ⊥) → (order : ServeOrder) → IsOrder rows order → ⊥
+no_live rows none order is = none (option_map (λ path. path.now) order.live) is.live
+
+-- the first of two texts, where each is another one
+pub either_is : (found text other one two : Option Text) → found ≡ either text other → text ≡ one → other ≡ two → found ≡ either one two
+either_is found text other one two is first second = is ∙ (ap (λ text. either text other) first ∙ ap (either one) second)
+
+-- the path of the file of live calls that the arguments say
+module _ {X : Type 0} (rows : List Row) (path details : Option Text) (off : Bool) (path_is : path ≡ first_of (codes "live") rows)
+    (details_are : details ≡ either (first_of (codes "cdr") rows) (first_of (codes "cdr-dir") rows)) (off_is : off ≡ has_flag (codes "no-live") rows) (found : Option X) where
+  pub has_live : (shown : X → Option Text) → IfSome found (λ x. IsLive path details off (shown x)) → IfSome found (λ x. HasLive rows (shown x))
+  has_live shown is =
+      subst (λ path. IfSome found (λ x. IsLive path (either (first_of (codes "cdr") rows) (first_of (codes "cdr-dir") rows)) (has_flag (codes "no-live") rows) (shown x))) path_is
+      (subst (λ details. IfSome found (λ x. IsLive path details (has_flag (codes "no-live") rows) (shown x))) details_are
+      (subst (λ off. IfSome found (λ x. IsLive path details off (shown x))) off_is is))
+
+  pub has_no_live : IfNone found ((live : Option Text) → IsLive path details off live → ⊥) → IfNone found ((live : Option Text) → HasLive rows live → ⊥)
+  has_no_live none =
+      subst (λ path. IfNone found ((live : Option Text) → IsLive path (either (first_of (codes "cdr") rows) (first_of (codes "cdr-dir") rows)) (has_flag (codes "no-live") rows) live → ⊥)) path_is
+      (subst (λ details. IfNone found ((live : Option Text) → IsLive path details (has_flag (codes "no-live") rows) live → ⊥)) details_are
+      (subst (λ off. IfNone found ((live : Option Text) → IsLive path details off live → ⊥)) off_is none))
 
 -- the name that the arguments say
 module _ {X : Type 0} (rows : List Row) (text : Option Text) (text_is : text ≡ first_of (codes "name") rows) (found : Option X) where

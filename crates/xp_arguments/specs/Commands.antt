@@ -78,11 +78,15 @@ call =
 abbrev pub explain : App
 explain = with_rule (with_rule (with_rule call (valued (codes "up"))) (valued (codes "busy"))) (flag (codes "status"))
 
--- the command that serves, with the arguments that tell of records
+-- the command that serves, with the arguments that tell of files of records and of live calls
+abbrev pub keeping : App
+keeping =
+    with_rule (with_rule (with_rule (with_rule (command_of Serve) (valued (codes "cdr"))) (valued (codes "cdr-dir"))) (valued (codes "live")))
+    (flag (codes "no-live"))
+
+-- with all that tell of records
 abbrev pub recording : App
-recording =
-    with_rule (with_rule (with_rule (with_rule (command_of Serve) (valued (codes "cdr"))) (valued (codes "cdr-dir"))) (valued (codes "name")))
-    (valued (codes "records"))
+recording = with_rule (with_rule keeping (valued (codes "name"))) (valued (codes "records"))
 
 -- with those that tell of a trace
 abbrev pub tracing : App
@@ -201,10 +205,31 @@ IsNamed (Some text) (Some name) = (text ≡ name) × (is_exchange_name text ≡ 
 abbrev pub HasName : List Row → Option Text → Type 0
 HasName rows name = IsNamed (first_of (codes "name") rows) name
 
+-- the first of two texts that is there
+abbrev pub either : Option Text → Option Text → Option Text
+either (Some text) other = Some text
+either None other = other
+
+-- the path of a file of live calls: only where call detail records go somewhere, and live calls are to be kept
+abbrev pub IsLive : Option Text → Option Text → Bool → Option Text → Type 0
+IsLive None details off None = Unit {0}
+IsLive None details off (Some live) = ⊥
+IsLive (Some path) None off live = ⊥
+IsLive (Some path) (Some details) true live = ⊥
+IsLive (Some path) (Some details) false None = ⊥
+IsLive (Some path) (Some details) false (Some live) = path ≡ live
+
+-- the arguments say the path of the file of live calls
+abbrev pub HasLive : List Row → Option Text → Type 0
+HasLive rows live =
+    IsLive (first_of (codes "live") rows) (either (first_of (codes "cdr") rows) (first_of (codes "cdr-dir") rows)) (has_flag (codes "no-live") rows) live
+
 -- the arguments say how the lines are to be served
 pub record IsOrder (rows : List Row) (order : ServeOrder) : Type 0 where
   pub limits : HasLimits rows order.limits
   pub details : HasDetails rows order.details
+  pub live : HasLive rows (option_map (λ path. path.now) order.live)
+  pub no_live : order.no_live ≡ has_flag (codes "no-live") rows
   pub exchange : HasName rows (option_map (λ name. name.now) order.exchange)
   pub trace : HasTrace rows order.trace
   pub console : option_map (λ address. address.now) order.console ≡ first_of (codes "console") rows

@@ -4,13 +4,13 @@ ghost use Rattle.std.specs.Prelude.{◌≡◌, ℕ, List, IfSome, IfNone, IfOk, 
 ghost use Rattle.clap.specs.Words.{HasKind, app_of, kind_of, rule_of, subcommand_rows_of};
 ghost use Rattle.clap.specs.declared.error.kind.ErrorKind.TheVariants.{InvalidValue, OutOfMemory};
 ghost use Rattle.clap.specs.declared.builder.command.Command.TheViews.{out-Command as fields_of};
-ghost use Rattle.xp_arguments.specs.Commands.{AreRight, Ask, AsksFor, call as call_app, check as check_app, command_of, explain as explain_app, flag as flag_rule, kinds_of, over_files as over_files_app, positional as positional_rule, program, recording, replay as replay_app, replaying as replaying_app, serve, serving, tracing, valued as valued_rule, verb_of};
+ghost use Rattle.xp_arguments.specs.Commands.{AreRight, Ask, AsksFor, call as call_app, check as check_app, command_of, explain as explain_app, flag as flag_rule, keeping, kinds_of, over_files as over_files_app, positional as positional_rule, program, recording, replay as replay_app, replaying as replaying_app, serve, serving, tracing, valued as valued_rule, verb_of};
 
 use crate::misfits::misfit;
 use crate::subcommand::{
-    BUSY, CALLER, CDR, CDR_DIR, CONSOLE, DIALLED, FACILITIES, LADDER, NAME, PCAP, PORTS, QUIET,
-    RECORDS, SERVE, STATUS, Subcommand, TRACE, TRACE_LINES, TURNS, UNTIL_EOF, UP, USER, Verb,
-    WORDS,
+    BUSY, CALLER, CDR, CDR_DIR, CONSOLE, DIALLED, FACILITIES, LADDER, LIVE, NAME, NO_LIVE, PCAP,
+    PORTS, QUIET, RECORDS, SERVE, STATUS, Subcommand, TRACE, TRACE_LINES, TURNS, UNTIL_EOF, UP,
+    USER, Verb, WORDS,
 };
 use crate::texts;
 use clap::error::ErrorKind;
@@ -244,6 +244,16 @@ fn recording_command<'a>(alloc: Global) -> Result<Command<'a>, AllocError>
     ensures shape { IfOk result (λ command. app_of command ≡ recording) }
     ensures local { IfOk result (λ command. (fields_of command).has_globals ≡ false) }
 {
+    keeping_command(alloc)?
+        .arg(valued(alloc, NAME, "NAME", texts::NAME_HELP))?
+        .arg(valued(alloc, RECORDS, "N", texts::RECORDS_HELP))
+}
+
+/// The same with the arguments that tell of files of records and of live calls alone.
+fn keeping_command<'a>(alloc: Global) -> Result<Command<'a>, AllocError>
+    ensures shape { IfOk result (λ command. app_of command ≡ keeping) }
+    ensures local { IfOk result (λ command. (fields_of command).has_globals ≡ false) }
+{
     over_operand(
         alloc,
         Verb::Serve,
@@ -253,8 +263,8 @@ fn recording_command<'a>(alloc: Global) -> Result<Command<'a>, AllocError>
     )?
     .arg(valued(alloc, CDR, "PATH", texts::CDR_HELP))?
     .arg(valued(alloc, CDR_DIR, "DIRECTORY", texts::CDR_DIR_HELP))?
-    .arg(valued(alloc, NAME, "NAME", texts::NAME_HELP))?
-    .arg(valued(alloc, RECORDS, "N", texts::RECORDS_HELP))
+    .arg(valued(alloc, LIVE, "PATH", texts::LIVE_HELP))?
+    .arg(flag(alloc, NO_LIVE, texts::NO_LIVE_HELP))
 }
 
 /// An argument that has to be there, as FILE.

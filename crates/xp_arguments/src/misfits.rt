@@ -1,7 +1,8 @@
 //! What is wrong with arguments that ask for nothing, in words for a person. No contract says what is told.
 
 use crate::subcommand::{
-    CDR, CDR_DIR, LADDER, NAME, PCAP, RECORDS, TRACE, TRACE_LINES, TURNS, WORDS, is_true,
+    CDR, CDR_DIR, LADDER, LIVE, NAME, NO_LIVE, PCAP, RECORDS, TRACE, TRACE_LINES, TURNS, WORDS,
+    is_true,
 };
 use clap::ArgMatches;
 use std::alloc::{AllocError, Global};
@@ -55,6 +56,9 @@ fn unfit_arguments(matches: &ArgMatches<'_>) -> &'static str {
     if matches.get_str(CDR).is_some() && matches.get_str(CDR_DIR).is_some() {
         return "--cdr and --cdr-dir do not go together";
     }
+    if matches.get_str(LIVE).is_some() {
+        return unfit_live(matches);
+    }
     let words = is_true(matches, WORDS);
     let ladder = is_true(matches, LADDER);
     let capture = matches.get_str(PCAP).is_some();
@@ -64,5 +68,16 @@ fn unfit_arguments(matches: &ArgMatches<'_>) -> &'static str {
         (true, false, true) => "--words and --pcap do not go together",
         (false, true, true) => "--ladder and --pcap do not go together",
         _ => "the arguments do not go together",
+    }
+}
+
+/// Why a file of live calls does not go together with the other arguments.
+fn unfit_live(matches: &ArgMatches<'_>) -> &'static str {
+    if matches.get_str(CDR).is_none() && matches.get_str(CDR_DIR).is_none() {
+        "--live needs --cdr or --cdr-dir"
+    } else if is_true(matches, NO_LIVE) {
+        "--live and --no-live do not go together"
+    } else {
+        "the arguments do not go together"
     }
 }

@@ -2,7 +2,7 @@
 
 ghost use Rattle.std.specs.Prelude.{◌≡◌, IfNone, IfSome, Option, Some, codes, option_map};
 ghost use Rattle.clap.specs.Words.{Text, first_of, found_of, rows_of};
-ghost use Rattle.xp_arguments.specs.Commands.{HasCheckForm, HasDepth, HasLimits, HasName, HasReplayForm, HasTrace, IsNamed, IsOneForm, IsOrder, IsQuestion, IsSubcommand, IsTrace, Suits, operand_of, says_true, verb_of, word_of};
+ghost use Rattle.xp_arguments.specs.Commands.{HasCheckForm, HasDepth, HasLimits, HasLive, HasName, HasReplayForm, HasTrace, IsLive, IsNamed, IsOneForm, IsOrder, IsQuestion, IsSubcommand, IsTrace, Suits, either, operand_of, says_true, verb_of, word_of};
 
 use crate::details_order::{DetailsOrder, details_of};
 use clap::ArgMatches;
@@ -56,6 +56,12 @@ pub const CDR: &str = "cdr";
 
 /// The argument for the directory of call detail records by the day.
 pub const CDR_DIR: &str = "cdr-dir";
+
+/// The argument for the file of live calls.
+pub const LIVE: &str = "live";
+
+/// The argument by which live calls are not kept.
+pub const NO_LIVE: &str = "no-live";
 
 /// The argument for the name of the exchange.
 pub const NAME: &str = "name";
@@ -210,6 +216,10 @@ pub struct ServeOrder<'a> {
     pub limits: Limits,
     /// Where call detail records go, if they are to be written.
     pub details: Option<DetailsOrder<'a>>,
+    /// The name of the file of live calls, if it is given one. Only where call detail records are written.
+    pub live: Option<&'a str>,
+    /// Whether live calls are not kept.
+    pub no_live: bool,
     /// The name of the exchange, if it is given one. It is that of an exchange.
     pub exchange: Option<&'a str>,
     /// What is to be traced, if anything.
@@ -379,12 +389,16 @@ fn order_of<'a>(matches: &ArgMatches<'a>) -> Option<ServeOrder<'a>>
     let trace = trace_of(matches)?;
     let exchange = exchange_of(matches)?;
     let details = details_of(matches)?;
+    let live = live_of(matches)?;
+    let no_live = is_true(matches, NO_LIVE);
     let console = matches.get_str(CONSOLE);
     let quiet = is_true(matches, QUIET);
     let until_eof = is_true(matches, UNTIL_EOF);
     Some(ServeOrder {
         limits,
         details,
+        live,
+        no_live,
         exchange,
         trace,
         console,
@@ -411,6 +425,46 @@ fn named_so<'a>(name: Option<&'a str>) -> Option<Option<&'a str>>
         Some(text) if ExchangeName::is_name(text) => Some(Some(text)),
         Some(_) => None,
         None => Some(None),
+    }
+}
+
+/// The path that the arguments give the file of live calls, if they do. `None` where no call detail records are written beside it, or
+/// live calls are not to be kept.
+fn live_of<'a>(matches: &ArgMatches<'a>) -> Option<Option<&'a str>>
+    ensures found { IfSome result (λ path. HasLive (rows_of (found_of matches.now)) (option_map (λ path. path.now) path)) }
+    ensures none { IfNone result ((path : Option Text) → HasLive (rows_of (found_of matches.now)) path → ⊥) }
+{
+    let path = matches.get_str(LIVE);
+    let file = matches.get_str(CDR);
+    let directory = matches.get_str(CDR_DIR);
+    let details = either_of(file, directory);
+    let is_off = is_true(matches, NO_LIVE);
+    live_at(path, details, is_off)
+}
+
+/// The first of two texts that is there.
+fn either_of<'a>(text: Option<&'a str>, other: Option<&'a str>) -> Option<&'a str>
+    ensures { option_map (λ text. text.now) result ≡ either (option_map (λ text. text.now) text.entry) (option_map (λ text. text.now) other.entry) }
+{
+    match text {
+        Some(text) => Some(text),
+        None => other,
+    }
+}
+
+/// This path of a file of live calls, where it goes together with the others.
+fn live_at<'a>(
+    path: Option<&'a str>,
+    details: Option<&'a str>,
+    is_off: bool,
+) -> Option<Option<&'a str>>
+    ensures found { IfSome result (λ live. IsLive (option_map (λ text. text.now) path.entry) (option_map (λ text. text.now) details.entry) is_off (option_map (λ text. text.now) live)) }
+    ensures none { IfNone result ((live : Option Text) → IsLive (option_map (λ text. text.now) path.entry) (option_map (λ text. text.now) details.entry) is_off live → ⊥) }
+{
+    match (path, details, is_off) {
+        (None, _, _) => Some(None),
+        (Some(path), Some(_), false) => Some(Some(path)),
+        (Some(_), _, _) => None,
     }
 }
 

@@ -1,7 +1,7 @@
 //! What the help of the program says, and its version.
 
 /// The version, which is the newest heading of CHANGELOG.md.
-pub(crate) const VERSION: &str = "2026-11-28";
+pub(crate) const VERSION: &str = "2026-11-29";
 
 pub(crate) const ABOUT: &str = "The call-control exchange of an X.25 packet network.";
 
@@ -75,6 +75,8 @@ their records are written. A second Ctrl-C ends it at once.
 
 Lines of facts with their moments go to standard error. Where the file of
 --cdr can't be written, the records wait, and are tried again each second.
+Beside that file PATH.live has the live calls, as of a second ago. After a kill
+or a power cut the next start gives each of them a record from it.
 With --console a page at that address shows the lines and the live calls.
 
 Example:
@@ -112,6 +114,11 @@ pub(crate) const CDR_HELP: &str = "Writes call detail records at the end of this
 
 pub(crate) const CDR_DIR_HELP: &str =
     "Writes them into this directory instead, a file for each day (UTC)";
+
+pub(crate) const LIVE_HELP: &str =
+    "Keeps the live calls in this file (default: beside the records, PATH.live or DIRECTORY/calls.live)";
+
+pub(crate) const NO_LIVE_HELP: &str = "Keeps no live calls: a kill loses them";
 
 pub(crate) const NAME_HELP: &str =
     "Names the exchange so in its records, not by its file or host: letters, digits, - and .";

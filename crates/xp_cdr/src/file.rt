@@ -9,7 +9,7 @@ use crate::record_file::{Place, RecordFile};
 use crate::tidying::tidy;
 use std::alloc::{AllocError, Global};
 use std::fs::{File, Files, Metadata, TryLockError};
-use std::io::{ErrorKind, Write};
+use std::io::{ErrorKind, Seek, SeekFrom, Write};
 use std::os::unix::fs::MetadataExt;
 use std::{fs, io};
 use xp_past::Past;
@@ -186,6 +186,34 @@ impl<R: Files<File = File> + Drop> DetailFile<R> {
             }
             Err(fault) => Err(self.refused(fault)),
         }
+    }
+
+    /// A handle by which the file is read from its begin on.
+    ///
+    /// # Errors
+    ///
+    /// What the system tells.
+    pub fn reader(&self) -> io::Result<File> {
+        let mut reader = self.locked.try_clone()?;
+        reader.seek(SeekFrom::Start(0))?;
+        Ok(reader)
+    }
+
+    /// Writes these lines at the end of the file, and waits until they are on the disk. They count as what the file held when it was
+    /// opened: nothing was taken yet.
+    ///
+    /// # Errors
+    ///
+    /// What the system tells. A front of the lines may be there then.
+    pub fn complete(&mut self, lines: &[u8]) -> io::Result<()>
+        ensures taken { self.new.taken ≡ self.old.taken }
+        ensures synced { self.new.synced ≡ self.old.synced }
+        ensures failures { self.new.failures ≡ self.old.failures }
+    {
+        self.file.write_all(lines)?;
+        self.file.sync_all()?;
+        self.length = self.length.saturating_add(lines.len() as u64);
+        Ok(())
     }
 
     /// Notes that the file took these octets.

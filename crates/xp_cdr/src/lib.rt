@@ -29,6 +29,7 @@ pub use ended::{EndedBy, EndedCall};
 pub use file::{DetailFile, path_in};
 pub use flush_fault::FlushFault;
 pub use laws::{details_are_read_back, details_need_no_quotes, moment_is_what_a_clock_shows};
+pub use moment::read_moment;
 pub use opening::{OpenFault, Opened};
 pub use record_file::{Place, RecordFile};
 pub use run::{ExchangeName, ExchangeRun};

@@ -113,13 +113,14 @@ totals_data totals =
     (member (codes "events") (count_data totals.events)
     (member (codes "octets_received") (count_data totals.octets_received)
     (member (codes "octets_sent") (count_data totals.octets_sent)
+    (member (codes "partial_records") (count_data totals.partial_records)
     (member (codes "records_waiting") (count_data totals.records_waiting)
     (member (codes "refused") (array (items_of (map refused_data (by_cause totals.refused))))
     (member (codes "router_failures") (count_data totals.router_failures)
     (member (codes "router_refusals") (array (items_of (map refused_data (by_cause totals.router_refusals))))
     (member (codes "segments_from_called") (count_data totals.segments_from_called)
     (member (codes "segments_from_callers") (count_data totals.segments_from_callers)
-    (member (codes "stalls") (count_data totals.stalls) no_members)))))))))))
+    (member (codes "stalls") (count_data totals.stalls) no_members))))))))))))
 
 -- the lines, the live calls, the ended calls and the stations
 abbrev pub lines_data : List LineStatus → Data

@@ -142,14 +142,15 @@ events_text totals =
     single_text (codes "gonukire_events_total") (codes "counter") (codes "Events of lines.") totals.events
     ++ single_text (codes "gonukire_stalls_total") (codes "counter") (codes "Lines taken out of service for not taking their output.") totals.stalls
 
--- records that wait
-unfoldable pub waiting_text : Totals → List ℕ
-waiting_text totals =
+-- records that wait, and partial records of the run before
+unfoldable pub records_text : Totals → List ℕ
+records_text totals =
     single_text (codes "gonukire_records_waiting") (codes "gauge") (codes "Records of ended calls that are not written yet.") totals.records_waiting
+    ++ single_text (codes "gonukire_partial_records") (codes "gauge") (codes "Calls of the run before that got a partial record.") totals.partial_records
 
 -- all metrics
 unfoldable pub metrics_text : ExchangeStatus → List ℕ
 metrics_text status =
     lines_text status.lines.items ++ calls_text status ++ refused_text status.totals
     ++ failures_text status.totals ++ stations_text status.stations.items ++ segments_text status.totals ++ octets_text status.totals ++ events_text status.totals
-    ++ waiting_text status.totals
+    ++ records_text status.totals

@@ -1,2 +1,3 @@
 -- The definitions that only the contracts of private functions use. No public contract cites them.
+pub mod Objects
 pub mod Responses

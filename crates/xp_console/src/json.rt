@@ -5,9 +5,10 @@ ghost use Rattle.serde_json.specs.Data.{array};
 ghost use Rattle.serde_json.specs.View.{items_of, view};
 ghost use Rattle.xp_console.specs.Json.{calls_data, cleared_data, ended_data, json_text, line_data, lines_data, live_data, optional_data, optional_party_data, party_data, peer_data, recent_data, refused_data, segments_data, station_data, stations_data, status_data, totals_data};
 
+use crate::object::Object;
 use crate::status::{EndedCall, ExchangeStatus, LineStatus, LiveCall, Party, StationCalls, Totals};
 use crate::words::{cause_text, payer_text, state_text};
-use serde_json::{Value, json};
+use serde_json::Value;
 use std::alloc::{AllocError, Global};
 use std::net::SocketAddr;
 
@@ -22,15 +23,15 @@ pub(crate) fn status_json(alloc: Global, status: &ExchangeStatus) -> Result<Stri
 fn status_value(alloc: Global, status: &ExchangeStatus) -> Result<Value, AllocError>
     ensures { IfOk result (λ value. view value ≡ status_data status.now) }
 {
-    json!(in alloc; {
-        "calls": calls_value(alloc, &status.calls)?,
-        "lines": lines_value(alloc, &status.lines)?,
-        "moment": status.moment,
-        "recent": recent_value(alloc, &status.recent)?,
-        "started": status.started,
-        "stations": stations_value(alloc, &status.stations)?,
-        "totals": totals_value(alloc, &status.totals)?,
-    })
+    Object::new(alloc)
+        .with("calls", calls_value(alloc, &status.calls))
+        .with("lines", lines_value(alloc, &status.lines))
+        .with_count("moment", status.moment)
+        .with("recent", recent_value(alloc, &status.recent))
+        .with_count("started", status.started)
+        .with("stations", stations_value(alloc, &status.stations))
+        .with("totals", totals_value(alloc, &status.totals))
+        .value()
 }
 
 fn lines_value(alloc: Global, lines: &[LineStatus]) -> Result<Value, AllocError>
@@ -46,16 +47,19 @@ fn lines_value(alloc: Global, lines: &[LineStatus]) -> Result<Value, AllocError>
 fn line_value(alloc: Global, line: &LineStatus) -> Result<Value, AllocError>
     ensures { IfOk result (λ value. view value ≡ line_data line.now) }
 {
-    json!(in alloc; {
-        "address": line.address.as_str(),
-        "call": optional_value(line.call),
-        "name": line.name.as_str(),
-        "peer": peer_value(alloc, line.peer)?,
-        "router_unreachable_since": optional_value(line.router_unreachable_since),
-        "since": line.since,
-        "state": state_text(line.state),
-        "station": line.station.as_str(),
-    })
+    Object::new(alloc)
+        .with_text("address", line.address.as_str())
+        .with("call", Ok(optional_value(line.call)))
+        .with_text("name", line.name.as_str())
+        .with("peer", peer_value(alloc, line.peer))
+        .with(
+            "router_unreachable_since",
+            Ok(optional_value(line.router_unreachable_since)),
+        )
+        .with_count("since", line.since)
+        .with_text("state", state_text(line.state))
+        .with_text("station", line.station.as_str())
+        .value()
 }
 
 fn calls_value(alloc: Global, calls: &[LiveCall]) -> Result<Value, AllocError>
@@ -71,15 +75,18 @@ fn calls_value(alloc: Global, calls: &[LiveCall]) -> Result<Value, AllocError>
 fn live_value(alloc: Global, call: &LiveCall) -> Result<Value, AllocError>
     ensures { IfOk result (λ value. view value ≡ live_data call.now) }
 {
-    json!(in alloc; {
-        "called": party_value(alloc, &call.called)?,
-        "caller": party_value(alloc, &call.caller)?,
-        "connected": optional_value(call.connected),
-        "number": call.number,
-        "requested": call.requested,
-        "seconds": call.seconds,
-        "segments": segments_value(alloc, call.segments_from_caller, call.segments_from_called)?,
-    })
+    Object::new(alloc)
+        .with("called", party_value(alloc, &call.called))
+        .with("caller", party_value(alloc, &call.caller))
+        .with("connected", Ok(optional_value(call.connected)))
+        .with_count("number", call.number)
+        .with_count("requested", call.requested)
+        .with_count("seconds", call.seconds)
+        .with(
+            "segments",
+            segments_value(alloc, call.segments_from_caller, call.segments_from_called),
+        )
+        .value()
 }
 
 fn recent_value(alloc: Global, calls: &[EndedCall]) -> Result<Value, AllocError>
@@ -95,19 +102,22 @@ fn recent_value(alloc: Global, calls: &[EndedCall]) -> Result<Value, AllocError>
 fn ended_value(alloc: Global, call: &EndedCall) -> Result<Value, AllocError>
     ensures { IfOk result (λ value. view value ≡ ended_data call.now) }
 {
-    json!(in alloc; {
-        "called": optional_party_value(alloc, &call.called)?,
-        "caller": party_value(alloc, &call.caller)?,
-        "cleared": cleared_value(alloc, call.cause, call.diagnostic)?,
-        "connected": optional_value(call.connected),
-        "dialled": call.dialled.as_str(),
-        "ended": call.ended,
-        "number": call.number,
-        "payer": payer_text(call.payer),
-        "requested": call.requested,
-        "seconds": call.seconds,
-        "segments": segments_value(alloc, call.segments_from_caller, call.segments_from_called)?,
-    })
+    Object::new(alloc)
+        .with("called", optional_party_value(alloc, &call.called))
+        .with("caller", party_value(alloc, &call.caller))
+        .with("cleared", cleared_value(alloc, call.cause, call.diagnostic))
+        .with("connected", Ok(optional_value(call.connected)))
+        .with_text("dialled", call.dialled.as_str())
+        .with_count("ended", call.ended)
+        .with_count("number", call.number)
+        .with_text("payer", payer_text(call.payer))
+        .with_count("requested", call.requested)
+        .with_count("seconds", call.seconds)
+        .with(
+            "segments",
+            segments_value(alloc, call.segments_from_caller, call.segments_from_called),
+        )
+        .value()
 }
 
 fn stations_value(alloc: Global, stations: &[StationCalls]) -> Result<Value, AllocError>
@@ -123,30 +133,34 @@ fn stations_value(alloc: Global, stations: &[StationCalls]) -> Result<Value, All
 fn station_value(alloc: Global, station: &StationCalls) -> Result<Value, AllocError>
     ensures { IfOk result (λ value. view value ≡ station_data station.now) }
 {
-    json!(in alloc; {
-        "address": station.address.as_str(),
-        "from": station.from,
-        "refused": station.refused,
-        "to": station.to,
-    })
+    Object::new(alloc)
+        .with_text("address", station.address.as_str())
+        .with_count("from", station.from)
+        .with_count("refused", station.refused)
+        .with_count("to", station.to)
+        .value()
 }
 
 fn totals_value(alloc: Global, totals: &Totals) -> Result<Value, AllocError>
     ensures { IfOk result (λ value. view value ≡ totals_data totals.now) }
 {
-    json!(in alloc; {
-        "calls": totals.calls,
-        "events": totals.events,
-        "octets_received": totals.octets_received,
-        "octets_sent": totals.octets_sent,
-        "records_waiting": totals.records_waiting,
-        "refused": causes_value(alloc, &totals.refused.by_cause())?,
-        "router_failures": totals.router_failures,
-        "router_refusals": causes_value(alloc, &totals.router_refusals.by_cause())?,
-        "segments_from_called": totals.segments_from_called,
-        "segments_from_callers": totals.segments_from_callers,
-        "stalls": totals.stalls,
-    })
+    Object::new(alloc)
+        .with_count("calls", totals.calls)
+        .with_count("events", totals.events)
+        .with_count("octets_received", totals.octets_received)
+        .with_count("octets_sent", totals.octets_sent)
+        .with_count("partial_records", totals.partial_records)
+        .with_count("records_waiting", totals.records_waiting)
+        .with("refused", causes_value(alloc, &totals.refused.by_cause()))
+        .with_count("router_failures", totals.router_failures)
+        .with(
+            "router_refusals",
+            causes_value(alloc, &totals.router_refusals.by_cause()),
+        )
+        .with_count("segments_from_called", totals.segments_from_called)
+        .with_count("segments_from_callers", totals.segments_from_callers)
+        .with_count("stalls", totals.stalls)
+        .value()
 }
 
 fn causes_value(alloc: Global, counts: &[(u8, u64)]) -> Result<Value, AllocError>
@@ -162,19 +176,30 @@ fn causes_value(alloc: Global, counts: &[(u8, u64)]) -> Result<Value, AllocError
 fn refused_value(alloc: Global, cause: u8, count: u64) -> Result<Value, AllocError>
     ensures { IfOk result (λ value. view value ≡ refused_data (cause, count)) }
 {
-    json!(in alloc; {"cause": cause, "count": count, "words": cause_text(cause)})
+    Object::new(alloc)
+        .with_count("cause", u64::from(cause))
+        .with_count("count", count)
+        .with_text("words", cause_text(cause))
+        .value()
 }
 
 fn segments_value(alloc: Global, from_caller: u64, from_called: u64) -> Result<Value, AllocError>
     ensures { IfOk result (λ value. view value ≡ segments_data from_caller from_called) }
 {
-    json!(in alloc; {"from_called": from_called, "from_caller": from_caller})
+    Object::new(alloc)
+        .with_count("from_called", from_called)
+        .with_count("from_caller", from_caller)
+        .value()
 }
 
 fn cleared_value(alloc: Global, cause: u8, diagnostic: u8) -> Result<Value, AllocError>
     ensures { IfOk result (λ value. view value ≡ cleared_data cause diagnostic) }
 {
-    json!(in alloc; {"cause": cause, "diagnostic": diagnostic, "words": cause_text(cause)})
+    Object::new(alloc)
+        .with_count("cause", u64::from(cause))
+        .with_count("diagnostic", u64::from(diagnostic))
+        .with_text("words", cause_text(cause))
+        .value()
 }
 
 fn optional_party_value(alloc: Global, party: &Option<Party>) -> Result<Value, AllocError>
@@ -189,7 +214,10 @@ fn optional_party_value(alloc: Global, party: &Option<Party>) -> Result<Value, A
 fn party_value(alloc: Global, party: &Party) -> Result<Value, AllocError>
     ensures { IfOk result (λ value. view value ≡ party_data party.now) }
 {
-    json!(in alloc; {"address": party.address.as_str(), "line": party.line.as_str()})
+    Object::new(alloc)
+        .with_text("address", party.address.as_str())
+        .with_text("line", party.line.as_str())
+        .value()
 }
 
 fn peer_value(alloc: Global, peer: Option<SocketAddr>) -> Result<Value, AllocError>

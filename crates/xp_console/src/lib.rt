@@ -10,6 +10,7 @@ mod console;
 mod hosts;
 mod json;
 mod metrics;
+mod object;
 mod page;
 mod refused;
 mod reply;

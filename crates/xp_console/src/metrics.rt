@@ -1,7 +1,7 @@
 //! The counts in Prometheus' text format.
 
 ghost use Rattle.std.specs.Prelude.{◌≡◌, ◌++◌, decimal, flat_map, IfOk, OnOk, string_bytes};
-ghost use Rattle.xp_console.specs.Metrics.{calls_text, count_in, directions_text, events_text, failures_text, head_text, is_same_state, labelled_text, lines_text, live_text, metrics_text, octets_text, cause_sample, causes_text, refused_text, sample_text, segments_text, single_text, state_sample, waiting_text};
+ghost use Rattle.xp_console.specs.Metrics.{calls_text, count_in, directions_text, events_text, failures_text, head_text, is_same_state, labelled_text, lines_text, live_text, metrics_text, octets_text, records_text, cause_sample, causes_text, refused_text, sample_text, segments_text, single_text, state_sample};
 
 use crate::refused::RefusedCalls;
 use crate::station_metrics::push_stations;
@@ -47,7 +47,7 @@ pub(crate) fn status_metrics(alloc: Global, status: &ExchangeStatus) -> Result<S
     push_segments(&mut text, &status.totals)?;
     push_octets(&mut text, &status.totals)?;
     push_events(&mut text, &status.totals)?;
-    push_waiting(&mut text, &status.totals)?;
+    push_records(&mut text, &status.totals)?;
     Ok(text)
 }
 
@@ -223,19 +223,16 @@ fn push_events(text: &mut String, totals: &Totals) -> Result<(), AllocError>
     push_single(text, "gonukire_stalls_total", COUNTER, help, totals.stalls)
 }
 
-/// How many records wait.
-#[tactic(auto, unfolding(crate::specs::Metrics::waiting_text))]
-fn push_waiting(text: &mut String, totals: &Totals) -> Result<(), AllocError>
-    ensures { OnOk result (string_bytes text.new ≡ string_bytes text.old ++ waiting_text totals.now) }
+/// How many records wait, and how many calls of the run before got a partial one.
+#[tactic(auto, unfolding(crate::specs::Metrics::records_text))]
+fn push_records(text: &mut String, totals: &Totals) -> Result<(), AllocError>
+    ensures { OnOk result (string_bytes text.new ≡ string_bytes text.old ++ records_text totals.now) }
 {
+    let (waiting, partial) = (totals.records_waiting, totals.partial_records);
     let help = "Records of ended calls that are not written yet.";
-    push_single(
-        text,
-        "gonukire_records_waiting",
-        GAUGE,
-        help,
-        totals.records_waiting,
-    )
+    push_single(text, "gonukire_records_waiting", GAUGE, help, waiting)?;
+    let help = "Calls of the run before that got a partial record.";
+    push_single(text, "gonukire_partial_records", GAUGE, help, partial)
 }
 
 /// A sample for each of two directions.

@@ -207,6 +207,7 @@ function showCounts(status) {
     ["segments of ended calls, from callers", count(totals.segments_from_callers)],
     ["segments of ended calls, from called", count(totals.segments_from_called)],
     ["failed connections to routers", count(totals.router_failures)], ["events", count(totals.events)], ["stalls", count(totals.stalls)], ["records waiting", count(totals.records_waiting)],
+    ["partial records of the run before", count(totals.partial_records)],
     ["octets received", count(totals.octets_received)], ["octets sent", count(totals.octets_sent)]];
   const list = document.getElementById("counts");
   facts.forEach(([name, value], place) => {
@@ -221,14 +222,17 @@ const wanted = document.getElementById("wanted");
 const textOfLine = (line) => [line.name, address(line), line.state, peer(line)].join(" ");
 const textOfCall = (call) => [party(call.caller), party(call.called), call.dialled || "", call.cleared ? cause(call) : ""].join(" ");
 const told = (some, all, word) => word ? some.length + " of " + all.length : String(all.length);
+// Where nothing is looked for, the lines in service alone are shown, if these are many.
+const many = 512;
+const isShown = (line) => latest.lines.length <= many || line.state !== "out of service";
 function show() {
   if (!latest) return;
   now = latest.moment;
   const word = wanted.value.trim().toLowerCase();
   const found = (items, text) => items.filter((item) => text(item).toLowerCase().includes(word));
-  const lines = found(latest.lines, textOfLine), calls = found(latest.calls, textOfCall), recent = found(latest.recent, textOfCall);
+  const lines = word ? found(latest.lines, textOfLine) : latest.lines.filter(isShown), calls = found(latest.calls, textOfCall), recent = found(latest.recent, textOfCall);
   showCounts(latest);
-  showLines(lines, told(lines, latest.lines, word));
+  showLines(lines, told(lines, latest.lines, word || lines.length < latest.lines.length));
   showCalls(calls, told(calls, latest.calls, word));
   showRecent(recent.reverse(), (word ? recent.length + " of " : "") + "the last " + latest.recent.length + ", the latest first");
   document.getElementById("moment").textContent = moment(now) + " UTC, serving for " + age(now - latest.started);

@@ -152,6 +152,8 @@ pub struct Totals {
     pub stalls: u64,
     /// Records of ended calls that are not written yet.
     pub records_waiting: u64,
+    /// Calls of the run before that got a partial record as this one began, since that one had died.
+    pub partial_records: u64,
     /// Octets that came by the lines' connections.
     pub octets_received: u64,
     /// Octets that went out by the lines' connections.

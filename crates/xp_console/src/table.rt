@@ -140,28 +140,26 @@ fn line_of(party: &Option<Party>) -> &str {
 }
 
 fn push_totals(alloc: Global, text: &mut String, totals: &Totals) -> Result<(), AllocError> {
+    text.push_str(totals_rows(alloc, totals)?.as_str())
+}
+
+fn totals_rows(alloc: Global, totals: &Totals) -> Result<String, AllocError> {
     let refused = refused_count(totals);
     let calls = totals.calls;
     let events = totals.events;
     let stalls = totals.stalls;
     let waiting = totals.records_waiting;
-    let row = format!(in alloc;
-        "\ncalls {calls}, refused {refused}, events {events}, stalls {stalls}, records waiting {waiting}\n"
-    )?;
-    text.push_str(row.as_str())?;
     let failures = totals.router_failures;
-    let row = format!(in alloc; "failed connections to routers {failures}\n")?;
-    text.push_str(row.as_str())?;
     let from_callers = totals.segments_from_callers;
     let from_called = totals.segments_from_called;
-    let row = format!(in alloc;
-        "segments of ended calls from callers {from_callers}, from called {from_called}\n"
-    )?;
-    text.push_str(row.as_str())?;
     let received = totals.octets_received;
     let sent = totals.octets_sent;
-    let row = format!(in alloc; "octets received {received}, sent {sent}\n")?;
-    text.push_str(row.as_str())
+    format!(in alloc;
+        "\ncalls {calls}, refused {refused}, events {events}, stalls {stalls}, records waiting {waiting}\n\
+        failed connections to routers {failures}\n\
+        segments of ended calls from callers {from_callers}, from called {from_called}\n\
+        octets received {received}, sent {sent}\n"
+    )
 }
 
 fn refused_count(totals: &Totals) -> u64 {

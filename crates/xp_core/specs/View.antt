@@ -20,12 +20,14 @@ flow_in tables history line (Some found) =
 abbrev pub flow_at : {A : Type 0} → Tables → List (Entry A) → World → ℕ → Option FlowState
 flow_at tables history world line = flow_in tables history line (call_on world line)
 
--- a live call: its lines, the moments of its request and of its answer, and the segments accepted from each end so far
+-- a live call: its lines, what was dialled, who pays, the moments of its request and of its answer, and the segments accepted from each end so far
 abbrev pub call_view : {A : Type 0} → Tables → List (Entry A) → ℕ × Call → CallView
 call_view tables history found = record {
   number = found.0;
   caller = found.1.caller;
   called = found.1.called;
+  dialled = found.1.dialled;
+  payer = found.1.setup.payer;
   requested = found.1.requested;
   connected = option_map (λ agreement. agreement.connected) found.1.agreed;
   from_caller = segments_of tables history found.0 found.1 Caller;

@@ -8,13 +8,13 @@ ghost use Rattle.xp_subs.specs.Sound.{IsSound};
 
 use std::alloc::Allocator;
 use xp_machine::{LiveCall, Machine, Relays};
-use xp_packets::End;
+use xp_packets::{Digits, End};
 use xp_past::Past;
 use xp_step::{Entry, MeteredCall, charged_on};
 use xp_subs::{LineNo, Subs};
 
-/// What can be seen of a live call: who is in it, since when, and what it carried so far.
-#[derive(Clone, Copy, PartialEq, Eq)]
+/// What can be seen of a live call: who is in it and who pays, since when, and what it carried so far.
+#[derive(Drop)]
 pub struct CallView {
     /// The call's number, from 1.
     pub number: u64,
@@ -22,6 +22,10 @@ pub struct CallView {
     pub caller: LineNo,
     /// The line that the call was put to.
     pub called: LineNo,
+    /// The called address, as the caller gave it.
+    pub dialled: Digits,
+    /// The end that pays.
+    pub payer: End,
     /// The moment of its call request, in seconds.
     pub requested: u64,
     /// The moment of its answer, in seconds. It is None until the call is accepted.
@@ -52,6 +56,8 @@ pub fn see_call<A: Allocator>(
         number: call.number,
         caller: call.caller,
         called: call.called,
+        dialled: call.dialled.copy(),
+        payer: call.setup.payer,
         requested: call.requested,
         connected: connected_at(call),
         from_caller,

@@ -3,7 +3,7 @@
 ghost use Rattle.std.specs.Prelude.{◌≡◌, [], IfOk};
 
 use crate::day::{day_of, file_name};
-use crate::newest::{NewestFile, newest_day};
+use crate::newest::{DayFile, newest_day};
 use std::alloc::AllocGlobal;
 use std::fs::{File, Files};
 use std::io;
@@ -72,38 +72,42 @@ impl<R: Files<File = File> + Drop> RecordFile for DayFiles<R> {
     }
 }
 
-impl<R: AllocGlobal + Copy + Drop + Files<File = File>> DayFiles<R> {
-    /// Opens this file of a day, which is the newest of this directory (`newest_file`), as `DetailFile::open` does.
-    ///
-    /// # Errors
-    ///
-    /// Why it was not opened. `InUse` too where another exchange has just begun the file of a later day, up to `today`.
-    pub fn open(
-        rt: R,
-        directory: &str,
-        newest: &NewestFile,
-        today: u64,
-    ) -> Result<(DayFiles<R>, Opened), OpenFault>
-        ensures taken { IfOk result (λ opened. ⟦<DayFiles<R> as RecordFile>⟧.taken opened.0 ≡ []) }
-        ensures synced { IfOk result (λ opened. ⟦<DayFiles<R> as RecordFile>⟧.synced opened.0 ≡ []) }
-        ensures before { IfOk result (λ opened. (⟦<DayFiles<R> as RecordFile>⟧.current opened.0).before ≡ []) }
-        ensures failures { IfOk result (λ opened. ⟦<DayFiles<R> as RecordFile>⟧.failures opened.0 ≡ 0) }
+impl<R: Files<File = File> + Drop> DayFiles<R> {
+    /// The files of the days of this directory, of which that of this day is open.
+    pub fn new(directory: String, day: u64, file: DetailFile<R>) -> DayFiles<R>
+        ensures taken { ⟦<DayFiles<R> as RecordFile>⟧.taken result ≡ ⟦<DetailFile<R> as RecordFile>⟧.taken file }
+        ensures synced { ⟦<DayFiles<R> as RecordFile>⟧.synced result ≡ ⟦<DetailFile<R> as RecordFile>⟧.synced file }
+        ensures current { ⟦<DayFiles<R> as RecordFile>⟧.current result ≡ record { part = day; before = [] } }
+        ensures failures { ⟦<DayFiles<R> as RecordFile>⟧.failures result ≡ ⟦<DetailFile<R> as RecordFile>⟧.failures file }
     {
-        let alloc = rt.alloc();
-        let directory = directory.to_string(alloc).map_err(|_| OpenFault::Open(io::Error::from(
-            io::ErrorKind::OutOfMemory,
-        )))?;
-        let (file, opened) = DetailFile::open(alloc, rt, newest.path.as_str())?;
-        let now = newest_day(&rt, directory.as_str(), today).map_err(OpenFault::Directory)?;
-        if now.is_some_and(|day| day > newest.day) {
-            return Err(OpenFault::InUse);
-        }
-        let files = DayFiles {
+        DayFiles {
             directory,
-            day: newest.day,
+            day,
             file,
             before: Past::new(),
-        };
-        Ok((files, opened))
+        }
     }
+}
+
+/// Opens this file of a day, which is the newest of this directory (`newest_file`), as `DetailFile::open` does.
+///
+/// # Errors
+///
+/// Why it was not opened. `InUse` too where another exchange has just begun the file of a later day, up to `today`.
+pub fn open_newest<R: AllocGlobal + Copy + Drop + Files<File = File>>(
+    rt: R,
+    directory: &str,
+    newest: &DayFile,
+    today: u64,
+) -> Result<(DetailFile<R>, Opened), OpenFault>
+    ensures taken { IfOk result (λ opened. ⟦<DetailFile<R> as RecordFile>⟧.taken opened.0 ≡ []) }
+    ensures synced { IfOk result (λ opened. ⟦<DetailFile<R> as RecordFile>⟧.synced opened.0 ≡ []) }
+    ensures failures { IfOk result (λ opened. ⟦<DetailFile<R> as RecordFile>⟧.failures opened.0 ≡ 0) }
+{
+    let (file, opened) = DetailFile::open(rt.alloc(), rt, newest.path.as_str())?;
+    let now = newest_day(&rt, directory, today).map_err(OpenFault::Directory)?;
+    if now.is_some_and(|day| day > newest.day) {
+        return Err(OpenFault::InUse);
+    }
+    Ok((file, opened))
 }

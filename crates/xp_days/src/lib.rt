@@ -6,5 +6,5 @@ mod day_files;
 mod newest;
 
 pub use day::{day_of, file_name};
-pub use day_files::DayFiles;
-pub use newest::{NewestFile, newest_file};
+pub use day_files::{DayFiles, open_newest};
+pub use newest::{DayFile, file_before, newest_file};

@@ -1,14 +1,14 @@
 //! The newest of the files of days in a directory.
 
 use crate::day::{day_named, file_name};
-use std::alloc::{AllocError, AllocGlobal};
+use std::alloc::{AllocError, AllocGlobal, Global};
 use std::fs::{File, Files};
 use std::{fs, io};
 use xp_cdr::{OpenFault, path_in};
 
 /// The file of a day.
 #[derive(Drop)]
-pub struct NewestFile {
+pub struct DayFile {
     pub day: u64,
     pub path: String,
 }
@@ -23,12 +23,36 @@ pub fn newest_file<R: AllocGlobal + Clone + Drop + Files<File = File>>(
     rt: &R,
     directory: &str,
     today: u64,
-) -> Result<NewestFile, OpenFault> {
+) -> Result<DayFile, OpenFault> {
     let day = newest_day(rt, directory, today)
         .map_err(OpenFault::Directory)?
         .unwrap_or(today);
-    let path = path_in(rt.alloc(), directory, file_name(day).as_str()).map_err(no_memory)?;
-    Ok(NewestFile { day, path })
+    file_of(rt.alloc(), directory, day)
+}
+
+/// The newest file of a day in this directory that is earlier than this day, if there is one. Nothing is opened or made.
+///
+/// # Errors
+///
+/// `Directory` where the directory cannot be read, and `Open` for want of memory.
+pub fn file_before<R: AllocGlobal + Clone + Drop + Files<File = File>>(
+    rt: &R,
+    directory: &str,
+    day: u64,
+) -> Result<Option<DayFile>, OpenFault> {
+    let Some(last) = day.checked_sub(1) else {
+        return Ok(None);
+    };
+    match newest_day(rt, directory, last).map_err(OpenFault::Directory)? {
+        Some(day) => Ok(Some(file_of(rt.alloc(), directory, day)?)),
+        None => Ok(None),
+    }
+}
+
+/// The file of this day in this directory.
+fn file_of(alloc: Global, directory: &str, day: u64) -> Result<DayFile, OpenFault> {
+    let path = path_in(alloc, directory, file_name(day).as_str()).map_err(no_memory)?;
+    Ok(DayFile { day, path })
 }
 
 /// The newest day of which there is a file in this directory, up to `today`.

@@ -1,3 +1,4 @@
+pub mod Digits
 mod Openings
 mod RouterCalls
 mod Stations

@@ -2,6 +2,7 @@ pub mod Callers
 pub mod Calls
 pub mod Choices
 pub mod Hosts
+pub mod Marks
 pub mod Notices
 pub mod Openings
 pub mod RouterCalls

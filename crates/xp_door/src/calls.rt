@@ -26,7 +26,7 @@ const CLEAR: u8 = 0x13;
 const CLEAR_CONFIRMATION: u8 = 0x17;
 
 /// A call that a line has asked for.
-#[derive(Clone, Copy, Debug, PartialEq)]
+#[derive(Clone, Copy)]
 pub struct AskedCall {
     pub dialled: Dialled,
     /// Whether the line was told that it is connected.
@@ -34,7 +34,7 @@ pub struct AskedCall {
 }
 
 /// A call that the exchange has refused, or has cleared for a fault.
-#[derive(Clone, Copy, Debug, PartialEq)]
+#[derive(Clone, Copy)]
 pub struct ClearedCall {
     pub dialled: Dialled,
     /// Whether it was connected before. If not, it was refused.

@@ -4,7 +4,7 @@ use std::io::ErrorKind;
 use std::{fmt, io};
 
 /// Why no connection to a router could be made.
-#[derive(Clone, Copy, Debug, PartialEq)]
+#[derive(Clone, Copy)]
 pub enum ConnectFault {
     /// The router refuses connections at its port.
     Refused,

@@ -12,7 +12,7 @@ const MOST_DIGITS: u8 = 15;
 
 /// The called address of a call request: at most 15 half-octets. In a packet that the exchange takes for a call request each is a
 /// digit, 0 to 9.
-#[derive(Clone, Copy, Debug, PartialEq)]
+#[derive(Clone, Copy)]
 pub struct Dialled {
     /// As many half-octets as an address may have.
     halves: [u8; 15],

@@ -1,13 +1,10 @@
 //! The TCP port that routers connect to.
 
-ghost use Rattle.std.specs.Net.Socket.{socket_ip};
-ghost use Rattle.std.specs.Prelude.{◌≡◌, IfOk, map};
-ghost use Rattle.xp_door.specs.steps.Choices.{IsGiven, candidate_of};
-
 use crate::callers::{Callers, Heard};
-use crate::choosing::{Candidate, Choice, choose, is_router, line_for};
+use crate::choosing::Choice;
 use crate::connect_fault::ConnectFault;
 use crate::door_bell::DoorBell;
+use crate::lines_behind::{LinesBehind, lines_by_router, place_behind};
 use crate::notices::{Notice, Notices};
 use crate::refused_calls::RefusedCalls;
 use crate::router_call::RouterCall;
@@ -23,6 +20,7 @@ use std::sync::{Arc, Wait};
 use std::time::Duration;
 use xp_causes::Refusal;
 use xp_clock::uptime;
+use xp_subs::MOST_LINES;
 
 /// How many connections are taken at most before the lines are looked at again.
 const MOST_TAKEN: usize = 16;
@@ -44,8 +42,10 @@ pub struct Door {
     events: Events,
     /// The lines behind routers, in line order.
     lines: Vec<Arc<RouterLine>>,
-    /// The same lines as they were last looked at.
-    candidates: Vec<Candidate>,
+    /// The same lines, by their routers.
+    routers: Vec<LinesBehind>,
+    /// Room for the numbers of the lines for which the bell was rung.
+    wanted: Vec<usize>,
     callers: Callers,
     refused: RefusedCalls,
     wakers: Arc<Vec<LineWaker>>,
@@ -63,7 +63,8 @@ impl Drop for Door {
             poll: _,
             events: _,
             lines: _,
-            candidates: _,
+            routers: _,
+            wanted: _,
             callers: _,
             refused: _,
             wakers: _,
@@ -92,7 +93,8 @@ impl Door {
         wakers: Arc<Vec<LineWaker>>,
         notices: Arc<Notices>,
     ) -> Result<Door, AllocError> {
-        let candidates = candidates_of(alloc, &lines)?;
+        let wanted = Vec::with_capacity(alloc, MOST_LINES)?;
+        let routers = lines_by_router(alloc, &lines)?;
         let DoorSockets {
             listener,
             poll,
@@ -106,7 +108,8 @@ impl Door {
             poll,
             events,
             lines,
-            candidates,
+            routers,
+            wanted,
             callers: Callers::new(alloc),
             refused: RefusedCalls::new(alloc),
             wakers,
@@ -149,11 +152,25 @@ impl Door {
         if !self.bell.take_ring() {
             return;
         }
-        for place in 0..self.lines.len() {
-            if let Some(back) = self.begin_for(rt, place) {
+        if self.bell.take_wanted(&mut self.wanted).is_err() {
+            // The bell stays rung for the lines that were not taken.
+            self.bell.ring();
+        }
+        for index in 0..self.wanted.len() {
+            if let Some(back) = self.begin_next(rt, index) {
                 self.receive(back);
             }
         }
+    }
+
+    /// Begins the connection of the line that stands in this place among those for which the bell was rung.
+    fn begin_next<R: Net>(&self, rt: &R, index: usize) -> Option<Arrival> {
+        let number = *self.wanted.get(index)?;
+        let place = self
+            .lines
+            .binary_search_by_key(&number, |line| usize::from(line.line))
+            .ok()?;
+        self.begin_for(rt, place)
     }
 
     /// Begins the connection that a line waits for, if it does. The connection comes back that the line was given before.
@@ -163,7 +180,7 @@ impl Door {
             Some(true) => {}
             Some(false) => return None,
             None => {
-                self.bell.ring();
+                self.bell.ring_for(line.line);
                 return None;
             }
         }
@@ -171,7 +188,7 @@ impl Door {
         let back = line.begin(begun.map_err(|error| ConnectFault::of(&error)));
         self.wake(line);
         if line.is_wanted() != Some(false) {
-            self.bell.ring();
+            self.bell.ring_for(line.line);
         }
         back
     }
@@ -202,7 +219,7 @@ impl Door {
     /// Lets a connection that came wait for its first frame. Where it comes from no router, or too many wait, it is closed.
     fn receive(&mut self, arrival: Arrival) {
         let peer = arrival.peer;
-        if !is_router(peer.ip(), self.candidates.as_slice()) {
+        if place_behind(peer.ip(), &self.routers).is_none() {
             self.notices.tell(Notice::NoRouter { peer });
             return;
         }
@@ -238,8 +255,7 @@ impl Door {
             let Some(arrival) = left else {
                 return;
             };
-            self.look();
-            choice = self.choice_of(&arrival, &call);
+            choice = self.choose_for(&arrival, &call);
             left = Some(arrival);
             match choice {
                 Choice::Line(place) => left = self.hand(place, left),
@@ -251,17 +267,17 @@ impl Door {
         }
     }
 
-    /// Which line takes a connection.
-    fn choice_of(&self, arrival: &Arrival, call: &Option<RouterCall>) -> Choice
-        ensures { IsGiven (socket_ip arrival.now.peer) call.now self.now.candidates.items result }
-    {
-        let candidates = self.candidates.as_slice();
-        match call {
-            Some(call) => choose(call, candidates),
-            None => match line_for(arrival.peer.ip(), candidates) {
-                Some(place) => Choice::Line(place),
-                None => Choice::NoFreeLine,
-            },
+    /// Looks which line behind its router takes a connection.
+    fn choose_for(&mut self, arrival: &Arrival, call: &Option<RouterCall>) -> Choice {
+        let Some(place) = place_behind(arrival.peer.ip(), &self.routers) else {
+            return Choice::NoCaller;
+        };
+        match self.routers.get_mut(place) {
+            Some(behind) => {
+                behind.look();
+                behind.choice_of(arrival, call)
+            }
+            None => Choice::NoCaller,
         }
     }
 
@@ -282,22 +298,17 @@ impl Door {
         }
     }
 
-    /// Hands a connection to a line. It comes back where the line can't take it.
+    /// Hands a connection to the line in this place of those behind its router. It comes back where the line can't take it.
     fn hand(&self, place: usize, arrival: Option<Arrival>) -> Option<Arrival> {
-        let line = self.lines.get(place)?;
-        match line.hand(arrival?) {
+        let arrival = arrival?;
+        let behind = place_behind(arrival.peer.ip(), &self.routers)?;
+        let line = self.routers.get(behind)?.line(place)?;
+        match line.hand(arrival) {
             Ok(()) => {
                 self.wake(line);
                 None
             }
             Err(back) => Some(back),
-        }
-    }
-
-    /// Looks which lines are free.
-    fn look(&mut self) {
-        for (candidate, line) in self.candidates.iter_mut().zip(self.lines.iter()) {
-            candidate.is_free = line.is_free();
         }
     }
 
@@ -321,19 +332,4 @@ impl Door {
             Notice::DoorWorks
         });
     }
-}
-
-/// The lines as a connection's choice sees them, none of them free before they are looked at.
-fn candidates_of(alloc: Global, lines: &Vec<Arc<RouterLine>>) -> Result<Vec<Candidate>, AllocError>
-    ensures { IfOk result (λ candidates. candidates.items ≡ map (λ line. candidate_of line.value) lines.now.items) }
-{
-    let mut candidates = Vec::with_capacity(alloc, lines.len())?;
-    for line in lines {
-        candidates.push(Candidate {
-            router: line.router.ip(),
-            caller: line.caller.copy(),
-            is_free: false,
-        })?;
-    }
-    Ok(candidates)
 }

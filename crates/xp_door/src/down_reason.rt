@@ -7,7 +7,7 @@ use std::io::ErrorKind;
 use std::{fmt, io};
 
 /// Why a line has lost its connection, or has closed it.
-#[derive(Clone, Copy, Debug, PartialEq)]
+#[derive(Clone, Copy)]
 pub enum DownReason {
     /// The peer has closed the connection.
     Closed,

@@ -25,7 +25,7 @@ use xp_subs::LineNo;
 const MOST_WAITING: usize = 1_024;
 
 /// What has become of a line's connections.
-#[derive(Clone, Copy, Debug, PartialEq)]
+#[derive(Clone, Copy)]
 pub enum Notice {
     /// A connection from an address that is not admitted was closed.
     Refused { line: LineNo, peer: SocketAddr },

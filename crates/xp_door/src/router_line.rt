@@ -141,7 +141,7 @@ impl RouterLine {
         *stage = Stage::Wanted(back);
         drop(stage);
         if let Some(bell) = &self.bell {
-            bell.ring();
+            bell.ring_for(self.line);
         }
         true
     }

@@ -1,5 +1,6 @@
 //! How the thread that serves a line is woken by others.
 
+use crate::marks::Marks;
 use mio::Waker;
 use std::sync::Arc;
 use std::sync::atomic::AtomicBool;
@@ -12,14 +13,23 @@ pub struct ThreadWaker {
     waker: Waker,
     /// The thread is asleep, or about to be, and no one has woken it.
     asleep: AtomicBool,
+    /// The places, among its lines, of those that may have something to do.
+    due: Marks,
 }
 
 impl ThreadWaker {
-    pub fn new(waker: Waker) -> ThreadWaker {
+    /// The waker of a thread whose lines have these marks.
+    pub fn new(waker: Waker, due: Marks) -> ThreadWaker {
         ThreadWaker {
             waker,
             asleep: AtomicBool::new(false),
+            due,
         }
+    }
+
+    /// The places, among its lines, of those that may have something to do. The thread takes them as a round begins.
+    pub fn due(&self) -> &Marks {
+        &self.due
     }
 
     /// Wakes the thread where it sleeps, or is about to.
@@ -46,6 +56,8 @@ impl ThreadWaker {
 #[derive(Drop)]
 pub struct LineWaker {
     thread: Arc<ThreadWaker>,
+    /// The line's place among those of the thread.
+    place: usize,
     /// The line has something to do that its thread may not have seen.
     has_work: AtomicBool,
     /// The last turn of the line had something to do, or it has had none yet.
@@ -57,10 +69,12 @@ pub struct LineWaker {
 }
 
 impl LineWaker {
-    /// The waker of a line that this thread serves. Its first turn is due.
-    pub fn new(thread: Arc<ThreadWaker>) -> LineWaker {
+    /// The waker of the line in this place of this thread. Its first turn is due.
+    pub fn new(thread: Arc<ThreadWaker>, place: usize) -> LineWaker {
+        thread.due.mark(place);
         LineWaker {
             thread,
+            place,
             has_work: AtomicBool::new(false),
             busy: AtomicBool::new(true),
             emptied: AtomicBool::new(false),
@@ -74,6 +88,7 @@ impl LineWaker {
     /// has written.
     pub fn mark_work(&self) {
         self.has_work.store(true, SeqCst);
+        self.thread.due.mark(self.place);
     }
 
     /// Wakes the line's thread where it sleeps, or is about to.

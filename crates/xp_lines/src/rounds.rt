@@ -74,45 +74,83 @@ fn have_rounds<N: Name, P: Port, C: Clock, G: Gate, T: Poller, R: Wait>(
 )
     ensures { lines.new.items ≡ lines.old.items }
 {
+    let mut open = lines.len();
     for _round in 0..rounds {
-        if signals.is_stopping() {
+        if open == 0 || signals.is_stopping() {
             return;
         }
-        let Some(patience) = have_round(rt, alloc, exchange, lines, signals, records) else {
-            return;
-        };
-        poller.poll(patience);
+        let round = have_round(rt, alloc, exchange, lines, poller, signals, records);
+        open = open.saturating_sub(round.ended);
+        if open > 0 {
+            poller.poll(round.patience());
+        }
     }
 }
 
-/// A turn of each line that is due. Returns for how long the thread may wait before the next round, if any line goes on.
-fn have_round<N: Name, P: Port, C: Clock, G: Gate, R: Wait>(
+/// What a round came to.
+#[derive(Clone, Copy)]
+struct Round {
+    /// How many lines have ended in it.
+    ended: usize,
+    /// Whether a line has a turn to make up.
+    is_held: bool,
+}
+
+impl Round {
+    /// For how long the thread may wait before the next round.
+    fn patience(self) -> Patience {
+        if self.is_held {
+            Patience::Short
+        } else {
+            Patience::Long
+        }
+    }
+}
+
+/// A turn of each line that is due.
+fn have_round<N: Name, P: Port, C: Clock, G: Gate, T: Poller, R: Wait>(
     rt: &R,
     alloc: Global,
     exchange: &Exchange<N>,
     lines: &mut Vec<ServedLine<N, P, C, G>>,
+    poller: &mut T,
     signals: &Signals,
     records: u64,
-) -> Option<Patience>
+) -> Round
     ensures { lines.new.items ≡ lines.old.items }
 {
-    let mut goes_on = false;
+    let mut ended: usize = 0;
     let mut is_held = false;
-    for line in lines.iter_mut() {
-        line.have_turn(rt, alloc, exchange, signals, records);
-        goes_on |= line.is_open();
-        is_held |= line.is_held();
+    for _line in 0..lines.len() {
+        let Some(place) = poller.next_due() else {
+            return Round { ended, is_held };
+        };
+        if let Some(line) = lines.get_mut(place) {
+            let has_ended = have_turn(rt, alloc, exchange, line, signals, records);
+            ended = ended.saturating_add(usize::from(has_ended));
+            if line.is_held() {
+                poller.hold(place);
+                is_held = true;
+            }
+        }
     }
-    patience_of(goes_on, is_held)
+    Round { ended, is_held }
 }
 
-/// For how long a thread may wait, by whether a line of it goes on, and whether one has a turn to make up.
-fn patience_of(goes_on: bool, is_held: bool) -> Option<Patience> {
-    match (goes_on, is_held) {
-        (false, _) => None,
-        (true, false) => Some(Patience::Long),
-        (true, true) => Some(Patience::Short),
-    }
+/// A turn of a line. Returns whether it has ended in it.
+fn have_turn<N: Name, P: Port, C: Clock, G: Gate, R: Wait>(
+    rt: &R,
+    alloc: Global,
+    exchange: &Exchange<N>,
+    line: &mut ServedLine<N, P, C, G>,
+    signals: &Signals,
+    records: u64,
+) -> bool
+    ensures { line.new ≡ line.old }
+{
+    let was_open = line.is_open();
+    line.have_turn(rt, alloc, exchange, signals, records);
+    was_open && !line.is_open()
 }
 
 /// Stops each line. Where an allocation fails for the Down of one, it is tried again after a moment.

@@ -111,8 +111,15 @@ pub trait Poller: Drop {
     /// How many lines the thread serves at most.
     fn lines(&self) -> usize;
 
-    /// Looks at what has come to the lines. Where no line is due it waits for that, or for another thread, as long as `patience`
-    /// lets it.
+    /// The place, among the lines of the thread, of the next line that may have something to do in this round. Each place comes once
+    /// in a round at most. `None` where no other line is due in it.
+    fn next_due(&mut self) -> Option<usize>;
+
+    /// Notes that the line in this place has a turn to make up: it is due in the next round too.
+    fn hold(&mut self, place: usize);
+
+    /// Ends a round. Looks at what has come to the lines. Where no line is due it waits for that, or for another thread, as long as
+    /// `patience` lets it.
     fn poll(&mut self, patience: Patience);
 
     /// Waits for a moment, while the lines of the thread end.

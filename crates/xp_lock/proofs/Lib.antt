@@ -5,6 +5,7 @@ pub mod Forcing
 pub mod Fresh
 pub mod GivenLines
 pub mod Histories
+pub mod InPlace
 pub mod Known
 pub mod Lowest
 pub mod Opened

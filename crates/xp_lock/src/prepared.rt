@@ -29,6 +29,7 @@ pub struct PreparedExchange<A: Allocator = Global> {
 
 impl<A: Allocator> Model for PreparedExchange<A> {
     ghost use Rattle.std.specs.Prelude.{◌≡◌, ◌≤◌, [], All, length, map, replicate};
+    ghost use Rattle.xp_subs.specs.Bounds.{most_lines};
     ghost use Rattle.xp_subs.specs.Tables.{line_count};
     ghost use Rattle.xp_lock.specs.Opening.{Prepared};
 
@@ -40,7 +41,7 @@ impl<A: Allocator> Model for PreparedExchange<A> {
 
     ghost view = { λ b. record { subs = b.core.subs; history_length = b.history_length; queues = map (λ box. box.queue) b.outboxes.items } };
 
-    ghost invariant = { λ b. (b.core.history ≡ []) × (b.core.given ≡ []) × (b.history_seat ≡ record { history_length = b.history_length; knows = keeping 0 [] [] }) × (b.recorder_seat ≡ record { history_length = b.history_length; knows = recording [] }) × OutboxesMatch b.core.subs [] b.outboxes.items × (map (λ end. end.queue) b.ends.items ≡ map (λ box. box.queue) b.outboxes.items) × All IsUnused b.ends.items × (b.lines ≡ line_count b.core.subs) × (line_count b.core.subs ≤ 512) × (length b.ends.items ≡ line_count b.core.subs) × (b.taken.items ≡ replicate (line_count b.core.subs) 0) };
+    ghost invariant = { λ b. (b.core.history ≡ []) × (b.core.given ≡ []) × (b.history_seat ≡ record { history_length = b.history_length; knows = keeping 0 [] [] }) × (b.recorder_seat ≡ record { history_length = b.history_length; knows = recording [] }) × OutboxesMatch b.core.subs [] b.outboxes.items × (map (λ end. end.queue) b.ends.items ≡ map (λ box. box.queue) b.outboxes.items) × All IsUnused b.ends.items × (b.lines ≡ line_count b.core.subs) × (line_count b.core.subs ≤ most_lines) × (length b.ends.items ≡ line_count b.core.subs) × (b.taken.items ≡ replicate (line_count b.core.subs) 0) };
 }
 
 /// Makes the parts of an exchange of these subscriptions: an exchange with an empty history, and an empty outbox with 64

@@ -1,6 +1,7 @@
 //! How an exchange is started.
 
 ghost use Rattle.std.specs.Prelude.{◌≡◌, ◌≤◌, [], All, IfOk, OnOk, length, map};
+ghost use Rattle.xp_subs.specs.Bounds.{most_lines};
 ghost use Rattle.xp_subs.specs.Tables.{line_count};
 ghost use Rattle.xp_lock.specs.Opening.{AreFirst};
 ghost use Rattle.xp_lock.specs.steps.Opening.{IsUnused};
@@ -69,7 +70,7 @@ fn first_passes<N: Name, A: Allocator>(
     requires queues { map (λ end. end.queue) ends.items ≡ N.queues }
     requires unused { All IsUnused ends.items }
     requires count { length ends.items ≡ line_count N.subs }
-    requires few { line_count N.subs ≤ 512 }
+    requires few { line_count N.subs ≤ most_lines }
     ensures keeper { OnOk result (keeper.new ≡ record { history_length = N.history_length; knows = keeping (line_count N.subs) [] [] }) }
     ensures passes { IfOk result (λ passes. AreFirst (line_count N.subs) passes.items) }
 {

@@ -16,7 +16,7 @@ pub(crate) fn live_calls(
 ) -> Result<Vec<LiveCall>, AllocError> {
     let mut calls = Vec::new(alloc);
     for (line, seen) in view.lines.iter().enumerate() {
-        if let Some(call) = seen.call {
+        if let Some(call) = &seen.call {
             // A call is seen at both of its lines.
             if usize::from(call.caller) == line {
                 calls.push(live_call(alloc, lines, call, now)?)?;
@@ -30,7 +30,7 @@ pub(crate) fn live_calls(
 fn live_call(
     alloc: Global,
     lines: &[NamedLine],
-    call: CallView,
+    call: &CallView,
     now: u64,
 ) -> Result<LiveCall, AllocError> {
     Ok(LiveCall {

@@ -11,4 +11,5 @@ mod routers;
 mod stations;
 
 pub use board::{BoardName, BoardSource, StatusBoard};
+pub use notes::RunBegin;
 pub use observer::{Observer, Traffic};

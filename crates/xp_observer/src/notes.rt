@@ -14,6 +14,15 @@ use xp_view::ExchangeView;
 /// How many records of ended calls are kept.
 const MOST_RECORDS: usize = 100;
 
+/// How a run of the exchange begins.
+#[derive(Clone, Copy, Default, PartialEq, Eq)]
+pub struct RunBegin {
+    /// The moment at which the exchange begins to serve, in seconds since 1970.
+    pub started: u64,
+    /// How many calls of the run before got a partial record.
+    pub partial_records: u64,
+}
+
 /// The peers and the routers of the lines, the last records, and sums over all of them.
 #[derive(Drop)]
 pub(crate) struct Notes {
@@ -30,12 +39,14 @@ pub(crate) struct Notes {
     /// The segments from the callers of the calls that have ended, and from the called lines.
     pub(crate) from_callers: u64,
     pub(crate) from_called: u64,
+    /// How many calls of the run before got a partial record.
+    pub(crate) partial_records: u64,
 }
 
 impl Notes {
-    /// No notes yet of the lines of these subscriptions.
-    pub(crate) fn new(alloc: Global, subs: &Subs, started: u64) -> Result<Notes, AllocError> {
-        let lines = notes_of_lines(alloc, subs.counts().lines, started)?;
+    /// No notes yet of the lines of these subscriptions, where a run begins so.
+    pub(crate) fn new(alloc: Global, subs: &Subs, begin: RunBegin) -> Result<Notes, AllocError> {
+        let lines = notes_of_lines(alloc, subs.counts().lines, begin.started)?;
         let routers = Routers::new(alloc, subs)?;
         let stations = Stations::new(alloc, subs)?;
         let records = VecDeque::with_capacity(alloc, MOST_RECORDS)?;
@@ -49,6 +60,7 @@ impl Notes {
             router_refusals: RefusedCalls::default(),
             from_callers: 0,
             from_called: 0,
+            partial_records: begin.partial_records,
         })
     }
 

@@ -7,7 +7,7 @@ ghost use Rattle.xp_observer.specs.steps.Shown.{names_in};
 use crate::calls::live_calls;
 use crate::ended::ended_call;
 use crate::lines::NamedLine;
-use crate::notes::Notes;
+use crate::notes::{Notes, RunBegin};
 use std::alloc::{AllocError, Global};
 use std::marker::{Model, PhantomData};
 use std::net::SocketAddr;
@@ -48,18 +48,18 @@ impl<N: ShownExchange> Model for Observer<N> {
 }
 
 impl<N: ShownExchange> Observer<N> {
-    /// The observer of an exchange of these subscriptions, which began to serve at this moment, in seconds since 1970.
+    /// The observer of an exchange of these subscriptions, whose run begins so.
     ///
     /// # Errors
     ///
     /// `AllocError` if an allocation fails.
-    pub fn new(alloc: Global, subs: &Subs, started: u64) -> Result<Observer<N>, AllocError>
+    pub fn new(alloc: Global, subs: &Subs, begin: RunBegin) -> Result<Observer<N>, AllocError>
         requires { N.tables ≡ subs.now }
     {
         let lines = named_lines(alloc, subs)?;
-        let notes = Notes::new(alloc, subs, started)?;
+        let notes = Notes::new(alloc, subs, begin)?;
         Ok(Observer {
-            started,
+            started: begin.started,
             lines,
             notes,
             exchange: PhantomData,
@@ -209,6 +209,7 @@ fn totals_of(
         events: view.entries,
         stalls: view.stalls,
         records_waiting: waiting as u64,
+        partial_records: notes.partial_records,
         octets_received: traffic.received,
         octets_sent: traffic.sent,
     }

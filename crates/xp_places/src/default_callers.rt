@@ -1,10 +1,12 @@
 //! Two stations that are default callers of one router.
 
-use crate::alone::{array, is_refused};
+use crate::alone::array;
 use crate::place::Place;
+use indexmap::IndexMap;
 use std::alloc::{AllocError, Global};
 use toml::{Table, Value};
 use xp_file::{Key, SubscriptionFault};
+use xp_subs::{Access, RouterAddress, Subs};
 
 /// A station with `default_caller`, and where it stands.
 #[derive(Clone, Copy)]
@@ -13,19 +15,92 @@ struct Caller<'a> {
     station: &'a Value,
 }
 
-/// The first station, in the order of the file, that is a default caller of one router with a station before it, behind that one: they
-/// are refused for it where they stand alone in a file. `None` where there is none.
+/// The first station, in the order of the file, that is a default caller of one router with a station before it, behind that one. `None`
+/// where there is none.
 pub(crate) fn rivals<'a>(
     alloc: Global,
     file: &'a Table,
 ) -> Result<Option<(Place<'a>, Place<'a>)>, AllocError> {
     let callers = callers(alloc, file)?;
-    for later in 1..callers.len() {
-        if let Some(earlier) = rival_of(alloc, callers[later], &callers[..later])? {
-            return Ok(Some((earlier, callers[later].place)));
+    let mut behind: IndexMap<String, usize> = IndexMap::new(alloc);
+    for (number, caller) in callers.iter().enumerate() {
+        let routers = routers_of(alloc, caller.station)?;
+        if let Some(rival) = first_behind(&behind, &routers).and_then(|first| callers.get(first)) {
+            return Ok(Some((rival.place, caller.place)));
         }
+        add_behind(alloc, &mut behind, &routers, number)?;
     }
     Ok(None)
+}
+
+/// The number of the first default caller that is behind one of these routers.
+fn first_behind(behind: &IndexMap<String, usize>, routers: &[RouterAddress]) -> Option<usize> {
+    let mut first = None;
+    for router in routers {
+        match (first, behind.get(router.address())) {
+            (Some(number), Some(other)) if number <= *other => {}
+            (_, Some(other)) => first = Some(*other),
+            (_, None) => {}
+        }
+    }
+    first
+}
+
+/// Notes that the default caller of this number is behind these routers.
+fn add_behind(
+    alloc: Global,
+    behind: &mut IndexMap<String, usize>,
+    routers: &[RouterAddress],
+    number: usize,
+) -> Result<(), AllocError> {
+    for router in routers {
+        let address = router.address().to_string(alloc)?;
+        behind.insert(address, number).map_err(|_| AllocError)?;
+    }
+    Ok(())
+}
+
+/// The routers of the lines of a station.
+fn routers_of(alloc: Global, station: &Value) -> Result<Vec<RouterAddress>, AllocError> {
+    let mut routers = Vec::new(alloc);
+    let Some(station) = station.as_table() else {
+        return Ok(routers);
+    };
+    for line in array(station, "line") {
+        if let Some(router) = router_of(alloc, line)? {
+            routers.push(router)?;
+        }
+    }
+    Ok(routers)
+}
+
+/// The router of a line, if it is behind one, as that of a line alone in a file: what else is wrong with the station is told later.
+fn router_of(alloc: Global, line: &Value) -> Result<Option<RouterAddress>, AllocError> {
+    let Some(value) = line
+        .as_table()
+        .and_then(|line| line.get(Key::Router.name()))
+    else {
+        return Ok(None);
+    };
+    let text = format!(in alloc;
+        r#"station = [{{ address = "1", line = [{{ name = "x", router = {value} }}] }}]"#
+    )?;
+    match Subs::read(alloc, &text) {
+        Ok(subs) => Ok(first_router(&subs)),
+        Err(SubscriptionFault::Memory) => Err(AllocError),
+        Err(_) => Ok(None),
+    }
+}
+
+/// The router of the first line, if that is behind one.
+fn first_router(subs: &Subs) -> Option<RouterAddress> {
+    if subs.counts().lines == 0 {
+        return None;
+    }
+    match subs.access_of(0) {
+        Access::Router(router) => Some(router.copy()),
+        Access::Port(_) => None,
+    }
 }
 
 /// The stations with `default_caller = true`, in order.
@@ -44,21 +119,4 @@ fn default_caller(number: usize, station: &Value) -> Option<Place<'_>> {
     let place = Place::Station(number, station.as_table()?);
     let is_default = place.value(Key::DefaultCaller.name())?.as_bool()?;
     is_default.then_some(place)
-}
-
-/// The first of the earlier stations that is a default caller of a router of this one.
-fn rival_of<'a>(
-    alloc: Global,
-    caller: Caller<'a>,
-    earlier: &[Caller<'a>],
-) -> Result<Option<Place<'a>>, AllocError> {
-    let second = caller.station;
-    for rival in earlier {
-        let first = rival.station;
-        let fault = SubscriptionFault::TwiceUsed(Key::DefaultCaller);
-        if is_refused(alloc, format_args!("station = [{first}, {second}]"), fault)? {
-            return Ok(Some(rival.place));
-        }
-    }
-    Ok(None)
 }

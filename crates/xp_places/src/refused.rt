@@ -11,6 +11,7 @@ use std::alloc::{AllocError, Global};
 use std::fmt::Write;
 use toml::{Table, Value};
 use xp_file::{Key, SubscriptionFault};
+use xp_subs::{MOST_GROUPS_OF_STATION, MOST_LINES, MOST_LINES_OF_STATION, MOST_STATIONS};
 
 /// Where the text of a subscription file has this fault, and what is wanted there, as one line without its end:
 /// `at station 2 (address 2080020), line 1 (name b1), in line 7 of the file: a number from 1 to 65535 is wanted, found "x"`. The line of
@@ -145,10 +146,10 @@ fn push_unknown(told: &mut String, place: Place<'_>) -> Result<(), AllocError> {
 
 fn push_limit(told: &mut String, place: Place<'_>, key: Key) -> Result<(), AllocError> {
     let most = match (key, place) {
-        (Key::Station, _) => 256,
-        (Key::Line, Place::Top(_)) => 512,
-        (Key::Line, _) => 32,
-        _ => 64,
+        (Key::Station, _) => MOST_STATIONS,
+        (Key::Line, Place::Top(_)) => MOST_LINES,
+        (Key::Line, _) => MOST_LINES_OF_STATION,
+        _ => MOST_GROUPS_OF_STATION,
     };
     let found = array(place.table(), key.name()).len();
     write!(told, "at {place}: at most {most} of `{key}`")?;

@@ -2,6 +2,7 @@
 
 use crate::alone::array;
 use crate::place::Place;
+use indexmap::IndexMap;
 use std::alloc::{AllocError, Global};
 use toml::{Table, Value};
 use xp_file::Key;
@@ -20,13 +21,13 @@ pub(crate) fn twice_used<'a>(
     key: Key,
 ) -> Result<Option<(Use<'a>, Use<'a>)>, AllocError> {
     let uses = uses_of(alloc, file, key)?;
-    for later in 1..uses.len() {
-        if let Some(earlier) = uses[..later]
-            .iter()
-            .find(|it| it.value == uses[later].value)
-        {
-            return Ok(Some((*earlier, uses[later])));
+    let mut places: IndexMap<String, usize> = IndexMap::new(alloc);
+    for (place, later) in uses.iter().enumerate() {
+        let text = later.value.to_string(alloc)?;
+        if let Some(earlier) = places.get(&text).and_then(|first| uses.get(*first)) {
+            return Ok(Some((*earlier, *later)));
         }
+        places.insert(text, place).map_err(|_| AllocError)?;
     }
     Ok(None)
 }

@@ -2,7 +2,7 @@
 
 ghost use Rattle.std.specs.Prelude.{◌≡◌};
 ghost use Rattle.xp_readiness.specs.Failures.{status_of};
-ghost use Rattle.xp_readiness.specs.declared.failure.Failure.TheVariants.{Cdr as OfDetails, Command as OfCommand, Console as OfConsole, Serve as OfServing};
+ghost use Rattle.xp_readiness.specs.declared.failure.Failure.TheVariants.{Cdr as OfDetails, Command as OfCommand, Console as OfConsole, Live as OfLive, Serve as OfServing};
 ghost use Rattle.xp_commands.specs.declared.failure.CommandFailure.TheVariants.{Task as OfTask};
 ghost use Rattle.xp_tasks.specs.declared.failure.TaskFailure.TheVariants.{Memory as OutOfMemory};
 
@@ -13,6 +13,7 @@ use xp_cdr::OpenFault;
 use xp_commands::CommandFailure;
 use xp_console::ConsoleFault;
 use xp_listening::ServeFailure;
+use xp_live::LiveFault;
 use xp_tasks::TaskFailure;
 use xp_tracing::TraceFileFault;
 
@@ -25,6 +26,9 @@ pub enum Failure {
     /// The file of call detail records was not opened.
     #[error("xp: cdr: {0}")]
     Cdr(OpenFault),
+    /// The file of live calls was not opened, or calls of the run before got no record from it.
+    #[error("xp: live: {0}")]
+    Live(LiveFault),
     /// The file of the trace can't be opened.
     #[error("xp: trace: {0}")]
     Trace(TraceFileFault),
@@ -43,13 +47,18 @@ pub enum Failure {
 }
 
 impl Failure {
-    /// The exit status: 5 for the file of call detail records, for a trace and for a console, else that of the command or of serving.
+    /// The exit status: 5 for the file of call detail records, for that of live calls, for a trace and for a console, else that of the
+    /// command or of serving.
     pub fn status(&self) -> u8
         ensures { result ≡ status_of self.now }
     {
         match self {
             Failure::Command(failure) => failure.status(),
-            Failure::Cdr(_) | Failure::Trace(_) | Failure::TraceLines(_) | Failure::Console(_) => 5,
+            Failure::Cdr(_)
+            | Failure::Live(_)
+            | Failure::Trace(_)
+            | Failure::TraceLines(_)
+            | Failure::Console(_) => 5,
             Failure::Serve(failure) | Failure::Explained(failure, _) => failure.status(),
         }
     }
@@ -59,6 +68,7 @@ impl Failure {
         match self {
             Failure::Command(failure) => failure.tell(rt),
             Failure::Cdr(_)
+            | Failure::Live(_)
             | Failure::Trace(_)
             | Failure::TraceLines(_)
             | Failure::Console(_)
@@ -113,5 +123,13 @@ impl From<OpenFault> for Failure {
 
     fn from(told: OpenFault) -> Failure {
         Failure::Cdr(told)
+    }
+}
+
+impl From<LiveFault> for Failure {
+    ghost from_gives = { λ told failure. failure ≡ OfLive told };
+
+    fn from(told: LiveFault) -> Failure {
+        Failure::Live(told)
     }
 }

@@ -24,10 +24,11 @@ pub trait Watch: Drop {
     // The subscriptions of the exchange that it sees.
     ghost tables: { Tables };
 
-    /// Looks once, and does not wait. It is called at least ten times a second.
-    fn look(&mut self) -> Received;
+    /// Looks once, and does not wait, where so many records wait to be kept. It is called at least ten times a second, but not any
+    /// more once the keeper of the records asks for a stop.
+    fn look(&mut self, waiting: usize) -> Received;
 
-    /// Takes note of the records of calls that have ended.
+    /// Takes note of the records of calls that have ended, before they are given to the keeper.
     fn note_ended(&mut self, records: &[Record]);
 
     /// Whether it wants to see the exchange now.
@@ -37,8 +38,8 @@ pub trait Watch: Drop {
     fn see(&mut self, view: &ExchangeView, waiting: usize)
         requires seen { IsSeenOf tables view.now };
 
-    /// Looks for the last time: all lines have ended.
-    fn end(&mut self);
+    /// Looks for the last time: all lines have ended, and all records are kept, or not.
+    fn end(&mut self, is_kept: bool);
 }
 
 /// A keeper of charging records, and what is looked at beside it.
@@ -81,7 +82,7 @@ impl<K: RecordKeeper, W: Watch> RecordSink for Attending<K, W> {
     fn tick(&mut self) -> Received {
         match self.keeper.tick() {
             Received::GoesOn => {
-                let received = self.watch.look();
+                let received = self.watch.look(self.keeper.waiting());
                 self.pass_on(received)
             }
             Received::Stops => self.pass_on(Received::Stops),
@@ -123,8 +124,9 @@ impl<K: RecordKeeper, W: Watch> RecordKeeper for Attending<K, W> {
     }
 
     fn finish(&mut self, rest: &[Record]) -> Result<(), KeepFault> {
+        self.watch.note_ended(rest);
         let kept = self.keeper.finish(rest);
-        self.watch.end();
+        self.watch.end(kept.is_ok());
         kept
     }
 }

@@ -2,6 +2,7 @@
 
 ghost use Rattle.std.specs.Prelude.{◌≡◌, ◌+◌, ◌≤◌, ◌<◌, [], length, map, vec_capacity, vec_len};
 ghost use Rattle.xp_serve.specs.Ends.{failure_of, early_end_cause, first_early_end};
+ghost use Rattle.xp_subs.specs.Bounds.{most_lines};
 ghost use Rattle.xp_subs.specs.Tables.{line_count};
 
 use xp_lines::{EndReason, LineEnd};
@@ -57,7 +58,7 @@ fn cause_of(why: EndReason) -> Option<EarlyEndCause>
 
 /// The lowest line that ended before its time, where these are the ends of all lines in order.
 pub(crate) fn first_early_end(end_reasons: &[EndReason]) -> Option<EarlyEnd>
-    requires { length end_reasons.now ≤ 512 }
+    requires { length end_reasons.now ≤ most_lines }
     ensures { result ≡ first_early_end 0 end_reasons.now }
 {
     for (line, why) in end_reasons.iter().enumerate() {

@@ -6,6 +6,7 @@ ghost use Rattle.xp_serve.specs.Served.{IsServed};
 ghost use Rattle.xp_serve.specs.Serving.{Serves, Tells};
 ghost use Rattle.xp_listening.specs.declared.failure.ServeFailure.TheVariants.{Host as NoHost};
 ghost use Rattle.xp_serve.specs.steps.Serving.{AreReady, WereServed, WereStopped};
+ghost use Rattle.xp_subs.specs.Bounds.{most_lines};
 ghost use Rattle.xp_subs.specs.Tables.{line_count};
 
 use crate::beside_door::serve_with_door;
@@ -162,7 +163,7 @@ pub fn serve_on<
     ensures keeps { IfOk result (λ recorded. S.keeps sink recorded.sink) }
     ensures err { IfErr result (λ fault. fault.sink ≡ sink) }
 {
-    // There are at most 512 lines.
+    // There are no more lines than an exchange may have.
     let _counts = subs.counts();
     match prepare(alloc, subs) {
         Ok(prepared) => serve_named::<Brand, R, S>(rt, alloc, prepared, sockets, limits, sink),
@@ -187,7 +188,7 @@ fn serve_named<
     requires history_length { N.history_length ≡ prepared.history_length }
     requires queues { N.queues ≡ prepared.queues }
     requires sockets { length sockets ≡ line_count prepared.subs }
-    requires few { line_count prepared.subs ≤ 512 }
+    requires few { line_count prepared.subs ≤ most_lines }
     requires lines { S.lines sink ≡ line_count prepared.subs }
     requires tables { S.tables sink ≡ prepared.subs }
     requires received { S.received sink ≡ [] }
@@ -226,7 +227,7 @@ fn close<N: Name, S: RecordSink, R: Wait>(
 ) -> Recorded<S>
     requires served { WereServed N.subs (map (λ end. end.pass) lines.ends.items) }
     requires stopped { WereStopped N.subs lines.ends.items }
-    requires few { line_count N.subs ≤ 512 }
+    requires few { line_count N.subs ≤ most_lines }
     requires room { (room.items ≡ []) × (line_count N.subs ≤ vec_capacity room) }
     requires room_of_reasons { (room_of_reasons.items ≡ []) × (line_count N.subs ≤ vec_capacity room_of_reasons) }
     ensures served { IsServed N.subs result.served }

@@ -24,11 +24,11 @@ impl<T: Watch, R: Wait> TracedWatch<T, R> {
 impl<T: Watch, R: Wait + Drop> Watch for TracedWatch<T, R> {
     ghost tables = { T.tables };
 
-    fn look(&mut self) -> Received {
+    fn look(&mut self, waiting: usize) -> Received {
         if let Some(trace) = &self.trace {
             trace.begin();
         }
-        self.watch.look()
+        self.watch.look(waiting)
     }
 
     fn note_ended(&mut self, records: &[Record]) {
@@ -43,11 +43,11 @@ impl<T: Watch, R: Wait + Drop> Watch for TracedWatch<T, R> {
         self.watch.see(view, waiting);
     }
 
-    fn end(&mut self) {
+    fn end(&mut self, is_kept: bool) {
         if let Some(trace) = &self.trace {
             // One that was given up leaves a front of the trace.
             let _is_written = trace.end();
         }
-        self.watch.end();
+        self.watch.end(is_kept);
     }
 }

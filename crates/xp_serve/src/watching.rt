@@ -139,7 +139,7 @@ impl<L: Log + Drop, F: ConsoleFeed> OperatorWatch<L, F> {
 impl<L: Log + Drop, F: ConsoleFeed> Watch for OperatorWatch<L, F> {
     ghost tables = { F.tables };
 
-    fn look(&mut self) -> Received {
+    fn look(&mut self, _waiting: usize) -> Received {
         let now = self.clock.now();
         self.tell_opening(now);
         self.tell_notices(now);
@@ -163,7 +163,7 @@ impl<L: Log + Drop, F: ConsoleFeed> Watch for OperatorWatch<L, F> {
         self.console.show(now, view, waiting);
     }
 
-    fn end(&mut self) {}
+    fn end(&mut self, _is_kept: bool) {}
 }
 
 /// The names of the lines, in order.

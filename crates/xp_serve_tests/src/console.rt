@@ -66,6 +66,7 @@ fn totals() -> Totals {
         events: 4_000,
         stalls: 2,
         records_waiting: 3,
+        partial_records: 5,
         octets_received: 70_000,
         octets_sent: 80_000,
     }
@@ -114,7 +115,7 @@ fn table(rt: HostRuntime) -> Result<(), Fail> {
 }
 
 const METRICS: &[u8] =
-    b"\ngonukire_stalls_total 2\n# HELP gonukire_records_waiting Records of ended calls that are not written yet.\n# TYPE gonukire_records_waiting gauge\ngonukire_records_waiting 3\n";
+    b"\ngonukire_stalls_total 2\n# HELP gonukire_records_waiting Records of ended calls that are not written yet.\n# TYPE gonukire_records_waiting gauge\ngonukire_records_waiting 3\n# HELP gonukire_partial_records Calls of the run before that got a partial record.\n# TYPE gonukire_partial_records gauge\ngonukire_partial_records 5\n";
 
 #[test]
 fn metrics(rt: HostRuntime) -> Result<(), Fail> {

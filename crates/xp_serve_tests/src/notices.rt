@@ -16,6 +16,19 @@ fn down(line: u16) -> Notice {
     }
 }
 
+/// Whether a notice is that one of a line.
+fn is_down(notice: Option<Notice>, of: u16) -> bool {
+    match notice {
+        Some(
+            Notice::Down {
+                line,
+                reason: DownReason::Closed,
+            },
+        ) => line == of,
+        _ => false,
+    }
+}
+
 /// Those for which there is no room are counted, and those that wait come in the order in which they were told.
 #[test]
 fn more_notices_than_there_is_room_for(rt: HostRuntime) -> Result<(), Fail> {
@@ -25,11 +38,11 @@ fn more_notices_than_there_is_room_for(rt: HostRuntime) -> Result<(), Fail> {
     }
     assert_eq!(rt; (notices.take_lost(), notices.take_lost()), (3, 0));
     for line in 0..ROOM {
-        assert_eq!(rt; notices.take(), Some(down(line)));
+        assert!(rt; is_down(notices.take(), line));
     }
-    assert_eq!(rt; notices.take(), None);
+    assert!(rt; notices.take().is_none());
     notices.tell(down(7));
-    assert_eq!(rt; notices.take(), Some(down(7)));
+    assert!(rt; is_down(notices.take(), 7));
     assert_eq!(rt; notices.take_lost(), 0);
     Ok(())
 }

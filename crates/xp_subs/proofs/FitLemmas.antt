@@ -8,6 +8,7 @@ use Rattle.xp_file.specs.declared.fault.SubscriptionFault.{SubscriptionFault}
 use Rattle.xp_file.specs.declared.key.Key.{Key}
 use Rattle.xp_file.specs.declared.key.Key.TheVariants as keys
 use Rattle.xp_file.specs.Entries.{StationData, IsStationEntry}
+use Rattle.xp_subs.specs.Bounds.{most_lines, most_stations}
 use Rattle.xp_subs.specs.Built.{numbers}
 use Rattle.xp_subs.specs.steps.WithinLimits.{AreWithinLimits, IsStationWithinLimits}
 use Rattle.xp_subs.specs.Passes.{station_over, first_key, first_over, over_limit, line_total}
@@ -19,12 +20,12 @@ pub fit_at : (stations : List StationData) (i : ℕ) (s : StationData) → AreWi
 fit_at stations i s fit within here = subst IsStationWithinLimits (sym here) (fit.each i s within)
 
 pub lines_at : (stations : List StationData) (i : ℕ) (s : StationData) → AreWithinLimits stations → i < length stations → s ≡ get_or stations i s
-    → line_total (take i stations) + length s.lines ≤ 512
+    → line_total (take i stations) + length s.lines ≤ most_lines
 lines_at stations i s fit within here =
     let held = sum_by_more_le (λ (station : StationData). length station.lines) stations i s within in
     let P : StationData → Type 0 = λ station. line_total (take i stations) + length station.lines ≤ line_total stations in
     let all : line_total (take i stations) + length s.lines ≤ line_total stations = subst P (sym here) held in
-    let most : line_total stations ≤ 512 = fit.lines in
+    let most : line_total stations ≤ most_lines = fit.lines in
     omega arith
 
 -- the rest of a list, from an index on
@@ -72,11 +73,11 @@ all_fit (station ∷ stations) fits even =
 -- a file within the limits, each of whose stations is one of a file
 pub fits : (stations : List StationData) → over_limit stations ≡ None → All IsStationEntry stations → AreWithinLimits stations
 fits stations within even =
-    let (few, more) = chosen_none (nat_lt 256 (length stations)) keys.Station _ within in
-    let (lines, rest) = chosen_none (nat_lt 512 (line_total stations)) keys.Line (first_over stations) more in
+    let (few, more) = chosen_none (nat_lt most_stations (length stations)) keys.Station _ within in
+    let (lines, rest) = chosen_none (nat_lt most_lines (line_total stations)) keys.Line (first_over stations) more in
     record {
-      few = ltb-false 256 (length stations) few;
-      lines = ltb-false 512 (line_total stations) lines;
+      few = ltb-false most_stations (length stations) few;
+      lines = ltb-false most_lines (line_total stations) lines;
       each = all_fit stations rest even;
     }
 

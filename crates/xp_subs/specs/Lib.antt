@@ -1,3 +1,4 @@
+pub mod Bounds
 pub mod Built
 pub mod Consistency
 pub mod DefaultCallers

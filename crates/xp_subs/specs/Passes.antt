@@ -7,6 +7,7 @@ use Rattle.xp_file.specs.declared.key.Key.{Key}
 use Rattle.xp_file.specs.declared.key.Key.TheVariants as keys
 use Rattle.xp_file.specs.Entries.{StationData}
 use Rattle.xp_file.specs.Name.{same}
+use Rattle.xp_subs.specs.Bounds.{most_lines, most_stations}
 
 -- the limits of a station: 32 lines and 64 groups
 abbrev pub station_over : StationData → Option Key
@@ -25,11 +26,11 @@ first_over (station ∷ stations) = first_key (station_over station) (first_over
 abbrev pub line_total : List StationData → ℕ
 line_total = sum_by (λ station. length station.lines)
 
--- the limits of an exchange: 256 stations, and 512 lines in all
+-- the limits of an exchange: its stations, and its lines in all
 abbrev pub over_limit : List StationData → Option Key
 over_limit stations =
-    if nat_lt 256 (length stations) then Some keys.Station
-    else (if nat_lt 512 (line_total stations) then Some keys.Line else first_over stations)
+    if nat_lt most_stations (length stations) then Some keys.Station
+    else (if nat_lt most_lines (line_total stations) then Some keys.Line else first_over stations)
 
 -- no two elements are equal
 abbrev pub all_differ : {A : Type 0} → (A → A → Bool) → List A → Bool

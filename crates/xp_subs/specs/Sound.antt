@@ -7,6 +7,7 @@ use Rattle.xp_subs.specs.declared.target.Target.{Target}
 use Rattle.xp_file.specs.Name.{is_line_name}
 use Rattle.xp_file.specs.Routers.{IsPort}
 use Rattle.xp_file.specs.Sources.{AreSources}
+use Rattle.xp_subs.specs.Bounds.{most_lines, most_stations}
 use Rattle.xp_subs.specs.Tables.{Tables, station_count, line_count, station_at, line_at, station_of, target_of, line_named_of, group_count, ports_of}
 use Rattle.xp_subs.specs.UsedValues.{Once}
 
@@ -48,10 +49,10 @@ pub record HasOwnGroups (tables : Tables) (station : Station) : Type 0 where
   pub preferential : (index : ℕ) → station.preferential ≡ Some index → Contains (indexes_of station) index
 
 pub record IsSound (tables : Tables) : Type 0 where
-  -- there is at least one line; there are at most 512 lines and 256 stations
+  -- there is at least one line, and there are no more lines and stations than an exchange may have
   pub some_line : 0 < line_count tables
-  pub few_lines : line_count tables ≤ 512
-  pub few_stations : station_count tables ≤ 256
+  pub few_lines : line_count tables ≤ most_lines
+  pub few_stations : station_count tables ≤ most_stations
   -- a line is in the list of its own station, and in no other station's list
   pub placed : (line : ℕ) → line < line_count tables → station_of tables line < station_count tables
   pub listed : (line : ℕ) → line < line_count tables → Lists tables (station_of tables line) line

@@ -1,10 +1,11 @@
 //! Builds the tables of a subscription file.
 ghost use Rattle.std.specs.Prelude.{◌≡◌, ◌≤◌, ◌<◌, ◌+◌, ◌++◌, [], All, IfOk, OnOk, length, fold};
+ghost use Rattle.xp_subs.specs.Bounds.{most_lines};
 ghost use Rattle.xp_subs.specs.Built.{numbers, line_from, lines_of, lines_from, mention, mentions, group_names, group_number, membership_from, memberships_of, station_from, stations_from};
 ghost use Rattle.xp_subs.specs.steps.Built.{IsKnown, AreKnown};
-ghost use Rattle.xp_subs.specs.steps.WithinLimits.{AreWithinLimits, IsStationWithinLimits};
+ghost use Rattle.xp_subs.specs.steps.WithinLimits.{AreWithinLimits, IsStationWithinLimits, most_groups};
 
-use crate::limits::{MAX_GROUPS_OF_STATION, MAX_LINES_OF_STATION};
+use crate::limits::{MOST_GROUPS_OF_STATION, MOST_LINES_OF_STATION};
 use crate::line::Line;
 use crate::station::{Membership, Station};
 use crate::{GroupNo, LineNo, StationNo};
@@ -20,7 +21,7 @@ pub(crate) fn group_names(
 ) -> Result<IndexSet<Name>, AllocError>
     requires { AreWithinLimits entries.now }
     ensures names { IfOk result (λ known. known.keys ≡ mentions [] entries.now) }
-    ensures few { IfOk result (λ known. length known.keys ≤ 16384) }
+    ensures few { IfOk result (λ known. length known.keys ≤ most_groups) }
 {
     let mut known = IndexSet::new(alloc);
     for entry in entries {
@@ -54,7 +55,7 @@ pub(crate) fn stations(
     known: &IndexSet<Name>,
 ) -> Result<Vec<Station>, AllocError>
     requires fit { AreWithinLimits entries.now }
-    requires known { length known.now.keys ≤ 16384 }
+    requires known { length known.now.keys ≤ most_groups }
     requires mentioned { All (AreKnown known.now.keys) entries.now }
     ensures { IfOk result (λ stations. stations.items ≡ stations_from known.now.keys 0 entries.now) }
 {
@@ -69,8 +70,8 @@ pub(crate) fn stations(
 
 fn station(entry: &StationEntry, first: LineNo, known: &IndexSet<Name>) -> Station
     requires fit { IsStationWithinLimits entry.now }
-    requires lines { first + length entry.now.lines ≤ 512 }
-    requires known { length known.now.keys ≤ 16384 }
+    requires lines { first + length entry.now.lines ≤ most_lines }
+    requires known { length known.now.keys ≤ most_groups }
     requires mentioned { AreKnown known.now.keys entry.now }
     ensures { result ≡ station_from known.now.keys first entry.now }
 {
@@ -85,9 +86,9 @@ fn station(entry: &StationEntry, first: LineNo, known: &IndexSet<Name>) -> Stati
     }
 }
 
-fn line_numbers(first: LineNo, count: usize) -> ArrayVec<LineNo, MAX_LINES_OF_STATION>
+fn line_numbers(first: LineNo, count: usize) -> ArrayVec<LineNo, MOST_LINES_OF_STATION>
     requires few { count ≤ 32 }
-    requires fits { first + count ≤ 512 }
+    requires fits { first + count ≤ most_lines }
     ensures { result.items ≡ numbers first count }
 {
     let mut numbers = ArrayVec::new();
@@ -100,9 +101,9 @@ fn line_numbers(first: LineNo, count: usize) -> ArrayVec<LineNo, MAX_LINES_OF_ST
 fn memberships(
     groups: &[GroupEntry],
     known: &IndexSet<Name>,
-) -> ArrayVec<Membership, MAX_GROUPS_OF_STATION>
+) -> ArrayVec<Membership, MOST_GROUPS_OF_STATION>
     requires few { length groups.now ≤ 64 }
-    requires known { length known.now.keys ≤ 16384 }
+    requires known { length known.now.keys ≤ most_groups }
     requires mentioned { All (IsKnown known.now.keys) groups.now }
     ensures { result.items ≡ memberships_of known.now.keys groups.now }
 {
@@ -114,7 +115,7 @@ fn memberships(
 }
 
 fn membership(group: &GroupEntry, known: &IndexSet<Name>) -> Membership
-    requires known { length known.now.keys ≤ 16384 }
+    requires known { length known.now.keys ≤ most_groups }
     requires mentioned { IsKnown known.now.keys group.now }
     ensures { result ≡ membership_from known.now.keys group.now }
 {
@@ -128,7 +129,7 @@ fn membership(group: &GroupEntry, known: &IndexSet<Name>) -> Membership
 
 /// The number of a group: the place of its name in `known`, which contains it.
 fn group_number(known: &IndexSet<Name>, name: &Name) -> GroupNo
-    requires few { length known.now.keys ≤ 16384 }
+    requires few { length known.now.keys ≤ most_groups }
     requires mentioned { group_number known.now.keys name.now < length known.now.keys }
     ensures { result ≡ group_number known.now.keys name.now }
 {

@@ -14,6 +14,7 @@ mod target;
 mod used_values;
 
 pub use laws::one_answer;
+pub use limits::{MOST_GROUPS_OF_STATION, MOST_LINES, MOST_LINES_OF_STATION, MOST_STATIONS};
 pub use line::Line;
 pub use station::{Membership, Station};
 pub use subs::Subs;
@@ -29,4 +30,4 @@ pub type LineNo = u16;
 pub type StationNo = u16;
 
 /// The number of a closed user group: from 0, in the order in which the file first names the groups.
-pub type GroupNo = u16;
+pub type GroupNo = u32;

@@ -1,23 +1,24 @@
 //! The limits of an exchange.
 ghost use Rattle.std.specs.Prelude.{◌≡◌, ◌≤◌, nat_lt};
+ghost use Rattle.xp_subs.specs.Bounds.{most_lines};
 ghost use Rattle.xp_subs.specs.Passes.{station_over, first_over, line_total, over_limit};
 
 use xp_file::{Key, StationEntry};
 
 /// The most stations of an exchange.
-const MAX_STATIONS: usize = 256;
+pub const MOST_STATIONS: usize = 4_096;
 /// The most lines of an exchange.
-const MAX_LINES: usize = 512;
+pub const MOST_LINES: usize = 4_096;
 /// The most lines of a station.
-pub(crate) const MAX_LINES_OF_STATION: usize = 32;
+pub const MOST_LINES_OF_STATION: usize = 32;
 /// The most groups of a station.
-pub(crate) const MAX_GROUPS_OF_STATION: usize = 64;
+pub const MOST_GROUPS_OF_STATION: usize = 64;
 
 /// The key of the first limit that the stations exceed.
 pub(crate) fn over_limit(stations: &[StationEntry]) -> Option<Key>
     ensures { result ≡ over_limit stations.now }
 {
-    if stations.len() > MAX_STATIONS {
+    if stations.len() > MOST_STATIONS {
         Some(Key::Station)
     } else if has_too_many_lines(stations) {
         Some(Key::Line)
@@ -27,12 +28,12 @@ pub(crate) fn over_limit(stations: &[StationEntry]) -> Option<Key>
 }
 
 fn has_too_many_lines(stations: &[StationEntry]) -> bool
-    ensures { result ≡ nat_lt 512 (line_total stations.now) }
+    ensures { result ≡ nat_lt most_lines (line_total stations.now) }
 {
     let mut total = 0;
     for station in stations {
         total += station.lines.len();
-        if total > MAX_LINES {
+        if total > MOST_LINES {
             return true;
         }
     }
@@ -53,9 +54,9 @@ fn first_over(stations: &[StationEntry]) -> Option<Key>
 fn station_over(station: &StationEntry) -> Option<Key>
     ensures { result ≡ station_over station.now }
 {
-    if station.lines.len() > MAX_LINES_OF_STATION {
+    if station.lines.len() > MOST_LINES_OF_STATION {
         Some(Key::Line)
-    } else if station.groups.len() > MAX_GROUPS_OF_STATION {
+    } else if station.groups.len() > MOST_GROUPS_OF_STATION {
         Some(Key::Group)
     } else {
         None

@@ -1,4 +1,4 @@
-use crate::limits::{MAX_GROUPS_OF_STATION, MAX_LINES_OF_STATION};
+use crate::limits::{MOST_GROUPS_OF_STATION, MOST_LINES_OF_STATION};
 use crate::{GroupNo, LineNo};
 use arrayvec::ArrayVec;
 use xp_file::{Facilities, Redirection};
@@ -23,7 +23,7 @@ pub struct Station {
     /// The address, 1 to 15 digits.
     pub address: Digits,
     /// Its lines in the order of the file, at least one.
-    pub lines: ArrayVec<LineNo, MAX_LINES_OF_STATION>,
+    pub lines: ArrayVec<LineNo, MOST_LINES_OF_STATION>,
     /// The facilities that it has subscribed to.
     pub facilities: Facilities,
     /// The index of the preferential group. It is the index of one of the memberships.
@@ -31,7 +31,7 @@ pub struct Station {
     /// Whether it takes the calls of its routers whose calling address is missing, or is that of no station behind the router.
     pub default_caller: bool,
     /// Its closed user groups.
-    pub memberships: ArrayVec<Membership, MAX_GROUPS_OF_STATION>,
+    pub memberships: ArrayVec<Membership, MOST_GROUPS_OF_STATION>,
     /// Where its calls are redirected, if they are (X.25 clause 6.25.1).
     pub redirect: Option<Redirection>,
 }

@@ -121,7 +121,7 @@ impl Subs {
     pub fn group_name(&self, group: GroupNo) -> Option<&str>
         ensures { option_map (λ name. name.now) result ≡ slice_get self.now.groups group }
     {
-        let name = self.groups.get_index(usize::from(group))?;
+        let name = self.groups.get_index(group as usize)?;
         Some(name.as_str())
     }
 

@@ -31,6 +31,7 @@ impl Model for UsedValues {
 }
 
 impl UsedValues {
+    ghost use Rattle.xp_subs.specs.Bounds.{most_lines};
     ghost use Rattle.xp_subs.specs.steps.WithinLimits.{AreWithinLimits};
     ghost use Rattle.xp_subs.specs.steps.Passes.{with_address, with_name, with_names, with_port, with_access, with_ports, with_own, with_addresses, with_station, with_stations, nothing_used};
 
@@ -85,7 +86,7 @@ impl UsedValues {
     }
 
     fn enter_names(&mut self, first: LineNo, lines: &[LineEntry]) -> Result<(), SubscriptionFault>
-        requires { first + length lines.now ≤ 512 }
+        requires { first + length lines.now ≤ most_lines }
         ensures ok { OnOk result (with_names first lines.now self.old ≡ Ok self.new) }
         ensures refused { IfErr result (λ fault. fault ≢ OutOfMemory → with_names first lines.now self.old ≡ Err fault) }
     {
@@ -113,7 +114,7 @@ impl UsedValues {
         first: LineNo,
         lines: &[LineEntry],
     ) -> Result<(), SubscriptionFault>
-        requires { first + length lines.now ≤ 512 }
+        requires { first + length lines.now ≤ most_lines }
         ensures ok { OnOk result (with_addresses station first lines.now self.old ≡ Ok self.new) }
         ensures refused { IfErr result (λ fault. fault ≢ OutOfMemory → with_addresses station first lines.now self.old ≡ Err fault) }
     {
@@ -153,7 +154,7 @@ impl UsedValues {
         first: LineNo,
         station: &StationEntry,
     ) -> Result<(), SubscriptionFault>
-        requires { first + length station.now.lines ≤ 512 }
+        requires { first + length station.now.lines ≤ most_lines }
         ensures ok { OnOk result (with_station number first station.now self.old ≡ Ok self.new) }
         ensures refused { IfErr result (λ fault. fault ≢ OutOfMemory → with_station number first station.now self.old ≡ Err fault) }
     {

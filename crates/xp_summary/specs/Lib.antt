@@ -1,3 +1,4 @@
+pub mod ByGroup
 pub mod DefaultCallers
 pub mod Matrix
 pub mod OpenPorts

@@ -1,6 +1,7 @@
 //! A summary of a subscription file, for a person to check.
 #![tactic(auto)]
 
+mod by_group;
 mod default_callers;
 mod line_warning_text;
 mod matrix;
@@ -12,6 +13,7 @@ mod stations;
 mod summary_text;
 mod warning_text;
 
+pub use by_group::{calls_outside, is_called_from_outside, makes_calls, takes_calls};
 pub use default_callers::{has_no_default_caller, is_alone_behind};
 pub use matrix::fields;
 pub use open_ports::{is_loopback_host, is_open};

@@ -2,6 +2,7 @@
 
 ghost use Rattle.std.specs.Prelude.{◌≡◌, ℕ, ◌<◌, ◌≤◌, IfOk, [], ◌∷◌};
 ghost use Rattle.std.specs.String.{string_bytes};
+ghost use Rattle.xp_subs.specs.Bounds.{most_stations};
 ghost use Rattle.xp_subs.specs.Tables.{station_count};
 ghost use Rattle.xp_summary.specs.Matrix.{AreFields, IsField};
 
@@ -94,7 +95,7 @@ fn push_block(
 /// Which stations the columns are, and the last digit of the number of each.
 fn push_heading(text: &mut String, first: usize, past: usize) -> Result<(), AllocError>
     requires first { first ≤ past }
-    requires past { past ≤ 256 }
+    requires past { past ≤ most_stations }
 {
     let number = first + 1;
     writeln!(text, "called stations {number} to {past}:")?;

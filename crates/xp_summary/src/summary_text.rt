@@ -1,5 +1,6 @@
 //! The summary as text.
 
+use crate::by_group::push_groups;
 use crate::line_warning_text::push_line_warnings;
 use crate::matrix::push_matrix;
 use crate::stations::push_station;
@@ -7,6 +8,9 @@ use crate::warning_text::push_warnings;
 use std::alloc::{AllocError, Global};
 use std::fmt::Write;
 use xp_subs::{LineNo, StationNo, Subs};
+
+/// How many stations a matrix has at most.
+const MOST_IN_MATRIX: usize = 64;
 
 /// A summary of the subscriptions: each station, who may call whom, and what to look at again.
 ///
@@ -22,6 +26,21 @@ pub fn summary(alloc: Global, subs: &Subs) -> Result<String, AllocError> {
         counts.stations, counts.lines, counts.groups
     )?;
     push_stations(&mut text, subs)?;
+    push_calls(alloc, &mut text, subs)?;
+    push_all_warnings(&mut text, subs)?;
+    push_all_line_warnings(&mut text, subs)?;
+    Ok(text)
+}
+
+/// Who may call whom: a matrix, or where that would be too wide and too long, a list by groups.
+fn push_calls(alloc: Global, text: &mut String, subs: &Subs) -> Result<(), AllocError> {
+    if subs.counts().stations > MOST_IN_MATRIX {
+        writeln!(
+            text,
+            "who may call whom, where lines are idle and no call is redirected: callers reach those called beside them"
+        )?;
+        return push_groups(alloc, text, subs);
+    }
     writeln!(
         text,
         "who may call whom, where lines are idle and no call is redirected: a row for each caller"
@@ -30,10 +49,7 @@ pub fn summary(alloc: Global, subs: &Subs) -> Result<String, AllocError> {
         text,
         "x: put through, s: only with a closed user group selection, .: never"
     )?;
-    push_matrix(alloc, &mut text, subs)?;
-    push_all_warnings(&mut text, subs)?;
-    push_all_line_warnings(&mut text, subs)?;
-    Ok(text)
+    push_matrix(alloc, text, subs)
 }
 
 fn push_stations(text: &mut String, subs: &Subs) -> Result<(), AllocError> {

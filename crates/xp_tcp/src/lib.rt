@@ -17,6 +17,7 @@ mod options;
 mod poller;
 mod port;
 mod refusals;
+mod round;
 mod router_connection;
 mod router_link;
 mod router_port;

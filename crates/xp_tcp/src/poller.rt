@@ -1,5 +1,6 @@
 //! What a thread does between the turns of its lines.
 
+use crate::round::Round;
 use crate::thread_links::ThreadLinks;
 use crate::tokens::{is_listener, line_of};
 use mio::{Events, Poll};
@@ -11,6 +12,9 @@ use xp_links::{Patience, Poller};
 
 /// How long a thread sleeps at most, and after how long each line has a turn at the latest, in milliseconds.
 const LONGEST_SLEEP: u64 = 500;
+
+/// How many lines have such a turn at once. So a line that has something to do waits for few others.
+const LINES_OF_A_TICK: usize = 64;
 
 /// How long a thread sleeps at most while its lines end, or one has a turn to make up, in milliseconds.
 const SHORT_SLEEP: u64 = 10;
@@ -41,10 +45,14 @@ pub struct TcpPoller {
     thread: Arc<ThreadWaker>,
     links: Arc<ThreadLinks>,
     lines: OwnLines,
+    /// The lines that are due in this round.
+    round: Round,
     /// Rounds since the last look at the sockets.
     rounds: u32,
-    /// When each line was last told to have a turn.
+    /// When lines were last told to have a turn.
     ticked: Duration,
+    /// The place of the line that is told so next.
+    next_told: usize,
 }
 
 impl Drop for TcpPoller {
@@ -55,8 +63,10 @@ impl Drop for TcpPoller {
             thread: _,
             links,
             lines: _,
+            round: _,
             rounds: _,
             ticked: _,
+            next_told: _,
         } = self;
         let mut poll = poll;
         let mut events = events;
@@ -76,6 +86,18 @@ impl OwnLines {
         let own = self.wakers.as_slice().get(self.first..).unwrap_or(&[]);
         own.get(..self.count).unwrap_or(own)
     }
+
+    /// The wakers of the lines that are told together, from this place on.
+    fn told_from(&self, first: usize) -> &[LineWaker] {
+        let rest = self.own().get(first..).unwrap_or(&[]);
+        rest.get(..LINES_OF_A_TICK).unwrap_or(rest)
+    }
+
+    /// How long their thread sleeps at most, in milliseconds, so that each of them has a turn in time.
+    fn longest_sleep(&self) -> u64 {
+        let ticks = self.count.div_ceil(LINES_OF_A_TICK).max(1) as u64;
+        (LONGEST_SLEEP / ticks).max(SHORT_SLEEP)
+    }
 }
 
 impl TcpPoller {
@@ -85,21 +107,36 @@ impl TcpPoller {
         thread: Arc<ThreadWaker>,
         links: Arc<ThreadLinks>,
         lines: OwnLines,
+        round: Round,
     ) -> TcpPoller {
+        let mut round = round;
+        round.begin(thread.due());
         TcpPoller {
             poll,
             events,
             thread,
             links,
             lines,
+            round,
             rounds: 0,
             ticked: Duration::ZERO,
+            next_told: 0,
         }
     }
 
     /// Whether a line of the thread may have something to do.
     fn is_any_due(&self) -> bool {
-        self.lines.own().iter().any(|waker| waker.is_due())
+        self.thread.due().is_any()
+    }
+
+    /// Has the lines be due again whose turn had something to do.
+    fn mark_busy(&self) {
+        let wakers = self.lines.own();
+        for place in self.round.places() {
+            if wakers.get(*place).is_some_and(|waker| waker.is_busy()) {
+                self.thread.due().mark(*place);
+            }
+        }
     }
 
     /// Looks at the sockets, and waits for so many milliseconds at most. Each line of which something was heard is due.
@@ -134,16 +171,28 @@ impl TcpPoller {
         self.thread.end_sleep();
     }
 
-    /// Makes each line due where the time for it has come.
+    /// Makes the next lines due where the time for them has come.
     fn tick(&mut self) {
         let now = time();
-        if now.saturating_sub(self.ticked) < Duration::from_millis(LONGEST_SLEEP) {
+        if now.saturating_sub(self.ticked) < Duration::from_millis(self.lines.longest_sleep()) {
             return;
         }
         self.ticked = now;
-        for waker in self.lines.own() {
+        for waker in self.lines.told_from(self.next_told) {
             waker.refill();
             waker.mark_work();
+        }
+        self.next_told = self.next_told.saturating_add(LINES_OF_A_TICK);
+        if self.next_told >= self.lines.count {
+            self.next_told = 0;
+        }
+    }
+
+    /// How long it sleeps at most, in milliseconds.
+    fn longest_sleep(&self, patience: Patience) -> u64 {
+        match patience {
+            Patience::Long => self.lines.longest_sleep(),
+            Patience::Short => SHORT_SLEEP,
         }
     }
 }
@@ -153,15 +202,26 @@ impl Poller for TcpPoller {
         self.lines.count
     }
 
+    fn next_due(&mut self) -> Option<usize> {
+        self.round.next()
+    }
+
+    fn hold(&mut self, place: usize) {
+        self.round.hold(place);
+    }
+
     fn poll(&mut self, patience: Patience) {
+        self.mark_busy();
         if !self.is_any_due() {
-            self.sleep(longest_sleep(patience));
+            self.sleep(self.longest_sleep(patience));
         } else if self.rounds < MOST_ROUNDS {
             self.rounds += 1;
         } else {
             self.look(0);
         }
         self.tick();
+        self.round.mark_held(self.thread.due());
+        self.round.begin(self.thread.due());
     }
 
     fn pause(&mut self) {
@@ -179,12 +239,4 @@ impl Poller for TcpPoller {
 /// The time since the system began.
 fn time() -> Duration {
     uptime().unwrap_or(Duration::MAX)
-}
-
-/// How long a thread sleeps at most, in milliseconds.
-fn longest_sleep(patience: Patience) -> u64 {
-    match patience {
-        Patience::Long => LONGEST_SLEEP,
-        Patience::Short => SHORT_SLEEP,
-    }
 }

@@ -20,8 +20,8 @@ use std::net::{IpAddr, Net, SocketAddr};
 use std::num::NonZeroUsize;
 use std::sync::Arc;
 use thiserror::Error;
-use xp_door::{Caller, DoorBell, DoorSockets, LineWaker, Notices};
-use xp_subs::LineNo;
+use xp_door::{Caller, DoorBell, DoorSockets, LineWaker, Marks, Notices};
+use xp_subs::{LineNo, MOST_LINES};
 
 /// How many events a wait of the door takes.
 const MOST_EVENTS: usize = 3;
@@ -167,10 +167,11 @@ impl Sockets {
         ensures { self.new ≡ self.old }
     {
         let events = Events::with_capacity(alloc, MOST_EVENTS)?;
+        let wanted = Marks::new(alloc, MOST_LINES)?;
         let poll = Poll::new(rt)?;
         let (listener, port) = listen_at(rt, &poll, SocketAddr::new(host, port), listener_of(0))?;
         let waker = Waker::new(poll.registry(), WAKER)?;
-        let bell = Arc::new(alloc, DoorBell::new(waker)).map_err(|_| ListenFault::Memory)?;
+        let bell = Arc::new(alloc, DoorBell::new(waker, wanted)).map_err(|_| ListenFault::Memory)?;
         self.door = Some(DoorSockets {
             listener,
             poll,
@@ -254,7 +255,7 @@ impl Sockets {
         let Some(thread) = self.threads.last_mut() else {
             return Err(ListenFault::Memory);
         };
-        let waker = LineWaker::new(Arc::try_clone(&thread.waker)?);
+        let waker = LineWaker::new(Arc::try_clone(&thread.waker)?, thread.count);
         let links = Arc::try_clone(&thread.links)?;
         thread.count = thread.count.saturating_add(1);
         self.wakers.push_reserved(waker);

@@ -1,6 +1,7 @@
 //! What a thread waits on, as lines are added to it.
 
 use crate::poller::{OwnLines, TcpPoller};
+use crate::round::Round;
 use crate::sockets::ListenFault;
 use crate::thread_links::ThreadLinks;
 use crate::tokens::{MOST_SOCKETS, WAKER};
@@ -8,7 +9,7 @@ use mio::{Events, Poll, Waker};
 use std::alloc::Global;
 use std::net::Net;
 use std::sync::Arc;
-use xp_door::{LineWaker, ThreadWaker};
+use xp_door::{LineWaker, Marks, ThreadWaker};
 
 /// What a thread that serves lines waits on.
 #[derive(Drop)]
@@ -18,6 +19,7 @@ pub(crate) struct ThreadSockets {
     pub(crate) events: Events,
     pub(crate) waker: Arc<ThreadWaker>,
     pub(crate) links: Arc<ThreadLinks>,
+    pub(crate) round: Round,
     /// How many lines it serves.
     pub(crate) count: usize,
 }
@@ -33,10 +35,12 @@ impl ThreadSockets {
             alloc,
             MOST_SOCKETS.min(lines.saturating_mul(2)).max(2),
         )?;
+        let round = Round::new(alloc, lines)?;
+        let due = Marks::new(alloc, lines)?;
         let poll = Poll::new(rt)?;
         let waker = Waker::new(poll.registry(), WAKER)?;
         let waits = poll.registry().try_clone()?;
-        let waker = Arc::new(alloc, ThreadWaker::new(waker)).map_err(|_| ListenFault::Memory)?;
+        let waker = Arc::new(alloc, ThreadWaker::new(waker, due)).map_err(|_| ListenFault::Memory)?;
         let links = ThreadLinks::new(alloc, waits);
         let links = Arc::new(alloc, links).map_err(|_| ListenFault::Memory)?;
         Ok(ThreadSockets {
@@ -44,6 +48,7 @@ impl ThreadSockets {
             events,
             waker,
             links,
+            round,
             count: 0,
         })
     }
@@ -55,6 +60,7 @@ impl ThreadSockets {
             events,
             waker,
             links,
+            round,
             count,
         } = self;
         let own = OwnLines {
@@ -62,6 +68,6 @@ impl ThreadSockets {
             first,
             count,
         };
-        TcpPoller::new(poll, events, waker, links, own)
+        TcpPoller::new(poll, events, waker, links, own, round)
     }
 }

@@ -20,6 +20,8 @@ pub struct Part {
     /// How many pieces a link gave, how many links a port gave, what time it is by a clock, and how many lines a thread has, this
     /// line the first.
     count: u64,
+    /// How many lines of a thread had a turn in this round.
+    place: usize,
 }
 
 impl Part {
@@ -28,6 +30,7 @@ impl Part {
             board: Arc::try_clone(board)?,
             line,
             count,
+            place: 0,
         })
     }
 }
@@ -143,13 +146,22 @@ impl Gate for Part {
     }
 }
 
-/// Between the turns of its lines the thread lets others run.
+/// Each line of the thread is due in each round. Between two rounds the thread lets others run.
 impl Poller for Part {
     fn lines(&self) -> usize {
         self.count as usize
     }
 
+    fn next_due(&mut self) -> Option<usize> {
+        let place = self.place;
+        self.place = place.saturating_add(1);
+        (place < self.lines()).then_some(place)
+    }
+
+    fn hold(&mut self, _place: usize) {}
+
     fn poll(&mut self, _patience: Patience) {
+        self.place = 0;
         thread::yield_now();
     }
 

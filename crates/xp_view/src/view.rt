@@ -10,7 +10,7 @@ use xp_machine::LineView;
 use xp_subs::LineNo;
 
 /// What can be seen of a line, and of the live call that it is in.
-#[derive(Clone, Copy, PartialEq, Eq)]
+#[derive(Drop)]
 pub struct LineWithCall {
     pub line: LineView,
     pub call: Option<CallView>,

@@ -1,7 +1,7 @@
-use Rattle.std.proofs.Common.{None, Some, ap, arith, codes, option_map, refl, subst, sym}
+use Rattle.std.proofs.Common.{None, Some, ap, arith, codes, false, option_map, refl, subst, sym, true}
 use Rattle.xp_limits.specs.Limits.{IsNumber}
 use Rattle.clap.proofs.OnLiterals.{clap_on_literals}
-use Rattle.xp_arguments.specs.Commands.{IsNamed, directory_of, file_of}
+use Rattle.xp_arguments.specs.Commands.{IsLive, IsNamed, directory_of, file_of}
 use Rattle.xp_arguments.proofs.laws.errands_can_be_asked_for.Goals as goal
 
 pub returns-clause-check : goal.returns-clause-check
@@ -30,7 +30,7 @@ returns-clause-serve c =
         word = _;
         rows = _;
         found_is = refl;
-        subcommand_is = (refl, record { limits = record { records_are = refl; turns_are = refl }; details = (refl, refl); exchange = tt; trace = (refl, refl); console = refl; quiet = refl; until_eof = refl });
+        subcommand_is = (refl, record { limits = record { records_are = refl; turns_are = refl }; details = (refl, refl); live = tt; no_live = refl; exchange = tt; trace = (refl, refl); console = refl; quiet = refl; until_eof = refl });
         named = refl;
       };
     }
@@ -44,7 +44,7 @@ returns-clause-limits c =
         word = _;
         rows = _;
         found_is = refl;
-        subcommand_is = (refl, record { limits = record { records_are = twelve; turns_are = three }; details = (refl, refl); exchange = tt; trace = (refl, refl); console = refl; quiet = refl; until_eof = refl });
+        subcommand_is = (refl, record { limits = record { records_are = twelve; turns_are = three }; details = (refl, refl); live = tt; no_live = refl; exchange = tt; trace = (refl, refl); console = refl; quiet = refl; until_eof = refl });
         named = refl;
       };
     }
@@ -52,13 +52,13 @@ returns-clause-limits c =
 pub returns-clause-details : goal.returns-clause-details
 unfolding clap_on_literals
 returns-clause-details c =
-    λ order file directory exchange limits trace console quiet until_eof. record {
+    λ order file directory live no_live exchange limits trace console quiet until_eof. record {
       faultless = refl;
       asked = record {
         word = _;
         rows = _;
         found_is = refl;
-        subcommand_is = (refl, record { limits = rw (limits) (record { records_are = refl; turns_are = refl }); details = (file, directory); exchange = subst (IsNamed (Some (codes "xp-1"))) (sym exchange) xp_1; trace = rw (trace) ((refl, refl)); console = ap (option_map (λ address. address.now)) console; quiet = quiet; until_eof = until_eof });
+        subcommand_is = (refl, record { limits = rw (limits) (record { records_are = refl; turns_are = refl }); details = (file, directory); live = subst (IsLive (Some (codes "c")) (Some (codes "b")) false) (sym live) refl; no_live = no_live; exchange = subst (IsNamed (Some (codes "xp-1"))) (sym exchange) xp_1; trace = rw (trace) ((refl, refl)); console = ap (option_map (λ address. address.now)) console; quiet = quiet; until_eof = until_eof });
         named = refl;
       };
     }
@@ -66,7 +66,7 @@ returns-clause-details c =
 pub returns-clause-directory : goal.returns-clause-directory
 unfolding clap_on_literals
 returns-clause-directory c =
-    λ order file directory limits exchange trace console quiet until_eof. record {
+    λ order file directory live no_live limits exchange trace console quiet until_eof. record {
       faultless = refl;
       asked = record {
         word = _;
@@ -77,6 +77,8 @@ returns-clause-directory c =
           record {
             limits = rw (limits) (record { records_are = refl; turns_are = refl });
             details = (file, directory);
+            live = subst (IsLive (Some (codes "c")) (Some (codes "b")) false) (sym live) refl;
+            no_live = no_live;
             exchange = subst (IsNamed None) (sym (ap (option_map (λ name. name.now)) exchange)) tt;
             trace = rw (trace) ((refl, refl));
             console = ap (option_map (λ address. address.now)) console;
@@ -91,7 +93,7 @@ returns-clause-directory c =
 pub returns-clause-trace : goal.returns-clause-trace
 unfolding clap_on_literals
 returns-clause-trace c =
-    λ order trace traced path lines limits details exchange console quiet until_eof. record {
+    λ order trace traced path lines limits details live no_live exchange console quiet until_eof. record {
       faultless = refl;
       asked = record {
         word = _;
@@ -102,6 +104,8 @@ returns-clause-trace c =
           record {
             limits = rw (limits) (record { records_are = refl; turns_are = refl });
             details = (ap file_of details, ap directory_of details);
+            live = subst (IsLive None None true) (sym (ap (option_map (λ path. path.now)) live)) tt;
+            no_live = no_live;
             exchange = subst (IsNamed None) (sym (ap (option_map (λ name. name.now)) exchange)) tt;
             trace = rw (traced) ((ap Some (sym path), lines));
             console = ap (option_map (λ address. address.now)) console;

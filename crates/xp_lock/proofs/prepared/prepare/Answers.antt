@@ -1,5 +1,6 @@
 use Rattle.std.proofs.Common.{ap, rules, subst, sym, ◌≡◌, ◌∙◌, ◌≤◌}
 use Rattle.std.specs.Prelude.{replicate}
+use Rattle.xp_subs.specs.Bounds.{most_lines}
 use Rattle.xp_subs.specs.Tables.{line_count}
 use Rattle.xp_lock.specs.steps.Opening.{AreNew}
 use Rattle.xp_lock.proofs.Opened.{new_kept}
@@ -21,7 +22,7 @@ invariant_of-result g c =
       new.queues,
       new.unused,
       lines,
-      subst (λ t. line_count t ≤ 512) (sym subs) c.counts-lines.ensures.sound.few_lines,
+      subst (λ t. line_count t ≤ most_lines) (sym subs) c.counts-lines.ensures.sound.few_lines,
       new.end_count,
       zeros ∙ ap (λ n. replicate n 0) lines,
     )

@@ -1,6 +1,7 @@
 use Rattle.std.proofs.Common.{◌≡◌, ◌≤◌, take}
+use Rattle.xp_subs.specs.Bounds.{most_lines}
 use Rattle.xp_subs.specs.Passes.{line_total}
 use Rattle.xp_subs.proofs.limits.has_too_many_lines.Given as goal
 
 abbrev pub invariant-loop-station : goal.invariant-loop-station
-invariant-loop-station l = (l.total ≡ line_total (take l.station-index l.stations)) × (l.total ≤ 512)
+invariant-loop-station l = (l.total ≡ line_total (take l.station-index l.stations)) × (l.total ≤ most_lines)

@@ -1,0 +1,177 @@
+#!/usr/bin/env python3
+"""Measures what grows with the number of lines: so many lines are connected, of which some talk and the others are idle.
+
+For each number of lines it tells how long the program takes to start, its memory, a call's round trip, the packets a second of up to 256
+calls, and the longest round trip while nothing else happens and while the console is asked all the time. README.md says what the figures
+mean.
+"""
+
+import argparse
+import contextlib
+import http.client
+import json
+import os
+import pathlib
+import socket
+import subprocess
+import sys
+import tempfile
+import threading
+import time
+
+import server
+from served import Served
+
+# Numbers of lines, of which the growth is told.
+LINES = (2, 64, 512, 4_096)
+
+# The most calls that send data at once.
+CALLS = 256
+
+# What a reader of the console asks for.
+PATHS = ("/metrics", "/status.json")
+
+# Seconds between two rounds of questions to the console: a page asks once a second.
+BETWEEN = 0.25
+
+TITLES = ("lines", "start s", "memory", "idle %", "trip", "99 %", "longest", "asked", "packets/s", "metrics ms", "status ms", "octets")
+
+
+class Many(Served):
+    """An exchange over so many lines, all of them in pairs."""
+
+    def __init__(self, program, folder, lines):
+        self.count = lines
+        self.base = server.free_ports(lines + 1)
+        self.console = self.base + lines
+        begun = time.monotonic()
+        super().__init__(
+            program, folder, server.subscriptions(lines // 2, self.base), "--quiet", "--console", f"127.0.0.1:{self.console}"
+        )
+        self.connect(self.base + lines - 1).close()
+        self.start = time.monotonic() - begun
+        # The line of that port takes its next connection once the end of this one was seen.
+        time.sleep(1)
+        self.connections = []
+
+    def raise_from(self, first):
+        """Connects the lines from this one on, and waits until each is in service."""
+        for line in range(first, self.count):
+            self.connections.append(self.connect(self.base + line))
+        for connection in self.connections:
+            connection.sendall(server.frame(server.CLEAR_REQUEST))
+        wanted = server.frame(server.CLEAR_CONFIRMATION)
+        for line, connection in enumerate(self.connections, first):
+            if connection.recv(len(wanted), socket.MSG_WAITALL) != wanted:
+                sys.exit(f"line {line} is not in service")
+
+    def leave(self, count):
+        """Closes the first so many of the connections."""
+        for connection in self.connections[:count]:
+            connection.close()
+        del self.connections[:count]
+
+    def ask(self, path):
+        """What the console answers, and after how many seconds."""
+        begun = time.monotonic()
+        asking = http.client.HTTPConnection("127.0.0.1", self.console, timeout=60)
+        asking.request("GET", path)
+        text = asking.getresponse().read()
+        asking.close()
+        return text, time.monotonic() - begun
+
+
+class Reader(threading.Thread):
+    """Asks the console again and again, until it is stopped."""
+
+    def __init__(self, exchange):
+        super().__init__(daemon=True)
+        self.exchange, self.is_over, self.times = exchange, threading.Event(), {path: [] for path in PATHS}
+
+    def run(self):
+        while not self.is_over.wait(BETWEEN):
+            for path in PATHS:
+                self.times[path].append(self.exchange.ask(path)[1])
+
+    def __enter__(self):
+        self.start()
+        return self
+
+    def __exit__(self, *_):
+        self.is_over.set()
+        self.join()
+
+    def middle(self, path):
+        """The median of its times for a path, in milliseconds."""
+        times = sorted(self.times[path])
+        return 1_000 * times[len(times) // 2] if times else 0
+
+
+def play(load, exchange, pairs, window, seconds, gap=0):
+    """What the load generator tells of calls on the first so many pairs."""
+    threads = min(os.cpu_count(), pairs)
+    command = [load, exchange.base, pairs, window, seconds, threads, *([gap] if gap else [])]
+    run = subprocess.run([str(part) for part in command], capture_output=True, text=True)
+    if run.returncode != 0:
+        sys.exit(f"the load ended with status {run.returncode}: {run.stderr.strip()}; {exchange.said()}")
+    told = json.loads(run.stdout)
+    return {**told, "rate": sum(told["packets"]) / told["seconds"]}
+
+
+def idle_share(exchange, seconds):
+    """The share of a core that it takes while nothing comes."""
+    time.sleep(1)
+    before, begun = exchange.processor(), time.monotonic()
+    time.sleep(seconds)
+    return 100 * (exchange.processor() - before) / (time.monotonic() - begun)
+
+
+def measure(program, load, folder, lines, seconds):
+    """The figures of so many lines."""
+    pairs = min(CALLS, lines // 2)
+    with Many(program, folder, lines) as exchange:
+        # One call, with all other lines connected.
+        exchange.raise_from(2)
+        memory = exchange.memory()
+        idle = idle_share(exchange, seconds) if lines > 2 else 0
+        alone = play(load, exchange, 1, 1, seconds)
+        with Reader(exchange) as reader:
+            asked = play(load, exchange, 1, 1, seconds)
+        # Many calls: their lines are those of the load.
+        exchange.leave(2 * pairs - 2)
+        time.sleep(0.5)
+        many = play(load, exchange, pairs, 7, seconds)
+        octets = len(exchange.ask("/status.json")[0])
+        exchange.leave(len(exchange.connections))
+        if exchange.end() != 0:
+            sys.exit(f"it has ended badly; {exchange.said()}")
+        records = len(exchange.lines_printed)
+        if records != pairs + 2:
+            sys.exit(f"there are {records} records of {pairs + 2} calls")
+    return (
+        f"{lines:,}", f"{exchange.start:.2f}", f"{memory:,}", f"{idle:.2f}", f"{alone['mean']:.0f}", f"{alone['p99']:.0f}",
+        f"{alone['most']:,.0f}", f"{asked['most']:,.0f}", f"{many['rate']:,.0f}", f"{reader.middle('/metrics'):.1f}",
+        f"{reader.middle('/status.json'):.1f}", f"{octets:,}",
+    )
+
+
+def row(fields):
+    print("".join(f"{field:>12}" for field in fields), flush=True)
+
+
+def main():
+    parser = argparse.ArgumentParser(description=__doc__.splitlines()[0])
+    parser.add_argument("--xp", default=str(server.PROGRAM), help=f"the built program ({server.DEFAULT})")
+    parser.add_argument("--seconds", type=float, default=5, help="how long each run sends (default: 5)")
+    parser.add_argument("--lines", type=int, action="append", help="so many lines, an even number; may be given again")
+    arguments = parser.parse_args()
+
+    with tempfile.TemporaryDirectory() as folder:
+        load = server.compiled("load", folder)
+        row(TITLES)
+        for lines in arguments.lines or LINES:
+            row(measure(arguments.xp, load, pathlib.Path(folder), lines, arguments.seconds))
+
+
+if __name__ == "__main__":
+    main()

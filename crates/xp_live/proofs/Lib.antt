@@ -1,0 +1,3 @@
+mod AreLive
+mod LeftLemmas
+mod LiveLemmas

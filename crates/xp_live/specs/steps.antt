@@ -1,0 +1,2 @@
+-- The definitions that only the contracts of private functions use. No public contract cites them.
+pub mod LeftCalls
