@@ -33,4 +33,4 @@ returns-clause-ok g c =
 
 -- the live calls are told by the same subscriptions, too
 pub attend_details-requires-clause-live : goal.attend_details-requires-clause-live
-attend_details-requires-clause-live g c = subst (λ own. IfSome c.in_ok-beside.beside.live (λ tables. tables ≡ own)) c.requires.live c.in_ok-beside.ensures
+attend_details-requires-clause-live g c _ _ = subst (λ own. IfSome c.in_ok-beside.beside.live (λ tables. tables ≡ own)) c.requires.live c.in_ok-beside.ensures
