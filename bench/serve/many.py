@@ -37,6 +37,17 @@ BETWEEN = 0.25
 TITLES = ("lines", "start s", "memory", "idle %", "trip", "99 %", "longest", "asked", "packets/s", "metrics ms", "status ms", "octets")
 
 
+def spread(text):
+    """The subscriptions with the pairs that talk, the first ones, at even distances among the others: a thread serves lines that follow one
+    another."""
+    head, *stations = text.split("[[station]]")
+    pairs = [stations[place : place + 2] for place in range(0, len(stations), 2)]
+    step = max(1, len(pairs) // CALLS)
+    talking, idle = iter(pairs[:CALLS]), iter(pairs[CALLS:])
+    ordered = [next(talking if place % step == 0 else idle) for place in range(len(pairs))]
+    return "[[station]]".join([head, *(station for pair in ordered for station in pair)])
+
+
 class Many(Served):
     """An exchange over so many lines, all of them in pairs."""
 
@@ -46,7 +57,7 @@ class Many(Served):
         self.console = self.base + lines
         begun = time.monotonic()
         super().__init__(
-            program, folder, server.subscriptions(lines // 2, self.base), "--quiet", "--console", f"127.0.0.1:{self.console}"
+            program, folder, spread(server.subscriptions(lines // 2, self.base)), "--quiet", "--console", f"127.0.0.1:{self.console}"
         )
         self.connect(self.base + lines - 1).close()
         self.start = time.monotonic() - begun
