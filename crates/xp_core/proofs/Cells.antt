@@ -5,6 +5,10 @@ use Rattle.xp_channel.specs.declared.action.Action.TheVariants.{Nothing, Rise, F
 use Rattle.xp_channel.specs.declared.kind.EventKind.{EventKind}
 use Rattle.xp_channel.specs.declared.kind.EventKind.TheVariants as kinds
 use Rattle.xp_channel.specs.Table.{cell}
+use Rattle.xp_channel.specs.Kinds.{kind_of as packet_kind, kind_of_malformed}
+use Rattle.xp_step.specs.declared.event.What.{What}
+use Rattle.xp_step.specs.declared.event.What.TheVariants as events
+use Rattle.xp_step.specs.Table.{action_in}
 use Rattle.xp_machine.specs.Channel.{State, Off, Ready, Waiting, Ringing, Talking, Cleared, call_of, channel_of}
 
 abbrev pub Suits : Action → State → Type 0
@@ -20,7 +24,7 @@ Suits (Error diagnostic) state = Unit {0}
 Suits Relayed state = Unit {0}
 Suits Expired state = Unit {0}
 
-pub suits : (state : State) (kind : EventKind) → Suits (cell (channel_of state) kind) state
+suits : (state : State) (kind : EventKind) → Suits (cell (channel_of state) kind) state
 suits Off kinds.Up = refl
 suits Off kinds.Down = tt
 suits Off kinds.Call = tt
@@ -75,3 +79,13 @@ suits Cleared kinds.ClearConfirm = refl
 suits Cleared kinds.Relayed = tt
 suits Cleared kinds.Expire = tt
 suits Cleared (kinds.Malformed diagnostic) = tt
+
+-- and of an event
+pub suits_in : {A : Type 0} (state : State) (what : What A) → Suits (action_in (channel_of state) what) state
+suits_in state events.Up = suits state kinds.Up
+suits_in state events.Down = suits state kinds.Down
+suits_in state (events.Frame identifier packet) = suits state (packet_kind packet)
+suits_in state (events.WrongFrame wrong) = suits state (kind_of_malformed wrong)
+suits_in state events.Expire = suits state kinds.Expire
+suits_in state events.Stall = suits state kinds.Down
+suits_in state events.Reload = tt

@@ -12,7 +12,7 @@ use Rattle.xp_packets.specs.declared.packet.Packet.{Packet}
 use Rattle.xp_packets.specs.declared.block.Block.{Block}
 use Rattle.xp_packets.specs.declared.packet.Packet.TheVariants.{Call as CallPacket, Clear}
 use Rattle.xp_step.specs.declared.event.What.{What}
-use Rattle.xp_step.specs.declared.event.What.TheVariants.{Up, Down, Frame, WrongFrame, Expire, Stall}
+use Rattle.xp_step.specs.declared.event.What.TheVariants.{Up, Down, Frame, WrongFrame, Expire, Reload, Stall}
 use Rattle.xp_step.specs.declared.output.Output.{Output}
 use Rattle.xp_step.specs.declared.output.Put.TheVariants.{Send}
 use Rattle.xp_step.specs.Acts.{outputs_of_cancel, closed, outputs_to_both, outputs_of_clear, outputs_of_fall}
@@ -61,6 +61,7 @@ module _ {A : Type 0} (at : StepContext A) (found : ℕ × Call) (is : call_on a
     by (Frame identifier packet) = mine far_line (Clear OUT_OF_ORDER (Some NO_ADDITIONAL_INFORMATION) information)
     by (WrongFrame wrong) = mine far_line (Clear OUT_OF_ORDER (Some NO_ADDITIONAL_INFORMATION) information)
     by Expire = mine far_line (Clear OUT_OF_ORDER (Some NO_ADDITIONAL_INFORMATION) information)
+    by Reload = mine far_line (Clear OUT_OF_ORDER (Some NO_ADDITIONAL_INFORMATION) information)
 
   pub both_told : (near far diagnostic : ℕ) → at.line ≢ far_line → clears_to far_line (outputs_of (outputs_to_both at near far diagnostic)) ≡ Clear far (Some diagnostic) information ∷ []
   both_told near far diagnostic differ =

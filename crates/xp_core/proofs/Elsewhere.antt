@@ -79,6 +79,7 @@ module _ {A : Type 0} (at : StepContext A) (what : What A) (coupled : AreCoupled
   off_closed (events.Frame identifier packet) = tt
   off_closed (events.WrongFrame wrong) = tt
   off_closed events.Expire = tt
+  off_closed events.Reload = tt
 
   these : (this told : EventOutputs A) → told ≡ this → AllOff this → AllOff told
   these this told is off = subst (λ t. AllOff t) (sym is) off
@@ -87,13 +88,13 @@ module _ {A : Type 0} (at : StepContext A) (what : What A) (coupled : AreCoupled
   none_off outcome told is = these no_outputs told is.1 (record { carried = tt; own = tt; far = tt; taken = tt })
 
   request_off : (far : List (Output A)) (request : CallRequest A) (outcome : Outcome) (told : EventOutputs A) → AreOff far
-      → IsRequested at.tables at.world at.line far request outcome told → AllOff told
+      → IsRequested at.force at.world at.line far request outcome told → AllOff told
   request_off far request (Put called setup) told off is =
       these _ told is.told_is (record { carried = tt; own = tt; far = off; taken = (rings, tt) })
     where
       rings : call_of (state_at at.world called) ≡ Some number → ⊥
       rings shows =
-          let ready : state_at at.world is.ring.line ≡ Ready = (taken_ready at.tables at.world at.line request.block is.ring is.decided).ready in
+          let ready : state_at at.world is.ring.line ≡ Ready = (taken_ready at.force at.world at.line request.block is.ring is.decided).ready in
           let none : call_of (state_at at.world called) ≡ None = ap (λ line. call_of (state_at at.world line)) is.called_is ∙ ap call_of ready in
           absurd (cc)
   request_off far request (Refused why) told off is = these _ told is.told_is (record { carried = tt; own = (outside, tt); far = off; taken = tt })
@@ -103,7 +104,7 @@ module _ {A : Type 0} (at : StepContext A) (what : What A) (coupled : AreCoupled
   request_off far request Exceeded told off is = absurd is
 
   requests_off : (far : List (Output A)) (asked : Option (CallRequest A)) (outcome : Outcome) (told : EventOutputs A) → AreOff far
-      → Requests at.tables at.world at.line far asked outcome told → AllOff told
+      → Requests at.force at.world at.line far asked outcome told → AllOff told
   requests_off far None outcome told off is = none_off outcome told is
   requests_off far (Some request) outcome told off is = request_off far request outcome told off is
 

@@ -34,6 +34,9 @@ use Rattle.xp_core.specs.Existence.{HasStep}
 use Rattle.xp_step.specs.Run.{Run}
 use Rattle.xp_step.specs.Worlds.{world_next}
 use Rattle.xp_step.specs.Segments.{segments_of}
+use Rattle.xp_past.specs.declared.past.Past.{Past}
+use Rattle.xp_step.specs.InForce.{brought_by, in_force}
+use Rattle.xp_step.proofs.InForce.{brings_again, run_sound}
 use Rattle.xp_step.specs.StepContext.{StepContext, step_context}
 use Rattle.xp_step.specs.Effects.{changes_of}
 use Rattle.xp_step.specs.Table.{CallAccepted, CallRequest, ClearRequest, accepted_in, action_at, clear_in, packet_in, request_in}
@@ -51,15 +54,15 @@ module _ {A : Type 0} where
     told : EventOutputs A
     acts : Does outcome told
 
-  module _ (at : StepContext A) (what : What A) (sound : IsSound at.tables) (terms : AllHaveTerms at.tables at.world) (readable : IsReadable what) where
+  module _ (at : StepContext A) (what : What A) (sound : IsSound at.tables) (sound_now : IsSound at.force) (terms : AllHaveTerms at.tables at.world) (readable : IsReadable what) where
     verdict_acts : (far : List (Output A)) (request : CallRequest A) → request_in what ≡ Some request
-        → (verdict : Verdict A) → Decided at.tables (line_states at.world) at.line request.block verdict
-        → HasActs (IsRequested at.tables at.world at.line far request)
+        → (verdict : Verdict A) → Decided at.force (line_states at.world) at.line request.block verdict
+        → HasActs (IsRequested at.force at.world at.line far request)
     verdict_acts far request asks (Refuse why) decided =
         record { outcome = Refused why; told = _; acts = record { decided = decided; told_is = refl } }
     verdict_acts far request asks (Take ring) decided =
         let written : CanBeWritten ring.told =
-        told_can_be_written at.tables (line_states at.world) at.line request.block sound (request_few what request asks readable) ring decided in
+        told_can_be_written at.force (line_states at.world) at.line request.block sound_now (request_few what request asks readable) ring decided in
         record {
           outcome = Put ring.line (setup_of ring);
           told = _;
@@ -69,8 +72,8 @@ module _ {A : Type 0} where
             called_is = refl;
             setup_is = refl;
             packet = CallPacket request.d (record {
-              called = address_of at.tables ring.line;
-              calling = address_of at.tables at.line;
+              called = address_of at.force ring.line;
+              calling = address_of at.force at.line;
               facilities = written.field;
               user = request.block.user;
             });
@@ -79,14 +82,14 @@ module _ {A : Type 0} where
           };
         }
 
-    request_acts : (far : List (Output A)) (asked : Option (CallRequest A)) → request_in what ≡ asked → HasActs (Requests at.tables at.world at.line far asked)
+    request_acts : (far : List (Output A)) (asked : Option (CallRequest A)) → request_in what ≡ asked → HasActs (Requests at.force at.world at.line far asked)
     request_acts far None asks = record { outcome = Plain; told = _; acts = (refl, refl) }
     request_acts far (Some request) asks =
-        let it = has_verdict at.tables (line_states at.world) at.line request.block in
+        let it = has_verdict at.force (line_states at.world) at.line request.block in
         verdict_acts far request asks it.verdict it.decided
 
     answered_acts : (accepted : CallAccepted A) (found : ℕ × Call) (answer : Answer A)
-        → Answered found.1.setup (address_of at.tables at.line) found.1.dialled accepted.d accepted.block answer
+        → Answered found.1.setup (address_of at.force at.line) found.1.dialled accepted.d accepted.block answer
         → HasActs (Answers at (Some accepted) (Some found))
     answered_acts accepted found (answered.Connected connection) is = record {
       outcome = Connected (agreement_of at.moment connection);
@@ -103,7 +106,7 @@ module _ {A : Type 0} where
     answer_acts (Some accepted) (Some found) on =
         let live = (shown_on at.world at.line found on).1 in
         let indicated : AreTerms Long found.1.setup.indicated = terms_long (modulus_of at.tables found.1.caller) found.1.setup.indicated (terms found.0 found.1 live).0.indicated in
-        let it = one_answer found.1.setup (address_of at.tables at.line) found.1.dialled accepted.d accepted.block indicated in
+        let it = one_answer found.1.setup (address_of at.force at.line) found.1.dialled accepted.d accepted.block indicated in
         answered_acts accepted found it.some.0 it.some.1
 
     clear_acts : (clear : Option (ClearRequest A)) (found : Option (ℕ × Call)) → HasActs (Confirms at clear found)
@@ -132,7 +135,8 @@ module _ {A : Type 0} where
       → event.line < line_count tables → IsReadable event.what → HasStep tables history world event
   has_step tables history world event sound run line readable =
       let at : StepContext A = step_context tables history world event.line event.moment in
-      let it = has_acts at event.what sound (run_agreed tables history world run) readable (action_at world event) in
+      let none : Past Tables = record { of = record {}; items = [] } in
+      let it = has_acts at event.what sound (run_sound tables history world sound run) (run_agreed tables history world run) readable (action_at world event) in
       let entry : Entry A = record {
         number = length history + 1;
         event = event;
@@ -145,9 +149,11 @@ module _ {A : Type 0} where
             outcome = it.outcome;
             outputs = [];
             records = record { items = []; room = 0 };
+            tables = none;
           }));
           room = 0;
         };
+        tables = record { of = record {}; items = brought_by event.what (in_force tables history) };
       } in
       record {
         entry = entry;
@@ -158,6 +164,7 @@ module _ {A : Type 0} where
           line = omega (arith, line, (run_right tables history world run).sound.lines);
           told = it.told;
           acts = it.acts;
+          brought = brings_again (in_force tables history) world event.what (run_sound tables history world sound run);
           outputs = refl;
           records = refl;
           leads = refl;

@@ -68,6 +68,7 @@ module _ {A : Type 0} where
   closed_few world line (events.Frame identifier packet) = omega arith
   closed_few world line (events.WrongFrame wrong) = omega arith
   closed_few world line events.Expire = omega arith
+  closed_few world line events.Reload = omega arith
 
 module _ {A : Type 0} (tables : Tables) (world : World) (line : ℕ) where
   request_few : (far : List (Output A)) (request : CallRequest A) (outcome : Outcome) (told : EventOutputs A) → length far ≤ 1
@@ -137,8 +138,8 @@ module _ {A : Type 0} (at : StepContext A) (what : What A) (terms : AllHaveTerms
     closed_few at.world at.line what,
     far_few {A = A} at.world at.line (call_on at.world at.line) (cleared_with OUT_OF_ORDER NO_ADDITIONAL_INFORMATION (far_information at (call_on at.world at.line))),
   ))
-  few_told NewCall outcome told acts = requests_few at.tables at.world at.line [] (request_in what) outcome told (omega arith) acts
-  few_told Collision outcome told acts = requests_few at.tables at.world at.line (outputs_of_cancel at.world at.line) (request_in what) outcome told
+  few_told NewCall outcome told acts = requests_few at.force at.world at.line [] (request_in what) outcome told (omega arith) acts
+  few_told Collision outcome told acts = requests_few at.force at.world at.line (outputs_of_cancel at.world at.line) (request_in what) outcome told
       (far_few at.world at.line (call_on at.world at.line) (clear_indication NUMBER_BUSY CALL_COLLISION)) acts
   few_told Answer outcome told acts = answers_few at (accepted_in what) (call_on at.world at.line) outcome told acts
   few_told Confirm outcome told acts = confirms_few at (clear_in what) (call_on at.world at.line) outcome told acts

@@ -36,6 +36,8 @@ use Rattle.xp_core.specs.steps.Writable.{AreReadable}
 use Rattle.xp_core.proofs.Handed.{move_can}
 use Rattle.xp_machine.proofs.Lines.{get_or-set, line_at-opening}
 use Rattle.xp_step.proofs.Origins.{ComesOf, IsAsked, IsSent, all_come, all_sent, closing, confirming, clearing, refusing, clearing_far, carrying_on, connecting, ringing, carrying}
+use Rattle.xp_step.specs.InForce.{in_force}
+use Rattle.xp_step.proofs.InForce.{step_sound}
 use Rattle.xp_step.proofs.RunLemmas.{run_keeps}
 
 abbrev IsNarrow : World → Type 0
@@ -107,7 +109,7 @@ module _ {A : Type 0} where
 
   -- ---- what is put out
 
-  module _ (at : StepContext A) (what : What A) (sound : IsSound at.tables) (readable : IsReadable what) (narrow : IsNarrow at.world)
+  module _ (at : StepContext A) (what : What A) (sound : IsSound at.force) (readable : IsReadable what) (narrow : IsNarrow at.world)
       (before : AreReadable at.before) where
     abbrev Written : Output A → Type 0
     Written output = IsWritable (modulus_of at.tables output.line) output.outgoing.put
@@ -131,10 +133,10 @@ module _ {A : Type 0} where
         (carried_on_sent found.1.setup.fast clear.cause clear.diagnostic clear.block information packet (clear_short what clear clears readable) carried)
     sent_fits output (connecting found answer connection live accepts answered is) =
         sent found.1.caller connection.packet output is
-        (connected_sent found.1.setup (address_of at.tables at.line) found.1.dialled answer.d answer.block answered.0 connection (answer_short what answer accepts readable) answered.2)
+        (connected_sent found.1.setup (address_of at.force at.line) found.1.dialled answer.d answer.block answered.0 connection (answer_short what answer accepts readable) answered.2)
     sent_fits output (ringing request ring packet asks decided incoming is) =
-        let written = told_can_be_written at.tables (line_states at.world) at.line request.block sound (request_few what request asks readable) ring decided in
-        let can = incoming_call_sent ring (address_of at.tables ring.line) (address_of at.tables at.line) request.d request.block packet written
+        let written = told_can_be_written at.force (line_states at.world) at.line request.block sound (request_few what request asks readable) ring decided in
+        let can = incoming_call_sent ring (address_of at.force ring.line) (address_of at.force at.line) request.d request.block packet written
         (request_short what request asks readable).1 incoming in
         sent_as ring.line 1 packet output is (can.fit (modulus_of at.tables ring.line) 1 (omega arith))
     sent_fits output (carrying carried move by in_it is) =
@@ -167,35 +169,41 @@ module _ {A : Type 0} where
   -- ---- along a run
 
   abbrev Fits : Tables → List (Entry A) → World → Type 0
-  Fits tables before world = AreReadable before → IsNarrow world × All (λ entry. AreWritable tables entry.outputs) before
+  Fits tables before world = IsSound (in_force tables before) × (AreReadable before → IsNarrow world × All (λ entry. AreWritable tables entry.outputs) before)
 
-  step_fits : (tables : Tables) (sound : IsSound tables) (before : List (Entry A)) (world : World) (entry : Entry A) (next : World)
+  step_fits : (tables : Tables) (before : List (Entry A)) (world : World) (entry : Entry A) (next : World)
       → Fits tables before world → Step tables before world entry next → Fits tables (before ++ entry ∷ []) next
-  step_fits tables sound before world entry next fits step = λ readable.
-      let at : StepContext A = step_context tables before world entry.event.line entry.event.moment in
-      let parts = All-pop (λ e. IsReadable e.event.what) (before ++ entry ∷ []) before (Some entry) refl readable in
-      let old : IsNarrow world × All (λ e. AreWritable tables e.outputs) before = fits parts.0 in
-      let N : World → Type 0 = λ w. IsNarrow w in
-      let W : List (Output A) → Type 0 = λ outputs. AreWritable tables outputs in
-      let from = all_come at entry.event.what (action_at world entry.event) entry.outcome step.told step.acts in
-      let narrow : IsNarrow next = subst N (sym step.leads)
-      (all_changed_narrow at entry.event.what parts.1 (changes_of tables before world entry) world from old.0) in
-      let writable : AreWritable tables entry.outputs = subst W (sym step.outputs)
-      (All-weaker (IsSent at entry.event.what) (λ output. IsWritable (modulus_of tables output.line) output.outgoing.put)
-      (sent_fits at entry.event.what sound parts.1 old.0 parts.0) (outputs_of step.told)
-      (all_sent at entry.event.what (action_at world entry.event) entry.outcome step.told step.acts)) in
-      (narrow, All-push (λ e. AreWritable tables e.outputs) before entry old.1 writable)
+  step_fits tables before world entry next fits step = (
+    step_sound tables before world entry next fits.0 step,
+    λ readable.
+        let at : StepContext A = step_context tables before world entry.event.line entry.event.moment in
+        let parts = All-pop (λ e. IsReadable e.event.what) (before ++ entry ∷ []) before (Some entry) refl readable in
+        let old : IsNarrow world × All (λ e. AreWritable tables e.outputs) before = fits.1 parts.0 in
+        let N : World → Type 0 = λ w. IsNarrow w in
+        let W : List (Output A) → Type 0 = λ outputs. AreWritable tables outputs in
+        let from = all_come at entry.event.what (action_at world entry.event) entry.outcome step.told step.acts in
+        let narrow : IsNarrow next = subst N (sym step.leads)
+        (all_changed_narrow at entry.event.what parts.1 (changes_of tables before world entry) world from old.0) in
+        let writable : AreWritable tables entry.outputs = subst W (sym step.outputs)
+        (All-weaker (IsSent at entry.event.what) (λ output. IsWritable (modulus_of tables output.line) output.outgoing.put)
+        (sent_fits at entry.event.what fits.0 parts.1 old.0 parts.0) (outputs_of step.told)
+        (all_sent at entry.event.what (action_at world entry.event) entry.outcome step.told step.acts)) in
+        (narrow, All-push (λ e. AreWritable tables e.outputs) before entry old.1 writable),
+  )
 
   run_keeps_fit : (tables : Tables) (history : List (Entry A)) (world : World) → IsSound tables → Run tables history world → Fits tables history world
   run_keeps_fit tables history world sound run =
-      run_keeps (Fits tables) tables (step_fits tables sound) [] (opening (line_count tables)) history world (λ readable. (
-        λ line. omega (arith, ap (λ l. l.identifier) (line_at-opening (line_count tables) line)),
-        All-nil (λ entry. AreWritable tables entry.outputs),
-      )) run
+      run_keeps (Fits tables) tables (step_fits tables) [] (opening (line_count tables)) history world (
+        sound,
+        λ readable. (
+          λ line. omega (arith, ap (λ l. l.identifier) (line_at-opening (line_count tables) line)),
+          All-nil (λ entry. AreWritable tables entry.outputs),
+        ),
+      ) run
 
   pub run_fits : (tables : Tables) (history : List (Entry A)) (world : World) → IsSound tables → Run tables history world → AreReadable history
       → All (λ entry. AreWritable tables entry.outputs) history
-  run_fits tables history world sound run readable = (run_keeps_fit tables history world sound run readable).1
+  run_fits tables history world sound run readable = ((run_keeps_fit tables history world sound run).1 readable).1
 
   pub run_narrow : (tables : Tables) (history : List (Entry A)) (world : World) → IsSound tables → Run tables history world → AreReadable history → IsNarrow world
-  run_narrow tables history world sound run readable = (run_keeps_fit tables history world sound run readable).0
+  run_narrow tables history world sound run readable = ((run_keeps_fit tables history world sound run).1 readable).0

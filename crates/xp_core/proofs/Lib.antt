@@ -22,6 +22,7 @@ pub mod OtherStates
 pub mod Outcomes
 pub mod RecordCounts
 pub mod Relaying
+pub mod Reloads
 pub mod Seen
 pub mod Shapes
 pub mod Showing

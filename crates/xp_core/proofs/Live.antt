@@ -11,9 +11,9 @@ use Rattle.xp_machine.specs.Coupling.{IsHeld}
 use Rattle.xp_step.specs.Effects.{changes_of}
 use Rattle.xp_step.specs.StepContext.{step_context}
 use Rattle.xp_step.specs.Step.{Step}
-use Rattle.xp_step.specs.Table.{action_at, kind_of}
+use Rattle.xp_step.specs.Table.{action_at}
 use Rattle.xp_machine.specs.World.{Call, World, call_numbered, call_on, state_at}
-use Rattle.xp_core.proofs.Cells.{Suits, suits}
+use Rattle.xp_core.proofs.Cells.{Suits, suits_in}
 use Rattle.xp_machine.proofs.Coupled.{CanBe}
 use Rattle.xp_machine.proofs.InCall.{end_of, shown_on}
 use Rattle.xp_machine.proofs.Maps.{new_or_old, was_there}
@@ -57,7 +57,7 @@ module _ {A : Type 0} (tables : Tables) (before : List (Entry A)) (world : World
   unagreed number call answers on =
       let line : ℕ = entry.event.line in
       let P : Action → Type 0 = λ action. Suits action (state_at world line) in
-      let rings = subst P answers (suits (state_at world line) (kind_of entry.event.what)) in
+      let rings = subst P answers (suits_in (state_at world line) entry.event.what) in
       let shown = shown_on world line (number, call) on in
       let held : IsHeld tables world number call = right.coupled.held number call shown.1 in
       elim held.stage [

@@ -13,14 +13,14 @@ use Rattle.xp_core.specs.Records.{Connects as HasConnected, Moment, WasConnected
 use Rattle.xp_step.specs.Run.{Run}
 use Rattle.xp_step.specs.StepContext.{StepContext, step_context}
 use Rattle.xp_step.specs.Step.{Step}
-use Rattle.xp_step.specs.Table.{action_at, kind_of}
+use Rattle.xp_step.specs.Table.{action_at}
 use Rattle.xp_machine.specs.declared.agreement.Agreement.{Agreement}
 use Rattle.xp_machine.specs.Changes.{Change, Connects}
 use Rattle.xp_machine.specs.Channel.{Ringing, call_of}
 use Rattle.xp_machine.specs.Clearing.{connected_of}
 use Rattle.xp_machine.specs.World.{Call, World, call_numbered, call_on, numbered, opening, state_at}
 use Rattle.xp_machine.proofs.InCall.{shown_on}
-use Rattle.xp_core.proofs.Cells.{Suits, suits}
+use Rattle.xp_core.proofs.Cells.{Suits, suits_in}
 use Rattle.xp_core.proofs.Fronts.{last_or_before}
 use Rattle.xp_core.proofs.Ledger.{here, lift}
 use Rattle.xp_core.proofs.Live.{begun, joined, next_grows, same, was}
@@ -132,7 +132,7 @@ module _ {A : Type 0} where
     connected_here number call agreement is =
         let from = joined_by number call agreement is in
         let P : Action → Type 0 = λ action. Suits action (state_at world entry.event.line) in
-        let rings = subst P from.answers (suits (state_at world entry.event.line) (kind_of entry.event.what)) in
+        let rings = subst P from.answers (suits_in (state_at world entry.event.line) entry.event.what) in
         let shown : call_of (state_at world entry.event.line) ≡ Some number = (shown_on world entry.event.line (number, call) from.on).0 in
         let both : Some rings.0 ≡ Some number = sym (ap call_of rings.1) ∙ shown in
         let number_is : rings.0 ≡ number = cc in (

@@ -31,10 +31,11 @@ use Rattle.xp_step.specs.EventOutputs.{outputs_of}
 use Rattle.xp_step.proofs.RelayedPackets.{of_carried}
 use Rattle.xp_machine.proofs.InCall.{shown_on}
 use Rattle.xp_step.proofs.Origins.{ComesOf, IsSent, all_come, all_sent, closing, confirming, clearing, refusing, clearing_far, carrying_on, connecting, ringing, carrying}
+use Rattle.xp_step.proofs.InForce.{run_frame, run_sound}
 use Rattle.xp_step.proofs.RunLemmas.{run_keeps, run_push}
 use Rattle.xp_core.proofs.Sounds.{IsRight, run_right}
 
-module _ {A : Type 0} (at : StepContext A) (what : What A) (sound : IsSound at.tables) (coupled : AreCoupled at.tables at.world) (within : at.line < line_count at.tables) where
+module _ {A : Type 0} (at : StepContext A) (what : What A) (sound : IsSound at.force) (count : line_count at.force ≡ line_count at.tables) (coupled : AreCoupled at.tables at.world) (within : at.line < line_count at.tables) where
   -- ---- what is put out
 
   abbrev IsNamed : Output A → Type 0
@@ -64,7 +65,7 @@ module _ {A : Type 0} (at : StepContext A) (what : What A) (sound : IsSound at.t
   sent_named output (connecting found answer connection live accepts answered is) =
       to found.1.caller output (ap (λ o. o.line) is) (coupled.held found.0 found.1 live).caller
   sent_named output (ringing request ring packet asks decided incoming is) =
-      to ring.line output (ap (λ o. o.line) is) (taken_is_free at.tables (line_states at.world) at.line request.block ring sound decided).known
+      to ring.line output (ap (λ o. o.line) is) (omega (arith, count, (taken_is_free at.force (line_states at.world) at.line request.block ring sound decided).known))
   sent_named output (carrying carried move by in_it is) =
       let it = of_carried at.line (call_on at.world at.line) (packet_in what) carried by in
       let live = (shown_on at.world at.line (carried.number, carried.call) it.on).1 in
@@ -98,18 +99,20 @@ module _ {A : Type 0} (at : StepContext A) (what : What A) (sound : IsSound at.t
       (records_named change world from.0) (all_records_named changes (changed change world) from.1)
 
 module _ {A : Type 0} where
-  entry_named : (tables : Tables) (before : List (Entry A)) (world : World) (entry : Entry A) (next : World) → IsSound tables → IsRight tables (length before) world
+  entry_named : (tables : Tables) (before : List (Entry A)) (world : World) (entry : Entry A) (next : World) → IsSound tables → Run tables before world → IsRight tables (length before) world
       → Step tables before world entry next → HasLines (line_count tables) entry
-  entry_named tables before world entry next sound right step =
+  entry_named tables before world entry next sound run right step =
       let at : StepContext A = step_context tables before world entry.event.line entry.event.moment in
+      let sound_now = run_sound tables before world sound run in
+      let count = (run_frame tables before world run).count in
       let within : entry.event.line < line_count tables = omega (arith, step.line, right.sound.lines) in
       let N : Output A → Type 0 = λ output. output.line < line_count tables in
       record {
         outputs = All-same N entry.outputs (outputs_of step.told) step.outputs
-            (All-weaker (IsSent at entry.event.what) N (sent_named at entry.event.what sound right.coupled within) (outputs_of step.told)
+            (All-weaker (IsSent at entry.event.what) N (sent_named at entry.event.what sound_now count right.coupled within) (outputs_of step.told)
             (all_sent at entry.event.what (action_at world entry.event) entry.outcome step.told step.acts));
         records = All-same (NamesLines (line_count tables)) entry.records.items _ step.records
-            (all_records_named at entry.event.what sound right.coupled within (changes_of tables before world entry) world
+            (all_records_named at entry.event.what sound_now count right.coupled within (changes_of tables before world entry) world
             (all_come at entry.event.what (action_at world entry.event) entry.outcome step.told step.acts));
       }
 
@@ -118,7 +121,7 @@ module _ {A : Type 0} where
       → Run tables (before ++ entry ∷ []) next × All (HasLines (line_count tables)) (before ++ entry ∷ [])
   step_named tables sound before world entry next old step = (
     run_push tables [] (opening (line_count tables)) before world entry next old.0 step,
-    All-push (HasLines (line_count tables)) before entry old.1 (entry_named tables before world entry next sound (run_right tables before world old.0) step),
+    All-push (HasLines (line_count tables)) before entry old.1 (entry_named tables before world entry next sound old.0 (run_right tables before world old.0) step),
   )
 
   pub run_named : (tables : Tables) (history : List (Entry A)) (world : World) → IsSound tables → Run tables history world → All (HasLines (line_count tables)) history

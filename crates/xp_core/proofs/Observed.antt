@@ -7,7 +7,6 @@ use Rattle.xp_causes.specs.declared.clearing_cause.TheConstants.{NETWORK_CONGEST
 use Rattle.xp_causes.specs.declared.diagnostic.TheConstants.{NO_ADDITIONAL_INFORMATION}
 use Rattle.xp_channel.specs.declared.action.Action.{Action}
 use Rattle.xp_channel.specs.declared.action.Action.TheVariants.{Nothing, Fall, Confirm, Error, Relayed}
-use Rattle.xp_channel.specs.Table.{cell}
 use Rattle.xp_packets.specs.declared.end.End.{End}
 use Rattle.xp_packets.specs.declared.end.End.TheVariants.{Caller, Called}
 use Rattle.xp_packets.specs.declared.packet.Packet.{Packet}
@@ -31,7 +30,7 @@ use Rattle.xp_step.specs.Run.{Run}
 use Rattle.xp_step.specs.Segments.{is_past_limit}
 use Rattle.xp_step.specs.Step.{Step}
 use Rattle.xp_step.specs.StepContext.{StepContext, step_context}
-use Rattle.xp_step.specs.Table.{action_at, kind_of, packet_in}
+use Rattle.xp_step.specs.Table.{action_at, action_in, packet_in}
 use Rattle.xp_machine.specs.declared.agreement.Agreement.{Agreement}
 use Rattle.xp_machine.specs.CallEnds.{end_of as which_end, line_at_end}
 use Rattle.xp_machine.specs.Changes.{Connects, Ends, NoCallState, GoesOut, IsCleared, IsFree, all_changed}
@@ -193,9 +192,9 @@ module _ {A : Type 0} where
       -- ---- by its action
 
       module _ (what : What A) (is : entry.event.what ≡ what) where
-        action_of : (action : Action) → cell (channel_of (Talking number)) (kind_of what) ≡ action → action_at world entry.event ≡ action
+        action_of : (action : Action) → action_in (channel_of (Talking number)) what ≡ action → action_at world entry.event ≡ action
         action_of action cell_is =
-            ap (λ state. cell (channel_of state) (kind_of entry.event.what)) talking ∙ ap (λ w. cell (channel_of (Talking number)) (kind_of w)) is ∙ cell_is
+            ap (λ state. action_in (channel_of state) entry.event.what) talking ∙ ap (λ w. action_in (channel_of (Talking number)) w) is ∙ cell_is
 
         changes_are : (action : Action) → action_at world entry.event ≡ action → changes_of tables before world entry ≡ effects_of at what action entry.outcome
         changes_are action action_is =
@@ -263,16 +262,16 @@ module _ {A : Type 0} where
           relays = carried (is_past_limit tables before (Some c))
               (subst (λ r. CarriesAs at r (is_past_limit tables before r) entry.outcome step.told) by_line (acts_as Relayed action_is))
 
-      errs : (what : What A) (is : entry.event.what ≡ what) (diagnostic : ℕ) → cell (channel_of (Talking number)) (kind_of what) ≡ Error diagnostic → Result
+      errs : (what : What A) (is : entry.event.what ≡ what) (diagnostic : ℕ) → action_in (channel_of (Talking number)) what ≡ Error diagnostic → Result
       errs what is diagnostic cell_is =
           leaving what is IsCleared REMOTE_PROCEDURE_ERROR diagnostic (changes_are what is (Error diagnostic) (action_of what is (Error diagnostic) cell_is))
 
-      falls : (what : What A) (is : entry.event.what ≡ what) → cell (channel_of (Talking number)) (kind_of what) ≡ Fall → Result
+      falls : (what : What A) (is : entry.event.what ≡ what) → action_in (channel_of (Talking number)) what ≡ Fall → Result
       falls what is cell_is =
           leaving what is GoesOut OUT_OF_ORDER NO_ADDITIONAL_INFORMATION (changes_are what is Fall (action_of what is Fall cell_is))
 
       relays_it : (identifier : ℕ) (packet : Packet A) → entry.event.what ≡ events.Frame identifier packet
-          → cell (channel_of (Talking number)) (kind_of (events.Frame identifier packet)) ≡ Relayed → Result
+          → action_in (channel_of (Talking number)) (events.Frame identifier packet) ≡ Relayed → Result
       relays_it identifier packet is cell_is =
           relays (events.Frame identifier packet) is packet (action_of (events.Frame identifier packet) is Relayed cell_is) refl
 
@@ -295,6 +294,7 @@ module _ {A : Type 0} where
       by_what : (what : What A) → entry.event.what ≡ what → Result
       by_what events.Up is = idle events.Up is (action_of events.Up is Nothing refl) refl
       by_what events.Expire is = idle events.Expire is (action_of events.Expire is Nothing refl) refl
+      by_what events.Reload is = idle events.Reload is (action_of events.Reload is Nothing refl) refl
       by_what events.Down is = falls events.Down is refl
       by_what events.Stall is = falls events.Stall is refl
       by_what (events.WrongFrame wrong) is = errs (events.WrongFrame wrong) is (diagnostic_of wrong) refl

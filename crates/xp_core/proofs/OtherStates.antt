@@ -21,8 +21,9 @@ use Rattle.xp_step.specs.EventOutputs.{EventOutputs}
 use Rattle.xp_step.specs.Outcomes.{taken_by}
 use Rattle.xp_step.specs.Run.{Run}
 use Rattle.xp_step.specs.Step.{Step}
+use Rattle.xp_step.specs.InForce.{in_force}
 use Rattle.xp_step.specs.StepContext.{StepContext, step_context}
-use Rattle.xp_step.specs.Table.{CallRequest, ClearRequest, action_at, clear_in, kind_of, request_in}
+use Rattle.xp_step.specs.Table.{CallRequest, ClearRequest, action_at, clear_in, request_in}
 use Rattle.xp_machine.specs.Changes.{NoCallState, IsFree, IsCleared, GoesOut, Connects, Ends, all_changed, changed}
 use Rattle.xp_machine.specs.Channel.{Cleared, Ready, call_of, channel_of}
 use Rattle.xp_machine.specs.Coupling.{AreCoupled, IsEnd, IsHeld}
@@ -31,7 +32,7 @@ use Rattle.xp_machine.proofs.Coupled.{IsIn, far_shows, far_within}
 use Rattle.xp_machine.proofs.InCall.{end_of, pair, shown_on}
 use Rattle.xp_machine.proofs.Maps.{get_new}
 use Rattle.xp_core.specs.States.{OthersFollow, channel_at}
-use Rattle.xp_core.proofs.Cells.{Suits, suits}
+use Rattle.xp_core.proofs.Cells.{Suits, suits_in}
 use Rattle.xp_core.proofs.Idle.{taken_ready}
 use Rattle.xp_core.proofs.Sounds.{run_right}
 
@@ -158,15 +159,15 @@ module _ {A : Type 0} (tables : Tables) (history : List (Entry A)) (world : Worl
         subst P same (cleared way cause diagnostic)
 
     not_taken : (far_told : List (Output A)) (request : CallRequest A) (called : ℕ) (setup : Setup) (told : EventOutputs A)
-        → IsPut tables world line far_told request called setup told → far ≢ called
+        → IsPut (in_force tables history) world line far_told request called setup told → far ≢ called
     not_taken far_told request called setup told put is =
         let P : ℕ → Type 0 = λ l. state_at world l ≡ Ready in
-        let ready : state_at world called ≡ Ready = subst P (sym put.called_is) (taken_ready tables world line request.block put.ring put.decided).ready in
+        let ready : state_at world called ≡ Ready = subst P (sym put.called_is) (taken_ready (in_force tables history) world line request.block put.ring put.decided).ready in
         let idle : call_of (state_at world far) ≡ None = ap (λ l. call_of (state_at world l)) is ∙ ap call_of ready in
         let shows : call_of (state_at world far) ≡ Some found.0 = far_shows tables world coupled lines found.0 found.1 line here in
         absurd (cc)
 
-    collided_ended : (request : CallRequest A) (outcome : Outcome) (told : EventOutputs A) → IsRequested tables world line (outputs_of_cancel world line) request outcome told
+    collided_ended : (request : CallRequest A) (outcome : Outcome) (told : EventOutputs A) → IsRequested (in_force tables history) world line (outputs_of_cancel world line) request outcome told
         → channel_at (all_changed (requests line moment (Some request) outcome) (cancelled found)) far ≡ P7
     collided_ended request (Put called setup) told acts =
         ap (λ l. channel_of l.state) (get_or-set_other _ called far _ off_line (not_taken _ request called setup told acts) ∙ get_or-set_other (cancelled found).lines line far _ off_line differs)
@@ -178,7 +179,7 @@ module _ {A : Type 0} (tables : Tables) (history : List (Entry A)) (world : Worl
     collided_ended request (Declined diagnostic) told acts = absurd acts
     collided_ended request Exceeded told acts = absurd acts
 
-    colliding_ended : (asked : Option (CallRequest A)) (outcome : Outcome) (told : EventOutputs A) → Requests tables world line (outputs_of_cancel world line) asked outcome told
+    colliding_ended : (asked : Option (CallRequest A)) (outcome : Outcome) (told : EventOutputs A) → Requests (in_force tables history) world line (outputs_of_cancel world line) asked outcome told
         → Ended (all_changed (collides line moment asked (Some found) outcome) world)
     colliding_ended None outcome told acts = λ gone. goes_on world found.1 here.live gone
     colliding_ended (Some request) outcome told acts = λ gone. collided_ended request outcome told acts
@@ -236,7 +237,7 @@ others_follow tables history world entry next run step =
       far = λ number call on.
           let P : World → Type 0 = λ w. call_numbered w number ≡ None → channel_at w (far_end call line) ≡ P7 in
           subst P (sym step.leads) (ended tables history world line entry.event.moment right.coupled right.sound.lines step.line (number, call) on entry.event.what
-          (action_at world entry.event) entry.outcome step.told (suits (state_at world line) (kind_of entry.event.what)) step.acts);
+          (action_at world entry.event) entry.outcome step.told (suits_in (state_at world line) entry.event.what) step.acts);
       rest = λ other not_line free not_far.
           let P : World → Type 0 = λ w. line_at w other ≡ line_at world other in
           subst P (sym step.leads) (kept tables history world line entry.event.moment right.coupled right.sound.lines step.line other not_line not_far

@@ -29,6 +29,7 @@ use Rattle.xp_core.specs.Determined.{IsSameBesides, IsSameButLine, IsTakenByNeit
 use Rattle.xp_core.specs.OutputsPerLine.{to_line}
 use Rattle.xp_step.specs.Outcomes.{taken_by, with_line}
 use Rattle.xp_step.specs.Segments.{segments_of}
+use Rattle.xp_step.specs.InForce.{in_force}
 use Rattle.xp_step.specs.StepContext.{StepContext, step_context}
 use Rattle.xp_step.specs.Step.{Step}
 use Rattle.xp_step.specs.Effects.{answers, carries, collides, effects_of, requests}
@@ -163,25 +164,25 @@ module _ {A : Type 0} where
 
   module _ (at : StepContext A) (answer : CallAccepted A) (call : Call) where
     answered_alike : (one other : Outcome) (told told' : EventOutputs A)
-        → IsAnswered at answer call one told → IsAnswered at answer call other told' → IsAlike at.tables at.line one told other told'
+        → IsAnswered at answer call one told → IsAnswered at answer call other told' → IsAlike at.force at.line one told other told'
     answered_alike (Connected agreement) (Connected agreement') told told' first second =
         let answers : answered.Connected first.connection ≡ answered.Connected second.connection =
-        answers_same call.setup (address_of at.tables at.line) call.dialled answer.d answer.block _ _ first.answered second.answered in
+        answers_same call.setup (address_of at.force at.line) call.dialled answer.d answer.block _ _ first.answered second.answered in
         let is : first.connection ≡ second.connection = cc in
-        same at.tables at.line (Connected agreement) (Connected agreement') told told' refl
+        same at.force at.line (Connected agreement) (Connected agreement') told told' refl
         (ap Connected (first.agreement_is ∙ ap (agreement_of at.moment) is ∙ sym second.agreement_is))
         (first.told_is ∙ ap (λ c. outputs_of_answer at.world call.caller c.packet) is ∙ sym second.told_is)
     answered_alike (Connected agreement) (Declined diagnostic) told told' first second =
         let answers : answered.Connected first.connection ≡ answered.Refused diagnostic =
-        answers_same call.setup (address_of at.tables at.line) call.dialled answer.d answer.block _ _ first.answered second.answered in cc
+        answers_same call.setup (address_of at.force at.line) call.dialled answer.d answer.block _ _ first.answered second.answered in cc
     answered_alike (Declined diagnostic) (Connected agreement) told told' first second =
         let answers : answered.Refused diagnostic ≡ answered.Connected second.connection =
-        answers_same call.setup (address_of at.tables at.line) call.dialled answer.d answer.block _ _ first.answered second.answered in cc
+        answers_same call.setup (address_of at.force at.line) call.dialled answer.d answer.block _ _ first.answered second.answered in cc
     answered_alike (Declined diagnostic) (Declined diagnostic') told told' first second =
         let answers : ◌≡◌ {A = Answer A} (answered.Refused diagnostic) (answered.Refused diagnostic') =
-        answers_same call.setup (address_of at.tables at.line) call.dialled answer.d answer.block _ _ first.answered second.answered in
+        answers_same call.setup (address_of at.force at.line) call.dialled answer.d answer.block _ _ first.answered second.answered in
         let is : diagnostic ≡ diagnostic' = cc in
-        same at.tables at.line (Declined diagnostic) (Declined diagnostic') told told' refl (ap Declined is) (first.told_is ∙ ap (outputs_of_error at) is ∙ sym second.told_is)
+        same at.force at.line (Declined diagnostic) (Declined diagnostic') told told' refl (ap Declined is) (first.told_is ∙ ap (outputs_of_error at) is ∙ sym second.told_is)
     answered_alike (Connected agreement) Plain told told' first second = absurd second
     answered_alike (Connected agreement) (Put called setup) told told' first second = absurd second
     answered_alike (Connected agreement) (Refused why) told told' first second = absurd second
@@ -196,47 +197,47 @@ module _ {A : Type 0} where
     answered_alike Exceeded other told told' first second = absurd first
 
   answers_alike : (at : StepContext A) (accepted : Option (CallAccepted A)) (found : Option (ℕ × Call)) (one other : Outcome) (told told' : EventOutputs A)
-      → Answers at accepted found one told → Answers at accepted found other told' → IsAlike at.tables at.line one told other told'
-  answers_alike at None found one other told told' first second = plain_alike at.tables at.line _ one other told told' first second
-  answers_alike at (Some answer) None one other told told' first second = plain_alike at.tables at.line _ one other told told' first second
+      → Answers at accepted found one told → Answers at accepted found other told' → IsAlike at.force at.line one told other told'
+  answers_alike at None found one other told told' first second = plain_alike at.force at.line _ one other told told' first second
+  answers_alike at (Some answer) None one other told told' first second = plain_alike at.force at.line _ one other told told' first second
   answers_alike at (Some answer) (Some found) one other told told' first second =
       answered_alike at answer found.1 one other told told' first second
 
   -- ---- a clear request
 
   confirms_alike : (at : StepContext A) (asked : Option (ClearRequest A)) (found : Option (ℕ × Call)) (one other : Outcome) (told told' : EventOutputs A)
-      → Confirms at asked found one told → Confirms at asked found other told' → IsAlike at.tables at.line one told other told'
-  confirms_alike at None found one other told told' first second = plain_alike at.tables at.line _ one other told told' first second
-  confirms_alike at (Some clear) None one other told told' first second = plain_alike at.tables at.line _ one other told told' first second
+      → Confirms at asked found one told → Confirms at asked found other told' → IsAlike at.force at.line one told other told'
+  confirms_alike at None found one other told told' first second = plain_alike at.force at.line _ one other told told' first second
+  confirms_alike at (Some clear) None one other told told' first second = plain_alike at.force at.line _ one other told told' first second
   confirms_alike at (Some clear) (Some found) one other told told' first second =
       let packets : first.packet ≡ second.packet =
       indications_same found.1.setup.fast clear.cause clear.diagnostic clear.block (far_information at (Some found)) first.packet second.packet first.carried second.carried in
-      same at.tables at.line one other told told' (ap taken_by first.plain) (first.plain ∙ sym second.plain)
+      same at.force at.line one other told told' (ap taken_by first.plain) (first.plain ∙ sym second.plain)
       (first.told_is ∙ ap (λ packet. outputs_of_clear at (Some found) (send_far at.world at.line (Some found) packet)) packets ∙ sym second.told_is)
 
   -- ---- a packet of a line in data transfer
 
   carries_alike : (at : StepContext A) (carried : Option (RelayedPacket A)) (past : Bool) (one other : Outcome) (told told' : EventOutputs A)
-      → CarriesAs at carried past one told → CarriesAs at carried past other told' → IsAlike at.tables at.line one told other told'
-  carries_alike at carried false one other told told' first second = plain_alike at.tables at.line _ one other told told' first second
+      → CarriesAs at carried past one told → CarriesAs at carried past other told' → IsAlike at.force at.line one told other told'
+  carries_alike at carried false one other told told' first second = plain_alike at.force at.line _ one other told told' first second
   carries_alike at carried true one other told told' first second =
-      same at.tables at.line one other told told' (ap taken_by first.0) (first.0 ∙ sym second.0) (first.1 ∙ sym second.1)
+      same at.force at.line one other told told' (ap taken_by first.0) (first.0 ∙ sym second.0) (first.1 ∙ sym second.1)
 
   -- ---- all cells of the table
 
   acts_alike : (at : StepContext A) (what : What A) (action : Action) (one other : Outcome) (told told' : EventOutputs A)
-      → Acts at what action one told → Acts at what action other told' → IsAlike at.tables at.line one told other told'
+      → Acts at what action one told → Acts at what action other told' → IsAlike at.force at.line one told other told'
   acts_alike at what NewCall one other told told' first second =
-      requests_alike at.tables at.world at.line [] (request_in what) one other told told' first second
+      requests_alike at.force at.world at.line [] (request_in what) one other told told' first second
   acts_alike at what Collision one other told told' first second =
-      requests_alike at.tables at.world at.line (outputs_of_cancel at.world at.line) (request_in what) one other told told' first second
+      requests_alike at.force at.world at.line (outputs_of_cancel at.world at.line) (request_in what) one other told told' first second
   acts_alike at what Answers_it one other told told' first second =
       answers_alike at (accepted_in what) (call_on at.world at.line) one other told told' first second
   acts_alike at what Confirm one other told told' first second =
       confirms_alike at (clear_in what) (call_on at.world at.line) one other told told' first second
   acts_alike at what Relayed one other told told' first second =
       carries_alike at (relayed_by at.line (call_on at.world at.line) (packet_in what)) _ one other told told' first second
-  acts_alike at what action one other told told' first second = plain_alike at.tables at.line _ one other told told' first second
+  acts_alike at what action one other told told' first second = plain_alike at.force at.line _ one other told told' first second
 
   -- ---- what is recorded
 
@@ -272,11 +273,11 @@ module _ {A : Type 0} where
 
   pub steps_same : (tables : Tables) (history : List (Entry A)) (world : World) (one : Entry A) (next : World) (other : Entry A) (next' : World)
       → Step tables history world one next → Step tables history world other next' → one.event ≡ other.event
-      → IsSameButLine tables world one next other next'
+      → IsSameButLine (in_force tables history) world one next other next'
   steps_same tables history world one next other next' first second event =
       let D : Event A → Outcome → List Change = λ e o. effects_of (step_context tables history world e.line e.moment) e.what (action_at world e) o in
       let C : Event A → Type 0 = λ e. Acts (step_context tables history world e.line e.moment) e.what (action_at world e) one.outcome first.told in
-      let alike : IsAlike tables other.event.line one.outcome first.told other.outcome second.told =
+      let alike : IsAlike (in_force tables history) other.event.line one.outcome first.told other.outcome second.told =
       acts_alike (step_context tables history world other.event.line other.event.moment) other.event.what (action_at world other.event) one.outcome other.outcome first.told second.told
       (subst C event first.acts) second.acts in
       let S : Outcome → List Record = λ o. recorded_by (segments_of tables history) other.event.moment world (D other.event o) in

@@ -1,5 +1,5 @@
 -- What is seen of the call that a line is in.
-use Rattle.std.proofs.Common.{◌≡◌, ◌∙◌, ℕ, List, Option, None, Some, ap, option_map, sym}
+use Rattle.std.proofs.Common.{◌≡◌, ◌∙◌, ℕ, List, None, Some, ap, option_map, sym}
 use Rattle.xp_charge.specs.Counted.{Counted}
 use Rattle.xp_core.specs.declared.call_view.CallView.{CallView}
 use Rattle.xp_step.specs.declared.entry.Entry.{Entry}

@@ -24,13 +24,14 @@ use Rattle.xp_machine.specs.Changes.{Change, Rises, Leaves, Begins, IsRefused, C
 use Rattle.xp_machine.specs.Channel.{Cleared, INITIAL_IDENTIFIER, Ready, Ringing, call_of}
 use Rattle.xp_machine.specs.Coupling.{AreCoupled, IsHeld}
 use Rattle.xp_core.specs.Records.{clears_to}
+use Rattle.xp_step.specs.InForce.{in_force}
 use Rattle.xp_step.specs.StepContext.{StepContext, step_context}
 use Rattle.xp_step.specs.Step.{Step}
 use Rattle.xp_step.specs.Effects.{answers, carries, changes_of, collides, confirms, effects_of, leaves, requests}
-use Rattle.xp_step.specs.Table.{CallAccepted, CallRequest, ClearRequest, accepted_in, action_at, clear_in, kind_of, packet_in, request_in}
+use Rattle.xp_step.specs.Table.{CallAccepted, CallRequest, ClearRequest, accepted_in, action_at, clear_in, packet_in, request_in}
 use Rattle.xp_step.specs.EventOutputs.{EventOutputs, outputs_of}
 use Rattle.xp_machine.specs.World.{Call, Line, World, call_on, far_end, line_at, state_at}
-use Rattle.xp_core.proofs.Cells.{Suits, suits}
+use Rattle.xp_core.proofs.Cells.{Suits, suits_in}
 use Rattle.xp_core.proofs.Clears.{both_told, collision_refused, collision_taken, collision_turned_down, confirmed_told, fall_told, put_told, turned_down}
 use Rattle.xp_machine.proofs.Coupled.{CanBe, IsIn, IsOut, far_shows, far_within, line_within}
 use Rattle.xp_core.proofs.Idle.{IsReadyFor, taken_ready}
@@ -60,7 +61,7 @@ module _ {A : Type 0} where
     pub requested_is : requested ≡ at.moment
     pub took : outcome ≡ Put called setup
     pub far : List (Output A)
-    pub put : IsPut at.tables at.world at.line far asked.request called setup told
+    pub put : IsPut at.force at.world at.line far asked.request called setup told
 
   pub record IsTurned (at : StepContext A) (what : What A) (action : Action) (outcome : Outcome) (told : EventOutputs A) (line identifier : ℕ) (dialled : List ℕ) (why : Refusal) : Type 0 where
     pub asked : IsAsked at what action line identifier dialled
@@ -214,7 +215,7 @@ module _ {A : Type 0} (tables : Tables) (before : List (Entry A)) (world : World
   -- ---- a call request
 
   taking : (what : What A) (action : Action) (told : EventOutputs A) (request : CallRequest A) (called : ℕ) (setup : Setup) (far : List (Output A)) → request_in what ≡ Some request → IsNew action
-      → IsPut tables world line far request called setup told
+      → IsPut (in_force tables before) world line far request called setup told
       → ComesOf here what action (Put called setup) told (Begins line request.identifier called request.block.called setup moment)
   taking what action told request called setup far asks new put = record {
     asked = record { request = request; asks = asks; new = new; line_is = refl; identifier_is = refl; dialled_is = refl };
@@ -224,13 +225,13 @@ module _ {A : Type 0} (tables : Tables) (before : List (Entry A)) (world : World
     put = put;
   }
 
-  ready_for : (request : CallRequest A) (called : ℕ) (setup : Setup) (far : List (Output A)) (told : EventOutputs A) → IsPut tables world line far request called setup told → IsReadyFor world line called
+  ready_for : (request : CallRequest A) (called : ℕ) (setup : Setup) (far : List (Output A)) (told : EventOutputs A) → IsPut (in_force tables before) world line far request called setup told → IsReadyFor world line called
   ready_for request called setup far told put =
       let P : ℕ → Type 0 = λ l. IsReadyFor world line l in
-      subst P (sym put.called_is) (taken_ready tables world line request.block put.ring put.decided)
+      subst P (sym put.called_is) (taken_ready (in_force tables before) world line request.block put.ring put.decided)
 
   requesting : (what : What A) (outcome : Outcome) (told : EventOutputs A) (asked : Option (CallRequest A)) → request_in what ≡ asked
-      → call_of (state_at world line) ≡ None → Requests tables world line [] asked outcome told → Shape here what NewCall outcome told (requests line moment asked outcome)
+      → call_of (state_at world line) ≡ None → Requests (in_force tables before) world line [] asked outcome told → Shape here what NewCall outcome told (requests line moment asked outcome)
   requesting what outcome told None asks out acts = none refl (λ request is new. absurd (cc))
   requesting what (Put called setup) told (Some request) asks out acts =
       let ready = ready_for request called setup [] told acts in
@@ -295,7 +296,7 @@ module _ {A : Type 0} (tables : Tables) (before : List (Entry A)) (world : World
     }
 
     colliding_in : (what : What A) (outcome : Outcome) (told : EventOutputs A) (request : CallRequest A) → request_in what ≡ Some request
-        → IsRequested tables world line (outputs_of_cancel world line) request outcome told → Shape here what Collision outcome told (collides line moment (Some request) (Some found) outcome)
+        → IsRequested (in_force tables before) world line (outputs_of_cancel world line) request outcome told → Shape here what Collision outcome told (collides line moment (Some request) (Some found) outcome)
     colliding_in what (Put called setup) told request asks acts =
         let ready = ready_for request called setup (outputs_of_cancel world line) told acts in
         two found.0 found.1 (Begins line request.identifier called request.block.called setup moment) (inr refl) refl (in_call found is)
@@ -318,7 +319,7 @@ module _ {A : Type 0} (tables : Tables) (before : List (Entry A)) (world : World
 
   colliding : (what : What A) (outcome : Outcome) (told : EventOutputs A) (asked : Option (CallRequest A)) (found : Option (ℕ × Call)) → request_in what ≡ asked → call_on world line ≡ found
       → (number : ℕ) × (state_at world line ≡ Ringing number)
-      → Requests tables world line (outputs_of_cancel world line) asked outcome told → Shape here what Collision outcome told (collides line moment asked found outcome)
+      → Requests (in_force tables before) world line (outputs_of_cancel world line) asked outcome told → Shape here what Collision outcome told (collides line moment asked found outcome)
   colliding what outcome told None found asks is rings acts = none refl (λ request asked new. absurd (cc))
   colliding what outcome told (Some request) None asks is rings acts =
       let none : call_of (state_at world line) ≡ None = none_on tables world coupled line is in
@@ -358,4 +359,4 @@ pub step_shape : {A : Type 0} (tables : Tables) (before : List (Entry A)) (world
     → Shape (step_context tables before world entry.event.line entry.event.moment) entry.event.what (action_at world entry.event) entry.outcome step.told (changes_of tables before world entry)
 step_shape tables before world entry next coupled lines step =
     shape tables before world entry.event.line entry.event.moment coupled lines step.line entry.event.what (action_at world entry.event) entry.outcome step.told
-    (suits (state_at world entry.event.line) (kind_of entry.event.what)) step.acts
+    (suits_in (state_at world entry.event.line) entry.event.what) step.acts

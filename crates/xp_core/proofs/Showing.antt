@@ -23,6 +23,8 @@ use Rattle.xp_step.specs.Relays.{RelaysRepresentCalls}
 use Rattle.xp_machine.specs.Relays.{relays_with}
 use Rattle.xp_core.specs.Lines.{HasLines}
 use Rattle.xp_step.specs.Run.{Run}
+use Rattle.xp_past.specs.declared.past.Past.{Past}
+use Rattle.xp_step.specs.InForce.{Brings, in_force}
 use Rattle.xp_step.specs.StepContext.{step_context}
 use Rattle.xp_core.specs.steps.CoreInvariant.{CoreInvariant}
 use Rattle.xp_step.specs.Step.{Step}
@@ -61,14 +63,15 @@ module _ {A : Type 0} where
 
   -- and entered
   pub enters : (tables : Tables) (old : World) (relays : List (Option (MeteredRelay A))) (history : List (Entry A)) (waiting : List Record) (event : Event A) (work : PreparedEntry A)
-      (new : World) (later : List (Option (MeteredRelay A))) (entries : List (Entry A)) (charged : List Record) (entry : Entry A)
+      (new : World) (later : List (Option (MeteredRelay A))) (entries : List (Entry A)) (charged : List Record) (entry : Entry A) (brought : Past Tables)
       → IsPreparedEntry tables history old relays event work new later
-      → entry ≡ record { number = length history + 1; event = event; outcome = work.outcome; outputs = work.outputs; records = work.records }
+      → entry ≡ record { number = length history + 1; event = event; outcome = work.outcome; outputs = work.outputs; records = work.records; tables = brought }
+      → Brings (in_force tables history) old event.what brought.items
       → event.line < length old.lines
       → entries ≡ history ++ entry ∷ [] → charged ≡ waiting ++ work.records.items
       → Enters tables old relays history waiting event new later entries charged entry
-  enters tables old relays history waiting event work new later entries charged entry works is line grown recorded =
-      let made : Entry A = record { number = length history + 1; event = event; outcome = work.outcome; outputs = work.outputs; records = work.records } in
+  enters tables old relays history waiting event work new later entries charged entry brought works is brings line grown recorded =
+      let made : Entry A = record { number = length history + 1; event = event; outcome = work.outcome; outputs = work.outputs; records = work.records; tables = brought } in
       let P : Entry A → Type 0 = λ e. Enters tables old relays history waiting event new later entries charged e in
       subst P (sym is) (record {
         event_is = refl;
@@ -77,6 +80,7 @@ module _ {A : Type 0} where
           line = line;
           told = works.told;
           acts = works.acts;
+          brought = brings;
           outputs = works.outputs;
           records = works.records;
           leads = works.leads;

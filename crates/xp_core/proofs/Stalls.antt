@@ -9,7 +9,7 @@ use Rattle.xp_channel.specs.Table.{cell}
 use Rattle.xp_core.specs.declared.advance.PreparedEntry.{PreparedEntry}
 use Rattle.xp_step.specs.declared.event.Event.{Event}
 use Rattle.xp_step.specs.declared.event.What.{What}
-use Rattle.xp_step.specs.declared.event.What.TheVariants.{Up, Down, Frame, WrongFrame, Expire, Stall}
+use Rattle.xp_step.specs.declared.event.What.TheVariants.{Up, Down, Frame, WrongFrame, Expire, Stall, Reload}
 use Rattle.xp_step.specs.declared.outcome.Outcome.TheVariants.{Plain}
 use Rattle.xp_step.specs.Acts.{Acts}
 use Rattle.xp_step.specs.RelayedPackets.{relayed_as, relayed_by}
@@ -21,7 +21,7 @@ use Rattle.xp_step.specs.Plan.{recorded_at}
 use Rattle.xp_step.specs.Relays.{Relays}
 use Rattle.xp_step.specs.StepContext.{StepContext}
 use Rattle.xp_core.specs.steps.Stalling.{MakesStall, outputs_of_stall}
-use Rattle.xp_step.specs.Stalls.{is_stall, places_for}
+use Rattle.xp_step.specs.Stalls.{is_raised, is_stall, places_for}
 use Rattle.xp_core.specs.steps.Stalls.{stall_of}
 use Rattle.xp_step.specs.Table.{action_at, packet_in}
 use Rattle.xp_step.specs.EventOutputs.{EventOutputs, no_outputs, outputs_of}
@@ -95,18 +95,20 @@ stall_what Down is = absurd (cc)
 stall_what (Frame identifier packet) is = absurd (cc)
 stall_what (WrongFrame wrong) is = absurd (cc)
 stall_what Expire is = absurd (cc)
+stall_what Reload is = absurd (cc)
 
 pub stall_is : {A : Type 0} (event : Event A) → is_stall event.what ≡ true → stall_of event.line event.moment ≡ event
 stall_is event is = ap (λ w. record { line = event.line; moment = event.moment; what = w }) (sym (stall_what event.what is))
 
--- any other event has to have four places left
-pub places_for_others : {A : Type 0} (what : What A) → is_stall what ≡ false → places_for what ≡ 4
+-- an event of a line has to have four places left
+pub places_for_others : {A : Type 0} (what : What A) → is_raised what ≡ false → places_for what ≡ 4
 places_for_others Stall is = absurd (cc)
 places_for_others Up is = refl
 places_for_others Down is = refl
 places_for_others (Frame identifier packet) is = refl
 places_for_others (WrongFrame wrong) is = refl
 places_for_others Expire is = refl
+places_for_others Reload is = absurd (cc)
 
 -- every event takes a place
 least_places : {A : Type 0} (what : What A) → 1 ≤ places_for what
@@ -116,6 +118,7 @@ least_places Down = omega arith
 least_places (Frame identifier packet) = omega arith
 least_places (WrongFrame wrong) = omega arith
 least_places Expire = omega arith
+least_places Reload = omega arith
 
 -- so a history that has the places for an event can get its entry
 pub has_room : {A : Type 0} (what : What A) (count limit : ℕ) → count + places_for what ≤ limit → count < limit

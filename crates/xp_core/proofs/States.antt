@@ -9,7 +9,6 @@ use Rattle.xp_channel.specs.declared.action.Action.{Action}
 use Rattle.xp_channel.specs.declared.action.Action.TheVariants.{Nothing, Rise, Fall, NewCall, Collision, Answer, Confirm, Free, Error, Relayed, Expired}
 use Rattle.xp_channel.specs.declared.channel.Channel.{Channel}
 use Rattle.xp_channel.specs.declared.channel.Channel.TheVariants.{Off, P1, P2, P3, P4, P7}
-use Rattle.xp_channel.specs.Table.{cell}
 use Rattle.xp_packets.specs.declared.packet.Packet.TheVariants.{Call as CallPacket, Accepted, Clear}
 use Rattle.xp_subs.specs.Tables.{Tables, line_count}
 use Rattle.xp_step.specs.declared.entry.Entry.{Entry}
@@ -24,15 +23,16 @@ use Rattle.xp_step.specs.EventOutputs.{EventOutputs}
 use Rattle.xp_step.specs.RelayedPackets.{RelayedPacket, relayed_by}
 use Rattle.xp_step.specs.Run.{Run}
 use Rattle.xp_step.specs.Step.{Step}
+use Rattle.xp_step.specs.InForce.{in_force}
 use Rattle.xp_step.specs.StepContext.{StepContext, step_context}
-use Rattle.xp_step.specs.Table.{CallAccepted, CallRequest, ClearRequest, accepted_in, action_at, clear_in, kind_of, packet_in, request_in}
+use Rattle.xp_step.specs.Table.{CallAccepted, CallRequest, ClearRequest, accepted_in, action_at, action_in, clear_in, packet_in, request_in}
 use Rattle.xp_machine.specs.Changes.{Change, NoCallState, IsFree, IsCleared, GoesOut, Ends, all_changed, changed, state_after}
 use Rattle.xp_machine.specs.Channel.{Cleared, Talking, call_of, channel_of}
 use Rattle.xp_machine.specs.Coupling.{AreCoupled, IsEnd, IsHeld}
 use Rattle.xp_machine.specs.World.{Call, Line, World, call_on, far_end, line_at, numbered, off_line, state_at}
 use Rattle.xp_machine.proofs.Lines.{late, early, never, twice}
 use Rattle.xp_core.specs.States.{IsStateAfter, channel_at}
-use Rattle.xp_core.proofs.Cells.{Suits, suits}
+use Rattle.xp_core.proofs.Cells.{Suits, suits_in}
 use Rattle.xp_core.proofs.Idle.{taken_ready}
 use Rattle.xp_core.proofs.Sounds.{run_right}
 
@@ -56,7 +56,7 @@ module _ {A : Type 0} where
   Asks Confirm what = (clear : ClearRequest A) × (clear_in what ≡ Some clear)
   Asks action what = Unit {0}
 
-  asks : (state : Channel) (what : What A) → Asks (cell state (kind_of what)) what
+  asks : (state : Channel) (what : What A) → Asks (action_in state what) what
   asks Off (Frame identifier (CallPacket d block)) = tt
   asks P7 (Frame identifier (CallPacket d block)) = tt
   asks P1 (Frame identifier (CallPacket d block)) = (_, refl)
@@ -97,14 +97,14 @@ module _ {A : Type 0} (tables : Tables) (history : List (Entry A)) (world : Worl
 
   -- its own line is not the one that it is put to
   elsewhere : (far : List (Output A)) (request : CallRequest A) (called : ℕ) (setup : Setup) (told : EventOutputs A)
-      → IsPut tables world line far request called setup told → line ≢ called
+      → IsPut (in_force tables history) world line far request called setup told → line ≢ called
   elsewhere far request called setup told put =
       let P : ℕ → Type 0 = λ l. line ≢ l in
-      subst P (sym put.called_is) (taken_ready tables world line request.block put.ring put.decided).differ
+      subst P (sym put.called_is) (taken_ready (in_force tables history) world line request.block put.ring put.decided).differ
 
   -- from the state in which the call that was put to the line is cancelled, if there was one
   requested : (now : World) → line < length now.lines → (far : List (Output A)) (request : CallRequest A) (outcome : Outcome) (told : EventOutputs A)
-      → IsRequested tables world line far request outcome told
+      → IsRequested (in_force tables history) world line far request outcome told
       → IsStateAfter old NewCall outcome (channel_at (all_changed (requests line moment (Some request) outcome) now) line)
   requested now there far request (Put called setup) told acts = set_before now.lines line called _ _ (elsewhere far request called setup told acts) there
   requested now there far request (Refused why) told acts = set_to now.lines line _ there
@@ -122,7 +122,7 @@ module _ {A : Type 0} (tables : Tables) (history : List (Entry A)) (world : Worl
   as_collision Exceeded state is = is
 
   collided : (request : CallRequest A) (found : Option (ℕ × Call)) (outcome : Outcome) (told : EventOutputs A)
-      → IsRequested tables world line (outputs_of_cancel world line) request outcome told
+      → IsRequested (in_force tables history) world line (outputs_of_cancel world line) request outcome told
       → IsStateAfter old Collision outcome (after (collides line moment (Some request) found outcome))
   collided request None outcome told acts =
       as_collision outcome _ (requested world within (outputs_of_cancel world line) request outcome told acts)
@@ -174,11 +174,11 @@ module _ {A : Type 0} (tables : Tables) (history : List (Entry A)) (world : Worl
   follows what Expired outcome told suit asked acts = (acts.0, left IsCleared _ _ (call_on world line))
   follows what Relayed outcome told suit asked acts = relayed (relayed_by line (call_on world line) (packet_in what)) _ outcome told acts
   follows what NewCall outcome told suit asked acts =
-      let P : Option (CallRequest A) → Type 0 = λ asks. Requests tables world line [] asks outcome told in
+      let P : Option (CallRequest A) → Type 0 = λ asks. Requests (in_force tables history) world line [] asks outcome told in
       let S : Option (CallRequest A) → Type 0 = λ asks. IsStateAfter old NewCall outcome (after (requests line moment asks outcome)) in
       subst S (sym asked.1) (requested world within [] asked.0 outcome told (subst P asked.1 acts))
   follows what Collision outcome told suit asked acts =
-      let P : Option (CallRequest A) → Type 0 = λ asks. Requests tables world line (outputs_of_cancel world line) asks outcome told in
+      let P : Option (CallRequest A) → Type 0 = λ asks. Requests (in_force tables history) world line (outputs_of_cancel world line) asks outcome told in
       let S : Option (CallRequest A) → Type 0 = λ asks. IsStateAfter old Collision outcome (after (collides line moment asks (call_on world line) outcome)) in
       subst S (sym asked.1) (collided asked.0 (call_on world line) outcome told (subst P asked.1 acts))
   follows what Answer outcome told suit asked acts =
@@ -203,5 +203,5 @@ state_follows tables history world entry next run step =
     let line : ℕ = entry.event.line in
     let S : World → Type 0 = λ w. IsStateAfter (channel_at world line) (action_at world entry.event) entry.outcome (channel_at w line) in
     subst S (sym step.leads) (follows tables history world line entry.event.moment right.coupled right.sound.lines step.line entry.event.what
-    (action_at world entry.event) entry.outcome step.told (suits (state_at world line) (kind_of entry.event.what))
+    (action_at world entry.event) entry.outcome step.told (suits_in (state_at world line) entry.event.what)
     (asks (channel_at world line) entry.event.what) step.acts)

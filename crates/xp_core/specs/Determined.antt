@@ -6,6 +6,7 @@ use Rattle.xp_packets.specs.declared.modulus.Modulus.{Modulus}
 use Rattle.xp_subs.specs.Tables.{Tables, modulus_of}
 use Rattle.xp_step.specs.declared.entry.Entry.{Entry}
 use Rattle.xp_step.specs.declared.outcome.Outcome.{Outcome}
+use Rattle.xp_step.specs.InForce.{in_force}
 use Rattle.xp_step.specs.Outcomes.{taken_by, with_line, with_usual_windows}
 use Rattle.xp_step.specs.Step.{Step}
 use Rattle.xp_core.specs.OutputsPerLine.{to_line}
@@ -31,7 +32,7 @@ pub record IsSameBesides (number : ℕ) (one other : Outcome) (next next' : Worl
   pub new : option_map without_line (call_numbered next number) ≡ option_map without_line (call_numbered next' number)
   pub number_after : next.next ≡ next'.next
 
--- two entries, and the states that they lead to, from this state
+-- two entries, and the states that they lead to, from this state, in which these tables are in force
 pub record IsSameButLine {A : Type 0} (tables : Tables) (from : World) (one : Entry A) (next : World) (other : Entry A) (next' : World) : Type 0 where
   pub number : one.number ≡ other.number
   -- only the line is a choice, and with it the windows: a refusal is none, and what an answer settles is none
@@ -55,4 +56,4 @@ abbrev pub IsDeterminedButLine : Type 0 → Type 0
 IsDeterminedButLine A =
     (tables : Tables) (history : List (Entry A)) (world : World) (one : Entry A) (next : World) (other : Entry A) (next' : World)
     → Step tables history world one next → Step tables history world other next' → one.event ≡ other.event
-    → IsSameButLine tables world one next other next'
+    → IsSameButLine (in_force tables history) world one next other next'

@@ -5,6 +5,7 @@ pub mod Joined
 pub mod Lines
 pub mod OutputsPerLine
 pub mod Records
+pub mod Reload
 pub mod States
 pub mod View
 pub mod Writable

@@ -2,6 +2,7 @@
 pub mod CoreInvariant
 pub mod Journal
 pub mod PreparedEntry
+pub mod Reload
 pub mod Sound
 pub mod Stalling
 pub mod Stalls

@@ -6,6 +6,8 @@ ghost use Rattle.xp_subs.specs.Tables.{line_count};
 ghost use Rattle.xp_step.specs.Agreed.{AllHaveTerms};
 ghost use Rattle.xp_machine.specs.Coupling.{AreCoupled};
 ghost use Rattle.xp_core.specs.steps.Journal.{IsSpent};
+ghost use Rattle.xp_reload.specs.Frame.{IsSameFrame};
+ghost use Rattle.xp_step.specs.InForce.{brought_by, force_of, in_force};
 ghost use Rattle.xp_step.specs.Relays.{RelaysRepresentCalls};
 ghost use Rattle.xp_core.specs.steps.Sound.{IsSound};
 ghost use Rattle.xp_step.specs.Stalls.{is_stall, left_after};
@@ -16,8 +18,9 @@ use crate::journal::Journal;
 use crate::stalling::{Spare, give_up};
 use std::alloc::{AllocError, Allocator};
 use xp_machine::{Machine, Relays};
-use xp_step::{Entry, Event, Outcome, Outputs, Plan, Records, What, Workspace, plan_of};
-use xp_subs::Subs;
+use xp_step::{
+    Entry, Event, Outcome, Outputs, Plan, Records, SubsInForce, What, Workspace, plan_of,
+};
 
 /// What an event leads to, before it is entered.
 #[derive(Drop)]
@@ -32,21 +35,25 @@ pub struct PreparedEntry<A: Allocator> {
 #[inline(always)]
 pub fn advance<A: Allocator + Copy>(
     alloc: A,
-    subs: &Subs,
+    subs: &SubsInForce,
     machine: &mut Machine<A>,
     relays: &mut Relays<A>,
     journal: &mut Journal<A>,
     workspace: &mut Workspace<A>,
     event: Event<A>,
 ) -> Result<Entry<A>, StepFault<A>>
-    requires subs { IsSubs subs.now }
-    requires line { event.line < line_count subs.now }
-    requires sound { IsSound subs.now (length journal.old.history) machine.old }
-    requires terms { AllHaveTerms subs.now machine.old }
-    requires coupled { AreCoupled subs.now machine.old }
-    requires carried { RelaysRepresentCalls subs.now journal.old.history machine.old relays.old }
+    requires subs { IsSubs subs.now.opening }
+    requires line { event.line < line_count subs.now.opening }
+    requires force { force_of subs.now ≡ in_force subs.now.opening journal.old.history }
+    requires frame { IsSameFrame subs.now.opening (force_of subs.now) }
+    requires sound_now { IsSubs (force_of subs.now) }
+    requires sound { IsSound subs.now.opening (length journal.old.history) machine.old }
+    requires terms { AllHaveTerms subs.now.opening machine.old }
+    requires coupled { AreCoupled subs.now.opening machine.old }
+    requires carried { RelaysRepresentCalls subs.now.opening journal.old.history machine.old relays.old }
     requires few { length journal.old.history < 2 ^ 60 }
-    ensures ok { IfOk result (λ entry. Enters subs.now machine.old relays.old journal.old.history journal.old.waiting event machine.new relays.new journal.new.history journal.new.waiting entry) }
+    ensures ok { IfOk result (λ entry. Enters subs.now.opening machine.old relays.old journal.old.history journal.old.waiting event machine.new relays.new journal.new.history journal.new.waiting entry) }
+    ensures brought { IfOk result (λ entry. entry.tables.items ≡ brought_by event.what (force_of subs.now)) }
     ensures memory { IfErr result (λ fault. fault ≡ StepFault.Memory event) }
     ensures prepared { is_stall event.what ≡ true → 0 < journal.old.stalls → IsOk result }
     ensures stalls { OnOk result (journal.new.stalls ≡ left_after event.what journal.old.stalls) }
@@ -58,7 +65,7 @@ pub fn advance<A: Allocator + Copy>(
     ensures waiting { OnErr result (journal.new.waiting ≡ journal.old.waiting) }
 {
     match prepare_entry(alloc, subs, machine, relays, journal, workspace, &event) {
-        Ok(work) => Ok(journal.enter(event, work)),
+        Ok(work) => Ok(journal.enter(event, work, subs.in_force())),
         Err(_) => refuse_for_memory(event),
     }
 }
@@ -76,21 +83,24 @@ fn refuse_for_memory<A: Allocator>(event: Event<A>) -> Result<Entry<A>, StepFaul
 #[inline(always)]
 fn prepare_entry<A: Allocator + Copy>(
     alloc: A,
-    subs: &Subs,
+    subs: &SubsInForce,
     machine: &mut Machine<A>,
     relays: &mut Relays<A>,
     journal: &mut Journal<A>,
     workspace: &mut Workspace<A>,
     event: &Event<A>,
 ) -> Result<PreparedEntry<A>, AllocError>
-    requires subs { IsSubs subs.now }
-    requires line { event.now.line < line_count subs.now }
-    requires sound { IsSound subs.now (length journal.old.history) machine.old }
-    requires terms { AllHaveTerms subs.now machine.old }
-    requires coupled { AreCoupled subs.now machine.old }
-    requires carried { RelaysRepresentCalls subs.now journal.old.history machine.old relays.old }
+    requires subs { IsSubs subs.now.opening }
+    requires line { event.now.line < line_count subs.now.opening }
+    requires force { force_of subs.now ≡ in_force subs.now.opening journal.old.history }
+    requires frame { IsSameFrame subs.now.opening (force_of subs.now) }
+    requires sound_now { IsSubs (force_of subs.now) }
+    requires sound { IsSound subs.now.opening (length journal.old.history) machine.old }
+    requires terms { AllHaveTerms subs.now.opening machine.old }
+    requires coupled { AreCoupled subs.now.opening machine.old }
+    requires carried { RelaysRepresentCalls subs.now.opening journal.old.history machine.old relays.old }
     requires few { length journal.old.history < 2 ^ 60 }
-    ensures ok { IfOk result (λ work. IsPreparedEntry subs.now journal.old.history machine.old relays.old event.now work machine.new relays.new) }
+    ensures ok { IfOk result (λ work. IsPreparedEntry subs.now.opening journal.old.history machine.old relays.old event.now work machine.new relays.new) }
     ensures prepared { is_stall event.now.what ≡ true → 0 < journal.old.stalls → IsOk result }
     ensures stalls { OnOk result (journal.new.stalls ≡ left_after event.now.what journal.old.stalls) }
     ensures as_many { OnErr result (journal.new.stalls ≡ journal.old.stalls) }
@@ -148,6 +158,11 @@ fn prepared<A: Allocator>(journal: &mut Journal<A>, event: &Event<A>) -> Option<
 {
     match &event.what {
         What::Stall => journal.take_spare(),
-        What::Up | What::Down | What::Frame { .. } | What::WrongFrame(_) | What::Expire => None,
+        What::Up
+        | What::Down
+        | What::Frame { .. }
+        | What::WrongFrame(_)
+        | What::Expire
+        | What::Reload => None,
     }
 }

@@ -1,11 +1,12 @@
 //! The serial exchange. It takes one event after another, and enters each into the history. The history is a list that
 //! proofs alone can read: it takes no memory, however long the exchange runs.
 
-ghost use Rattle.std.specs.Prelude.{◌≡◌, ◌+◌, ◌<◌, ◌≤◌, ◌^◌, true, [], ◌++◌, All, IfOk, IfErr, IsOk, OnErr, OnOk, Err, length};
+ghost use Rattle.std.specs.Prelude.{◌≡◌, ◌+◌, ◌<◌, ◌≤◌, ◌^◌, true, [], ◌∷◌, ◌++◌, All, IfOk, IfErr, IsOk, OnErr, OnOk, Err, length};
 ghost use Rattle.xp_charge.specs.Lines.{HasLines as NamesLines};
 ghost use Rattle.xp_subs.specs.Tables.{line_count};
 ghost use Rattle.xp_machine.specs.Channel.{is_off as is_off_in};
 ghost use Rattle.xp_step.specs.Exchange.{world_of};
+ghost use Rattle.xp_step.specs.InForce.{brought_by, in_force};
 ghost use Rattle.xp_core.specs.View.{call_seen_on, flow_at};
 ghost use Rattle.xp_machine.specs.View.{view_of};
 ghost use Rattle.xp_machine.specs.World.{line_at, state_at};
@@ -14,19 +15,20 @@ use crate::advance::advance;
 use crate::call_view::{CallView, see_call};
 use crate::fault::StepFault;
 use crate::journal::Journal;
+use crate::reload::{ReloadFault, reload};
 use crate::stalling::is_off;
 use std::alloc::{AllocError, Allocator, Global};
 use std::marker::Model;
 use xp_charge::Record;
 use xp_machine::{LineView, Machine, Relays};
 use xp_relay::FlowState;
-use xp_step::{Entry, Event, Outputs, Workspace};
+use xp_step::{Entry, Event, Outputs, SubsInForce, Workspace};
 use xp_subs::{LineNo, Subs};
 
 /// The exchange, which takes one event at a time.
 pub struct Core<A: Allocator = Global> {
     alloc: A,
-    subs: Subs,
+    subs: SubsInForce,
     machine: Machine<A>,
     relays: Relays<A>,
     journal: Journal<A>,
@@ -52,14 +54,15 @@ impl<A: Allocator> Model for Core<A> {
     ghost Value = { Exchange A };
 
     ghost use Rattle.std.specs.Prelude.{◌++◌};
-    ghost use Rattle.xp_core.specs.steps.CoreInvariant.{CoreInvariant};
+    ghost use Rattle.xp_core.specs.steps.CoreInvariant.{IsKept};
 
-    ghost view = { λ c. record { subs = c.subs; history = c.journal.history; given = c.journal.given; waiting = c.journal.waiting; stalls = c.journal.stalls } };
+    ghost view = { λ c. record { subs = c.subs.opening; history = c.journal.history; given = c.journal.given; waiting = c.journal.waiting; stalls = c.journal.stalls } };
 
-    ghost invariant = { λ c. CoreInvariant c.subs c.journal.history c.machine c.relays (c.journal.given ++ c.journal.waiting) };
+    ghost invariant = { λ c. IsKept c.subs c.journal.history c.machine c.relays (c.journal.given ++ c.journal.waiting) };
 }
 
 impl<A: Allocator + Copy> Core<A> {
+    ghost use Rattle.xp_core.specs.Reload.{IsRefusedFor, reload_at};
     ghost use Rattle.xp_step.specs.Exchange.{Advances, IsReadable};
     ghost use Rattle.xp_core.specs.Lines.{HasLines};
     ghost use Rattle.xp_core.specs.OutputsPerLine.{AreFew};
@@ -75,6 +78,10 @@ impl<A: Allocator + Copy> Core<A> {
         let lines = subs.counts().lines;
         let machine = Machine::new(alloc, lines)?;
         let relays = Relays::new(alloc, lines)?;
+        let subs = SubsInForce {
+            opening: subs,
+            reloaded: None,
+        };
         Ok(Core {
             alloc,
             subs,
@@ -90,7 +97,7 @@ impl<A: Allocator + Copy> Core<A> {
     ///
     /// The condition is that the line is one of the subscriptions', and that a frame is one that can be read: its
     /// identifier is at most 4,095, and its packet can be encoded modulo 128. A prepared stall allocates nothing, and is
-    /// then used up.
+    /// then used up. A reload that comes as an event brings the subscriptions in force again.
     ///
     /// # Errors
     ///
@@ -101,6 +108,7 @@ impl<A: Allocator + Copy> Core<A> {
         requires line { event.line < line_count self.old.subs }
         requires readable { IsReadable event.what }
         ensures ok { IfOk result (λ entry. Advances self.old event self.new entry) }
+        ensures brought { IfOk result (λ entry. entry.tables.items ≡ brought_by event.what (in_force self.old.subs self.old.history)) }
         ensures writable { IfOk result (λ entry. AreWritable self.old.subs entry.outputs) }
         ensures few { IfOk result (λ entry. AreFew entry.outputs) }
         ensures lines { IfOk result (HasLines (line_count self.old.subs)) }
@@ -110,7 +118,7 @@ impl<A: Allocator + Copy> Core<A> {
         ensures prepared { is_stall event.what ≡ true → 0 < self.old.stalls → length self.old.history < self.old.subs.journal → IsOk result }
         ensures err { OnErr result (self.new ≡ self.old) }
     {
-        if self.journal.count() + event.what.places() > self.subs.journal() {
+        if self.journal.count() + event.what.places() > self.subs.opening.journal() {
             return refuse_for_places(event);
         }
         let Core {
@@ -122,6 +130,33 @@ impl<A: Allocator + Copy> Core<A> {
             workspace,
         } = self;
         advance(*alloc, subs, machine, relays, journal, workspace, event)
+    }
+
+    /// Puts other subscriptions into force at this moment, and returns the entry of that. From then on call requests are
+    /// decided by them. Lines stay as they are, and live calls go on.
+    ///
+    /// # Errors
+    ///
+    /// `JournalFull` if no place of the history is left. `Frame` if the new subscriptions differ from those in force in what
+    /// cannot change while the exchange serves. `InCall` if the address of a line in a call would change. Nothing has
+    /// changed then.
+    pub fn reload(&mut self, subs: Subs, moment: u64) -> Result<Entry<A>, ReloadFault>
+        ensures ok { IfOk result (λ entry. Advances self.old (reload_at moment) self.new entry) }
+        ensures brought { IfOk result (λ entry. entry.tables.items ≡ subs ∷ []) }
+        ensures quiet { IfOk result (λ entry. entry.outputs ≡ []) }
+        ensures stalls { self.new.stalls ≡ self.old.stalls }
+        ensures refused { IfErr result (IsRefusedFor self.old subs) }
+        ensures err { OnErr result (self.new ≡ self.old) }
+    {
+        let Core {
+            alloc,
+            subs: in_force,
+            machine,
+            relays: _,
+            journal,
+            workspace: _,
+        } = self;
+        reload(*alloc, in_force, machine, journal, subs, moment)
     }
 
     /// Hands over the charging records that wait: those of the calls that ended since the last time, in the order in which
@@ -177,7 +212,13 @@ impl<A: Allocator> Core<A> {
         ensures { result ≡ call_seen_on self.now.subs self.now.history (world_of self.now) line }
     {
         let before = self.journal.history();
-        see_call(&self.subs, &self.machine, &self.relays, before, line)
+        see_call(
+            &self.subs.opening,
+            &self.machine,
+            &self.relays,
+            before,
+            line,
+        )
     }
 
     /// Returns whether a line is out of service, as `line` shows it. It looks at nothing else of the line.
@@ -247,11 +288,18 @@ impl<A: Allocator> Core<A> {
         self.workspace.keep_outputs(outputs);
     }
 
-    /// Returns the subscriptions.
+    /// Returns the subscriptions with which the exchange was opened.
     pub fn subs(&self) -> &Subs
         ensures { result.now ≡ self.now.subs }
     {
-        &self.subs
+        &self.subs.opening
+    }
+
+    /// Returns the subscriptions in force: those of the last reload, or those with which the exchange was opened.
+    pub fn in_force(&self) -> &Subs
+        ensures { result.now ≡ in_force self.now.subs self.now.history }
+    {
+        self.subs.in_force()
     }
 }
 

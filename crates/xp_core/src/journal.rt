@@ -1,6 +1,7 @@
 //! The journal: the history, and the records of the ended calls.
 
 ghost use Rattle.std.specs.Prelude.{◌≡◌, ◌+◌, ◌<◌, ◌≤◌, ◌^◌, [], ◌∷◌, ◌++◌, IfNone, IfOk, IfSome, OnErr, OnOk, length, vec_len, vec_capacity};
+ghost use Rattle.xp_step.specs.InForce.{brought_by};
 ghost use Rattle.xp_step.specs.Stalls.{is_stall, stalls_in};
 ghost use Rattle.xp_core.specs.steps.Journal.{AreSame, HasHandedOver, IsSpent, next_entry};
 ghost use Rattle.xp_step.specs.declared.event.TheConstants.{MOST_STALLS};
@@ -12,6 +13,7 @@ use std::marker::Model;
 use xp_charge::Record;
 use xp_past::Past;
 use xp_step::{Entry, Event, MOST_STALLS, What};
+use xp_subs::Subs;
 
 /// The history and the records. The history takes no memory: it is counted. The records wait until they are handed over.
 /// For each prepared stall there is a spare, and a place among the records that wait.
@@ -92,9 +94,10 @@ impl<A: Allocator + Copy> Journal<A> {
 }
 
 impl<A: Allocator> Journal<A> {
-    /// Returns how many entries the history has.
+    /// Returns how many entries the history has. There is a place for the record of each prepared stall.
     pub fn count(&self) -> u64
-        ensures { result ≡ length self.now.history }
+        ensures count { result ≡ length self.now.history }
+        ensures places { self.now.stalls ≤ self.now.record_room }
     {
         self.count
     }
@@ -146,12 +149,14 @@ impl<A: Allocator> Journal<A> {
         self.spares.pop()
     }
 
-    /// Enters an event that leads to this, and returns the new entry. It allocates nothing.
+    /// Enters an event that leads to this, and returns the new entry. A reload brings these subscriptions. It allocates
+    /// nothing.
     #[inline(always)]
-    pub fn enter(&mut self, event: Event<A>, work: PreparedEntry<A>) -> Entry<A>
+    pub fn enter(&mut self, event: Event<A>, work: PreparedEntry<A>, next: &Subs) -> Entry<A>
         requires records { self.old.stalls + length work.records.items ≤ self.old.record_room }
         requires few { length self.old.history < 2 ^ 60 }
-        ensures entry { result ≡ next_entry self.old.history event work }
+        ensures entry { result ≡ next_entry self.old.history event work result.tables }
+        ensures brought { result.tables.items ≡ brought_by event.what next.now }
         ensures history { self.new.history ≡ self.old.history ++ result ∷ [] }
         ensures given { self.new.given ≡ self.old.given }
         ensures waiting { self.new.waiting ≡ self.old.waiting ++ work.records.items }
@@ -167,12 +172,14 @@ impl<A: Allocator> Journal<A> {
             self.stall_count += 1;
         }
         let number = self.count + 1;
+        let tables = brought_by(&event.what, next);
         let entry = Entry {
             number,
             event,
             outcome,
             outputs,
             records,
+            tables,
         };
         self.count = number;
         self.history.push(&entry);
@@ -188,6 +195,21 @@ fn add_all<A: Allocator>(records: &mut Vec<Record, A>, more: &[Record])
 {
     for record in more {
         records.push_reserved(record.copy());
+    }
+}
+
+/// Returns the subscriptions that an event brings, where a reload brings these.
+fn brought_by<A: Allocator>(what: &What<A>, next: &Subs) -> Past<Subs>
+    ensures { result.items ≡ brought_by what.now next.now }
+{
+    match what {
+        What::Reload => Past::new().and(next),
+        What::Up
+        | What::Down
+        | What::Frame { .. }
+        | What::WrongFrame(_)
+        | What::Expire
+        | What::Stall => Past::new(),
     }
 }
 

@@ -8,6 +8,7 @@ mod exchange;
 mod fault;
 mod journal;
 mod laws;
+mod reload;
 mod stalling;
 
 pub use call_view::CallView;
@@ -17,3 +18,4 @@ pub use laws::{
     every_event_has_a_step, other_lines_follow, state_follows_the_table,
     step_is_determined_but_the_line,
 };
+pub use reload::ReloadFault;

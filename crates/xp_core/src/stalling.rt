@@ -25,8 +25,10 @@ use xp_causes::clearing_cause::OUT_OF_ORDER;
 use xp_causes::diagnostic::NO_ADDITIONAL_INFORMATION;
 use xp_machine::{ChannelState, Machine, NoCallState, Relays};
 use xp_past::Past;
-use xp_step::{Buffer, Entry, EventLine, Outcome, Outputs, Records, charged_on, close};
-use xp_subs::{LineNo, Subs};
+use xp_step::{
+    Buffer, Entry, EventLine, Outcome, Outputs, Records, SubsInForce, charged_on, close,
+};
+use xp_subs::LineNo;
 
 /// How many outputs a stall has at most: one closes the line's connection, and one clears the far end of its call.
 const MOST_OUTPUTS: usize = 2;
@@ -62,7 +64,7 @@ impl<A: Allocator + Copy> Spare<A> {
 #[inline(never)]
 pub fn give_up<A: Allocator + Copy>(
     alloc: A,
-    subs: &Subs,
+    subs: &SubsInForce,
     machine: &mut Machine<A>,
     relays: &Relays<A>,
     before: &Past<Entry<A>>,
@@ -70,9 +72,9 @@ pub fn give_up<A: Allocator + Copy>(
     line: LineNo,
     moment: u64,
 ) -> PreparedEntry<A>
-    requires sound { IsSound subs.now }
-    requires carried { RelaysRepresentCalls subs.now before.now.items machine.old relays.now }
-    ensures makes { MakesStall (step_context subs.now before.now.items machine.old line moment) result machine.new }
+    requires sound { IsSound subs.now.opening }
+    requires carried { RelaysRepresentCalls subs.now.opening before.now.items machine.old relays.now }
+    ensures makes { MakesStall (step_context subs.now.opening before.now.items machine.old line moment) result machine.new }
     ensures one { length result.records.items ≤ 1 }
 {
     if is_off(machine.line(line).state) {
@@ -107,7 +109,7 @@ fn unused<A: Allocator>(spare: Spare<A>) -> PreparedEntry<A>
 /// Prepares the entry of a line in service that goes out of it.
 fn fall<A: Allocator + Copy>(
     alloc: A,
-    subs: &Subs,
+    subs: &SubsInForce,
     machine: &Machine<A>,
     relays: &Relays<A>,
     before: &Past<Entry<A>>,
@@ -115,14 +117,16 @@ fn fall<A: Allocator + Copy>(
     line: LineNo,
     moment: u64,
 ) -> PreparedEntry<A>
-    requires sound { IsSound subs.now }
-    requires carried { RelaysRepresentCalls subs.now before.now.items machine.now relays.now }
-    ensures fallen { IsFallen (step_context subs.now before.now.items machine.now line moment) result }
+    requires sound { IsSound subs.now.opening }
+    requires carried { RelaysRepresentCalls subs.now.opening before.now.items machine.now relays.now }
+    ensures fallen { IsFallen (step_context subs.now.opening before.now.items machine.now line moment) result }
     ensures one { length result.records.items ≤ 1 }
 {
-    let charged = charged_on(subs, machine, relays, before, line);
+    let opening = &subs.opening;
+    let charged = charged_on(opening, machine, relays, before, line);
     let found = EventLine {
-        subs,
+        subs: opening,
+        in_force: subs.in_force(),
         machine,
         line,
         moment,

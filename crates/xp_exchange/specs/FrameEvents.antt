@@ -7,15 +7,15 @@ use Rattle.xp_frames.specs.declared.fault.FrameFault.{FrameFault}
 use Rattle.xp_frames.specs.Frame.{Stream, BadHeader, HasNoBadHeader}
 use Rattle.xp_subs.specs.Tables.{Tables, line_count}
 use Rattle.xp_step.specs.Exchange.{IsReadable}
-use Rattle.xp_step.specs.Stalls.{is_stall}
+use Rattle.xp_step.specs.Stalls.{is_raised}
 use Rattle.xp_step.specs.declared.event.Event.{Event}
 use Rattle.xp_step.specs.declared.event.What.{What}
-use Rattle.xp_step.specs.declared.event.What.TheVariants.{Up, Down, Frame, WrongFrame, Expire, Stall}
+use Rattle.xp_step.specs.declared.event.What.TheVariants.{Up, Down, Frame, WrongFrame, Expire, Stall, Reload}
 
 module _ {A : Type 0} where
-  -- what a line can raise: a frame is one that can be read, and no line raises a stall
+  -- what a line can raise: a frame is one that can be read, and no line raises a stall or a reload
   abbrev pub CanCome : What A → Type 0
-  CanCome what = IsReadable what × (is_stall what ≡ false)
+  CanCome what = IsReadable what × (is_raised what ≡ false)
 
   -- an event that the exchange of these subscriptions takes
   abbrev pub Fits : Tables → Event A → Type 0
@@ -29,6 +29,7 @@ module _ {A : Type 0} where
   IsReadAs modulus packet Down = ⊥
   IsReadAs modulus packet Expire = ⊥
   IsReadAs modulus packet Stall = ⊥
+  IsReadAs modulus packet Reload = ⊥
 
   -- one event of the line, at this moment, for the octets of each frame, in order
   abbrev pub AreRead : Modulus → ℕ → ℕ → List (List ℕ) → List (Event A) → Type 0

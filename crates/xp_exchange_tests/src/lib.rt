@@ -4,6 +4,8 @@
 #[cfg(test)]
 mod fakes;
 #[cfg(test)]
+mod reloads;
+#[cfg(test)]
 mod replays;
 #[cfg(test)]
 mod steps;

@@ -3,7 +3,7 @@ use Rattle.std.proofs.Common.{◌≡◌, ℕ, List, [], ◌∷◌, ◌++◌, ref
 use Rattle.std.specs.List.{AllByRecursion}
 use Rattle.xp_packets.specs.declared.modulus.Modulus.{Modulus}
 use Rattle.xp_step.specs.declared.event.What.{What}
-use Rattle.xp_step.specs.declared.event.What.TheVariants.{Up, Down, Frame, WrongFrame, Expire, Stall}
+use Rattle.xp_step.specs.declared.event.What.TheVariants.{Up, Down, Frame, WrongFrame, Expire, Stall, Reload}
 use Rattle.xp_lines.specs.FrameEvents.{AreReadAs, IsReadAs}
 use Rattle.xp_lines.specs.AnswerTimer.{Expires, expiry, has_expired}
 use Rattle.xp_lines.specs.Together.{but_expiries, is_no_expiry}
@@ -19,6 +19,7 @@ module _ {A : Type 0} where
   one_of_read modulus packet Down is = refl
   one_of_read modulus packet Expire is = absurd is
   one_of_read modulus packet Stall is = refl
+  one_of_read modulus packet Reload is = refl
 
   pub none_of_read : (modulus : Modulus) (packets : List (List ℕ)) (read : List (What A)) → AreReadAs modulus packets read → HasNoExpiry read
   none_of_read modulus [] [] are = tt

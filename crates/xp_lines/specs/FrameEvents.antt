@@ -4,7 +4,7 @@ use Rattle.xp_packets.specs.Examination.{IsMalformed}
 use Rattle.xp_packets.specs.Spelling.{Spells}
 use Rattle.xp_packets.specs.declared.modulus.Modulus.{Modulus}
 use Rattle.xp_step.specs.declared.event.What.{What}
-use Rattle.xp_step.specs.declared.event.What.TheVariants.{Up, Down, Frame, WrongFrame, Expire, Stall}
+use Rattle.xp_step.specs.declared.event.What.TheVariants.{Up, Down, Frame, WrongFrame, Expire, Stall, Reload}
 
 module _ {A : Type 0} where
   -- the event that the link went
@@ -15,6 +15,7 @@ module _ {A : Type 0} where
   is_down (WrongFrame wrong) = false
   is_down Expire = false
   is_down Stall = false
+  is_down Reload = false
 
   -- By this modulus the octets of a packet are this event: the packet that they spell, or what is wrong with them.
   abbrev pub IsReadAs : Modulus → List ℕ → What A → Type 0
@@ -24,6 +25,7 @@ module _ {A : Type 0} where
   IsReadAs modulus packet Down = ⊥
   IsReadAs modulus packet Expire = ⊥
   IsReadAs modulus packet Stall = ⊥
+  IsReadAs modulus packet Reload = ⊥
 
   -- one event for each packet, in the same order
   abbrev pub AreReadAs : Modulus → List (List ℕ) → List (What A) → Type 0

@@ -4,7 +4,7 @@ use Rattle.std.specs.Io.KnownBytes.{Appends}
 use Rattle.xp_frames.specs.Frame.{HasNoBadHeader}
 use Rattle.xp_step.specs.declared.entry.Entry.{Entry}
 use Rattle.xp_step.specs.declared.event.What.{What}
-use Rattle.xp_step.specs.declared.event.What.TheVariants.{Up, Down, Frame, WrongFrame, Expire, Stall}
+use Rattle.xp_step.specs.declared.event.What.TheVariants.{Up, Down, Frame, WrongFrame, Expire, Stall, Reload}
 use Rattle.xp_packets.specs.declared.modulus.Modulus.{Modulus}
 use Rattle.xp_packets.specs.declared.packet.Packet.{Packet}
 use Rattle.xp_packets.specs.declared.packet.Packet.TheVariants as packets
@@ -74,6 +74,7 @@ module _ {A : Type 0} where
   is_no_expiry (WrongFrame wrong) = true
   is_no_expiry Expire = false
   is_no_expiry Stall = true
+  is_no_expiry Reload = true
 
   -- the events without the expiries
   abbrev pub but_expiries : List (What A) → List (What A)

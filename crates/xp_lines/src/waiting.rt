@@ -22,11 +22,11 @@ impl<A: Allocator> Model for Waiting<A> {
     ghost Value = { What A };
 
     ghost use Rattle.xp_step.specs.Exchange.{IsReadable};
-    ghost use Rattle.xp_seats.specs.Handed.{is_stall};
+    ghost use Rattle.xp_seats.specs.Handed.{is_raised};
 
     ghost view = { λ w. w.what };
 
-    ghost invariant = { λ w. IsReadable w.what × (is_stall w.what ≡ false) };
+    ghost invariant = { λ w. IsReadable w.what × (is_raised w.what ≡ false) };
 }
 
 impl<A: Allocator> Waiting<A> {

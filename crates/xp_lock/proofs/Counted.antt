@@ -9,10 +9,10 @@ use Rattle.xp_step.specs.Run.{Run, RunFrom}
 use Rattle.xp_machine.specs.World.{World, opening}
 use Rattle.xp_core.proofs.Sounds.{IsRight, run_right, step_right}
 use Rattle.xp_lock.specs.Closing.{PassesMatch, HasAll, PassMatches, NoneTwice, all_handed, handed_together, has_line, own_entries_together}
-use Rattle.xp_seats.specs.Handed.{handed, is_stall}
+use Rattle.xp_seats.specs.Handed.{handed, is_raised}
 use Rattle.xp_lock.specs.Passes.{Pass}
 
--- one for an entry that is no stall
+-- one for an entry of a line
 abbrev counts : Bool → ℕ
 counts true = 0
 counts false = 1
@@ -48,17 +48,17 @@ module _ {A : Type 0} where
 
   module _ (entry : Entry A) (entries : List (Entry A)) where
     stalled : Bool
-    stalled = is_stall entry.event.what
+    stalled = is_raised entry.event.what
 
     -- to another line it adds nothing
     handed_elsewhere : (line : ℕ) → entry.event.line ≢ line → handed line (entry ∷ entries) ≡ handed line entries
     handed_elsewhere line other =
-        ap (λ b. cond (b && not (is_stall entry.event.what)) (entry ∷ handed line entries) (handed line entries)) (ne_eqb entry.event.line line other)
+        ap (λ b. cond (b && not (is_raised entry.event.what)) (entry ∷ handed line entries) (handed line entries)) (ne_eqb entry.event.line line other)
 
-    handed_here : (line : ℕ) → entry.event.line ≡ line → length (handed line (entry ∷ entries)) ≡ counts (is_stall entry.event.what) + length (handed line entries)
+    handed_here : (line : ℕ) → entry.event.line ≡ line → length (handed line (entry ∷ entries)) ≡ counts (is_raised entry.event.what) + length (handed line entries)
     handed_here line same =
-        ap (λ b. length (cond (b && not (is_stall entry.event.what)) (entry ∷ handed line entries) (handed line entries))) (eq-eqb entry.event.line line same)
-        ∙ by (is_stall entry.event.what)
+        ap (λ b. length (cond (b && not (is_raised entry.event.what)) (entry ∷ handed line entries) (handed line entries))) (eq-eqb entry.event.line line same)
+        ∙ by (is_raised entry.event.what)
       where
         by : (b : Bool) → length (cond (not b) (entry ∷ handed line entries) (handed line entries)) ≡ counts b + length (handed line entries)
         by true = omega arith
@@ -71,7 +71,7 @@ module _ {A : Type 0} where
         let here = handed_elsewhere lines (λ same. absurd (omega (arith, few, same))) in
         omega (arith, rest, ap length here)
 
-    within : (lines : ℕ) → entry.event.line < lines → handed_together lines (entry ∷ entries) ≡ counts (is_stall entry.event.what) + handed_together lines entries
+    within : (lines : ℕ) → entry.event.line < lines → handed_together lines (entry ∷ entries) ≡ counts (is_raised entry.event.what) + handed_together lines entries
     within zero few = absurd (omega (arith, few))
     within (suc lines) few = elim (cases_eq entry.event.line lines) [
       | inl same ↦
@@ -84,8 +84,8 @@ module _ {A : Type 0} where
           omega (arith, rest, here)
     ]
 
-    one_more : length (all_handed (entry ∷ entries)) ≡ counts (is_stall entry.event.what) + length (all_handed entries)
-    one_more = by (is_stall entry.event.what)
+    one_more : length (all_handed (entry ∷ entries)) ≡ counts (is_raised entry.event.what) + length (all_handed entries)
+    one_more = by (is_raised entry.event.what)
       where
         by : (b : Bool) → length (cond (not b) (entry ∷ all_handed entries) (all_handed entries)) ≡ counts b + length (all_handed entries)
         by true = omega arith
@@ -104,7 +104,7 @@ module _ {A : Type 0} where
     ]
 
     to_one : (passes : List (Pass A)) → has_line entry.event.line passes ≡ true → NoneTwice passes
-        → by_passes passes (entry ∷ entries) ≡ counts (is_stall entry.event.what) + by_passes passes entries
+        → by_passes passes (entry ∷ entries) ≡ counts (is_raised entry.event.what) + by_passes passes entries
     to_one [] there once = absurd (true≢false (sym there))
     to_one (pass ∷ passes) there once = elim (cases_eq pass.line entry.event.line) [
       | inl same ↦

@@ -1,21 +1,33 @@
 -- What a take shows a pass.
-use Rattle.std.proofs.Common.{◌≡◌, ◌≢◌, ℕ, true, false, cond, eqb, not, List, [], ◌∷◌, ◌++◌, length, sym, refl, ap, ◌∙◌, subst, eq-eqb}
+use Rattle.std.proofs.Common.{◌≡◌, ◌≢◌, ℕ, true, false, true≢false, cond, eqb, not, List, [], ◌∷◌, ◌++◌, length, sym, refl, ap, ◌∙◌, subst, eq-eqb}
 use Rattle.std.proofs.lemmas.Bool.{ne_eqb}
 use Rattle.std.proofs.lemmas.List.Elements.{All-cons, All-head, All-nil, All-tail}
 use Rattle.std.specs.Prelude.{◌&&◌}
 use Rattle.xp_subs.specs.Tables.{Tables}
 use Rattle.xp_step.specs.declared.entry.Entry.{Entry}
 use Rattle.xp_step.specs.declared.event.Event.{Event}
+use Rattle.xp_step.specs.declared.event.What.{What}
+use Rattle.xp_step.specs.declared.event.What.TheVariants as events
 use Rattle.xp_core.specs.Records.{records_of}
 use Rattle.xp_step.specs.Worlds.{world_after}
 use Rattle.xp_machine.specs.World.{World, line_at}
 use Rattle.xp_lock.specs.declared.receipt.Receipt.{Receipt}
 use Rattle.xp_lock.specs.Forced.{AreAt, Forces, Stalls}
-use Rattle.xp_seats.specs.Handed.{handed, is_stall}
+use Rattle.xp_seats.specs.Handed.{handed, is_raised, is_stall}
 use Rattle.xp_lock.specs.Passes.{AreStalls, GainsEvent, IsLegal, Pass}
 use Rattle.xp_lock.specs.CoreWithOutboxes.{CoreWithOutboxes, Takes}
 use Rattle.xp_seats.specs.Views.{IsGrown, StartsWith}
 use Rattle.xp_seats.proofs.Lists.{handed-append}
+
+-- the exchange raises stalls
+raised_stall : {A : Type 0} (what : What A) → is_stall what ≡ true → is_raised what ≡ true
+raised_stall events.Stall is = refl
+raised_stall what is = absurd (true≢false (sym is))
+
+-- what no line raises is no stall
+pub not_stall : {A : Type 0} (what : What A) → is_raised what ≡ false → is_stall what ≡ false
+not_stall events.Stall is = absurd (true≢false is)
+not_stall what is = refl
 
 module _ {A : Type 0} where
   abbrev IsStall : Entry A → Type 0
@@ -32,7 +44,7 @@ module _ {A : Type 0} where
   handed_stalls line [] h = refl
   handed_stalls line (stall ∷ stalls) h =
       let rest = handed line stalls in
-      ap (λ b. cond (eqb stall.event.line line && not b) (stall ∷ rest) rest) (All-head IsStall stall stalls h) ∙ neither (eqb stall.event.line line) ∙ handed_stalls line stalls (All-tail IsStall stall stalls h)
+      ap (λ b. cond (eqb stall.event.line line && not b) (stall ∷ rest) rest) (raised_stall stall.event.what (All-head IsStall stall stalls h)) ∙ neither (eqb stall.event.line line) ∙ handed_stalls line stalls (All-tail IsStall stall stalls h)
     where
       neither : (b : _) → cond (b && false) (stall ∷ handed line stalls) (handed line stalls) ≡ handed line stalls
       neither true = refl
@@ -40,12 +52,12 @@ module _ {A : Type 0} where
 
   handed_other : (line : ℕ) (entry : Entry A) (stalls : List (Entry A)) → AreStalls stalls → entry.event.line ≢ line → handed line (entry ∷ stalls) ≡ []
   handed_other line entry stalls h other =
-      ap (λ b. cond (b && not (is_stall entry.event.what)) (entry ∷ handed line stalls) (handed line stalls)) (ne_eqb entry.event.line line other) ∙ handed_stalls line stalls h
+      ap (λ b. cond (b && not (is_raised entry.event.what)) (entry ∷ handed line stalls) (handed line stalls)) (ne_eqb entry.event.line line other) ∙ handed_stalls line stalls h
 
-  handed_own : (line : ℕ) (entry : Entry A) (stalls : List (Entry A)) → AreStalls stalls → entry.event.line ≡ line → is_stall entry.event.what ≡ false
+  handed_own : (line : ℕ) (entry : Entry A) (stalls : List (Entry A)) → AreStalls stalls → entry.event.line ≡ line → is_raised entry.event.what ≡ false
       → handed line (entry ∷ stalls) ≡ entry ∷ []
   handed_own line entry stalls h own kind =
-      ap (λ b. cond (b && not (is_stall entry.event.what)) (entry ∷ handed line stalls) (handed line stalls)) (eq-eqb entry.event.line line own)
+      ap (λ b. cond (b && not (is_raised entry.event.what)) (entry ∷ handed line stalls) (handed line stalls)) (eq-eqb entry.event.line line own)
       ∙ ap (λ b. cond (not b) (entry ∷ handed line stalls) (handed line stalls)) kind
       ∙ ap (λ xs. entry ∷ xs) (handed_stalls line stalls h)
 
@@ -61,11 +73,11 @@ module _ {A : Type 0} where
       others = λ other apart. handed_other other takes.entry takes.stalls stalls_are (λ same. apart (sym same ∙ ap (λ e. e.line) takes.event_is ∙ own));
     }
 
-    pub freshened : (pass after : Pass A) (subs : Tables) → new.subs ≡ subs → is_stall event.what ≡ false → event.line ≡ pass.line → StartsWith old.history pass.seen
+    pub freshened : (pass after : Pass A) (subs : Tables) → new.subs ≡ subs → is_raised event.what ≡ false → event.line ≡ pass.line → StartsWith old.history pass.seen
         → handed pass.line old.history ≡ handed pass.line pass.seen → IsLegal new.subs new.history
         → after.line ≡ pass.line → after.taken ≡ pass.taken → after.seen ≡ new.history → GainsEvent subs pass event done after
     freshened pass after subs same kind own front all legal line taken seen =
-        let own_entry = handed_own pass.line takes.entry takes.stalls stalls_are (ap (λ e. e.line) takes.event_is ∙ own) (ap (λ e. is_stall e.what) takes.event_is ∙ kind) in
+        let own_entry = handed_own pass.line takes.entry takes.stalls stalls_are (ap (λ e. e.line) takes.event_is ∙ own) (ap (λ e. is_raised e.what) takes.event_is ∙ kind) in
         let past = pass.seen ++ front.0 in
         let Between : Tables → List (Entry A) → World → Type 0 = λ t xs w. Forces t xs (world_after t xs) takes.known takes.entry takes.stalls w in
         let last : world_after new.subs new.history ≡ world_after subs after.seen = (λ i. world_after (same i) (sym seen i)) in

@@ -26,7 +26,7 @@ module _ {A : Type 0} where
         (subst (λ xs. IsForcing subs xs last) (sym (append_assoc before (entries_of next) (flat_map entries_of forcings))) one),
   )
 
-  forced_more : (subs : Tables) (history grown : List (Entry A)) (last : Forcing A)
+  pub forced_more : (subs : Tables) (history grown : List (Entry A)) (last : Forcing A)
       → AreForced subs history → IsForcing subs history last → grown ≡ history ++ entries_of last → AreForced subs grown
   forced_more subs history grown last was one is = record {
     forcings = was.forcings ++ last ∷ [];

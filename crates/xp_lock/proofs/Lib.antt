@@ -13,6 +13,7 @@ pub mod Putting
 pub mod Queues
 pub mod Ready
 pub mod Refused
+pub mod Reloads
 pub mod Returned
 pub mod Stalled
 pub mod Taken

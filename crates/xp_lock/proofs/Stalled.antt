@@ -21,7 +21,7 @@ use Rattle.xp_step.specs.Outcomes.{taken_by}
 use Rattle.xp_step.specs.StepContext.{StepContext, step_context}
 use Rattle.xp_step.specs.Run.{Run}
 use Rattle.xp_step.specs.Step.{Step}
-use Rattle.xp_step.specs.Table.{action_at, kind_of}
+use Rattle.xp_step.specs.Table.{action_at, action_in}
 use Rattle.xp_core.specs.States.{IsStateAfter, channel_at}
 use Rattle.xp_core.specs.steps.Stalling.{outputs_of_stall}
 use Rattle.xp_step.specs.EventOutputs.{outputs_of, send_far}
@@ -56,7 +56,7 @@ module _ {A : Type 0} (tables : Tables) (before : List (Entry A)) (world : World
   at = step_context tables before world line stall.event.moment
 
   action_is : action_at world stall.event ≡ Fall
-  action_is = ap (λ w. cell (channel_of (state_at world line)) (kind_of w)) is ∙ falls (state_at world line) on
+  action_is = ap (λ w. action_in (channel_of (state_at world line)) w) is ∙ falls (state_at world line) on
 
   acts : IsPlain (outputs_of_fall at stall.event.what) stall.outcome step.told
   acts = let P : Action → Type 0 = λ a. Acts at stall.event.what a stall.outcome step.told in subst P action_is step.acts

@@ -35,7 +35,7 @@ use Rattle.xp_step.specs.Run.{Run}
 use Rattle.xp_step.specs.Segments.{is_past_limit}
 use Rattle.xp_step.specs.StepContext.{StepContext, step_context}
 use Rattle.xp_step.specs.Step.{Step}
-use Rattle.xp_step.specs.Table.{CallAccepted, CallRequest, ClearRequest, accepted_in, action_at, clear_in, kind_of, packet_in, request_in}
+use Rattle.xp_step.specs.Table.{CallAccepted, CallRequest, ClearRequest, accepted_in, action_at, action_in, clear_in, packet_in, request_in}
 use Rattle.xp_step.specs.EventOutputs.{EventOutputs, clear_indication, no_outputs, outputs_of, send_far, send_on}
 use Rattle.xp_machine.specs.World.{Call, World, call_on, far_end, line_at, state_at}
 use Rattle.xp_step.proofs.RelayedPackets.{of_carried}
@@ -99,7 +99,7 @@ module _ {A : Type 0} (at : StepContext A) where
   closes outcome event = tt
 
   requests_go : (far : List (Output A)) (asked : Option (CallRequest A)) (outcome : Outcome) (told : EventOutputs A) → AreTo outcome far
-      → Requests at.tables at.world at.line far asked outcome told → Goes outcome told
+      → Requests at.force at.world at.line far asked outcome told → Goes outcome told
   requests_go far None outcome told of_far is = none_go outcome told (ap taken_by is.0) is.1
   requests_go far (Some request) (Put called setup) told of_far is = subst (Goes (Put called setup)) (sym is.told_is) (record {
     carried = tt;
@@ -108,7 +108,7 @@ module _ {A : Type 0} (at : StepContext A) where
     taken = (inr (inr (inl refl)), tt);
     ready = λ line taken.
         let same : called ≡ line = cc in
-        ap (state_at at.world) (sym same ∙ is.called_is) ∙ (taken_ready at.tables at.world at.line request.block is.ring is.decided).ready;
+        ap (state_at at.world) (sym same ∙ is.called_is) ∙ (taken_ready at.force at.world at.line request.block is.ring is.decided).ready;
   })
   requests_go far (Some request) (Refused why) told of_far is = untaken (Refused why) [] _ far told refl is.told_is tt (inl refl, tt) of_far
   requests_go far (Some request) outcome told of_far is = absurd is
@@ -178,7 +178,7 @@ off_frame (packets.Call d block) = refl
 off_frame packet = refl
 
 -- only an Up does something there
-at_off : {A : Type 0} (what : What A) → ((is_up what ≡ true) × (cell channels.Off (kind_of what) ≡ Rise)) ⊎ (cell channels.Off (kind_of what) ≡ Nothing)
+at_off : {A : Type 0} (what : What A) → ((is_up what ≡ true) × (action_in channels.Off what ≡ Rise)) ⊎ (action_in channels.Off what ≡ Nothing)
 at_off events.Up = inl (refl, refl)
 at_off (events.Frame identifier packet) = inr (off_frame packet)
 at_off what = inr refl
@@ -254,8 +254,8 @@ module _ {A : Type 0} (tables : Tables) (before : List (Entry A)) (world : World
 
   -- of a line out of service
   module _ (off : is_off (state_at world line) ≡ true) where
-    action_is : (then : Action) → cell channels.Off (kind_of entry.event.what) ≡ then → action ≡ then
-    action_is then is = ap (λ s. cell (channel_of s) (kind_of entry.event.what)) (off_is (state_at world line) off) ∙ is
+    action_is : (then : Action) → action_in channels.Off entry.event.what ≡ then → action ≡ then
+    action_is then is = ap (λ s. action_in (channel_of s) entry.event.what) (off_is (state_at world line) off) ∙ is
 
     silent : step.told ≡ no_outputs
     silent =

@@ -5,7 +5,7 @@ use mathlib.Core.List.{IsPrefix}
 use Rattle.xp_charge.specs.declared.record.Record.{Record}
 use Rattle.xp_subs.specs.Tables.{Tables}
 use Rattle.xp_step.specs.declared.entry.Entry.{Entry}
-use Rattle.xp_seats.specs.Handed.{handed, is_stall}
+use Rattle.xp_seats.specs.Handed.{handed, is_raised}
 use Rattle.xp_lock.specs.Outgoing.{put_out_to}
 use Rattle.xp_lock.specs.Passes.{Pass, own_entries}
 use Rattle.xp_seats.specs.Views.{StartsWith}
@@ -44,9 +44,9 @@ module _ {A : Type 0} where
   abbrev pub AreCounted : Closed A → List (Pass A) → Type 0
   AreCounted book passes = All (IsCounted book) passes
 
-  -- the entries of the events that lines offered: all but the stalls
+  -- the entries of the events that lines offered: all but the stalls and the reloads
   abbrev pub all_handed : List (Entry A) → List (Entry A)
-  all_handed history = filter (λ entry. not (is_stall entry.event.what)) history
+  all_handed history = filter (λ entry. not (is_raised entry.event.what)) history
 
   -- how many events so many lines offered together
   abbrev pub handed_together : ℕ → List (Entry A) → ℕ

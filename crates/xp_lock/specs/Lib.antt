@@ -8,4 +8,5 @@ pub mod Opening
 pub mod Outboxes
 pub mod Outgoing
 pub mod Passes
+pub mod Reloading
 pub mod steps

@@ -10,9 +10,10 @@ ghost use Rattle.xp_lock.specs.steps.Outboxes.{OutboxesMatch};
 ghost use Rattle.xp_seats.specs.Handed.{is_stall};
 ghost use Rattle.xp_lock.specs.Outgoing.{put_out_to};
 ghost use Rattle.xp_lock.specs.CoreWithOutboxes.{Refuses, Takes, is_up};
+ghost use Rattle.xp_lock.specs.Reloading.{RefusesReload, Reloads};
 
 use crate::entering::enter;
-use crate::fault::OfferFault;
+use crate::fault::{OfferFault, ReloadRefusal};
 use crate::outboxes::{OutboxPutEnd, OutboxTakeEnd, has_room, tell_put};
 use crate::receipt::Receipt;
 use std::alloc::{AllocError, Allocator};
@@ -21,7 +22,7 @@ use std::sync::Wait;
 use xp_charge::Record;
 use xp_core::Core;
 use xp_step::{Event, What};
-use xp_subs::LineNo;
+use xp_subs::{LineNo, Subs};
 
 /// How many places of the history must be left: one for the event, and three for the stalls that it may force.
 const PLACES_FOR_AN_EVENT: u64 = 4;
@@ -101,6 +102,27 @@ impl<A: Allocator + Copy> CoreWithOutboxes<A> {
         Ok(done)
     }
 
+    /// Puts other subscriptions into force at this moment. It allocates nothing.
+    ///
+    /// # Errors
+    ///
+    /// `Halted`: the exchange was halted. `Refused`: they cannot come into force now. Nothing has changed.
+    pub fn reload(&mut self, next: Subs, moment: u64) -> Result<(), ReloadRefusal>
+        ensures ok { OnOk result (Reloads self.old next moment self.new) }
+        ensures refused { IfErr result (RefusesReload self.old next) }
+        ensures err { OnErr result (self.new ≡ self.old) }
+    {
+        if self.halted {
+            return Err(ReloadRefusal::Halted);
+        }
+        let reloaded = self.core.reload(next, moment);
+        let _few = self.core.count();
+        match reloaded {
+            Ok(_entry) => Ok(()),
+            Err(fault) => Err(ReloadRefusal::Refused(fault)),
+        }
+    }
+
     /// Hands over the charging records that wait, in the order in which their calls ended.
     ///
     /// # Errors
@@ -129,6 +151,8 @@ impl<A: Allocator + Copy> CoreWithOutboxes<A> {
     pub fn core(&self) -> &Core<A>
         ensures subs { result.now.subs ≡ self.now.subs }
         ensures history { result.now.history ≡ self.now.history }
+        ensures given { result.now.given ≡ self.now.given }
+        ensures waiting { result.now.waiting ≡ self.now.waiting }
     {
         &self.core
     }

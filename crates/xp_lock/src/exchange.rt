@@ -9,7 +9,7 @@ ghost use Rattle.xp_core.specs.Records.{OneRecordEach, records_of};
 ghost use Rattle.xp_step.specs.Worlds.{world_after};
 ghost use Rattle.xp_lock.specs.Closing.{AreCounted, PassesMatch, HasAll, IsMissing, NoneTwice, all_handed, handed_together, own_entries_together};
 ghost use Rattle.xp_lock.specs.Faults.{event_in};
-ghost use Rattle.xp_seats.specs.Handed.{is_stall};
+ghost use Rattle.xp_seats.specs.Handed.{is_raised};
 ghost use Rattle.xp_lock.specs.Outgoing.{put_out_to};
 ghost use Rattle.xp_lock.specs.Passes.{GainsEvent, IsLegal};
 ghost use Rattle.xp_seats.specs.Views.{StartsWith};
@@ -106,7 +106,7 @@ impl<N: Name, A: Allocator + Copy> Exchange<N, A> {
     ) -> Result<Receipt, OfferFault<A>>
         requires line { event.line ≡ pass.old.line }
         requires readable { IsReadable event.what }
-        requires kind { is_stall event.what ≡ false }
+        requires kind { is_raised event.what ≡ false }
         ensures ok { IfOk result (λ done. GainsEvent N.subs pass.old event done pass.new) }
         ensures err { IfErr result (λ fault. event_in fault ≡ event) }
         ensures pass { OnErr result (pass.new ≡ pass.old) }

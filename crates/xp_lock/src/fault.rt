@@ -4,6 +4,7 @@ use crate::exchange::Exchange;
 use crate::pass::LinePass;
 use std::alloc::{Allocator, Global};
 use thiserror::Error;
+use xp_core::ReloadFault;
 use xp_seats::{Name, Recorder};
 use xp_step::Event;
 use xp_subs::LineNo;
@@ -23,6 +24,17 @@ pub enum OfferFault<A: Allocator = Global> {
     /// An allocation failed.
     #[error("out of memory")]
     Memory(Event<A>),
+}
+
+/// Why other subscriptions did not come into force.
+#[derive(Clone, Copy, Debug, PartialEq, Eq, Error)]
+pub enum ReloadRefusal {
+    /// The exchange was halted.
+    #[error("the exchange is halted")]
+    Halted,
+    /// They cannot come into force now.
+    #[error("{0}")]
+    Refused(ReloadFault),
 }
 
 /// Why an exchange was not closed: the pass of a line is not here. The fault gives the exchange, the passes and the recorder back.

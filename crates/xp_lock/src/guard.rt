@@ -1,20 +1,21 @@
 //! The exchange while a thread holds its lock.
 
-ghost use Rattle.std.specs.Prelude.{◌≡◌, ◌++◌, false, All, IfErr, IfOk, OnErr, OnOk};
+ghost use Rattle.std.specs.Prelude.{◌≡◌, ◌++◌, None, false, All, IfErr, IfOk, OnErr, OnOk};
 ghost use Rattle.xp_charge.specs.Lines.{HasLines as NamesLines};
 ghost use Rattle.xp_subs.specs.Tables.{line_count};
 ghost use Rattle.xp_step.specs.Exchange.{IsReadable};
 ghost use Rattle.xp_core.specs.Records.{OneRecordEach, records_of};
 ghost use Rattle.xp_step.specs.Worlds.{world_after};
 ghost use Rattle.xp_lock.specs.Faults.{event_in};
-ghost use Rattle.xp_seats.specs.Handed.{is_stall};
+ghost use Rattle.xp_seats.specs.Handed.{is_raised};
 ghost use Rattle.xp_lock.specs.Passes.{GainsEvent, IsLegal};
 ghost use Rattle.xp_seats.specs.Views.{StartsWith};
+ghost use Rattle.xp_step.specs.InForce.{in_force};
 ghost use Rattle.xp_view.specs.Views.{Shows};
 
 use crate::fault::OfferFault;
 use crate::keeper::Keeper;
-use crate::look::Look;
+use crate::look::{Look, Reloading};
 use crate::pass::LinePass;
 use crate::receipt::Receipt;
 use std::alloc::{AllocError, Allocator, Global};
@@ -23,6 +24,7 @@ use std::sync::{MutexGuard, Wait};
 use xp_charge::Record;
 use xp_seats::{HistoryLength, Name, Recorder};
 use xp_step::Event;
+use xp_subs::Subs;
 
 /// The exchange while a thread holds its lock. The thread frees the lock as it drops the guard. A thread that has several
 /// events to offer takes the lock once for all of them. Until it drops the guard, no other thread's events are entered.
@@ -69,7 +71,7 @@ impl<'a, N: Name, A: Allocator + Copy> ExchangeGuard<'a, N, A> {
     ) -> Result<Receipt, OfferFault<A>>
         requires line { event.line ≡ pass.old.line }
         requires readable { IsReadable event.what }
-        requires kind { is_stall event.what ≡ false }
+        requires kind { is_raised event.what ≡ false }
         ensures ok { IfOk result (λ done. GainsEvent N.subs pass.old event done pass.new) }
         ensures err { IfErr result (λ fault. event_in fault ≡ event) }
         ensures pass { OnErr result (pass.new ≡ pass.old) }
@@ -97,6 +99,35 @@ impl<'a, N: Name, A: Allocator + Copy> ExchangeGuard<'a, N, A> {
         ensures err { OnErr result (recorder.new ≡ recorder.old) }
     {
         self.keeper.take_records(self.history_length, recorder)
+    }
+
+    /// Hands over the charging records that wait, as `take_records` does, and then puts other subscriptions into force at this
+    /// moment, or tells why not. Where they come into force, the recorder knows a history in which they are.
+    ///
+    /// # Errors
+    ///
+    /// `AllocError` if an allocation fails. Then no record was handed over, nothing has come into force, and the recorder stays as
+    /// it was.
+    pub fn reload(
+        &mut self,
+        recorder: &mut Recorder<N, A>,
+        next: Subs,
+        moment: u64,
+    ) -> Result<Reloading<A>, AllocError>
+        ensures taken { IfOk result (λ done. recorder.new.received ≡ recorder.old.received ++ done.records.items) }
+        ensures each { OnOk result (recorder.new.received ≡ records_of recorder.new.seen) }
+        ensures legal { OnOk result (IsLegal N.subs recorder.new.seen) }
+        ensures one_each { OnOk result (OneRecordEach N.subs recorder.new.seen (world_after N.subs recorder.new.seen)) }
+        ensures lines { IfOk result (λ done. All (NamesLines (line_count N.subs)) done.records.items) }
+        ensures in_force { IfOk result (λ done. done.refusal ≡ None → in_force N.subs recorder.new.seen ≡ next) }
+        ensures err { OnErr result (recorder.new ≡ recorder.old) }
+    {
+        let records = self.keeper.take_records(self.history_length, recorder)?;
+        let refusal = self
+            .keeper
+            .reload(self.history_length, recorder, next, moment)
+            .err();
+        Ok(Reloading { records, refusal })
     }
 
     /// Hands over the charging records that wait, as `take_records` does, and shows the exchange as it is then: each line, and the

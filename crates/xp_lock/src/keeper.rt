@@ -10,15 +10,17 @@ ghost use Rattle.xp_step.specs.Worlds.{world_after};
 ghost use Rattle.xp_lock.specs.Outboxes.{HaveCapacity, outbox_at};
 ghost use Rattle.xp_lock.specs.Closing.{AreCounted, PassesMatch, NoneTwice};
 ghost use Rattle.xp_seats.specs.Among.{is_among};
-ghost use Rattle.xp_seats.specs.Handed.{handed, is_stall};
+ghost use Rattle.xp_seats.specs.Handed.{handed, is_raised};
 ghost use Rattle.xp_lock.specs.Passes.{GainsEvent, IsLegal, own_entries};
 ghost use Rattle.xp_lock.specs.CoreWithOutboxes.{Refuses, Takes};
+ghost use Rattle.xp_lock.specs.Reloading.{RefusesReload, Reloads};
+ghost use Rattle.xp_step.specs.InForce.{in_force};
 ghost use Rattle.xp_seats.specs.Views.{StartsWith, closing, keeping};
 ghost use Rattle.xp_view.specs.Views.{Shows};
 
 use crate::book::Book;
 use crate::core_with_outboxes::CoreWithOutboxes;
-use crate::fault::OfferFault;
+use crate::fault::{OfferFault, ReloadRefusal};
 use crate::outboxes::OutboxPutEnd;
 use crate::pass::LinePass;
 use crate::receipt::Receipt;
@@ -29,6 +31,7 @@ use xp_charge::Record;
 use xp_outbox::count_untaken;
 use xp_seats::{HistoryLength, HistorySeat, Name, Recorder};
 use xp_step::Event;
+use xp_subs::Subs;
 use xp_view::ExchangeView;
 
 /// What the lock protects: the exchange with its outboxes, and the seat that knows the whole history. The records of the front
@@ -100,7 +103,7 @@ impl<N: Name, A: Allocator + Copy> Keeper<N, A> {
         requires history_length { history_length.now ≡ N.history_length }
         requires line { event.line ≡ pass.old.line }
         requires readable { IsReadable event.what }
-        requires kind { is_stall event.what ≡ false }
+        requires kind { is_raised event.what ≡ false }
         ensures ok { IfOk result (λ done. Takes self.old event done self.new) }
         ensures fresh { IfOk result (λ done. GainsEvent N.subs pass.old event done pass.new) }
         ensures shown { OnOk result (pass.new.seen ≡ self.new.history) }
@@ -154,6 +157,44 @@ impl<N: Name, A: Allocator + Copy> Keeper<N, A> {
             taken.as_slice(),
         );
         Ok(taken)
+    }
+
+    /// Puts other subscriptions into force at this moment, where no record waits. The recorder then has seen the whole history,
+    /// and the subscriptions in force are these.
+    ///
+    /// # Errors
+    ///
+    /// `Halted`: the exchange was halted. `Refused`: they cannot come into force now. Nothing has changed, and the recorder stays
+    /// as it was.
+    pub fn reload(
+        &mut self,
+        history_length: &HistoryLength<A>,
+        recorder: &mut Recorder<N, A>,
+        next: Subs,
+        moment: u64,
+    ) -> Result<(), ReloadRefusal>
+        requires history_length { history_length.now ≡ N.history_length }
+        requires none { self.old.waiting ≡ [] }
+        ensures ok { OnOk result (Reloads self.old next moment self.new) }
+        ensures refused { IfErr result (RefusesReload self.old next) }
+        ensures err { OnErr result (self.new ≡ self.old) }
+        ensures shown { OnOk result (recorder.new.seen ≡ self.new.history) }
+        ensures received { recorder.new.received ≡ recorder.old.received }
+        ensures each { OnOk result (recorder.new.received ≡ records_of recorder.new.seen) }
+        ensures seen { OnOk result (StartsWith recorder.new.seen recorder.old.seen) }
+        ensures legal { OnOk result (IsLegal N.subs recorder.new.seen) }
+        ensures one_each { OnOk result (OneRecordEach N.subs recorder.new.seen (world_after N.subs recorder.new.seen)) }
+        ensures in_force { OnOk result (in_force N.subs recorder.new.seen ≡ next) }
+        ensures recorder { OnErr result (recorder.new ≡ recorder.old) }
+    {
+        let before = self.core_with_outboxes.core().count();
+        self.core_with_outboxes.reload(next, moment)?;
+        let core = self.core_with_outboxes.core();
+        let _legal = core.count();
+        let _records = core.records();
+        history_length.extend(&mut self.history_seat, core, before);
+        recorder.receive(history_length, &mut self.history_seat, core, &[]);
+        Ok(())
     }
 
     /// What can be seen of the exchange now.

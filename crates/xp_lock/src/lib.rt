@@ -20,10 +20,10 @@ mod start;
 
 pub use book::Book;
 pub use exchange::Exchange;
-pub use fault::{CloseFault, OfferFault};
+pub use fault::{CloseFault, OfferFault, ReloadRefusal};
 pub use guard::ExchangeGuard;
 pub use keeper::Keeper;
-pub use look::Look;
+pub use look::{Look, Reloading};
 pub use pass::LinePass;
 pub use prepared::{PreparedExchange, prepare};
 pub use receipt::Receipt;

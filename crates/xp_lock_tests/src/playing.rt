@@ -6,7 +6,7 @@
 
 ghost use Rattle.std.specs.Prelude.{◌≡◌, false, IfOk};
 ghost use Rattle.xp_step.specs.Exchange.{IsReadable};
-ghost use Rattle.xp_step.specs.Stalls.{is_stall};
+ghost use Rattle.xp_step.specs.Stalls.{is_raised};
 
 use crate::log::{Log, kind_of};
 use std::alloc::{AllocError, Allocator};
@@ -142,7 +142,7 @@ fn offer<N: Name, A: Allocator + Copy>(
 /// What has this name, made again where memory was wanting.
 fn named<A: Allocator + Copy>(alloc: A, name: &str, log: &Log) -> Result<What<A>, AllocError>
     ensures readable { IfOk result (λ what. IsReadable what) }
-    ensures kind { IfOk result (λ what. is_stall what ≡ false) }
+    ensures kind { IfOk result (λ what. is_raised what ≡ false) }
 {
     if name == "up" {
         return Ok(What::Up);
@@ -160,7 +160,7 @@ fn named<A: Allocator + Copy>(alloc: A, name: &str, log: &Log) -> Result<What<A>
 /// The packet of these octets comes on a line, which numbers modulo 8.
 fn packet<A: Allocator + Copy>(alloc: A, octets: &[u8]) -> Result<What<A>, PacketFault>
     ensures readable { IfOk result (λ what. IsReadable what) }
-    ensures kind { IfOk result (λ what. is_stall what ≡ false) }
+    ensures kind { IfOk result (λ what. is_raised what ≡ false) }
 {
     let (identifier, packet) = decode(alloc, Modulus::Eight, octets)?;
     Ok(What::frame(identifier, packet))

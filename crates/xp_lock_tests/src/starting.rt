@@ -10,6 +10,8 @@ use std::alloc::{AllocError, Allocator};
 use std::sync::Wait;
 use xp_lock::{CloseFault, Exchange, LinePass, PreparedExchange};
 use xp_seats::{Name, Recorder};
+use xp_subs::Subs;
+use xp_testing::THREE_STATIONS;
 
 /// Scripts, a line each.
 #[derive(Clone, Copy)]
@@ -17,8 +19,22 @@ pub struct Scripts<'a> {
     pub text: &'a str,
 }
 
-/// Plays a scene of scripts, a line each: `records` takes the records that wait, and tells the number of the last. Nothing is told where
-/// memory is wanting at the start.
+/// Three stations, of which that of b1 takes no calls.
+const BARRED: &str = r#"[[station]]
+address = "2080010"
+line = [{ name = "a1", port = 19981 }]
+[[station]]
+address = "2080020"
+fast_select = true
+incoming_barred = true
+line = [{ name = "b1", port = 19982 }]
+[[station]]
+address = "2080030"
+line = [{ name = "h1", port = 19983 }, { name = "h2", port = 19984, address = "2080032" }, { name = "h3", port = 19985 }]
+"#;
+
+/// Plays a scene of scripts, a line each: `records` takes the records that wait, and tells the number of the last; `barred` and `open` put
+/// other subscriptions into force. Nothing is told where memory is wanting at the start.
 pub fn scene<N: Name, A: Allocator + Copy>(
     rt: &impl Wait,
     alloc: A,
@@ -36,10 +52,11 @@ pub fn scene<N: Name, A: Allocator + Copy>(
     };
     let mut played: Result<(), AllocError> = Ok(());
     for script in scripts.text.lines() {
-        let done = if script == "records" {
-            tell_records(rt, &exchange, &mut recorder, &mut log)
-        } else {
-            play(rt, alloc, &exchange, &mut passes, script, &mut log)
+        let done = match script {
+            "records" => tell_records(rt, &exchange, &mut recorder, &mut log),
+            "barred" => reload(rt, &exchange, &mut recorder, BARRED, &mut log),
+            "open" => reload(rt, &exchange, &mut recorder, THREE_STATIONS, &mut log),
+            _ => play(rt, alloc, &exchange, &mut passes, script, &mut log),
         };
         played = played.and(done);
     }
@@ -59,6 +76,22 @@ fn tell_records<N: Name, A: Allocator + Copy>(
 ) -> Result<(), AllocError> {
     take_records(rt, exchange, recorder, log)?;
     log.tell_numbers(&[log.record])
+}
+
+/// Puts these subscriptions into force, and tells how many records were handed over before, and whether it was refused.
+fn reload<N: Name, A: Allocator + Copy>(
+    rt: &impl Wait,
+    exchange: &Exchange<N, A>,
+    recorder: &mut Recorder<N, A>,
+    text: &str,
+    log: &mut Log,
+) -> Result<(), AllocError> {
+    let Ok(subs) = Subs::read(log.alloc, text) else {
+        return Err(AllocError);
+    };
+    let done = exchange.lock(rt).reload(recorder, subs, log.moment)?;
+    let records = done.records.len() as u64;
+    log.tell_numbers(&[records, u64::from(done.refusal.is_some())])
 }
 
 /// Tells how many records the recorder received. Closes the exchange without the last pass, and tells the line whose pass is

@@ -12,8 +12,8 @@ use Rattle.xp_step.specs.Exchange.{Exchange}
 use Rattle.xp_seats.specs.declared.history_length.View.{View}
 use Rattle.xp_seats.specs.Among.{is_among}
 use Rattle.xp_seats.specs.Handed.{handed}
-use Rattle.xp_seats.specs.Views.{IsGrown, StartsWith, closing, keeping, next_claim, one_further, recording}
-use Rattle.xp_seats.specs.steps.Views.{Fits, HasSeenOwn, IsChecked, IsRead, IsShared, IsPublished, claim_of, joined, nobody, recorder_of, unclaimed, unrecorded, with_recorder}
+use Rattle.xp_seats.specs.Views.{IsGrown, IsGrownByNone, StartsWith, closing, keeping, next_claim, one_further, recording}
+use Rattle.xp_seats.specs.steps.Views.{Fits, HasSeenOwn, IsChecked, IsExtended, IsRead, IsShared, IsPublished, claim_of, joined, nobody, recorder_of, unclaimed, unrecorded, with_recorder}
 use Rattle.xp_seats.proofs.Lists.{Each, each_new, each_set, handed-none, starts_empty, starts_longer, starts_whole}
 
 off : false ≡ true → ⊥
@@ -232,6 +232,50 @@ module _ {A : Type 0} where
               });
         }
 
+    -- the keeper adds entries that no line offered
+    adds_alone : (seat : ℕ) (v : View A) (more : List (Entry A)) (n : ℕ) → get_elem? views seat ≡ some v → v.keeps ≡ true
+        → n ≡ length v.all + length more → ((line : ℕ) → handed line more ≡ [])
+        → IsShared (set words 0 n) (set views seat (record v { all = v.all ++ more }))
+    adds_alone seat v more n at may long none =
+        let kept = (h.each seat v at).keeps may in
+        let now : List (Entry A) = h.history ++ more in
+        let F : ℕ → View A → Type 0 = Fits h.keeper_seat h.recorder_seat h.owner h.next now h.recorded h.returned in
+        record {
+          keeper_seat = h.keeper_seat;
+          recorder_seat = h.recorder_seat;
+          owner = h.owner;
+          next = h.next;
+          history = now;
+          recorded = h.recorded;
+          returned = h.returned;
+          one = subst (λ k. 0 < k) (sym (length-set words 0 n)) h.one;
+          history_length = get_or-set_same words 0 n 0 h.one ∙ long ∙ ap (λ xs. length xs + length more) kept.1 ∙ sym (length-append h.history more);
+          front = starts_longer h.history h.recorded more h.front;
+          each = each_set F views seat (record v { all = v.all ++ more })
+              (record {
+                keeps = λ _. (kept.0, ap (λ xs. xs ++ more) kept.1, kept.2, kept.3, kept.4);
+                claims = λ c. let was = (h.each seat v at).claims c in record {
+                  owned = was.owned;
+                  given = was.given;
+                  out = was.out;
+                  front = starts_longer h.history v.seen more was.front;
+                  own = handed-none v.line h.history more (none v.line) ∙ was.own;
+                };
+                records = (h.each seat v at).records;
+              })
+              (λ j u other e. record {
+                keeps = λ k. absurd (other (((h.each j u e).keeps k).0 ∙ sym kept.0));
+                claims = λ c. let was = (h.each j u e).claims c in record {
+                  owned = was.owned;
+                  given = was.given;
+                  out = was.out;
+                  front = starts_longer h.history u.seen more was.front;
+                  own = handed-none u.line h.history more (none u.line) ∙ was.own;
+                };
+                records = (h.each j u e).records;
+              });
+        }
+
     given_back : (seat : ℕ) (v : View A) → get_elem? views seat ≡ some v → v.keeps ≡ true → v.claims ≡ true → is_among v.line v.returned ≡ false
     given_back seat v at may claims = ap (is_among v.line) ((h.each seat v at).keeps may).3 ∙ ((h.each seat v at).claims claims).out
 
@@ -422,6 +466,23 @@ module _ {A : Type 0} where
         tt,
         exchanged n before count (λ history_length. Shown history_length core.history) (λ _. subst (Shown count) (sym grown.grown_is) added) (λ other. absurd (other found)),
         (record { shown = refl; seen = seen_own s.words s.views h seat v at may claims }, refl),
+      )
+
+  pub extends : (slots seat : ℕ) (me : View A × List (ℕ × Exchange A)) (core : Exchange A) (before count : ℕ) → me.0.keeps ≡ true
+      → before ≡ length me.0.all → count ≡ length core.history → IsGrownByNone me.0.all core.history
+      → Allows {S = Exchange A} (λ s. IsShared s.words s.views) slots seat me 0 (λ n. either (eqb n before) count n) (λ _ m. IsExtended core.history me.0 m.0 × (m.1 ≡ me.1))
+  extends slots seat me core before count may was now grown s h long at below =
+      let v = me.0 in
+      let n : ℕ = slice_index s.words 0 in
+      let after : View A = record v { all = core.history } in
+      let Shown : ℕ → List (Entry A) → Type 0 = λ history_length xs. IsShared (set s.words 0 history_length) (set s.views seat (record v { all = xs })) in
+      let found : n ≡ before = h.history_length ∙ ap length (sym ((h.each seat v at).keeps may).1) ∙ sym was in
+      let added = adds_alone s.words s.views h seat v grown.more count at may (now ∙ ap length grown.grown_is ∙ length-append v.all grown.more) grown.others in (
+        after,
+        keeps,
+        tt,
+        exchanged n before count (λ history_length. Shown history_length core.history) (λ _. subst (Shown count) (sym grown.grown_is) added) (λ other. absurd (other found)),
+        (refl, refl),
       )
 
   pub checks : {S : Type 0} (slots seat : ℕ) (me : View A × List (ℕ × S)) → me.0.keeps ≡ true → me.0.claims ≡ true

@@ -22,6 +22,12 @@ module _ {A : Type 0} where
     pub grown_is : grown ≡ history ++ more
     pub others : (other : ℕ) → other ≢ line → handed other more ≡ []
 
+  -- the history grew by entries that no line offered
+  pub record IsGrownByNone (history grown : List (Entry A)) : Type 0 where
+    pub more : List (Entry A)
+    pub grown_is : grown ≡ history ++ more
+    pub others : (line : ℕ) → handed line more ≡ []
+
   -- the keeper: the recorder saw these entries of all, it gave out the claims of the lines below `next`, and those of these lines
   -- were given back
   abbrev pub closing : ℕ → List (Entry A) → List (Entry A) → List ℕ → View A

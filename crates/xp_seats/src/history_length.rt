@@ -4,7 +4,7 @@
 ghost use Rattle.std.specs.Prelude.{◌≡◌, true, false, [], ◌∷◌, length, IfOk};
 ghost use Rattle.xp_seats.specs.Among.{is_among};
 ghost use Rattle.xp_seats.specs.Handed.{handed};
-ghost use Rattle.xp_seats.specs.Views.{IsGrown, StartsWith, claiming, closing, keeping, next_claim, one_further, recording};
+ghost use Rattle.xp_seats.specs.Views.{IsGrown, IsGrownByNone, StartsWith, claiming, closing, keeping, next_claim, one_further, recording};
 ghost use Rattle.xp_seats.specs.steps.Views.{IsChecked, IsPublished, IsRead, claim_of, joined, recorder_of, unclaimed, unrecorded, with_recorder};
 
 use atomic_table::{Join, Play, Seat, Split, Table, TableRule};
@@ -109,6 +109,16 @@ impl<A: Allocator> Play<Core<A>, View<A>> for PublishHistory {
     ghost use Rattle.xp_seats.specs.steps.Views.{IsPublishedBy};
 
     ghost then = { λ step m _ w. IsPublishedBy step.said m.0 w.0 × (w.1 ≡ m.1) };
+}
+
+/// The step by which the keeper stores the length of the history after entries that no line offered.
+pub struct ExtendHistory;
+
+impl<A: Allocator> Play<Core<A>, View<A>> for ExtendHistory {
+    ghost use Rattle.std.specs.Prelude.{◌≡◌};
+    ghost use Rattle.xp_seats.specs.steps.Views.{IsExtendedBy};
+
+    ghost then = { λ step m _ w. IsExtendedBy step.said m.0 w.0 × (w.1 ≡ m.1) };
 }
 
 /// The step by which the keeper compares the claim that it holds with the history.
@@ -266,6 +276,21 @@ impl<A: Allocator> HistoryLength<A> {
         self.table
             .shared
             .compare_exchange_with::<PublishHistory>(&mut keeper.seat, 0, before, count, core);
+    }
+
+    /// Stores the new length of the history. Only entries that no line offered were added to it.
+    pub fn extend(&self, keeper: &mut HistorySeat<A>, core: &Core<A>, before: u64)
+        requires history_length { keeper.old.history_length ≡ self.now }
+        requires keeper { keeper.old.knows ≡ keeping keeper.old.knows.next keeper.old.knows.all keeper.old.knows.recorded }
+        requires before { before ≡ length keeper.old.knows.all }
+        requires grown { IsGrownByNone keeper.old.knows.all core.now.history }
+        ensures history_length { keeper.new.history_length ≡ keeper.old.history_length }
+        ensures keeper { keeper.new.knows ≡ keeping keeper.old.knows.next core.now.history keeper.old.knows.recorded }
+    {
+        let count = core.count();
+        self.table
+            .shared
+            .compare_exchange_with::<ExtendHistory>(&mut keeper.seat, 0, before, count, core);
     }
 
     /// Compares what a pass has seen with the history, and takes its claim back. No other pass of its line gave one back.

@@ -1,5 +1,5 @@
 -- The sizes of the live calls are in their ranges.
-use Rattle.std.proofs.Common.{◌≡◌, ℕ, Some, None, List, [], ◌∷◌, sym, subst, inl, inr, arith}
+use Rattle.std.proofs.Common.{◌≡◌, ℕ, Some, None, List, [], ◌∷◌, ◌++◌, sym, subst, inl, inr, arith}
 use Rattle.std.specs.FinMap.{get-empty}
 use Rattle.std.specs.List.{AllByRecursion}
 use Rattle.std.specs.Ordering.{nat_cmp}
@@ -25,6 +25,10 @@ use Rattle.xp_step.specs.Step.{Step}
 use Rattle.xp_step.specs.Effects.{changes_of}
 use Rattle.xp_step.specs.Table.{action_at}
 use Rattle.xp_machine.proofs.Maps.{new_or_old, was_there}
+use Rattle.xp_reload.proofs.Same.{frame_kept, modulus_kept}
+use Rattle.xp_reload.specs.Frame.{IsSameFrame}
+use Rattle.xp_step.specs.InForce.{in_force}
+use Rattle.xp_step.proofs.InForce.{step_frame}
 use Rattle.xp_step.proofs.Origins.{ComesOf, IsBegun, IsConnection, all_come}
 use Rattle.xp_step.proofs.RunLemmas.{run_keeps}
 
@@ -41,7 +45,7 @@ terms_long Eight terms are = record {
   };
 }
 
-module _ {A : Type 0} (at : StepContext A) (what : What A) (here : AllHaveTerms at.tables at.world) where
+module _ {A : Type 0} (at : StepContext A) (what : What A) (moduli : (line : ℕ) → modulus_of at.force line ≡ modulus_of at.tables line) (here : AllHaveTerms at.tables at.world) where
   begun_terms : (modulus : Modulus) (line identifier called : ℕ) (dialled : List ℕ) (setup : Setup) (requested : ℕ) (from : IsBegun at what line identifier called dialled setup)
       → IndicatesSizes modulus from.ring.told → HasTerms modulus (record { caller = line; called = called; dialled = dialled; setup = setup; requested = requested; agreed = None })
   begun_terms modulus line identifier called dialled setup requested from sizes =
@@ -53,10 +57,11 @@ module _ {A : Type 0} (at : StepContext A) (what : What A) (here : AllHaveTerms 
       → let call : Call = record { caller = line; called = called; dialled = dialled; setup = setup; requested = requested; agreed = None } in
       HasTerms (modulus_of at.tables line) call × HasTerms (modulus_of at.tables called) call
   both_begun line identifier called dialled setup requested from =
-      let both = told_sizes at.tables (line_states at.world) at.line from.asked.request.block from.ring from.decided in
-      let P : ℕ → Type 0 = λ l. IndicatesSizes (modulus_of at.tables l) from.ring.told in (
-        begun_terms (modulus_of at.tables line) line identifier called dialled setup requested from (subst P (sym from.asked.line_is) both.0),
-        begun_terms (modulus_of at.tables called) line identifier called dialled setup requested from (subst P (sym from.called_is) both.1),
+      let both = told_sizes at.force (line_states at.world) at.line from.asked.request.block from.ring from.decided in
+      let P : ℕ → Type 0 = λ l. IndicatesSizes (modulus_of at.tables l) from.ring.told in
+      let here_too : (l : ℕ) → IndicatesSizes (modulus_of at.force l) from.ring.told → P l = λ l. subst (λ modulus. IndicatesSizes modulus from.ring.told) (moduli l) in (
+        begun_terms (modulus_of at.tables line) line identifier called dialled setup requested from (subst P (sym from.asked.line_is) (here_too at.line both.0)),
+        begun_terms (modulus_of at.tables called) line identifier called dialled setup requested from (subst P (sym from.called_is) (here_too from.ring.line both.1)),
       )
 
   connected_terms : (modulus : Modulus) (number : ℕ) (call : Call) (agreement : Agreement) → IsConnection at number call agreement → HasTerms modulus call
@@ -104,16 +109,22 @@ module _ {A : Type 0} (at : StepContext A) (what : What A) (here : AllHaveTerms 
       all_changed_terms changes (changed change world) from.1 (changed_terms change world from.0 terms)
 
 module _ {A : Type 0} where
+  -- the sizes, and the frame of the tables in force
+  abbrev Agree : Tables → List (Entry A) → World → Type 0
+  Agree tables before world = IsSameFrame tables (in_force tables before) × AllHaveTerms tables world
+
   step_agreed : (tables : Tables) (before : List (Entry A)) (world : World) (entry : Entry A) (next : World)
-      → AllHaveTerms tables world → Step tables before world entry next → AllHaveTerms tables next
-  step_agreed tables before world entry next terms step =
+      → Agree tables before world → Step tables before world entry next → Agree tables (before ++ entry ∷ []) next
+  step_agreed tables before world entry next (frame, terms) step =
       let at : StepContext A = step_context tables before world entry.event.line entry.event.moment in
-      let P : World → Type 0 = λ w. AllHaveTerms tables w in
-      subst P (sym step.leads)
-      (all_changed_terms at entry.event.what terms (changes_of tables before world entry) world
-      (all_come at entry.event.what (action_at world entry.event) entry.outcome step.told step.acts) terms)
+      let P : World → Type 0 = λ w. AllHaveTerms tables w in (
+        step_frame tables before world entry next frame step,
+        subst P (sym step.leads)
+            (all_changed_terms at entry.event.what (modulus_kept tables (in_force tables before) frame) terms (changes_of tables before world entry) world
+            (all_come at entry.event.what (action_at world entry.event) entry.outcome step.told step.acts) terms),
+      )
 
   pub run_agreed : (tables : Tables) (history : List (Entry A)) (world : World) → Run tables history world → AllHaveTerms tables world
   run_agreed tables history world run =
-      run_keeps (λ before w. AllHaveTerms tables w) tables (step_agreed tables) [] (opening (line_count tables)) history world
-      (λ number call is. let none : call_numbered (opening (line_count tables)) number ≡ None = get-empty nat_cmp number in absurd (cc)) run
+      (run_keeps (Agree tables) tables (step_agreed tables) [] (opening (line_count tables)) history world
+      (frame_kept tables, λ number call is. let none : call_numbered (opening (line_count tables)) number ≡ None = get-empty nat_cmp number in absurd (cc)) run).1

@@ -71,15 +71,16 @@ module _ {A : Type 0} (at : StepContext A) (answer : CallAccepted A) (plan : Pla
     planned = subst (λ found. Planned no_outputs found plan.outcome) is planned;
   }
 
-  module _ (call : LiveCall) (is : Some (entry_of call) ≡ call_on at.world at.line) (address : List ℕ) (address_is : address ≡ address_of at.tables at.line)
+  module _ (call : LiveCall) (is : Some (entry_of call) ≡ call_on at.world at.line) (address : List ℕ)
+      (force : Tables) (in_force : force ≡ at.force) (address_is : address ≡ address_of force at.line)
       (given : Answer A) (answered : Answered call.setup address call.dialled answer.d answer.block given) where
     abbrev IsGiven : Answer A → Type 0
-    IsGiven a = Answered call.setup (address_of at.tables at.line) call.dialled answer.d answer.block a
+    IsGiven a = Answered call.setup (address_of at.force at.line) call.dialled answer.d answer.block a
 
     given_is : (a : Answer A) → given ≡ a → IsGiven a
     given_is a same =
         let P : List ℕ → Type 0 = λ place. Answered call.setup place call.dialled answer.d answer.block given in
-        subst IsGiven same (subst P address_is answered)
+        subst IsGiven same (subst P (address_is ∙ ap (λ t. address_of t at.line) in_force) answered)
 
     pub connected : (connection : Connection A) → given ≡ answers.Connected connection → plan.outcome ≡ Connected (agreement_of at.moment connection)
         → IsRelayed (call_of_stored call) (coupled (relay_terms at.tables (call_of_stored call) (agreement_of at.moment connection))) (opening at.tables.segment_limit) plan.relay_update

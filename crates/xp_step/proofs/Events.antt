@@ -84,27 +84,27 @@ module _ {A E : Type 0} (at : StepContext A) (what : What A) (action : Action) (
   pub request_planned : (request : CallRequest A) → NewCall ≡ action → Some request ≡ request_in what
       → IfOk result (PlansRequest at request [] []) → ArePlanned action
   request_planned request is asks planned = subst ArePlanned is (if_ok result _ _ (λ plan p.
-      let P : Option (CallRequest A) → Type 0 = λ asked. Requests at.tables at.world at.line [] asked plan.outcome p.told in
+      let P : Option (CallRequest A) → Type 0 = λ asked. Requests at.force at.world at.line [] asked plan.outcome p.told in
       let Q : Option (CallRequest A) → Type 0 = λ asked. IsPlan plan at p.told (requests at.line at.moment asked plan.outcome) in
       record { told = p.told; acts = subst P asks p.acts; relays = requests_quiet at.tables at.line at.moment (request_in what) plan.outcome plan.relay_update p.quiet; planned = subst Q asks p.planned }) planned)
 
   pub collision_planned : (request : CallRequest A) → Collision ≡ action → Some request ≡ request_in what
       → IfOk result (PlansRequest at request (cancels at.line (call_on at.world at.line)) (outputs_of_cancel at.world at.line)) → ArePlanned action
   collision_planned request is asks planned = subst ArePlanned is (if_ok result _ _ (λ plan p.
-      let P : Option (CallRequest A) → Type 0 = λ asked. Requests at.tables at.world at.line (outputs_of_cancel at.world at.line) asked plan.outcome p.told in
+      let P : Option (CallRequest A) → Type 0 = λ asked. Requests at.force at.world at.line (outputs_of_cancel at.world at.line) asked plan.outcome p.told in
       let Q : Option (CallRequest A) → Type 0 = λ asked. IsPlan plan at p.told (collides at.line at.moment asked (call_on at.world at.line) plan.outcome) in
       record { told = p.told; acts = subst P asks p.acts; relays = collides_quiet at.tables at.line at.moment (request_in what) (call_on at.world at.line) plan.outcome plan.relay_update p.quiet; planned = subst Q asks p.planned }) planned)
 
   pub no_request_planned : None ≡ request_in what → PlainOf no_outputs [] → ArePlanned NewCall
   no_request_planned lacks planned = if_ok result _ _ (λ plan p.
-      let P : Option (CallRequest A) → Type 0 = λ asked. Requests at.tables at.world at.line [] asked plan.outcome no_outputs in
+      let P : Option (CallRequest A) → Type 0 = λ asked. Requests at.force at.world at.line [] asked plan.outcome no_outputs in
       let R : Option (CallRequest A) → Type 0 = λ asked. RelaysFor at.tables (requests at.line at.moment asked plan.outcome) plan.relay_update in
       let Q : Option (CallRequest A) → Type 0 = λ asked. IsPlan plan at no_outputs (requests at.line at.moment asked plan.outcome) in
       record { told = no_outputs; acts = subst P lacks (plain no_outputs plan [] p); relays = subst R lacks p.quiet; planned = subst Q lacks p.planned }) planned
 
   pub no_collision_planned : None ≡ request_in what → PlainOf no_outputs [] → ArePlanned Collision
   no_collision_planned lacks planned = if_ok result _ _ (λ plan p.
-      let P : Option (CallRequest A) → Type 0 = λ asked. Requests at.tables at.world at.line (outputs_of_cancel at.world at.line) asked plan.outcome no_outputs in
+      let P : Option (CallRequest A) → Type 0 = λ asked. Requests at.force at.world at.line (outputs_of_cancel at.world at.line) asked plan.outcome no_outputs in
       let R : Option (CallRequest A) → Type 0 = λ asked. RelaysFor at.tables (collides at.line at.moment asked (call_on at.world at.line) plan.outcome) plan.relay_update in
       let Q : Option (CallRequest A) → Type 0 = λ asked. IsPlan plan at no_outputs (collides at.line at.moment asked (call_on at.world at.line) plan.outcome) in
       record { told = no_outputs; acts = subst P lacks (plain no_outputs plan [] p); relays = subst R lacks p.quiet; planned = subst Q lacks p.planned }) planned

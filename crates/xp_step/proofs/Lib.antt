@@ -4,6 +4,7 @@ pub mod Carrying
 pub mod Clearings
 pub mod Counting
 pub mod Events
+pub mod InForce
 pub mod Leaving
 pub mod Origins
 pub mod Plans

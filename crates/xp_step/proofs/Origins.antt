@@ -54,7 +54,7 @@ module _ {A : Type 0} where
   pub record IsBegun (at : StepContext A) (what : What A) (line identifier called : ℕ) (dialled : List ℕ) (setup : Setup) : Type 0 where
     pub asked : IsAsked at what line identifier dialled
     pub ring : IncomingCall A
-    pub decided : Decided at.tables (line_states at.world) at.line asked.request.block (Take ring)
+    pub decided : Decided at.force (line_states at.world) at.line asked.request.block (Take ring)
     pub called_is : called ≡ ring.line
     pub setup_is : setup ≡ setup_of ring
 
@@ -63,7 +63,7 @@ module _ {A : Type 0} where
     pub live : call_numbered at.world number ≡ Some call
     pub answer : CallAccepted A
     pub connection : Connection A
-    pub answered : Answered call.setup (address_of at.tables at.line) call.dialled answer.d answer.block (answered.Connected connection)
+    pub answered : Answered call.setup (address_of at.force at.line) call.dialled answer.d answer.block (answered.Connected connection)
     pub agreement_is : agreement ≡ agreement_of at.moment connection
 
   -- where a change comes from
@@ -89,11 +89,11 @@ module _ {A : Type 0} where
         → ForwardedClear found.1.setup.fast clear.cause clear.diagnostic clear.block information packet
         → output ≡ send at.world (far_end found.1 at.line) packet → IsSent at what output
     connecting : (found : ℕ × Call) (answer : CallAccepted A) (connection : Connection A) → call_numbered at.world found.0 ≡ Some found.1 → accepted_in what ≡ Some answer
-        → Answered found.1.setup (address_of at.tables at.line) found.1.dialled answer.d answer.block (answered.Connected connection)
+        → Answered found.1.setup (address_of at.force at.line) found.1.dialled answer.d answer.block (answered.Connected connection)
         → output ≡ send at.world found.1.caller connection.packet → IsSent at what output
     ringing : (request : CallRequest A) (ring : IncomingCall A) (packet : Packet A) → request_in what ≡ Some request
-        → Decided at.tables (line_states at.world) at.line request.block (Take ring)
-        → IsIncomingCall ring (address_of at.tables ring.line) (address_of at.tables at.line) request.d request.block packet
+        → Decided at.force (line_states at.world) at.line request.block (Take ring)
+        → IsIncomingCall ring (address_of at.force ring.line) (address_of at.force at.line) request.d request.block packet
         → output ≡ send_as at.world ring.line INITIAL_IDENTIFIER packet → IsSent at what output
     carrying : (carried : RelayedPacket A) (move : Move A) → relayed_by at.line (call_on at.world at.line) (packet_in what) ≡ Some carried
         → Contains (turn_of_relayed at.tables at.before carried).moves move → output ≡ send_on at.world carried.call move → IsSent at what output
@@ -112,7 +112,7 @@ module _ {A : Type 0} where
     leaving way cause diagnostic (Some found) is = (((shown_on at.world at.line found is).1, refl), tt)
 
     requested : (request : CallRequest A) (far : List (Output A)) (outcome : Outcome) (told : EventOutputs A) → request_in what ≡ Some request
-        → IsRequested at.tables at.world at.line far request outcome told → AllCome (requests at.line at.moment (Some request) outcome)
+        → IsRequested at.force at.world at.line far request outcome told → AllCome (requests at.line at.moment (Some request) outcome)
     requested request far (Put called setup) told asks is = (
       record {
         asked = record { request = request; asks = asks; line_is = refl; identifier_is = refl; dialled_is = refl };
@@ -130,12 +130,12 @@ module _ {A : Type 0} where
     requested request far Exceeded told asks is = absurd is
 
     requesting : (far : List (Output A)) (asked : Option (CallRequest A)) (outcome : Outcome) (told : EventOutputs A) → request_in what ≡ asked
-        → Requests at.tables at.world at.line far asked outcome told → AllCome (requests at.line at.moment asked outcome)
+        → Requests at.force at.world at.line far asked outcome told → AllCome (requests at.line at.moment asked outcome)
     requesting far None outcome told asks is = tt
     requesting far (Some request) outcome told asks is = requested request far outcome told asks is
 
     colliding : (far : List (Output A)) (asked : Option (CallRequest A)) (found : Option (ℕ × Call)) (outcome : Outcome) (told : EventOutputs A) → request_in what ≡ asked
-        → call_on at.world at.line ≡ found → Requests at.tables at.world at.line far asked outcome told → AllCome (collides at.line at.moment asked found outcome)
+        → call_on at.world at.line ≡ found → Requests at.force at.world at.line far asked outcome told → AllCome (collides at.line at.moment asked found outcome)
     colliding far None found outcome told asks on is = tt
     colliding far (Some request) None outcome told asks on is = requested request far outcome told asks is
     colliding far (Some request) (Some found) outcome told asks on is =
@@ -218,6 +218,7 @@ module _ {A : Type 0} where
     fall_sent (events.Frame identifier packet) = tt
     fall_sent (events.WrongFrame wrong) = tt
     fall_sent events.Expire = tt
+    fall_sent events.Reload = tt
 
     both_sent : (near far diagnostic : ℕ) (told : EventOutputs A) → told ≡ outputs_to_both at near far diagnostic → All (IsSent at what) (outputs_of told)
     both_sent near far diagnostic told is = these (outputs_to_both at near far diagnostic) told is refl
@@ -227,10 +228,10 @@ module _ {A : Type 0} where
     error_sent diagnostic told is = both_sent LOCAL_PROCEDURE_ERROR REMOTE_PROCEDURE_ERROR diagnostic told is
 
     request_sent : (request : CallRequest A) (far : List (Output A)) (outcome : Outcome) (told : EventOutputs A) → request_in what ≡ Some request → AreSent far
-        → IsRequested at.tables at.world at.line far request outcome told → All (IsSent at what) (outputs_of told)
+        → IsRequested at.force at.world at.line far request outcome told → All (IsSent at what) (outputs_of told)
     request_sent request far (Put called setup) told asks of_far is =
         let P : ℕ → Type 0 = λ c. IsSent at what (send_as at.world c INITIAL_IDENTIFIER is.packet) in
-        let I : ℕ → Type 0 = λ c. IsIncomingCall is.ring (address_of at.tables c) (address_of at.tables at.line) request.d request.block is.packet in
+        let I : ℕ → Type 0 = λ c. IsIncomingCall is.ring (address_of at.force c) (address_of at.force at.line) request.d request.block is.packet in
         these _ told is.told_is refl tt of_far
         (subst P (sym is.called_is) (ringing request is.ring is.packet asks is.decided (subst I is.called_is is.incoming) refl), tt)
     request_sent request far (Refused why) told asks of_far is = these _ told is.told_is refl (refusing request why asks refl, tt) of_far tt
@@ -240,7 +241,7 @@ module _ {A : Type 0} where
     request_sent request far Exceeded told asks of_far is = absurd is
 
     requests_sent : (far : List (Output A)) (asked : Option (CallRequest A)) (outcome : Outcome) (told : EventOutputs A) → request_in what ≡ asked → AreSent far
-        → Requests at.tables at.world at.line far asked outcome told → All (IsSent at what) (outputs_of told)
+        → Requests at.force at.world at.line far asked outcome told → All (IsSent at what) (outputs_of told)
     requests_sent far None outcome told asks of_far is = none_sent outcome told is
     requests_sent far (Some request) outcome told asks of_far is = request_sent request far outcome told asks of_far is
 

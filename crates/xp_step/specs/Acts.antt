@@ -113,13 +113,13 @@ module _ {A : Type 0} where
 
   pub record IsConnected (at : StepContext A) (answer : CallAccepted A) (call : Call) (agreement : Agreement) (told : EventOutputs A) : Type 0 where
     pub connection : Connection A
-    pub answered : Answered call.setup (address_of at.tables at.line) call.dialled answer.d answer.block (answers.Connected connection)
+    pub answered : Answered call.setup (address_of at.force at.line) call.dialled answer.d answer.block (answers.Connected connection)
     pub agreement_is : agreement ≡ agreement_of at.moment connection
     pub told_is : told ≡ outputs_of_answer at.world call.caller connection.packet
 
   -- a fault in it is a procedure error
   pub record IsDeclined (at : StepContext A) (answer : CallAccepted A) (call : Call) (diagnostic : ℕ) (told : EventOutputs A) : Type 0 where
-    pub answered : Answered call.setup (address_of at.tables at.line) call.dialled answer.d answer.block (answers.Refused diagnostic)
+    pub answered : Answered call.setup (address_of at.force at.line) call.dialled answer.d answer.block (answers.Refused diagnostic)
     pub told_is : told ≡ outputs_of_error at diagnostic
 
   abbrev pub IsAnswered : StepContext A → CallAccepted A → Call → Outcome → EventOutputs A → Type 0
@@ -172,9 +172,9 @@ module _ {A : Type 0} where
   Acts at what Nothing outcome told = IsPlain no_outputs outcome told
   Acts at what Rise outcome told = IsPlain no_outputs outcome told
   Acts at what Fall outcome told = IsPlain (outputs_of_fall at what) outcome told
-  Acts at what NewCall outcome told = Requests at.tables at.world at.line [] (request_in what) outcome told
+  Acts at what NewCall outcome told = Requests at.force at.world at.line [] (request_in what) outcome told
   Acts at what Collision outcome told =
-      Requests at.tables at.world at.line (outputs_of_cancel at.world at.line) (request_in what) outcome told
+      Requests at.force at.world at.line (outputs_of_cancel at.world at.line) (request_in what) outcome told
   Acts at what Answer outcome told = Answers at (accepted_in what) (call_on at.world at.line) outcome told
   Acts at what Confirm outcome told = Confirms at (clear_in what) (call_on at.world at.line) outcome told
   Acts at what Free outcome told = IsPlain no_outputs outcome told

@@ -9,7 +9,7 @@ use Rattle.xp_subs.specs.Tables.{Tables}
 use Rattle.xp_step.specs.declared.entry.Entry.{Entry}
 use Rattle.xp_step.specs.declared.event.Event.{Event}
 use Rattle.xp_step.specs.declared.event.What.{What}
-use Rattle.xp_step.specs.declared.event.What.TheVariants.{Up, Down, Frame, WrongFrame, Expire, Stall}
+use Rattle.xp_step.specs.declared.event.What.TheVariants.{Up, Down, Frame, WrongFrame, Expire, Stall, Reload}
 use Rattle.xp_step.specs.Worlds.{world_after}
 use Rattle.xp_step.specs.Step.{Step}
 use Rattle.xp_machine.specs.World.{World}
@@ -47,6 +47,7 @@ module _ {A : Type 0} where
   IsReadable (WrongFrame wrong) = Unit {0}
   IsReadable Expire = Unit {0}
   IsReadable Stall = Unit {0}
+  IsReadable Reload = Unit {0}
 
   -- the history grows by this entry, which is of this event and a step. Its records wait until they are handed over.
   pub record Advances (old : Exchange A) (event : Event A) (new : Exchange A) (entry : Entry A) : Type 0 where

@@ -5,6 +5,7 @@ pub mod Effects
 pub mod EventLine
 pub mod EventOutputs
 pub mod Exchange
+pub mod InForce
 pub mod Outcomes
 pub mod Plan
 pub mod Recorded

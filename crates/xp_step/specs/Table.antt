@@ -1,7 +1,8 @@
 -- The kinds of events that the table of actions tells apart, and what the actions need from their packets.
 use Rattle.std.specs.Prelude.{ℕ, Bool, Option, None, Some}
 use Rattle.xp_channel.specs.declared.action.Action.{Action}
-use Rattle.xp_channel.specs.declared.kind.EventKind.{EventKind}
+use Rattle.xp_channel.specs.declared.action.Action.TheVariants.{Nothing}
+use Rattle.xp_channel.specs.declared.channel.Channel.{Channel}
 use Rattle.xp_channel.specs.declared.kind.EventKind.TheVariants as kinds
 use Rattle.xp_channel.specs.Kinds.{kind_of as packet_kind, kind_of_malformed}
 use Rattle.xp_channel.specs.Table.{cell}
@@ -29,18 +30,19 @@ pub record ClearRequest (A : Type 0) : Type 0 where
   pub block : Option (Block A)
 
 module _ {A : Type 0} where
-  -- a line that is given up as too slow goes out of service like one whose connection is lost
-  abbrev pub kind_of : What A → EventKind
-  kind_of events.Up = kinds.Up
-  kind_of events.Down = kinds.Down
-  kind_of (events.Frame identifier packet) = packet_kind packet
-  kind_of (events.WrongFrame wrong) = kind_of_malformed wrong
-  kind_of events.Expire = kinds.Expire
-  kind_of events.Stall = kinds.Down
+  -- The action for an event of a line in this state: that of the table (Annex C). A line that is given up as too slow goes
+  -- out of service like one whose connection is lost. A reload is no event of a line, and nothing happens on any.
+  abbrev pub action_in : Channel → What A → Action
+  action_in state events.Up = cell state kinds.Up
+  action_in state events.Down = cell state kinds.Down
+  action_in state (events.Frame identifier packet) = cell state (packet_kind packet)
+  action_in state (events.WrongFrame wrong) = cell state (kind_of_malformed wrong)
+  action_in state events.Expire = cell state kinds.Expire
+  action_in state events.Stall = cell state kinds.Down
+  action_in state events.Reload = Nothing
 
-  -- the action of the table (Annex C) for an event
   abbrev pub action_at : World → Event A → Action
-  action_at world event = cell (channel_of (state_at world event.line)) (kind_of event.what)
+  action_at world event = action_in (channel_of (state_at world event.line)) event.what
 
   -- the call request in an event, if it is one
   abbrev pub request_in : What A → Option (CallRequest A)
@@ -66,3 +68,4 @@ module _ {A : Type 0} where
   packet_in (events.WrongFrame wrong) = None
   packet_in events.Expire = None
   packet_in events.Stall = None
+  packet_in events.Reload = None

@@ -3,6 +3,8 @@ use crate::outcome::Outcome;
 use crate::output::Outputs;
 use crate::records::Records;
 use std::alloc::{Allocator, Global};
+use xp_past::Past;
+use xp_subs::Subs;
 
 /// One entry of the history: an event, and what it did.
 #[derive(Drop)]
@@ -17,4 +19,6 @@ pub struct Entry<A: Allocator = Global> {
     pub outputs: Outputs<A>,
     /// The records of the calls that the event ended or refused.
     pub records: Records<A>,
+    /// The subscriptions that are in force from this entry on, if it is a reload. Proofs alone read them.
+    pub tables: Past<Subs>,
 }

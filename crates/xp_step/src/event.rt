@@ -48,6 +48,9 @@ pub enum What<A: Allocator = Global> {
     /// The line takes its packets too slowly, and is given up: its connection is closed. The exchange under its lock
     /// raises this event, and no line does.
     Stall,
+    /// Other subscriptions are in force from now on. The exchange raises this event, and no line does. It changes no line
+    /// and no call.
+    Reload,
 }
 
 impl<A: Allocator> Drop for What<A> {
@@ -62,6 +65,7 @@ impl<A: Allocator> Drop for What<A> {
             What::WrongFrame(_) => {}
             What::Expire => {}
             What::Stall => {}
+            What::Reload => {}
         }
     }
 }
@@ -94,8 +98,12 @@ impl<A: Allocator> What<A> {
     {
         match self {
             What::Stall => 1,
-            What::Up | What::Down | What::Frame { .. } | What::WrongFrame(_) | What::Expire => 1
-                + MOST_STALLS as u64,
+            What::Up
+            | What::Down
+            | What::Frame { .. }
+            | What::WrongFrame(_)
+            | What::Expire
+            | What::Reload => 1 + MOST_STALLS as u64,
         }
     }
 }

@@ -4,6 +4,7 @@
 
 mod entry;
 mod event;
+mod in_force;
 mod outcome;
 mod output;
 mod plan;
@@ -13,6 +14,7 @@ mod workspace;
 
 pub use entry::Entry;
 pub use event::{Event, MOST_STALLS, What};
+pub use in_force::SubsInForce;
 pub use outcome::Outcome;
 pub use output::{Buffer, Outgoing, Output, Outputs, Put};
 pub use plan::{EventLine, MeteredCall, Plan, Withdrawal, charged_on, close, plan_of};

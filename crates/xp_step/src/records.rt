@@ -22,7 +22,7 @@ impl<A: Allocator> Model for Records<A> {
 
 impl<A: Allocator> Records<A> {
     /// Returns no records.
-    pub(crate) fn none(alloc: A) -> Records<A>
+    pub fn none(alloc: A) -> Records<A>
         ensures { result.items ≡ [] }
     {
         Records {

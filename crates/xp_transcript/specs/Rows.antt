@@ -6,7 +6,7 @@ use Rattle.xp_charge.specs.Text.{name_of}
 use Rattle.xp_subs.specs.Tables.{Tables}
 use Rattle.xp_step.specs.declared.entry.Entry.{Entry}
 use Rattle.xp_step.specs.declared.event.What.{What}
-use Rattle.xp_step.specs.declared.event.What.TheVariants.{Up, Down, Frame, WrongFrame, Expire, Stall}
+use Rattle.xp_step.specs.declared.event.What.TheVariants.{Up, Down, Frame, WrongFrame, Expire, Stall, Reload}
 use Rattle.xp_step.specs.declared.output.Output.{Output}
 use Rattle.xp_step.specs.declared.output.Put.{Put}
 use Rattle.xp_step.specs.declared.output.Put.TheVariants.{Send, Close}
@@ -49,6 +49,7 @@ module _ {A : Type 0} where
   few_words (WrongFrame wrong) = Some (codes "no packet, diagnostic " ++ decimal (diagnostic_of wrong))
   few_words Expire = Some (codes "no answer in time")
   few_words Stall = Some (codes "too slow")
+  few_words Reload = Some (codes "other subscriptions")
 
   abbrev pub few_put_words : Put A → Option (List ℕ)
   few_put_words (Send identifier packet) = Some (short_packet_text FromDce packet)

@@ -11,7 +11,7 @@ use Rattle.xp_packets.specs.declared.packet.Packet.{Packet}
 use Rattle.xp_subs.specs.Tables.{Tables, modulus_of}
 use Rattle.xp_step.specs.declared.entry.Entry.{Entry}
 use Rattle.xp_step.specs.declared.event.What.{What}
-use Rattle.xp_step.specs.declared.event.What.TheVariants.{Up, Down, Frame, WrongFrame, Expire, Stall}
+use Rattle.xp_step.specs.declared.event.What.TheVariants.{Up, Down, Frame, WrongFrame, Expire, Stall, Reload}
 use Rattle.xp_step.specs.declared.output.Output.{Output}
 use Rattle.xp_step.specs.declared.output.Put.{Put}
 use Rattle.xp_step.specs.declared.output.Put.TheVariants.{Send, Close}
@@ -35,6 +35,7 @@ module _ {A : Type 0} where
   event_frame modulus (WrongFrame wrong) = None
   event_frame modulus Expire = None
   event_frame modulus Stall = None
+  event_frame modulus Reload = None
 
   abbrev pub put_frame : Modulus → Put A → Option (List ℕ)
   put_frame modulus (Send identifier packet) = frame_of modulus identifier packet

@@ -11,7 +11,7 @@ use Rattle.xp_subs.specs.Tables.{Tables}
 use Rattle.xp_step.specs.declared.entry.Entry.{Entry}
 use Rattle.xp_step.specs.declared.event.Event.{Event}
 use Rattle.xp_step.specs.declared.event.What.{What}
-use Rattle.xp_step.specs.declared.event.What.TheVariants.{Up, Down, Frame, WrongFrame, Expire, Stall}
+use Rattle.xp_step.specs.declared.event.What.TheVariants.{Up, Down, Frame, WrongFrame, Expire, Stall, Reload}
 use Rattle.xp_step.specs.declared.output.Output.{Output}
 use Rattle.xp_step.specs.declared.output.Put.{Put}
 use Rattle.xp_step.specs.declared.output.Put.TheVariants.{Send, Close}
@@ -42,6 +42,7 @@ module _ {A : Type 0} where
   what_words (WrongFrame wrong) = codes "frame without a packet, diagnostic " ++ diagnostic_text (diagnostic_of wrong)
   what_words Expire = codes "no answer in time (T11)"
   what_words Stall = codes "takes its packets too slowly"
+  what_words Reload = codes "other subscriptions are in force"
 
   abbrev pub event_words : Tables → Event A → List ℕ
   event_words tables event = heading_words event.moment (name_of tables event.line) FromDte ++ what_words event.what ++ codes "\n"

@@ -35,6 +35,7 @@ impl fmt::Display for WhatWords<'_> {
             }
             What::Expire => f.write_str("no answer in time (T11)"),
             What::Stall => f.write_str("takes its packets too slowly"),
+            What::Reload => f.write_str("other subscriptions are in force"),
         }
     }
 }

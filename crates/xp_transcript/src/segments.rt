@@ -120,7 +120,8 @@ fn event_frame(alloc: Global, modulus: Modulus, what: &What) -> Result<Option<Ve
 {
     match what {
         What::Frame { identifier, packet } => frame_of(alloc, modulus, *identifier, packet),
-        What::Up | What::Down | What::WrongFrame(_) | What::Expire | What::Stall => Ok(None),
+        What::Up | What::Down | What::WrongFrame(_) | What::Expire | What::Stall | What::Reload =>
+            Ok(None),
     }
 }
 

@@ -24,6 +24,7 @@ pub(crate) fn few_words(alloc: Global, what: &What) -> Result<Option<String>, Al
         }
         What::Expire => String::from_str(alloc, "no answer in time")?,
         What::Stall => String::from_str(alloc, "too slow")?,
+        What::Reload => String::from_str(alloc, "other subscriptions")?,
     };
     Ok(Some(words))
 }

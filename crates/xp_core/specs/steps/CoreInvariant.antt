@@ -10,6 +10,8 @@ use Rattle.xp_step.specs.Relays.{RelaysRepresentCalls}
 use Rattle.xp_step.specs.Run.{Run}
 use Rattle.xp_step.specs.Worlds.{world_after}
 use Rattle.xp_machine.specs.World.{World}
+use Rattle.xp_step.specs.InForce.{force_of, in_force}
+use Rattle.xp_step.specs.declared.in_force.SubsInForce.{SubsInForce}
 use Rattle.xp_core.specs.steps.Writable.{AreReadable}
 
 module _ {A : Type 0} where
@@ -23,3 +25,8 @@ module _ {A : Type 0} where
     pub places : length relays ≡ line_count tables
     pub charged : records ≡ records_of history
     pub within : length history ≤ tables.journal
+
+  -- and rights and addresses are looked up in the tables in force
+  pub record IsKept (subs : SubsInForce) (history : List (Entry A)) (machine : World) (relays : List (Option (MeteredRelay A))) (records : List Record) : Type 0 where
+    pub core : CoreInvariant subs.opening history machine relays records
+    pub force : force_of subs ≡ in_force subs.opening history

@@ -1,5 +1,7 @@
 -- The journal, as it is kept.
 use Rattle.std.specs.Prelude.{◌≡◌, ℕ, ◌+◌, ◌-◌, ◌<◌, List, [], ◌++◌, length}
+use Rattle.xp_past.specs.declared.past.Past.{Past}
+use Rattle.xp_subs.specs.Tables.{Tables}
 use Rattle.xp_charge.specs.declared.record.Record.{Record}
 use Rattle.xp_core.specs.declared.advance.PreparedEntry.{PreparedEntry}
 use Rattle.xp_step.specs.declared.entry.Entry.{Entry}
@@ -36,12 +38,13 @@ module _ {A : Type 0} where
     pub is : new ≡ record old { stalls = old.stalls - 1 }
     pub record_room : new.stalls < new.record_room
 
-  -- the next entry, of an event that leads to this
-  abbrev pub next_entry : List (Entry A) → Event A → PreparedEntry A → Entry A
-  next_entry history event work = record {
+  -- the next entry, of an event that leads to this and brings these tables
+  abbrev pub next_entry : List (Entry A) → Event A → PreparedEntry A → Past Tables → Entry A
+  next_entry history event work tables = record {
     number = length history + 1;
     event = event;
     outcome = work.outcome;
     outputs = work.outputs;
     records = work.records;
+    tables = tables;
   }

@@ -86,6 +86,15 @@ module _ {A : Type 0} where
   IsPublishedBy none view after = Unit {0}
   IsPublishedBy (some core) view after = IsPublished core.history view after
 
+  -- the keeper now knows this history
+  abbrev pub IsExtended : List (Entry A) → View A → View A → Type 0
+  IsExtended history view after = after ≡ record view { all = history }
+
+  -- the same, where the step was given an exchange
+  abbrev pub IsExtendedBy : Option (Exchange A) → View A → View A → Type 0
+  IsExtendedBy none view after = Unit {0}
+  IsExtendedBy (some core) view after = IsExtended core.history view after
+
   -- the keeper compared the claim with the history and took it back
   pub record IsChecked (view after : View A) : Type 0 where
     pub left : after ≡ closing view.next view.all view.recorded (view.line ∷ view.returned)

@@ -58,7 +58,7 @@ module _ {A : Type 0} where
   -- told
   pub record PlansRequest (at : StepContext A) (request : CallRequest A) (ended : List Change) (far : List (Output A)) (plan : Plan A) : Type 0 where
     pub told : EventOutputs A
-    pub acts : IsRequested at.tables at.world at.line far request plan.outcome told
+    pub acts : IsRequested at.force at.world at.line far request plan.outcome told
     pub quiet : plan.relay_update ≡ None
     pub planned : IsPlan plan at told (ended ++ requests at.line at.moment (Some request) plan.outcome)
 

@@ -5,6 +5,7 @@ ghost use Rattle.xp_step.specs.Acts.{agreement_of as agreed_by, outputs_of_answe
 ghost use Rattle.xp_step.specs.Agreed.{AllHaveTerms};
 ghost use Rattle.xp_step.specs.steps.ReceivedPackets.{answer_of};
 ghost use Rattle.xp_step.specs.declared.entry.Entry.{Entry as Entered};
+ghost use Rattle.xp_step.specs.steps.HasTables.{HasTables};
 ghost use Rattle.xp_step.specs.EventLine.{IsEventLine, IsShort, event_line_context};
 ghost use Rattle.xp_machine.specs.StoredState.{call_of_stored, entry_of};
 ghost use Rattle.xp_machine.specs.Changes.{Connects};
@@ -40,16 +41,16 @@ pub fn answer<A: Allocator + Copy>(
     answer: &CallAccepted<'_, A>,
     workspace: &mut Workspace<A>,
 ) -> Result<Plan<A>, AllocError>
-    requires line { found.now.line < line_count found.now.subs.now }
+    requires line { found.now.line < line_count found.now.in_force.now }
     requires terms { AllHaveTerms found.now.subs.now found.now.machine.now }
     requires coupled { AreCoupled found.now.subs.now found.now.machine.now }
     requires short { IsShort found.now.charged }
-    ensures { (before : List (Entered A)) → IsEventLine found.now before → IfOk result (PlansAnswer (event_line_context found.now before) (answer_of answer.now)) }
+    ensures { (before : List (Entered A)) → HasTables found.now before → IsEventLine found.now before → IfOk result (PlansAnswer (event_line_context found.now before) (answer_of answer.now)) }
 {
     let Some(call) = found.machine.call_on(found.line) else {
         return Ok(Plan::none(alloc));
     };
-    let address = found.subs.address_of(found.line);
+    let address = found.in_force.address_of(found.line);
     let outputs = workspace.buffer(alloc, 1)?;
     match examine(
         alloc,

@@ -77,7 +77,12 @@ fn closing<A: Allocator>(machine: &Machine<A>, line: LineNo, what: &What<A>) -> 
 {
     match what {
         What::Stall => Some(close(machine, line)),
-        What::Up | What::Down | What::Frame { .. } | What::WrongFrame(_) | What::Expire => None,
+        What::Up
+        | What::Down
+        | What::Frame { .. }
+        | What::WrongFrame(_)
+        | What::Expire
+        | What::Reload => None,
     }
 }
 

@@ -1,18 +1,19 @@
 //! Plans each event, by the table of actions.
 
 ghost use Rattle.std.specs.Prelude.{◌≡◌, ◌<◌, [], IfOk, List};
-ghost use Rattle.xp_channel.specs.Table.{cell};
 ghost use Rattle.xp_channel.specs.declared.action.Action.TheVariants.{Answer as Answers, Collision as Collides, Confirm as Clears, NewCall as Requested};
 ghost use Rattle.xp_step.specs.Agreed.{AllHaveTerms};
 ghost use Rattle.xp_machine.specs.Channel.{channel_of};
 ghost use Rattle.xp_machine.specs.Coupling.{AreCoupled};
 ghost use Rattle.xp_step.specs.declared.entry.Entry.{Entry as Entered};
+ghost use Rattle.xp_step.specs.steps.HasTables.{HasTables};
 ghost use Rattle.xp_step.specs.EventLine.{IsEventLine, IsShort, event_line_context};
 ghost use Rattle.xp_step.specs.Plan.{Plans};
 ghost use Rattle.xp_step.specs.steps.Branches.{IsPlainPlan};
 ghost use Rattle.xp_step.specs.Relays.{RelaysRepresentCalls};
 ghost use Rattle.xp_step.specs.StepContext.{step_context};
-ghost use Rattle.xp_step.specs.Table.{kind_of};
+ghost use Rattle.xp_step.specs.Table.{action_in};
+ghost use Rattle.xp_step.specs.InForce.{force_of, in_force};
 ghost use Rattle.xp_step.specs.EventOutputs.{no_outputs};
 ghost use Rattle.xp_machine.specs.World.{state_at};
 ghost use Rattle.xp_subs.specs.Sound.{IsSound};
@@ -27,6 +28,7 @@ use super::relaying::carry;
 use super::request::{Cancelled, request};
 use crate::entry::Entry;
 use crate::event::{Event, What};
+use crate::in_force::SubsInForce;
 use crate::table::action_of;
 use crate::workspace::Workspace;
 use std::alloc::{AllocError, Allocator};
@@ -34,34 +36,37 @@ use xp_causes::diagnostic::TIMER_EXPIRED_FOR_INCOMING_CALL;
 use xp_channel::Action;
 use xp_machine::{Machine, Relays};
 use xp_past::Past;
-use xp_subs::Subs;
 
 /// Plans what an event does. It fails only if memory is wanting.
 #[inline(always)]
 pub fn plan_of<A: Allocator + Copy>(
     alloc: A,
-    subs: &Subs,
+    subs: &SubsInForce,
     machine: &Machine<A>,
     relays: &Relays<A>,
     before: &Past<Entry<A>>,
     event: &Event<A>,
     workspace: &mut Workspace<A>,
 ) -> Result<Plan<A>, AllocError>
-    requires sound { IsSound subs.now }
-    requires line { event.now.line < line_count subs.now }
-    requires terms { AllHaveTerms subs.now machine.now }
-    requires coupled { AreCoupled subs.now machine.now }
-    requires carried { RelaysRepresentCalls subs.now before.now.items machine.now relays.now }
-    ensures { IfOk result (λ plan. Plans (step_context subs.now before.now.items machine.now event.now.line event.now.moment) event.now.what (cell (channel_of (state_at machine.now event.now.line)) (kind_of event.now.what)) plan) }
+    requires sound { IsSound subs.now.opening }
+    requires line { event.now.line < line_count subs.now.opening }
+    requires force { force_of subs.now ≡ in_force subs.now.opening before.now.items }
+    requires count { line_count (force_of subs.now) ≡ line_count subs.now.opening }
+    requires terms { AllHaveTerms subs.now.opening machine.now }
+    requires coupled { AreCoupled subs.now.opening machine.now }
+    requires carried { RelaysRepresentCalls subs.now.opening before.now.items machine.now relays.now }
+    ensures { IfOk result (λ plan. Plans (step_context subs.now.opening before.now.items machine.now event.now.line event.now.moment) event.now.what (action_in (channel_of (state_at machine.now event.now.line)) event.now.what) plan) }
 {
     let line = event.line;
     let moment = event.moment;
+    let opening = &subs.opening;
     let found = EventLine {
-        subs,
+        subs: opening,
+        in_force: subs.in_force(),
         machine,
         line,
         moment,
-        charged: charged_on(subs, machine, relays, before, line),
+        charged: charged_on(opening, machine, relays, before, line),
     };
     let what = &event.what;
     match action_of(machine.line(line).state, what) {
@@ -94,8 +99,8 @@ fn new_call<A: Allocator + Copy>(
     what: &What<A>,
     workspace: &mut Workspace<A>,
 ) -> Result<Plan<A>, AllocError>
-    requires { found.now.line < line_count found.now.subs.now }
-    ensures { (before : List (Entered A)) → IfOk result (Plans (event_line_context found.now before) what.now Requested) }
+    requires { found.now.line < line_count found.now.in_force.now }
+    ensures { (before : List (Entered A)) → HasTables found.now before → IfOk result (Plans (event_line_context found.now before) what.now Requested) }
 {
     match request_in(what) {
         None => nothing(alloc, found),
@@ -112,8 +117,8 @@ fn collision<A: Allocator + Copy>(
     what: &What<A>,
     workspace: &mut Workspace<A>,
 ) -> Result<Plan<A>, AllocError>
-    requires { found.now.line < line_count found.now.subs.now }
-    ensures { (before : List (Entered A)) → IsEventLine found.now before → IfOk result (Plans (event_line_context found.now before) what.now Collides) }
+    requires { found.now.line < line_count found.now.in_force.now }
+    ensures { (before : List (Entered A)) → HasTables found.now before → IsEventLine found.now before → IfOk result (Plans (event_line_context found.now before) what.now Collides) }
 {
     match request_in(what) {
         None => nothing(alloc, found),
@@ -129,11 +134,11 @@ fn answered<A: Allocator + Copy>(
     what: &What<A>,
     workspace: &mut Workspace<A>,
 ) -> Result<Plan<A>, AllocError>
-    requires line { found.now.line < line_count found.now.subs.now }
+    requires line { found.now.line < line_count found.now.in_force.now }
     requires terms { AllHaveTerms found.now.subs.now found.now.machine.now }
     requires coupled { AreCoupled found.now.subs.now found.now.machine.now }
     requires short { IsShort found.now.charged }
-    ensures { (before : List (Entered A)) → IsEventLine found.now before → IfOk result (Plans (event_line_context found.now before) what.now Answers) }
+    ensures { (before : List (Entered A)) → HasTables found.now before → IsEventLine found.now before → IfOk result (Plans (event_line_context found.now before) what.now Answers) }
 {
     match accepted_in(what) {
         None => nothing(alloc, found),

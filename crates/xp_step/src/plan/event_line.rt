@@ -36,8 +36,10 @@ pub struct MeteredCall<'a> {
 /// The line of an event, its moment, and the call that the line is in, if it is in one.
 #[derive(Drop)]
 pub struct EventLine<'a, A: Allocator> {
-    /// The subscriptions.
+    /// The subscriptions with which the exchange was opened.
     pub subs: &'a Subs,
+    /// The subscriptions in force.
+    pub in_force: &'a Subs,
     /// The state before the event.
     pub machine: &'a Machine<A>,
     /// The line of the event.

@@ -71,7 +71,8 @@ fn packet_in<'a, A: Allocator>(what: &'a What<A>) -> Option<&'a Packet<A>>
 {
     match what {
         What::Frame { packet, .. } => Some(packet),
-        What::Up | What::Down | What::WrongFrame(_) | What::Expire | What::Stall => None,
+        What::Up | What::Down | What::WrongFrame(_) | What::Expire | What::Stall | What::Reload =>
+            None,
     }
 }
 

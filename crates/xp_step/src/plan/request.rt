@@ -5,6 +5,7 @@ ghost use Rattle.xp_step.specs.Acts.{outputs_of_cancel};
 ghost use Rattle.xp_step.specs.steps.ReceivedPackets.{request_of};
 ghost use Rattle.xp_machine.specs.Changes.{Change as Changing, Begins, IsRefused};
 ghost use Rattle.xp_step.specs.declared.entry.Entry.{Entry as Entered};
+ghost use Rattle.xp_step.specs.steps.HasTables.{HasTables};
 ghost use Rattle.xp_step.specs.EventLine.{IsEventLine, event_line_context};
 ghost use Rattle.xp_step.specs.Plan.{IsPlan};
 ghost use Rattle.xp_step.specs.steps.Branches.{IsCancelled, PlansRequest};
@@ -108,11 +109,11 @@ pub fn request<A: Allocator + Copy>(
     cancelled: Cancelled<A>,
     workspace: &mut Workspace<A>,
 ) -> Result<Plan<A>, AllocError>
-    requires { found.now.line < line_count found.now.subs.now }
-    ensures { (before : List (Entered A)) (ended : List Changing) (far : List (Sent A)) → IsCancelled cancelled (event_line_context found.now before) ended far
+    requires { found.now.line < line_count found.now.in_force.now }
+    ensures { (before : List (Entered A)) (ended : List Changing) (far : List (Sent A)) → HasTables found.now before → IsCancelled cancelled (event_line_context found.now before) ended far
         → IfOk result (PlansRequest (event_line_context found.now before) (request_of request.now) ended far) }
 {
-    let (subs, caller) = (found.subs, found.line);
+    let (subs, caller) = (found.in_force, found.line);
     let outputs = workspace.buffer(alloc, count(&cancelled.told) + 1)?;
     match decide(alloc, subs, found.machine, caller, request.block)? {
         Verdict::Refuse(why) => {

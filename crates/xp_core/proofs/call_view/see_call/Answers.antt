@@ -1,7 +1,6 @@
-use Rattle.std.proofs.Common.{◌≡◌, ◌∙◌, None, Some, ap, rules, sym, subst}
+use Rattle.std.proofs.Common.{◌≡◌, ◌∙◌, Some, ap, rules, subst}
 use Rattle.xp_core.proofs.Seen.{seen_in_call, seen_in_none, shown_of}
 use Rattle.xp_step.specs.StepContext.{step_context}
-use Rattle.xp_step.specs.declared.plan.event_line.MeteredCall.{MeteredCall}
 use Rattle.xp_step.specs.EventLine.{IsMeteredCall}
 use Rattle.xp_core.proofs.call_view.see_call.Goals as goal
 

@@ -17,33 +17,33 @@ use Rattle.xp_core.proofs.exchange.Core.count.Goals as goal
 pub returns-clause-writable : goal.returns-clause-writable
 returns-clause-writable g c =
     let P : Exchange _ → Type 0 = λ core. All (λ entry. AreWritable core.subs entry.outputs) core.history in
-    subst P c.self.view_is (run_fits c.self.inside.subs c.self.inside.journal.history (world_after c.self.inside.subs c.self.inside.journal.history)
-    c.self.invariant.sound c.self.invariant.run c.self.invariant.readable)
+    subst P c.self.view_is (run_fits c.self.inside.subs.opening c.self.inside.journal.history (world_after c.self.inside.subs.opening c.self.inside.journal.history)
+    c.self.invariant.core.sound c.self.invariant.core.run c.self.invariant.core.readable)
 
 pub returns-clause-lines : goal.returns-clause-lines
 returns-clause-lines g c =
     let P : Exchange _ → Type 0 = λ core. All (HasLines (line_count core.subs)) core.history in
-    subst P c.self.view_is (run_named c.self.inside.subs c.self.inside.journal.history (world_after c.self.inside.subs c.self.inside.journal.history)
-    c.self.invariant.sound c.self.invariant.run)
+    subst P c.self.view_is (run_named c.self.inside.subs.opening c.self.inside.journal.history (world_after c.self.inside.subs.opening c.self.inside.journal.history)
+    c.self.invariant.core.sound c.self.invariant.core.run)
 
 pub returns-clause-joined : goal.returns-clause-joined
 returns-clause-joined g c =
     let P : Exchange _ → Type 0 = λ core. AreJoined core.subs core.history (world_of core) in
-    subst P c.self.view_is (run_joined c.self.inside.subs c.self.inside.journal.history (world_after c.self.inside.subs c.self.inside.journal.history)
-    c.self.invariant.sound c.self.invariant.run)
+    subst P c.self.view_is (run_joined c.self.inside.subs.opening c.self.inside.journal.history (world_after c.self.inside.subs.opening c.self.inside.journal.history)
+    c.self.invariant.core.sound c.self.invariant.core.run)
 
 pub returns-clause-terms : goal.returns-clause-terms
 returns-clause-terms g c =
     let P : Exchange _ → Type 0 = λ core. AllHaveTerms core.subs (world_of core) in
-    subst P c.self.view_is (run_agreed c.self.inside.subs c.self.inside.journal.history _ c.self.invariant.run)
+    subst P c.self.view_is (run_agreed c.self.inside.subs.opening c.self.inside.journal.history _ c.self.invariant.core.run)
 
 pub returns-clause-delivered : goal.returns-clause-delivered
 returns-clause-delivered g c =
     let P : Exchange _ → Type 0 = λ core. AreDelivered core.subs core.history (world_of core) in
-    subst P c.self.view_is (run_delivered c.self.inside.subs c.self.inside.journal.history _ c.self.invariant.run)
+    subst P c.self.view_is (run_delivered c.self.inside.subs.opening c.self.inside.journal.history _ c.self.invariant.core.run)
 
 pub returns-clause-few : goal.returns-clause-few
 returns-clause-few g c =
-    let within = c.self.invariant.within in
-    let most = c.self.invariant.sound.limits.most_entries in
-    omega (arith, c.count.ensures, within, most)
+    let within = c.self.invariant.core.within in
+    let most = c.self.invariant.core.sound.limits.most_entries in
+    omega (arith, c.count.ensures.count, within, most)

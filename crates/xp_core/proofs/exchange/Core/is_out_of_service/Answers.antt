@@ -7,4 +7,4 @@ use Rattle.xp_core.proofs.exchange.Core.is_out_of_service.Goals as goal
 pub returns : goal.returns
 returns g c =
     c.is_off.ensures ∙ ap is_off c.line.ensures.state
-    ∙ ap (λ w. is_off (state_at w c.args.line)) (c.self.invariant.shown ∙ ap world_of c.self.view_is)
+    ∙ ap (λ w. is_off (state_at w c.args.line)) (c.self.invariant.core.shown ∙ ap world_of c.self.view_is)

@@ -11,16 +11,16 @@ use Rattle.xp_core.proofs.exchange.Core.records.Goals as goal
 pub returns-clause-one_each : goal.returns-clause-one_each
 returns-clause-one_each g c =
     let P : Exchange _ → Type 0 = λ core. OneRecordEach core.subs core.history (world_of core) in
-    subst P c.self.view_is (one_record_each c.self.inside.subs c.self.inside.journal.history (world_after c.self.inside.subs c.self.inside.journal.history) c.self.invariant.run)
+    subst P c.self.view_is (one_record_each c.self.inside.subs.opening c.self.inside.journal.history (world_after c.self.inside.subs.opening c.self.inside.journal.history) c.self.invariant.core.run)
 
 pub returns-clause-each : goal.returns-clause-each
 returns-clause-each g c =
     let P : Exchange _ → Type 0 = λ core. core.given ++ core.waiting ≡ records_of core.history in
-    subst P c.self.view_is c.self.invariant.charged
+    subst P c.self.view_is c.self.invariant.core.charged
 
 pub returns-clause-lines : goal.returns-clause-lines
 returns-clause-lines g c =
-    let named = run_named c.self.inside.subs c.self.inside.journal.history (world_after c.self.inside.subs c.self.inside.journal.history) c.self.invariant.sound c.self.invariant.run in
+    let named = run_named c.self.inside.subs.opening c.self.inside.journal.history (world_after c.self.inside.subs.opening c.self.inside.journal.history) c.self.invariant.core.sound c.self.invariant.core.run in
     let P : Exchange _ → Type 0 = λ core. All (HasLines (line_count core.subs)) c.records.result.now in
-    let Q : List _ → Type 0 = λ records. All (HasLines (line_count c.self.inside.subs)) records in
-    subst P c.self.view_is (subst Q (sym c.records.ensures) (waiting_named (line_count c.self.inside.subs) c.self.inside.journal.history c.self.inside.journal.given c.self.inside.journal.waiting c.self.invariant.charged named))
+    let Q : List _ → Type 0 = λ records. All (HasLines (line_count c.self.inside.subs.opening)) records in
+    subst P c.self.view_is (subst Q (sym c.records.ensures) (waiting_named (line_count c.self.inside.subs.opening) c.self.inside.journal.history c.self.inside.journal.given c.self.inside.journal.waiting c.self.invariant.core.charged named))

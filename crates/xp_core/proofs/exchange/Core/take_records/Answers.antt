@@ -8,14 +8,14 @@ use Rattle.xp_core.proofs.RecordCounts.{can_count}
 use Rattle.xp_core.proofs.exchange.Core.take_records.Goals as goal
 
 pub take_records-requires : goal.take_records-requires
-take_records-requires g c = record { few = can_count c.self.inside.subs c.self.inside.journal.history c.self.inside.machine c.self.inside.relays c.self.inside.journal.given c.self.inside.journal.waiting c.self.invariant }
+take_records-requires g c = record { few = can_count c.self.inside.subs.opening c.self.inside.journal.history c.self.inside.machine c.self.inside.relays c.self.inside.journal.given c.self.inside.journal.waiting c.self.invariant.core }
 
 pub returns-clause-lines : goal.returns-clause-lines
 returns-clause-lines g c =
     let inside = c.self.inside in
-    let lines = line_count inside.subs in
-    let named = waiting_named lines inside.journal.history inside.journal.given inside.journal.waiting c.self.invariant.charged
-    (run_named inside.subs inside.journal.history (world_after inside.subs inside.journal.history) c.self.invariant.sound c.self.invariant.run) in
+    let lines = line_count inside.subs.opening in
+    let named = waiting_named lines inside.journal.history inside.journal.given inside.journal.waiting c.self.invariant.core.charged
+    (run_named inside.subs.opening inside.journal.history (world_after inside.subs.opening inside.journal.history) c.self.invariant.core.sound c.self.invariant.core.run) in
     let P : Exchange _ → Type 0 = λ core. IfOk c.take_records.result (λ taken. All (HasLines (line_count core.subs)) taken.items) in
     let Q : List _ → Type 0 = λ records. All (HasLines lines) records in
     subst P c.self.view_is (if_ok (λ taken. Q taken.items) c.take_records.result c.take_records.ensures.taken (λ taken is. subst Q (sym is) named))

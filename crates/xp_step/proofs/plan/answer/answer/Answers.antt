@@ -18,7 +18,7 @@ use Rattle.xp_step.proofs.Clearings.{called_within, caller_within, carried_other
 use Rattle.xp_step.proofs.plan.answer.answer.Goals as goal
 
 pub returns-in_default : goal.returns-in_default
-returns-in_default g c before found =
+returns-in_default g c before tables found =
     not_called (event_line_context c.args.found.now before) (answer_of c.args.answer.now) c.none.result c.in_default.ensures (search rules) (search rules) (search rules)
 
 pub examine-requires : goal.examine-requires
@@ -40,9 +40,9 @@ opened-requires g c =
     (agreement_of c.args.found.now.moment c.in-Connected.connection) (subst S c.in-Connected.is c.in_ok-connection.ensures.settled))
 
 pub returns-in_ok-metered-in-Connected : goal.returns-in_ok-metered-in-Connected
-returns-in_ok-metered-in-Connected g c before found =
+returns-in_ok-metered-in-Connected g c before tables found =
     let at = event_line_context c.args.found.now before in
-    connected at (answer_of c.args.answer.now) c.carrying.result c.in-Some.call.now c.in-Some.ensures c.address_of-address.result.now c.address_of-address.ensures
+    connected at (answer_of c.args.answer.now) c.carrying.result c.in-Some.call.now c.in-Some.ensures c.address_of-address.result.now c.args.found.now.in_force.now tables c.address_of-address.ensures
     c.in_ok-connection.field-0 c.in_ok-connection.ensures.answered c.in-Connected.connection c.in-Connected.is (search rules)
     (record {
       metered = c.in_ok-metered-in-Connected.metered;
@@ -55,10 +55,10 @@ returns-in_ok-metered-in-Connected g c before found =
     (carried_otherwise _ _ c.carrying.result at _ _ c.carrying.ensures (c.connect-plan.ensures.planned before (sym c.in-Some.ensures)))
 
 pub returns-in_ok-plan-in-Refused : goal.returns-in_ok-plan-in-Refused
-returns-in_ok-plan-in-Refused g c before found =
+returns-in_ok-plan-in-Refused g c before tables found =
     let at = event_line_context c.args.found.now before in
     let plain = c.in_ok-plan-in-Refused.ensures before found in
-    declined at (answer_of c.args.answer.now) c.settling.result c.in-Some.call.now c.in-Some.ensures c.address_of-address.result.now c.address_of-address.ensures
+    declined at (answer_of c.args.answer.now) c.settling.result c.in-Some.call.now c.in-Some.ensures c.address_of-address.result.now c.args.found.now.in_force.now tables c.address_of-address.ensures
     c.in_ok-connection.field-0 c.in_ok-connection.ensures.answered c.in-Refused.diagnostic c.in-Refused.is (search rules)
     (quiet_otherwise c.in_ok-plan-in-Refused.plan (Declined c.in-Refused.diagnostic) c.settling.result at _ _ c.settling.ensures plain)
     (settled_otherwise c.in_ok-plan-in-Refused.plan (Declined c.in-Refused.diagnostic) c.settling.result at _ _ c.settling.ensures plain)

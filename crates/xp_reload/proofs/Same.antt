@@ -1,0 +1,36 @@
+-- Frames that are the same.
+use Rattle.std.proofs.Common.{◌≡◌, ℕ, refl, ap, sym, ◌∙◌, inl, inr, arith}
+use Rattle.std.proofs.lemmas.Bool.{cases_lt}
+use Rattle.std.proofs.lemmas.List.{get_or_past}
+use Rattle.xp_subs.specs.Tables.{Tables, line_count, modulus_of, no_line}
+use Rattle.xp_reload.specs.Frame.{IsSameFrame}
+
+pub frame_kept : (tables : Tables) → IsSameFrame tables tables
+frame_kept tables = record {
+  count = refl;
+  lines = λ line within. record { name = refl; access = refl; modulus = refl };
+  settings = record { segment_limit = refl; journal = refl; host = refl; xot_port = refl; name = refl };
+}
+
+pub frame_through : (one two three : Tables) → IsSameFrame one two → IsSameFrame two three → IsSameFrame one three
+frame_through one two three first second = record {
+  count = second.count ∙ first.count;
+  lines = λ line within.
+      let old = first.lines line within in
+      let new = second.lines line (omega (arith, first.count, within)) in
+      record { name = new.name ∙ old.name; access = new.access ∙ old.access; modulus = new.modulus ∙ old.modulus };
+  settings = record {
+    segment_limit = second.settings.segment_limit ∙ first.settings.segment_limit;
+    journal = second.settings.journal ∙ first.settings.journal;
+    host = second.settings.host ∙ first.settings.host;
+    xot_port = second.settings.xot_port ∙ first.settings.xot_port;
+    name = second.settings.name ∙ first.settings.name;
+  };
+}
+
+-- each line keeps its modulus, also one that neither has
+pub modulus_kept : (old new : Tables) → IsSameFrame old new → (line : ℕ) → modulus_of new line ≡ modulus_of old line
+modulus_kept old new frame line = elim (cases_lt line (line_count old)) [
+  | inl within ↦ (frame.lines line within).modulus
+  | inr past ↦ ap (λ l. l.modulus) (get_or_past new.lines line no_line (omega (arith, frame.count, past)) ∙ sym (get_or_past old.lines line no_line past))
+]
