@@ -2,12 +2,12 @@
 """Measures what grows with the number of lines: so many lines are connected, of which some talk and the others are idle.
 
 For each number of lines it tells how long the program takes to start, its memory, a call's round trip, the packets a second of up to 256
-calls, and the longest round trip while nothing else happens and while the console is asked all the time. README.md says what the figures
-mean.
+calls, and what it costs a call that the console is asked: many short runs of a call in turn, of which every other has one question for the
+metrics and one for the page's status. A run's longest round trip is what it waits at worst, and the two medians of that are told, with what
+nine runs of ten stay below. README.md says what the figures mean.
 """
 
 import argparse
-import contextlib
 import http.client
 import json
 import os
@@ -31,10 +31,10 @@ CALLS = 256
 # What a reader of the console asks for.
 PATHS = ("/metrics", "/status.json")
 
-# Seconds between two rounds of questions to the console: a page asks once a second.
-BETWEEN = 0.25
+# The runs with and without questions, how long each sends, and when it is asked, in seconds.
+RUNS, RUN_SECONDS, ASKED_AFTER = 40, 0.3, 0.05
 
-TITLES = ("lines", "start s", "memory", "idle %", "trip", "99 %", "longest", "asked", "packets/s", "metrics ms", "status ms", "octets")
+TITLES = ("lines", "start s", "memory", "idle %", "trip", "99 %", "longest", "90 %", "asked", "90 %", "packets/s", "metrics ms", "status ms", "octets")
 
 
 def spread(text):
@@ -92,30 +92,9 @@ class Many(Served):
         return text, time.monotonic() - begun
 
 
-class Reader(threading.Thread):
-    """Asks the console again and again, until it is stopped."""
-
-    def __init__(self, exchange):
-        super().__init__(daemon=True)
-        self.exchange, self.is_over, self.times = exchange, threading.Event(), {path: [] for path in PATHS}
-
-    def run(self):
-        while not self.is_over.wait(BETWEEN):
-            for path in PATHS:
-                self.times[path].append(self.exchange.ask(path)[1])
-
-    def __enter__(self):
-        self.start()
-        return self
-
-    def __exit__(self, *_):
-        self.is_over.set()
-        self.join()
-
-    def middle(self, path):
-        """The median of its times for a path, in milliseconds."""
-        times = sorted(self.times[path])
-        return 1_000 * times[len(times) // 2] if times else 0
+def share(values, hundredths):
+    """The value below which so many hundredths of the values are."""
+    return sorted(values)[(len(values) - 1) * hundredths // 100]
 
 
 def play(load, exchange, pairs, window, seconds, gap=0):
@@ -137,6 +116,25 @@ def idle_share(exchange, seconds):
     return 100 * (exchange.processor() - before) / (time.monotonic() - begun)
 
 
+def asked_once(exchange, times):
+    """Asks the console for each path once, after a moment, and adds how long each answer took."""
+    time.sleep(ASKED_AFTER)
+    for path in PATHS:
+        times[path].append(exchange.ask(path)[1])
+
+
+def longest(load, exchange):
+    """The longest round trip of each run, in microseconds, without questions and with them, and how long the answers took."""
+    quiet, asked, times = [], [], {path: [] for path in PATHS}
+    for _ in range(RUNS):
+        quiet.append(play(load, exchange, 1, 1, RUN_SECONDS)["most"])
+        asking = threading.Thread(target=asked_once, args=(exchange, times))
+        asking.start()
+        asked.append(play(load, exchange, 1, 1, RUN_SECONDS)["most"])
+        asking.join()
+    return quiet, asked, times
+
+
 def measure(program, load, folder, lines, seconds):
     """The figures of so many lines."""
     pairs = min(CALLS, lines // 2)
@@ -146,8 +144,7 @@ def measure(program, load, folder, lines, seconds):
         memory = exchange.memory()
         idle = idle_share(exchange, seconds) if lines > 2 else 0
         alone = play(load, exchange, 1, 1, seconds)
-        with Reader(exchange) as reader:
-            asked = play(load, exchange, 1, 1, seconds)
+        quiet, asked, times = longest(load, exchange)
         # Many calls: their lines are those of the load.
         exchange.leave(2 * pairs - 2)
         time.sleep(0.5)
@@ -157,12 +154,14 @@ def measure(program, load, folder, lines, seconds):
         if exchange.end() != 0:
             sys.exit(f"it has ended badly; {exchange.said()}")
         records = len(exchange.lines_printed)
-        if records != pairs + 2:
-            sys.exit(f"there are {records} records of {pairs + 2} calls")
+        calls = pairs + 1 + 2 * RUNS
+        if records != calls:
+            sys.exit(f"there are {records} records of {calls} calls")
+    trips = [f"{share(runs, part):,.0f}" for runs in (quiet, asked) for part in (50, 90)]
+    answers = [f"{1_000 * share(times[path], 50):.1f}" for path in PATHS]
     return (
-        f"{lines:,}", f"{exchange.start:.2f}", f"{memory:,}", f"{idle:.2f}", f"{alone['mean']:.0f}", f"{alone['p99']:.0f}",
-        f"{alone['most']:,.0f}", f"{asked['most']:,.0f}", f"{many['rate']:,.0f}", f"{reader.middle('/metrics'):.1f}",
-        f"{reader.middle('/status.json'):.1f}", f"{octets:,}",
+        f"{lines:,}", f"{exchange.start:.2f}", f"{memory:,}", f"{idle:.2f}", f"{alone['mean']:.0f}", f"{alone['p99']:.0f}", *trips,
+        f"{many['rate']:,.0f}", *answers, f"{octets:,}",
     )
 
 
